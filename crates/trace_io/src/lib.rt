@@ -28,3 +28,6 @@ pub use null::{NoSource, NullSink};
 pub use over_std::{StdSink, StdSource};
 pub use traits::{Failed, Sink, Source};
 pub use whole::{ReadAllFault, read_all, write_all};
+
+#[cfg(test)]
+mod tests;

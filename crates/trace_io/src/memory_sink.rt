@@ -28,7 +28,12 @@ impl Model for MemSink {
 
     ghost Value = { Writing };
 
-    ghost view = { λ s. record { taken = s.taken.items; script = s.script; faults = s.faults; out_of_memory = s.out_of_memory } };
+    ghost view = { λ s. record {
+      taken = s.taken.items;
+      script = s.script;
+      faults = s.faults;
+      out_of_memory = s.out_of_memory;
+    } };
 
     ghost invariant = { λ s. s.faults < 2 ^ 64 };
 }
@@ -37,7 +42,12 @@ impl MemSink {
     /// An empty sink. Each write takes one value off `script`, and `true` fails it. No memory is
     /// taken before the first write.
     pub fn new(alloc: Global, script: Vec<bool>) -> Self
-        ensures { result ≡ record { taken = []; script = script.items; faults = 0; out_of_memory = false } }
+        ensures { result ≡ record {
+          taken = [];
+          script = script.items;
+          faults = 0;
+          out_of_memory = false;
+        } }
     {
         MemSink {
             taken: Vec::new(alloc),
@@ -79,7 +89,8 @@ impl Sink for MemSink {
         ensures most { self.new.faults ≤ 2 ^ 64 - 1 }
         ensures whole { IfOk result (λ n. n ≡ length bytes.now) }
         ensures scripted { NextFails self.old.script → IsErr result }
-        ensures unscripted { IsErr result → NextFails self.old.script ⊎ IsTrue self.new.out_of_memory }
+        ensures unscripted { IsErr result
+            → NextFails self.old.script ⊎ IsTrue self.new.out_of_memory }
         // It becomes true exactly in a write that fails and was not scripted to, and stays true.
         ensures out_of_memory { IsTrue self.new.out_of_memory
             ↔ (IsTrue self.old.out_of_memory ⊎ (IsErr result × (¬ NextFails self.old.script))) }

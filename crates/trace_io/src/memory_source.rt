@@ -56,7 +56,8 @@ impl Source for SafeSource {
         ensures cause { HasCause 0 0 result }
         ensures most { 0 ≤ 2 ^ 64 - 1 }
         ensures safe { IsOk result }
-        ensures gives { IfOk result (λ n. n ≡ count_given self.old.piece (length buf.old) self.old.left) }
+        ensures gives { IfOk result
+            (λ n. n ≡ count_given self.old.piece (length buf.old) self.old.left) }
         ensures past { IfOk result (λ n. drop n buf.new ≡ drop n buf.old) }
         ensures piece { self.new.piece ≡ self.old.piece }
     {
@@ -95,7 +96,12 @@ impl Model for MemSource {
 
     ghost Value = { Reading };
 
-    ghost view = { λ s. record { left = s.bytes.left; piece = s.bytes.piece; script = s.script; faults = s.faults } };
+    ghost view = { λ s. record {
+      left = s.bytes.left;
+      piece = s.bytes.piece;
+      script = s.script;
+      faults = s.faults;
+    } };
 
     ghost invariant = { λ s. s.faults < 2 ^ 64 };
 }
@@ -105,7 +111,12 @@ impl MemSource {
     /// and `true` fails it.
     pub fn new(bytes: Vec<u8>, piece: usize, script: Vec<bool>) -> Self
         requires { 0 < piece }
-        ensures { result ≡ record { left = bytes.items; piece = piece; script = script.items; faults = 0 } }
+        ensures { result ≡ record {
+          left = bytes.items;
+          piece = piece;
+          script = script.items;
+          faults = 0;
+        } }
     {
         MemSource {
             bytes: SafeSource::new(bytes, piece),
@@ -127,7 +138,8 @@ impl Source for MemSource {
         ensures cause { HasCause self.old.faults self.new.faults result }
         ensures most { self.new.faults ≤ 2 ^ 64 - 1 }
         ensures fails { IsErr result ↔ NextFails self.old.script }
-        ensures gives { IfOk result (λ n. n ≡ count_given self.old.piece (length buf.old) self.old.left) }
+        ensures gives { IfOk result
+            (λ n. n ≡ count_given self.old.piece (length buf.old) self.old.left) }
         ensures past { IfOk result (λ n. drop n buf.new ≡ drop n buf.old) }
         ensures untouched { OnErr result (buf.new ≡ buf.old) }
         ensures counts { Counts self.old.faults self.new.faults result }

@@ -59,6 +59,7 @@ impl Source for NoSource {
 pub struct NullSink;
 
 impl NullSink {
+    /// A sink with nothing to keep.
     pub fn new() -> Self {
         NullSink
     }

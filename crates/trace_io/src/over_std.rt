@@ -53,7 +53,8 @@ impl<R: Read> Source for StdSource<R> {
         ensures cause { HasCause self.old.faults self.new.faults result }
         ensures most { self.new.faults ≤ 2 ^ 64 - 1 }
         ensures counts { Counts self.old.faults self.new.faults result }
-        ensures inner { ReadConsumes (R.remaining self.old.inner) (R.remaining self.new.inner) result buf.new }
+        ensures inner { ReadConsumes (R.remaining self.old.inner) (R.remaining self.new.inner)
+            result buf.new }
     {
         match self.inner.read(buf) {
             Ok(count) => Ok(count),
@@ -116,7 +117,8 @@ impl<W: Write> Sink for StdSink<W> {
         ensures most { self.new.faults ≤ 2 ^ 64 - 1 }
         ensures counts { Counts self.old.faults self.new.faults result }
         ensures held { self.new.flushed ≡ false }
-        ensures inner { WriteAppends (W.contents self.old.inner) (W.contents self.new.inner) result bytes.now }
+        ensures inner { WriteAppends (W.contents self.old.inner) (W.contents self.new.inner)
+            result bytes.now }
     {
         self.flushed = false;
         match self.inner.write(bytes) {

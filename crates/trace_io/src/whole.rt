@@ -1,5 +1,5 @@
 // All of a list of bytes written, and all that a source has left read.
-ghost use Rattle.std.specs.Prelude.{◌+◌, ◌^◌, ◌<◌, ◌≤◌, vec_len, OnOk, OnErr, IfOk, IsErrOf};
+ghost use Rattle.std.specs.Prelude.{◌≡◌, ◌+◌, ◌^◌, ◌<◌, ◌≤◌, [], vec_len, OnOk, OnErr, IfOk, IsErrOf};
 ghost use Rattle.std.specs.Io.KnownBytes.{Appends};
 ghost use Rattle.trace_io.specs.Causes.{Rose, HasCause};
 ghost use Rattle.trace_io.specs.Bytes.{AppendsShorter, TellsAsBefore, TakesAll, TakesCount, TakesAtMost};
@@ -12,7 +12,9 @@ use thiserror::Error;
 /// front of `bytes` that is shorter. No write is made of an empty `bytes`.
 pub fn write_all<K: Sink>(sink: &mut K, bytes: &[u8]) -> Result<(), Failed>
     ensures ok { OnOk result (Appends (K.written sink.old) (K.written sink.new) bytes.now) }
-    ensures failed { OnErr result (AppendsShorter (K.written sink.old) (K.written sink.new) bytes.now) }
+    ensures failed { OnErr result
+        (AppendsShorter (K.written sink.old) (K.written sink.new) bytes.now) }
+    ensures empty { bytes.now ≡ [] → sink.new ≡ sink.old }
     ensures tells { TellsAsBefore (K.written sink.old) (K.written sink.new) }
     ensures cause { HasCause (K.faults sink.old) (K.faults sink.new) result }
 {
@@ -47,12 +49,15 @@ pub fn read_all<S: Source>(
     requires { limit < 2 ^ 31 }
     ensures whole { IfOk result (λ v. TakesAll (S.left source.old) (S.left source.new) v.items) }
     ensures limit { IfOk result (λ v. vec_len v ≤ limit) }
-    ensures too_long { IsErrOf result ReadAllFault.TooLong → TakesCount (S.left source.old) (S.left source.new) (limit + 1) }
-    ensures few { IsErrOf result ReadAllFault.Failed → TakesAtMost (S.left source.old) (S.left source.new) limit }
+    ensures too_long { IsErrOf result ReadAllFault.TooLong
+        → TakesCount (S.left source.old) (S.left source.new) (limit + 1) }
+    ensures few { IsErrOf result ReadAllFault.Failed
+        → TakesAtMost (S.left source.old) (S.left source.new) limit }
     ensures taken { TakesAtMost (S.left source.old) (S.left source.new) (limit + 1) }
     ensures tells { TellsAsBefore (S.left source.old) (S.left source.new) }
     ensures later { S.faults source.old ≤ S.faults source.new }
-    ensures failed { IsErrOf result ReadAllFault.Failed → Rose (S.faults source.old) (S.faults source.new) }
+    ensures failed { IsErrOf result ReadAllFault.Failed
+        → Rose (S.faults source.old) (S.faults source.new) }
 {
     let mut all = Vec::new(alloc);
     let mut buf = [0u8; MOST_AT_ONCE];

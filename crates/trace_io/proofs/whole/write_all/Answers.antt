@@ -1,4 +1,4 @@
-use Rattle.std.proofs.Common.{◌∙◌, arith}
+use Rattle.std.proofs.Common.{◌∙◌, ap, length, arith}
 use Rattle.trace_io.proofs.Known.{taken_more}
 use Rattle.trace_io.proofs.whole.write_all.Goals as goal
 
@@ -11,4 +11,5 @@ loop-done-preserved g c =
       front = taken_more _ _ _ _ _ _ i.front e.bytes;
       tells = e.tells ∙ i.tells;
       later = omega (arith, e.cause.later, i.later);
+      untouched = λ none. absurd (omega (arith, c.loop-done-test.true, ap length none));
     }
