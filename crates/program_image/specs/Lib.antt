@@ -1,0 +1,4 @@
+pub mod Part
+pub mod ImageText
+pub mod Words
+pub mod Answers
