@@ -1,10 +1,9 @@
 -- The words of lines, a word at a time.
 use Rattle.std.proofs.Common.{◌≡◌, ◌≢◌, ℕ, ◌<◌, List, [], ◌∷◌, ◌++◌, length, length-drop, take, drop, Bool, true, false, ◌&&◌, Option, Some, None, nat_lt, refl, sym, ap, ◌∙◌, append_assoc, arith, cond}
-use Rattle.std.specs.Prelude.{slice_index, if◌then◌else◌}
-use Rattle.std.specs.Option.{option_map, option_and_then}
+use Rattle.std.specs.Prelude.{slice_index}
+use Rattle.std.specs.Option.{option_map}
 use Rattle.std.proofs.lemmas.Bool.{lt-ltb}
 use Rattle.std.proofs.lemmas.Option.{none-some, some_pair_parts}
-use Rattle.std.proofs.lemmas.Grind.{common_steps}
 use Rattle.program_image.specs.ImageText.{◌>>=◌, ends_word, image_of, spelled_word, words_of}
 use Rattle.program_image.specs.Words.{first_word}
 

@@ -1,8 +1,7 @@
 // The image of a program: words that stand one after another in a core's memory.
-ghost use Rattle.std.specs.Prelude.{◌≡◌, ℕ, ◌+◌, ◌≤◌, List, length, IfOk, IsErrOf};
-ghost use Rattle.std.specs.Io.KnownBytes.{Consumes};
+ghost use Rattle.std.specs.Prelude.{◌≡◌, ℕ, ◌+◌, ◌≤◌, length, IfOk, IsErrOf};
 ghost use Rattle.trace_io.specs.Causes.{Rose};
-ghost use Rattle.trace_io.specs.Bytes.{TellsAsBefore};
+ghost use Rattle.trace_io.specs.Bytes.{TakesAtMost, TellsAsBefore};
 ghost use Rattle.program_image.specs.Part.{IsPart, word_of};
 ghost use Rattle.program_image.specs.ImageText.{checked, image_of, most_text};
 ghost use Rattle.program_image.specs.Answers.{Answers, TakesImage, TakesNoImage};
@@ -55,7 +54,7 @@ impl Image {
         ensures read_fault { IsErrOf result ImageFault.ReadFault → Rose (S.faults source.old) (S.faults source.new) }
         ensures tells { TellsAsBefore (S.left source.old) (S.left source.new) }
         ensures later { S.faults source.old ≤ S.faults source.new }
-        ensures taken { (bytes : List ℕ) × (length bytes ≤ most_text + 1) × Consumes (S.left source.old) (S.left source.new) bytes }
+        ensures taken { TakesAtMost (S.left source.old) (S.left source.new) (most_text + 1) }
     {
         let text = match read_all(alloc, source, MOST_TEXT) {
             Ok(text) => text,

@@ -1,4 +1,4 @@
-use Rattle.std.proofs.Common.{◌≡◌, ◌∙◌, ◌++◌, ◌∷◌, [], List, ℕ, arith, rules, sym, ap, option_map}
+use Rattle.std.proofs.Common.{◌≡◌, ◌∙◌, ◌++◌, ◌∷◌, [], List, ℕ, rules, sym, ap, option_map}
 use Rattle.program_image.specs.ImageText.{words_of}
 use Rattle.program_image.proofs.Lines.{further_words, more_words, shorter_rest}
 use Rattle.program_image.proofs.text.words.Goals as goal
