@@ -8,10 +8,12 @@
 
 mod fault;
 mod image;
+mod laws;
 mod text;
 
 pub use fault::{ImageFault, ImageWhy};
 pub use image::Image;
+pub use laws::reads_what_is_spelled;
 
 #[cfg(test)]
 mod tests;

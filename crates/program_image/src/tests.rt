@@ -38,12 +38,20 @@ fn each_word_stands_at_its_address(rt: HostRuntime) -> Result<(), Fail> {
 fn the_form_is_kept_to_the_letter(rt: HostRuntime) -> Result<(), Fail> {
     let alloc = rt.alloc();
     let accepted = [
-        "@0\n",
-        "@00000000000aBcD0\n1f2003d5\n1f2003d5 40000054\n",
-        "@fffffffffffffffc\n1f2003d5\n",
+        ("@0\n", 0, None),
+        (
+            "@00000000000aBcD0\n1f2003d5\n1f2003d5 40000054\n",
+            0xabcd8,
+            Some(0x5400_0040),
+        ),
+        (
+            "@fffffffffffffffc\n1f2003d5\n",
+            0xffff_ffff_ffff_fffc,
+            Some(0xd503_201f),
+        ),
     ];
-    for text in accepted {
-        assert!(rt; read(alloc, text).is_ok());
+    for (text, addr, word) in accepted {
+        assert_eq!(rt; read(alloc, text)?.word_at(addr), word);
     }
     let refused = [
         "",
