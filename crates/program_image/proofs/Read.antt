@@ -18,7 +18,7 @@ use Rattle.byteorder.specs.Endian.{little_bytes, little_number}
 use Rattle.byteorder.specs.Numbers.{little_from-lt}
 use Rattle.program_image.specs.Part.{Part, IsPart, most_words}
 use Rattle.program_image.specs.ImageText.{◌>>=◌, address_of, ends_word, first_line, image_of, is_line_end, is_lower_digit, is_part, most_text, number_of, spelled_word, words_of}
-use Rattle.program_image.proofs.Spelled.{Fits, HasWord, value_parts}
+use Rattle.program_image.proofs.Spelled.{Fits, HasWord, decoded}
 use Rattle.program_image.specs.Spelling.{HaveWords, Spells, image_text, line_text, word_text}
 
 -- ---- digits
@@ -53,13 +53,30 @@ value_small : (c value : ℕ) → hex_digit_value c ≡ Some value → value < 1
 value_small c value e = grind (arith)
 
 -- what two digits and those after them decode to
-pair_parts : (high low : Option ℕ) (a b i : ℕ) (more : Result (List ℕ) FromHexError) (bytes : List ℕ)
+record DecodedPair (high low : Option ℕ) (more : Result (List ℕ) FromHexError) (bytes : List ℕ) : Type 0 where
+  first : ℕ
+  second : ℕ
+  rest : List ℕ
+  high_is : high ≡ Some first
+  low_is : low ≡ Some second
+  more_is : more ≡ Ok rest
+  whole : (first * 16 + second) ∷ rest ≡ bytes
+
+decoded_pair : (high low : Option ℕ) (a b i : ℕ) (more : Result (List ℕ) FromHexError) (bytes : List ℕ)
     → ((digit_or_error a i high then λ h. digit_or_error b (i + 1) low then λ l. Ok (h * 16 + l)) then λ byte. more then λ rest. Ok (byte ∷ rest)) ≡ Ok bytes
-    → (h : ℕ) × (l : ℕ) × (rest : List ℕ) × (high ≡ Some h) × (low ≡ Some l) × (more ≡ Ok rest) × ((h * 16 + l) ∷ rest ≡ bytes)
-pair_parts (Some h) (Some l) a b i (Ok rest) bytes e = (h, l, rest, refl, refl, refl, cc)
-pair_parts (Some h) (Some l) a b i (Err fault) bytes e = absurd (cc)
-pair_parts (Some h) None a b i more bytes e = absurd (cc)
-pair_parts None low a b i more bytes e = absurd (cc)
+    → DecodedPair high low more bytes
+decoded_pair (Some h) (Some l) a b i (Ok rest) bytes e = record {
+  first = h;
+  second = l;
+  rest = rest;
+  high_is = refl;
+  low_is = refl;
+  more_is = refl;
+  whole = cc;
+}
+decoded_pair (Some h) (Some l) a b i (Err fault) bytes e = absurd (cc)
+decoded_pair (Some h) None a b i more bytes e = absurd (cc)
+decoded_pair None low a b i more bytes e = absurd (cc)
 
 -- lower case digits are the text of what they decode to
 text_back : (i : ℕ) (text bytes : List ℕ) → list_all is_lower_digit text ≡ true → decode_pairs i text ≡ Ok bytes → encode_lower bytes ≡ text
@@ -69,15 +86,15 @@ text_back i (a ∷ []) bytes lower e = absurd (cc)
 text_back i (a ∷ b ∷ text) bytes lower e =
     let la = and_parts (is_lower_digit a) (list_all is_lower_digit (b ∷ text)) lower in
     let lb = and_parts (is_lower_digit b) (list_all is_lower_digit text) la.1 in
-    let parts = pair_parts (hex_digit_value a) (hex_digit_value b) a b i (decode_pairs (i + 2) text) bytes e in
-    let h = parts.0 in
-    let l = parts.1 in
-    let small_h : h < 16 = value_small a h parts.3 in
-    let small_l : l < 16 = value_small b l parts.4 in
+    let pair = decoded_pair (hex_digit_value a) (hex_digit_value b) a b i (decode_pairs (i + 2) text) bytes e in
+    let h = pair.first in
+    let l = pair.second in
+    let small_h : h < 16 = value_small a h pair.high_is in
+    let small_l : l < 16 = value_small b l pair.low_is in
     let high : (h * 16 + l) / 16 ≡ h = omega arith in
     let low : (h * 16 + l) % 16 ≡ l = omega arith in
-    let more = text_back (i + 2) text parts.2 lb.1 parts.5 in
-    ap encode_lower (sym parts.6) ∙ rw (high, low, digit_at a h la.0 parts.3, digit_at b l lb.0 parts.4, more) refl
+    let more = text_back (i + 2) text pair.rest lb.1 pair.more_is in
+    ap encode_lower (sym pair.whole) ∙ rw (high, low, digit_at a h la.0 pair.high_is, digit_at b l lb.0 pair.low_is, more) refl
 
 -- ---- a word
 
@@ -103,27 +120,41 @@ bytes_back (a ∷ b ∷ c ∷ d ∷ e ∷ bytes) len fit = absurd (omega arith)
 -- digits that are read to a word are its text
 word_back : (digits : List ℕ) (word : ℕ) → spelled_word digits ≡ Some word → (word_text word ≡ digits) × (word < 2 ^ 32)
 word_back digits word e =
-    let parts = value_parts (list_all is_lower_digit digits) (little_number 4) (decode_sized digits 4) word e in
-    let bytes = parts.0 in
-    let len : length digits ≡ 8 = decode_sized-ok digits 4 bytes parts.2 in
-    let pairs = sym (decode_sized-pairs digits 4 (omega arith) (omega arith)) ∙ parts.2 in
+    let is = decoded (list_all is_lower_digit digits) (little_number 4) (decode_sized digits 4) word e in
+    let bytes = is.from in
+    let len : length digits ≡ 8 = decode_sized-ok digits 4 bytes is.decodes in
+    let pairs = sym (decode_sized-pairs digits 4 (omega arith) (omega arith)) ∙ is.decodes in
     let whole = decode_pairs-ok 0 digits bytes pairs in
     let four : length bytes ≡ 4 = omega (arith, whole.1) in
     let fits : little_number 4 bytes < 2 ^ 32 = little_from-lt 0 4 bytes whole.2 in (
-      ap word_text (sym parts.3) ∙ ap encode_lower (bytes_back bytes four whole.2) ∙ text_back 0 digits bytes parts.1 pairs,
-      rw (← parts.3) fits,
+      ap word_text (sym is.same) ∙ ap encode_lower (bytes_back bytes four whole.2) ∙ text_back 0 digits bytes is.passes pairs,
+      rw (← is.same) fits,
     )
 
 -- ---- lines
 
--- what words before further ones rest on
-word_parts : (ends : Bool) (first : Option ℕ) (more : Option (List ℕ)) (words : List ℕ)
-    → cond ends (first >>= λ word. option_map (λ rest. word ∷ rest) more) None ≡ Some words
-    → (word : ℕ) × (rest : List ℕ) × (ends ≡ true) × (first ≡ Some word) × (more ≡ Some rest) × (word ∷ rest ≡ words)
-word_parts true (Some word) (Some rest) words e = (word, rest, refl, refl, refl, same_Some (word ∷ rest) words e)
-word_parts true (Some word) None words e = absurd (none-some words e)
-word_parts true None more words e = absurd (none-some words e)
-word_parts false first more words e = absurd (none-some words e)
+-- what a word before further ones rests on
+record WordBefore (ends : Bool) (first : Option ℕ) (more : Option (List ℕ)) (words : List ℕ) : Type 0 where
+  word : ℕ
+  rest : List ℕ
+  passes : ends ≡ true
+  first_is : first ≡ Some word
+  more_is : more ≡ Some rest
+  whole : word ∷ rest ≡ words
+
+word_before : (ends : Bool) (first : Option ℕ) (more : Option (List ℕ)) (words : List ℕ)
+    → cond ends (first >>= λ word. option_map (λ rest. word ∷ rest) more) None ≡ Some words → WordBefore ends first more words
+word_before true (Some word) (Some rest) words e = record {
+  word = word;
+  rest = rest;
+  passes = refl;
+  first_is = refl;
+  more_is = refl;
+  whole = same_Some (word ∷ rest) words e;
+}
+word_before true (Some word) None words e = absurd (none-some words e)
+word_before true None more words e = absurd (none-some words e)
+word_before false first more words e = absurd (none-some words e)
 
 -- the text spells the words of lines
 record Lines (text words : List ℕ) : Type 0 where
@@ -179,10 +210,10 @@ digits_and_lines : (digits : List ℕ) (end : ℕ) (text words : List ℕ) (more
     → cond (ends_word end text) (spelled_word digits >>= λ word. option_map (λ rest. word ∷ rest) more) None ≡ Some words
     → Lines (digits ++ end ∷ text) words
 digits_and_lines digits end text words more lines e =
-    let parts = word_parts (ends_word end text) (spelled_word digits) more words e in
-    let word = word_back digits parts.0 parts.3 in
-    lines_along (word_text parts.0) digits end text (parts.0 ∷ parts.1) words word.0 parts.5
-    (word_and_lines parts.0 end text parts.1 word.1 parts.2 (lines parts.1 parts.4))
+    let is = word_before (ends_word end text) (spelled_word digits) more words e in
+    let word = word_back digits is.word is.first_is in
+    lines_along (word_text is.word) digits end text (is.word ∷ is.rest) words word.0 is.whole
+    (word_and_lines is.word end text is.rest word.1 is.passes (lines is.rest is.more_is))
 
 -- lines that are read to words spell them
 lines_back : (text words : List ℕ) → words_of text ≡ Some words → Lines text words

@@ -173,18 +173,24 @@ digit_within : (byte : ℕ) → is_hex_digit byte ≡ true → is_line_end byte 
 digit_within byte digit = ne_eqb byte 10 (λ e. false≢true (ap is_hex_digit (sym e) ∙ digit))
 
 -- what a value that was tested and decoded rests on
-pub value_parts : {A B E : Type 0} (test : Bool) (f : A → B) (r : Result A E) (x : B) → cond test (option_map f (result_ok r)) None ≡ Some x
-    → (y : A) × (test ≡ true) × (r ≡ Ok y) × (f y ≡ x)
-value_parts true f (Ok y) x e = (y, refl, refl, same_Some (f y) x e)
-value_parts true f (Err y) x e = absurd (none-some x e)
-value_parts false f r x e = absurd (none-some x e)
+pub record Decoded {A B E : Type 0} (test : Bool) (f : A → B) (r : Result A E) (value : B) : Type 0 where
+  pub from : A
+  pub passes : test ≡ true
+  pub decodes : r ≡ Ok from
+  pub same : f from ≡ value
+
+pub decoded : {A B E : Type 0} (test : Bool) (f : A → B) (r : Result A E) (value : B) → cond test (option_map f (result_ok r)) None ≡ Some value
+    → Decoded test f r value
+decoded true f (Ok from) value e = record { from = from; passes = refl; decodes = refl; same = same_Some (f from) value e }
+decoded true f (Err fault) value e = absurd (none-some value e)
+decoded false f r value e = absurd (none-some value e)
 
 -- the digits of a number are at most sixteen, and each is within a line
 number_parts : (digits : List ℕ) (number : ℕ) → number_of digits ≡ Some number → (length digits ≤ 16) × All Within digits
 number_parts digits number e =
-    let parts = value_parts (nat_le 1 (length digits) && nat_le (length digits) 16) (big_number 8) (decode_sized (padded digits) 8) number e in
-    let few = leb-true (length digits) 16 (and_parts _ _ parts.1).1 in
-    let all = ((IsOk-decode_sized (padded digits) 8).0 (ap is_ok parts.2)).1 in
+    let parts = decoded (nat_le 1 (length digits) && nat_le (length digits) 16) (big_number 8) (decode_sized (padded digits) 8) number e in
+    let few = leb-true (length digits) 16 (and_parts _ _ parts.passes).1 in
+    let all = ((IsOk-decode_sized (padded digits) 8).0 (ap is_ok parts.decodes)).1 in
     let zeros = take (16 - length digits) (codes "0000000000000000") in
     (few, All-weaker (λ byte. is_hex_digit byte ≡ true) Within digit_within digits (all_rest (λ byte. is_hex_digit byte ≡ true) zeros digits all))
 
