@@ -1,0 +1,5 @@
+//! Tests that cross crates: `run` over sources and sinks in memory, on worked examples.
+#![tactic(auto)]
+
+#[cfg(test)]
+mod tests;

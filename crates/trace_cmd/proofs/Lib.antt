@@ -1,0 +1,11 @@
+pub mod Tests
+pub mod PlainWords
+pub mod Digits
+pub mod Wrote
+pub mod LineLemmas
+pub mod Goes
+pub mod ReadLaws
+pub mod WalkLaws
+pub mod PathLaws
+pub mod PathTexts
+pub mod AnswerLemmas

@@ -1,0 +1,11 @@
+use Rattle.std.proofs.Common.{Err, ap}
+use Rattle.std.proofs.lemmas.Result.{err_from_is_err_and}
+use Rattle.trace_cmd.proofs.AnswerLemmas.{image_fails}
+use Rattle.trace_cmd.proofs.command.answer_call.Goals as goal
+
+pub returns-in_err-write_image_bad-in-Err-Bad-clause-answer : goal.returns-in_err-write_image_bad-in-Err-Bad-clause-answer
+returns-in_err-write_image_bad-in-Err-Bad-clause-answer g c =
+    let p = err_from_is_err_and c.from_residual.result c.from_residual.ensures.1 in
+    let line = c.in-Err-Bad.line in let why = c.in-Err-Bad.why in
+    let bad = c.in-Err-Bad.ensures.bad line why (ap Err c.in-Err-Bad.field-0-is) in
+    rw p.1 (λ words call. image_fails words _ _ _ _ _ _ _ _ c.in_err-write_image_bad-in-Err-Bad.field-0.0 p.0 line _ why _ c.in-Err-Bad.line-is c.in-Err-Bad.why-is call bad c.in_err-write_image_bad-in-Err-Bad.ensures)

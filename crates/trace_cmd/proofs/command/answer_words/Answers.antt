@@ -1,0 +1,20 @@
+use Rattle.std.proofs.Common.{sym}
+use Rattle.std.specs.Prelude.{map, string_bytes}
+use Rattle.trace_cmd.proofs.AnswerLemmas.{path_call, no_command, never_usage, usage_fails}
+use Rattle.trace_cmd.proofs.command.answer_words.Goals as goal
+
+pub returns-in-Some-clause-answer : goal.returns-in-Some-clause-answer
+returns-in-Some-clause-answer g c =
+    let words = map (λ word. string_bytes word) c.args.words.now in
+    c.answer_call.ensures.answer words (path_call words _ (sym c.in-Some.ensures))
+
+pub returns-in-Some-clause-words_first : goal.returns-in-Some-clause-words_first
+returns-in-Some-clause-words_first g c =
+    λ e. let words = map (λ word. string_bytes word) c.args.words.now in
+    let call = path_call words _ (sym c.in-Some.ensures) in
+    absurd (never_usage words _ _ _ _ _ _ _ _ c.answer_call.result call (c.answer_call.ensures.answer words call) e)
+
+pub returns-in-Err-clause-answer : goal.returns-in-Err-clause-answer
+returns-in-Err-clause-answer g c =
+    let words = map (λ word. string_bytes word) c.args.words.now in
+    usage_fails words _ _ _ _ _ _ _ _ c.in-Err.failed (no_command words (sym c.in-None.ensures)) c.in-Err.ensures.failed c.in-Err.ensures.tells c.in-Err.ensures.cause

@@ -1,0 +1,115 @@
+-- What each answer of a call means, and the text that comes with it. `image` and `image'` are what the image's source had
+-- left before and after the call, where it tells it, and `input` and `input'` what the input had.
+use Rattle.std.specs.Prelude.{◌≡◌, ℕ, ◌+◌, ◌^◌, ◌≤◌, Bool, true, false, List, [], ◌∷◌, ◌++◌, length, codes, Option, Some, None, Result, IfOk}
+use Rattle.std.specs.Io.KnownBytes.{Appends}
+use Rattle.trace_io.specs.Bytes.{TakesAll, TakesCount, AppendsFront}
+use Rattle.program_image.specs.Part.{Part}
+use Rattle.program_image.specs.Answers.{TakesImage, TakesNoImage}
+use Rattle.program_image.specs.declared.fault.ImageWhy.{ImageWhy}
+use Rattle.program_image.specs.declared.fault.ImageWhy.TheVariants.{Later}
+use Rattle.trace_cmd.specs.declared.status.Status.{Status}
+use Rattle.trace_cmd.specs.declared.status.Status.TheVariants as status
+use Rattle.trace_cmd.specs.Words.{Path, meaning}
+use Rattle.trace_cmd.specs.Lines.{decimal}
+use Rattle.trace_cmd.specs.Path.{IsPathText}
+use Rattle.trace_cmd.specs.Writing.{Writes}
+
+-- the number of each answer; 3 is kept for a bench that is bad
+abbrev pub code_of : Status → ℕ
+code_of status.Done = 0
+code_of status.Usage = 1
+code_of (status.ImageBad line why) = 2
+code_of status.Faulted = 4
+code_of status.ReadFault = 5
+code_of status.WriteFault = 6
+code_of status.NoMemory = 7
+code_of status.InputTooLong = 8
+
+abbrev pub usage_line : List ℕ
+usage_line = codes "usage: etm path|packets|trace|retired|selftest" ++ 10 ∷ []
+
+abbrev pub why_text : ImageWhy → List ℕ
+why_text Later = codes "later"
+
+abbrev pub image_line : ℕ → ImageWhy → List ℕ
+image_line line why = codes "image line " ++ decimal line ++ codes ": " ++ why_text why ++ 10 ∷ []
+
+-- the ID under which a stream is printed that is not framed
+abbrev pub raw_id : ℕ
+raw_id = 1
+
+-- the most bytes of input
+abbrev pub most_input : ℕ
+most_input = 2 ^ 30
+
+abbrev pub IsPathCall : List (List ℕ) → Type 0
+IsPathCall words = (image : List ℕ) × (meaning words ≡ Some (Path image))
+
+-- Usage: the words mean nothing
+pub record IsUsage (words : List (List ℕ)) (text : List ℕ) : Type 0 where
+  pub meaningless : meaning words ≡ None
+  pub printed : text ≡ usage_line
+
+-- ImageBad: the image's text, read to its end or past the most that is read, has a fault
+pub record IsImageBad (words : List (List ℕ)) (image image' : Option (List ℕ)) (line : ℕ) (why : ImageWhy) (text : List ℕ) : Type 0 where
+  pub call : IsPathCall words
+  pub refused : TakesNoImage image image'
+  pub line_is : line ≡ 0
+  pub why_is : why ≡ Later
+  pub printed : text ≡ image_line line why
+
+-- Done, and Faulted where the stream ends with a fault: image and input were read to their ends, and the text is what is
+-- printed of the input as one stream without frames
+pub record IsPathOfInput (words : List (List ℕ)) (image image' input input' : Option (List ℕ)) (faulty : Bool) (text : List ℕ) : Type 0 where
+  pub call : IsPathCall words
+  pub part : Part
+  pub bytes : List ℕ
+  pub image_read : TakesImage image image' part
+  pub input_read : TakesAll input input' bytes
+  pub few : length bytes ≤ most_input
+  pub shown : IsPathText part raw_id bytes text faulty
+
+-- InputTooLong: one byte more than the most was read
+pub record IsTooLong (words : List (List ℕ)) (image image' input input' : Option (List ℕ)) : Type 0 where
+  pub call : IsPathCall words
+  pub part : Part
+  pub image_read : TakesImage image image' part
+  pub many : TakesCount input input' (most_input + 1)
+
+-- the text is that of this answer
+abbrev pub IsAnswer : List (List ℕ) → Option (List ℕ) → Option (List ℕ) → Option (List ℕ) → Option (List ℕ) → Status → List ℕ → Type 0
+IsAnswer words image image' input input' status.Done text = IsPathOfInput words image image' input input' false text
+IsAnswer words image image' input input' status.Faulted text = IsPathOfInput words image image' input input' true text
+IsAnswer words image image' input input' status.Usage text = IsUsage words text
+IsAnswer words image image' input input' (status.ImageBad line why) text = IsImageBad words image image' line why text
+IsAnswer words image image' input input' status.InputTooLong text = IsTooLong words image image' input input' × (text ≡ [])
+IsAnswer words image image' input input' status.ReadFault text = IsPathCall words × (text ≡ [])
+IsAnswer words image image' input input' status.NoMemory text = IsPathCall words × (text ≡ [])
+IsAnswer words image image' input input' status.WriteFault text = ⊥
+
+-- a text of this kind was appended
+abbrev pub Prints : (List ℕ → Type 0) → Option (List ℕ) → Option (List ℕ) → Type 0
+Prints kind old new = (text : List ℕ) × kind text × Appends old new text
+
+-- a front of a text of this kind was appended
+abbrev pub PrintsFront : (List ℕ → Type 0) → Option (List ℕ) → Option (List ℕ) → Type 0
+PrintsFront kind old new = (text : List ℕ) × kind text × AppendsFront old new text
+
+-- the answer to a call that is due, with its text, and what of the text was written
+pub record AnswersSo (is : Status → List ℕ → Type 0) {E : Type 0} (old new : Option (List ℕ)) (before now : ℕ) (result : Result Status E) : Type 0 where
+  pub status : Status
+  pub text : List ℕ
+  pub answer : is status text
+  pub writes : Writes old new before now result text
+  pub same : IfOk result (λ s. s ≡ status)
+
+-- the part of an answer that hangs on the input alone
+abbrev pub IsInputAnswer : Part → Option (List ℕ) → Option (List ℕ) → Status → List ℕ → Type 0
+IsInputAnswer part input input' status.Done text =
+    (bytes : List ℕ) × TakesAll input input' bytes × (length bytes ≤ most_input) × IsPathText part raw_id bytes text false
+IsInputAnswer part input input' status.Faulted text =
+    (bytes : List ℕ) × TakesAll input input' bytes × (length bytes ≤ most_input) × IsPathText part raw_id bytes text true
+IsInputAnswer part input input' status.InputTooLong text = TakesCount input input' (most_input + 1) × (text ≡ [])
+IsInputAnswer part input input' status.ReadFault text = text ≡ []
+IsInputAnswer part input input' status.NoMemory text = text ≡ []
+IsInputAnswer part input input' _ text = ⊥

@@ -1,0 +1,12 @@
+pub mod Words
+pub mod Packets
+pub mod Reading
+pub mod Elements
+pub mod Pending
+pub mod Walk
+pub mod Walking
+pub mod Lines
+pub mod Writing
+pub mod Steps
+pub mod Path
+pub mod Answers

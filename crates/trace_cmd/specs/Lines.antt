@@ -1,0 +1,107 @@
+-- The lines that are printed.
+use Rattle.std.specs.Prelude.{ℕ, zero, suc, ◌+◌, ◌/◌, ◌%◌, Bool, true, false, if◌then◌else◌, nat_lt, ◌==◌, ◌&&◌, not, List, [], ◌∷◌, ◌++◌, map, codes, Option, Some, None}
+use Rattle.std.specs.Int.Digits.{digits_of}
+use Rattle.etm_types.specs.declared.context.Ctx.{Ctx}
+use Rattle.etm_types.specs.declared.item.Item.{Item}
+use Rattle.etm_types.specs.declared.item.Item.TheVariants as item
+use Rattle.trace_cmd.specs.Walk.{moved}
+use Rattle.trace_cmd.specs.declared.fault.Fault.{Fault}
+use Rattle.trace_cmd.specs.declared.fault.Fault.TheVariants.{AddressMismatch, NoCode, BadAtom, Later}
+use Rattle.trace_cmd.specs.declared.fault.End.{End}
+use Rattle.trace_cmd.specs.declared.fault.End.TheVariants as end
+
+-- a digit: 0 to 9, then a to f
+abbrev pub digit : ℕ → ℕ
+digit d = if nat_lt d 10 then 48 + d else 87 + d
+
+-- a number without leading zeros
+unfoldable pub in_base : ℕ → ℕ → List ℕ
+in_base base n = if n == 0 then 48 ∷ [] else map digit (digits_of base n)
+
+abbrev pub hex : ℕ → List ℕ
+hex n = in_base 16 n
+
+abbrev pub decimal : ℕ → List ℕ
+decimal n = in_base 10 n
+
+-- a line begins with the ID of its stream in two hex digits and a space
+abbrev pub line_start : ℕ → List ℕ
+line_start id = digit (id / 16) ∷ digit (id % 16) ∷ 32 ∷ []
+
+-- and ends with LF
+abbrev pub line_of : ℕ → List ℕ → List ℕ
+line_of id text = line_start id ++ text ++ 10 ∷ []
+
+abbrev pub security : Bool → List ℕ
+security ns = if ns then codes " ns " else codes " s "
+
+abbrev pub context_text : Ctx → List ℕ
+context_text ctx = codes "ctx el" ++ decimal ctx.el ++ security ctx.ns ++ hex ctx.vmid ++ codes " " ++ hex ctx.cid
+
+-- the name of an exception, or its number where it has none (Arm IHI 0064, exception types)
+abbrev pub exception_names : List (ℕ × List ℕ)
+exception_names =
+    (0, codes "reset") ∷ (1, codes "debug-halt") ∷ (2, codes "call") ∷ (3, codes "trap") ∷ (4, codes "system-error") ∷ (6, codes "inst-debug") ∷ (7, codes "data-debug")
+    ∷ (10, codes "alignment") ∷ (11, codes "inst-fault") ∷ (12, codes "data-fault") ∷ (14, codes "irq") ∷ (15, codes "fiq") ∷ []
+
+abbrev pub name_among : List (ℕ × List ℕ) → ℕ → List ℕ
+name_among [] kind = decimal kind
+name_among (n ∷ names) kind = if n.0 == kind then n.1 else name_among names kind
+
+abbrev pub same_security : Bool → Bool → Bool
+same_security true b = b
+same_security false b = not b
+
+abbrev pub same_context : Ctx → Ctx → Bool
+same_context a b = (a.el == b.el) && same_security a.ns b.ns && (a.vmid == b.vmid) && (a.cid == b.cid)
+
+-- the line of a context, unless it was printed last
+abbrev pub context_line : ℕ → Option Ctx → Ctx → List ℕ
+context_line id None ctx = line_of id (context_text ctx)
+context_line id (Some shown) ctx = if same_context shown ctx then [] else line_of id (context_text ctx)
+
+-- the lines of an item, after the context that was printed last
+abbrev pub item_lines : ℕ → Option Ctx → Item → List ℕ
+item_lines id shown item.On = line_of id (codes "on")
+item_lines id shown item.Gap = line_of id (codes "gap")
+item_lines id shown item.Stop = line_of id (codes "stop")
+item_lines id shown item.Unknown = line_of id (codes "?")
+item_lines id shown (item.Instr address ctx) = context_line id shown ctx ++ line_of id (hex address)
+item_lines id shown (item.Exc kind ret) = line_of id (codes "exc " ++ name_among exception_names kind ++ codes " " ++ hex ret)
+
+-- the context that was printed last, after an item
+abbrev pub shown_after : Option Ctx → Item → Option Ctx
+shown_after shown (item.Instr address ctx) = Some ctx
+shown_after shown _ = shown
+
+abbrev pub lines_of : ℕ → Option Ctx → List Item → List ℕ
+lines_of id shown [] = []
+lines_of id shown (i ∷ items) = item_lines id shown i ++ lines_of id (shown_after shown i) items
+
+abbrev pub shown_after_all : Option Ctx → List Item → Option Ctx
+shown_after_all shown [] = shown
+shown_after_all shown (i ∷ items) = shown_after_all (shown_after shown i) items
+
+abbrev pub fault_text : Fault → List ℕ
+fault_text (AddressMismatch known given) = codes "address-mismatch " ++ hex known ++ codes " " ++ hex given
+fault_text (NoCode address) = codes "no-code " ++ hex address
+fault_text (BadAtom address) = codes "bad-atom " ++ hex address
+fault_text Later = codes "later"
+
+abbrev pub end_text : End → List ℕ
+end_text end.Clean = codes "end"
+end_text (end.Cut n) = codes "cut " ++ decimal n
+end_text end.NoSync = codes "nosync"
+end_text (end.Fault at fault) = codes "fault " ++ decimal at ++ codes " " ++ fault_text fault
+
+abbrev pub end_line : ℕ → End → List ℕ
+end_line id last = line_of id (end_text last)
+
+-- the lines of so many instructions, one behind the other, where their context was printed
+abbrev pub instruction_lines : ℕ → ℕ → ℕ → List ℕ
+instruction_lines id address zero = []
+instruction_lines id address (suc n) = line_of id (hex address) ++ instruction_lines id (moved address 4) n
+
+-- the line of trace on, where it is shown
+abbrev pub on_line : ℕ → Bool → List ℕ
+on_line id on = if on then line_of id (codes "on") else []

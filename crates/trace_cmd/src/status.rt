@@ -1,0 +1,45 @@
+//! The answers of a call, and the exit status of each.
+ghost use Rattle.std.specs.Prelude.{◌≡◌};
+
+use program_image::ImageWhy;
+
+/// How a call ended.
+#[derive(Clone, Copy, Debug, PartialEq, Eq)]
+pub enum Status {
+    /// All was read and written, and no stream has a fault.
+    Done,
+    /// The words have no meaning.
+    Usage,
+    /// The text of the image has a fault at this line.
+    ImageBad { line: u64, why: ImageWhy },
+    /// All was read and written, and a stream has a fault.
+    Faulted,
+    /// The image or the input could not be read.
+    ReadFault,
+    /// The output could not be written.
+    WriteFault,
+    /// Out of memory.
+    NoMemory,
+    /// The input has more than 2^30 bytes.
+    InputTooLong,
+}
+
+impl Status {
+    ghost use Rattle.trace_cmd.specs.Answers.{code_of};
+
+    /// The exit status, 0 to 8. 3 is kept for a bench that is bad.
+    pub fn code(&self) -> u8
+        ensures { result ≡ code_of self.now }
+    {
+        match self {
+            Status::Done => 0,
+            Status::Usage => 1,
+            Status::ImageBad { .. } => 2,
+            Status::Faulted => 4,
+            Status::ReadFault => 5,
+            Status::WriteFault => 6,
+            Status::NoMemory => 7,
+            Status::InputTooLong => 8,
+        }
+    }
+}
