@@ -1,0 +1,5 @@
+pub mod Cells
+pub mod Lends
+pub mod Memory
+pub mod Ring
+pub mod RingLends

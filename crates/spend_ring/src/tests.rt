@@ -1,0 +1,1 @@
+//! Each public call once, at a type that is spent and at a number.
