@@ -1,5 +1,5 @@
 -- What each step of a ring does to the cells does the same to its items.
-use Rattle.std.proofs.Common.{◌≡◌, ◌≢◌, ℕ, zero, suc, ◌+◌, ◌-◌, ◌^◌, ◌<◌, ◌≤◌, inl, inr, List, [], ◌∷◌, ◌++◌, map, length, take, drop, set, get_or, replicate, slice_get, Option, Some, None, refl, sym, ap, ◌∙◌, subst, arith, length-append, length-set, get_or-set_same, ext_get_or, append-nil}
+use Rattle.std.proofs.Common.{◌≡◌, ℕ, zero, suc, ◌+◌, ◌-◌, ◌^◌, ◌<◌, ◌≤◌, inl, inr, List, [], ◌∷◌, ◌++◌, map, length, take, drop, set, get_or, replicate, slice_get, Option, Some, None, refl, sym, ap, ◌∙◌, subst, arith, length-append, length-set, get_or-set_same, ext_get_or, append-nil}
 use Rattle.std.proofs.lemmas.List.{append_assoc, map-append, length-map, length-replicate, replicate-append-replicate, set-append_left}
 use Rattle.std.proofs.lemmas.Bool.{cases_lt}
 use Rattle.std.proofs.Math.Seq.{set-append_seam, take-append_seam}
@@ -132,7 +132,7 @@ pub record Popped {X : Type 0} (items : List X) (held : List (Option X)) (p : �
 
 pub laid-empty : (X : Type 0) (n : ℕ) → n < 2 ^ 63 → IsLaid {X = X} 0 0 n (replicate n None) × (items_from {X = X} 0 (replicate n None) ≡ [])
 unfolding turned filled
-laid-empty X n small = let none : Option X = None in relaid 0 0 n (replicate n none) [] (length-replicate n none) small (λ some. some) refl (append-nil (replicate n none))
+laid-empty X n small = let none : Option X = None in let all : n ≡ n - 0 = omega arith in relaid 0 0 n (replicate n none) [] (length-replicate n none) small (λ some. some) refl (append-nil (replicate n none) ∙ ap (λ k. replicate k none) all)
 
 module _ {X : Type 0} (start count n : ℕ) (held : List (Option X)) (h : IsLaid start count n held) where
   abbrev items : List X
@@ -176,7 +176,9 @@ module _ {X : Type 0} (start count n : ℕ) (held : List (Option X)) (h : IsLaid
       let few : length rest ≡ count - 1 = omega (arith, h.counted, ap length e.2, length-append rest (x ∷ [])) in let within = count-within in
       let taken : set (filled items n) (count - 1) None ≡ filled rest n = ap (λ l. set (filled l n) (count - 1) None) e.2 ∙ ap (λ k. set (filled (rest ++ x ∷ []) n) k None) (sym few) ∙ filled-pop rest x n (omega arith) in
       record {
-        rest = rest; item = x; is = e.2;
+        rest = rest;
+        item = x;
+        is = e.2;
         was = item_at (count - 1) p (omega arith) at ∙ ap (λ l. slice_get l (count - 1)) e.2 ∙ get-last rest x (count - 1) (sym few);
         now = relaid start (count - 1) n (set held p None) rest (as_long p None) h.small h.start_within few (wrote (count - 1) p None (omega arith) at ∙ taken);
       }
@@ -190,7 +192,9 @@ module _ {X : Type 0} (start count n : ℕ) (held : List (Option X)) (h : IsLaid
       let taken = turned-next start (set held start None) t None (omega (arith, as_long start None, h.cells)) next ∙ ap (λ c. drop 1 (turned start (set held start None)) ++ c ∷ []) (get_or-set_same held start None None lt) in
       let left = ap (λ l. drop 1 l ++ None ∷ []) (wrote 0 start None (omega (arith, h.cells)) here ∙ ap (λ l. set (filled l n) 0 None) e.2) in
       record {
-        rest = rest; item = x; is = e.2;
+        rest = rest;
+        item = x;
+        is = e.2;
         was = item_at 0 start (omega (arith, h.cells)) here ∙ ap (λ l. slice_get l 0) e.2;
         now = relaid t (count - 1) n (set held start None) rest (as_long start None) h.small (λ _. inside) few (taken ∙ left ∙ filled-front x rest n (omega arith));
       }

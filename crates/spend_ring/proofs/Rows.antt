@@ -11,7 +11,6 @@ use base.Fml.{Fml, Lft, ftrue, fsep, froom}
 use mir.Syntax.{ty_array}
 use types.Logic.{Logic, sem}
 use types.Kit.{‵, ◌⊛◌, ◌$◌, ◌∵◌, !, qed, by, move, keep, frame, use1, use2, split, fsplit, fjoin, rewrite, done}
-use denote.Steps.{nothing}
 use Rattle.std.specs.Prelude.{Option, Some, None}
 use Rattle.std.specs.Mem.{type_size}
 use Rattle.core.proofs.mem.Param.{El, R, el_x, elτ}

@@ -1,5 +1,5 @@
 -- A list that is read from a place on, round its end: what stands there, what a write changes, and the next place.
-use Rattle.std.proofs.Common.{◌≡◌, ◌≢◌, ℕ, zero, suc, ◌+◌, ◌-◌, ◌<◌, ◌≤◌, ◌⊎◌, inl, inr, List, [], ◌∷◌, ◌++◌, length, take, drop, set, get_or, refl, sym, ap, ◌∙◌, subst, arith, length-append, length-take, length-drop, length-set, get_or-take, get_or-drop, append-nil}
+use Rattle.std.proofs.Common.{◌≡◌, ℕ, suc, ◌-◌, ◌<◌, ◌≤◌, inl, inr, List, [], ◌∷◌, ◌++◌, length, take, drop, set, get_or, sym, ap, ◌∙◌, arith, length-append, length-take, length-drop, get_or-take, get_or-drop, append-nil}
 use Rattle.std.proofs.lemmas.List.{append_assoc, take-append-drop, drop-set-lt, drop-set-add, take-set-le, set-append_left, set-append_right, get_or_append_left, get_or-append_right}
 use Rattle.std.proofs.Math.Seq.{take-set-lt, drop-cons, take-suc, drop-length}
 use Rattle.spend_ring.specs.Cells.{IsPlace, turned}

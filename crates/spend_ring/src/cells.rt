@@ -87,7 +87,11 @@ pub(crate) fn give_back<T, A: Allocator>(
     let Cells { mark: _ } = cells;
     let Lease { mark: _ } = lease;
     unsafe {
-        alloc.deallocate(first.cell as *mut u8, count * size_of::<T>(), align_of::<T>());
+        alloc.deallocate(
+            first.cell as *mut u8,
+            count * size_of::<T>(),
+            align_of::<T>(),
+        );
     }
 }
 

@@ -1,9 +1,8 @@
 -- `give_back` makes the block of its empty cells again, and hands it to the allocator with its token. Assumes `Logic`.
-use Rattle.spend_ring.proofs.Steps.{◌≡◌, refl, sym, ap, subst, ◌∙◌, ℕ, ◌*◌, ◌<◌, ◌^◌, arith, List, [], ◌∷◌, ◌++◌, replicate, length-replicate, SProp, never, id⊢, Incl-trans, ftrue, froom, flft, Fn, w64, inst_fn, Val, vptr, vint, vunit, Env, WpFn, prop, ‵, raw, ◌⊛◌, later, given, at_ret, ◌$◌, ◌∵◌, !, qed, by, move, keep, use0, use1, split, join, group, fsplit, fjoin, feq_i, feq_l, flt_l, await, learn, rewrite, regoal, whole, sub, enter, of_opd, unit_lit, bin, size_word, align_word, stop, fld, and_then, no_more, first_of, blocks, exec, returns, alloc_all, pass_all, free_all, look_at, get, get_in, sets, is_so, env, fact, fact_i, tables, yes, no, RattleType, owns, ptr_val, in_a_block, Ptr, RefOf, usize, plain, types_at, nothing, heard, Stays, stay_dropped, walk_of, Goes-dropped, Option, None, proved_at, leaves, as_raw, word, word-Good, after, El, R, el_x, elτ, Cells, First, mark, first_had, mark_had}
+use Rattle.spend_ring.proofs.Steps.{◌≡◌, refl, sym, ap, subst, ◌∙◌, ℕ, ◌*◌, ◌<◌, ◌^◌, arith, List, [], ◌∷◌, ◌++◌, replicate, length-replicate, SProp, never, id⊢, Incl-trans, ftrue, froom, flft, Fn, w64, inst_fn, Val, vint, vunit, Env, WpFn, prop, ‵, raw, ◌⊛◌, later, given, at_ret, ◌$◌, ◌∵◌, !, qed, by, move, keep, use1, split, join, group, fsplit, fjoin, feq_i, feq_l, flt_l, await, learn, rewrite, regoal, whole, sub, enter, of_opd, unit_lit, bin, size_word, align_word, stop, fld, and_then, no_more, first_of, blocks, exec, returns, alloc_all, pass_all, free_all, look_at, get, get_in, sets, is_so, env, fact, tables, yes, no, RattleType, owns, ptr_val, in_a_block, Ptr, RefOf, usize, plain, types_at, nothing, heard, Stays, stay_dropped, walk_of, Goes-dropped, Option, None, proved_at, leaves, as_raw, word-Good, after, El, R, el_x, elτ, Cells, First, first_had, mark_had}
 use lib.Dec.{T as Holds}
 use mir.Syntax.{ty_array, ty_unit}
 use mir.Val.{has_ty, WT}
-use base.Logic.{emp}
 use contract.BorrowLft.{◌⊑◌}
 use prog.Capped.{capped_fits}
 use prog.Memory.{align, capped}
@@ -34,7 +33,7 @@ give_back_spec 𝓤 𝓛 𝓜 𝓡 wired X W LX LW g d dd met md =
     let other_tokens = ‵ (flft κs.1.0 qs.1.0) ⊛ ‵ (flft κs.1.1.0 qs.1.1.0) ⊛ ‵ ftrue in
     let Asked = (cells.at ≡ p) × (cells.held ≡ replicate count None) × (right.at ≡ p) × (right.count ≡ count) × (right.alloc ≡ a) in
     qed 𝓛 (((‵ (flft κs.0 qs.0) ⊛ other_tokens) ⊛ ‵ (owns (types_at T.signature.params κs) ps vss))
-        ∷ (raw (fact 𝓤 (κs.1.0 ⊑ X.lives)) ⊛ raw (fact 𝓤 (κs.1.1.0 ⊑ W.lives)) ⊛ raw (fact 𝓤 Asked)) ∷ []) ∵
+    ∷ (raw (fact 𝓤 (κs.1.0 ⊑ X.lives)) ⊛ raw (fact 𝓤 (κs.1.1.0 ⊑ W.lives)) ⊛ raw (fact 𝓤 Asked)) ∷ []) ∵
     move ! (1 ∷ []) $ split ! $ heard ! _ (λ lives. split ! $ heard ! _ (λ alloc_lives. heard ! _ (λ asked.
     split ! $ split ! $ move ! (2 ∷ []) $ fsplit ! $ fsplit ! $ feq_l ! (λ e0. move ! (1 ∷ []) $ fsplit ! $ first_had E ! p _ (λ e1. fsplit ! $ fsplit ! $ feq_l ! (λ e2. flt_l ! (λ count_fits.
     fsplit ! $ fsplit ! $ mark_had E ! _ (λ e3. move ! (1 ∷ []) $ fsplit ! $ fsplit ! $ mark_had E ! _ (λ e4.

@@ -1,5 +1,5 @@
 -- `reserve` makes empty cells of a new block, and keeps the right to give it back. Assumes `Logic`.
-use Rattle.spend_ring.proofs.Steps.{◌≡◌, refl, sym, ap, subst, ℕ, ◌*◌, ◌<◌, ◌^◌, arith, List, [], ◌∷◌, ◌++◌, replicate, length-replicate, length, SProp, ent, Incl-trans, ftrue, flft, Fn, Body, w64, inst_fn, Val, vptr, vint, vstruct, vcons, vnil, Env, WpFn, Logic, sem, prop, ‵, raw, ◌⊛◌, later, at_ret, ◌$◌, ◌∵◌, !, qed, by, move, keep, use0, use1, use2, use3, split, join, fsplit, fsplit3, fjoin, fpack, feq_i, feq_l, flt_i, flt_l, await, rewrite, regoal, done, whole, agg, enter, of_opd, lit, bin, size_word, align_word, stop, fld, and_then, no_more, first_of, exec, returns, alloc_all, pass_all, free_all, look_at, get, get_in, sets, sets_last, is_so, env, fact, fact_i, tables, yes, RattleType, Valss, owns, layout, Ptr, block_ptr, RefOf, usize, plain, types_at, nothing, heard, Stays, stay_dropped, walk_of, Goes-dropped, None, proved_at, leaves, as_written, word, word-Good, after, El, R, elτ, Cells, First, Mark, mark, mark_made, first_made, Ura}
+use Rattle.spend_ring.proofs.Steps.{◌≡◌, refl, sym, ap, subst, ◌*◌, ◌<◌, ◌^◌, arith, List, [], ◌∷◌, ◌++◌, replicate, length-replicate, length, SProp, ent, Incl-trans, ftrue, flft, Fn, Body, w64, inst_fn, Val, vint, vstruct, vcons, vnil, Env, WpFn, Logic, sem, prop, ‵, raw, ◌⊛◌, later, at_ret, ◌$◌, ◌∵◌, !, qed, by, move, keep, use0, use1, use2, use3, split, join, fsplit, fjoin, fpack, feq_i, feq_l, flt_i, flt_l, await, regoal, done, whole, agg, enter, of_opd, lit, bin, size_word, align_word, stop, fld, and_then, no_more, first_of, exec, returns, alloc_all, pass_all, free_all, look_at, get, get_in, sets, sets_last, is_so, env, fact, fact_i, tables, yes, RattleType, Valss, owns, layout, Ptr, block_ptr, RefOf, usize, plain, types_at, nothing, heard, Stays, stay_dropped, walk_of, Goes-dropped, None, proved_at, leaves, as_written, word, word-Good, after, El, R, elτ, Cells, First, Mark, mark, mark_made, first_made, Ura}
 use base.Logic.{emp, sep}
 use lib.Dec.{lit<}
 use mir.Syntax.{ty_array}
@@ -8,7 +8,7 @@ use prog.Capped.{capped_fits}
 use prog.Memory.{align, capped}
 use prog.Wp.{Wp, after_seq, at_return}
 use types.ByLocal.{get_tag, lands_as}
-use types.Kit.{Post as After, any_q, ⋆, frame}
+use types.Kit.{Post as After, any_q, ⋆}
 use types.Match.{live, vrt, in_variant}
 use types.Run.{switches_on}
 use denote.Laws.{Is}
@@ -60,13 +60,13 @@ reserve_spec 𝓤 𝓛 𝓜 𝓡 wired X W LX LW g d dd met md =
     let s = type_size (R E) in let mem = 𝓜.mem in let run = 𝓡.returns in
     let other_tokens = ‵ (flft κs.1.0 qs.1.0) ⊛ ‵ (flft κs.1.1.0 qs.1.1.0) ⊛ ‵ ftrue in
     let ends : (r : Out.Denot) (v : Val) → IfOk r (λ t. (t.1.at ≡ t.0.cell) × (t.1.held ≡ replicate count None) × (t.2.at ≡ t.0.cell) × (t.2.count ≡ count) × (t.2.alloc ≡ a))
-        → ent 𝓤 (⋆ 𝓛 (‵ (Out.own_val r (v ∷ [])) ∷ ‵ (flft κs.0 qs.0) ∷ ‵ ftrue ∷ other_tokens ∷ [])) (Post v) = λ r v told.
-        (let said = IfOk r (λ t. (t.1.at ≡ t.0.cell) × (t.1.held ≡ replicate count None) × (t.2.at ≡ t.0.cell) × (t.2.count ≡ count) × (t.2.alloc ≡ a)) in
-        qed 𝓛 (‵ (Out.own_val r (v ∷ [])) ∷ ‵ (flft κs.0 qs.0) ∷ ‵ ftrue ∷ other_tokens ∷ []) ∵
-        use0 𝓛 (raw (fact 𝓤 said)) (fact_i 𝓤 said (emp 𝓤) told) $ nothing ! $ nothing ! $ fjoin ! $ nothing ! $ fjoin ! $
-        move ! (3 ∷ 5 ∷ []) $ join ! $ keep ! (0 ∷ 1 ∷ 3 ∷ 2 ∷ []) $ by ! (leaves 𝓛 T stayed c y v r (tt, (tt, tt)) (tt, (tt, tt)))) in
+    → ent 𝓤 (⋆ 𝓛 (‵ (Out.own_val r (v ∷ [])) ∷ ‵ (flft κs.0 qs.0) ∷ ‵ ftrue ∷ other_tokens ∷ [])) (Post v) = λ r v told.
+    (let said = IfOk r (λ t. (t.1.at ≡ t.0.cell) × (t.1.held ≡ replicate count None) × (t.2.at ≡ t.0.cell) × (t.2.count ≡ count) × (t.2.alloc ≡ a)) in
+    qed 𝓛 (‵ (Out.own_val r (v ∷ [])) ∷ ‵ (flft κs.0 qs.0) ∷ ‵ ftrue ∷ other_tokens ∷ []) ∵
+    use0 𝓛 (raw (fact 𝓤 said)) (fact_i 𝓤 said (emp 𝓤) told) $ nothing ! $ nothing ! $ fjoin ! $ nothing ! $ fjoin ! $
+    move ! (3 ∷ 5 ∷ []) $ join ! $ keep ! (0 ∷ 1 ∷ 3 ∷ 2 ∷ []) $ by ! (leaves 𝓛 T stayed c y v r (tt, (tt, tt)) (tt, (tt, tt)))) in
     qed 𝓛 (((‵ (flft κs.0 qs.0) ⊛ other_tokens) ⊛ ‵ (owns (types_at T.signature.params κs) ps vss))
-        ∷ (raw (fact 𝓤 (κs.1.0 ⊑ X.lives)) ⊛ raw (fact 𝓤 (κs.1.1.0 ⊑ W.lives)) ⊛ raw (fact 𝓤 (FitsInBlock (R E) count))) ∷ []) ∵
+    ∷ (raw (fact 𝓤 (κs.1.0 ⊑ X.lives)) ⊛ raw (fact 𝓤 (κs.1.1.0 ⊑ W.lives)) ⊛ raw (fact 𝓤 (FitsInBlock (R E) count))) ∷ []) ∵
     move ! (1 ∷ []) $ split ! $ heard ! _ (λ lives. split ! $ heard ! _ (λ alloc_lives. heard ! _ (λ asked.
     let small : count * s < 2 ^ 63 = asked.0 in let bytes : count * s < 2 ^ 64 = omega arith in
     split ! $ split ! $ move ! (2 ∷ []) $ fsplit ! $ fsplit ! $ feq_l ! (λ e0. move ! (1 ∷ []) $ fsplit ! $ fsplit ! $ feq_l ! (λ e1. flt_l ! (λ count_fits.

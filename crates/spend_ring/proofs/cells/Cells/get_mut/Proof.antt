@@ -1,5 +1,5 @@
 -- `get_mut` lends the value of a cell, and the cells follow it. Assumes `Logic`.
-use Rattle.spend_ring.proofs.Steps.{◌≡◌, refl, sym, subst, ◌∙◌, ℕ, ◌+◌, ◌*◌, ◌<◌, ◌^◌, arith, List, [], ◌∷◌, ◌++◌, length, get_or, set, length-set, full_share, never, SProp, id⊢, ftrue, fat, froom, flft, Fn, named, w64, inst_fn, Val, vptr, vint, Env, WpFn, prop, ‵, raw, ◌⊛◌, some, later, pick, await, group, fjoin3, fpack, at_ret, ◌$◌, ◌∵◌, !, qed, by, done, move, keep, use0, use1, use2, split, join, fsplit, fsplit3, fjoin, feq_i, feq_l, flt_i, flt_l, rewrite, regoal, whole, sub, enter, of_opd, addr, bin, size_lit, stop, fld, first_of, blocks, exec, returns, alloc_all, pass_all, free_all, look_at, get, get_in, through, sets, sets_last, take_at, give_at, env, fact, fact_i, tables, yes, no, owns, layout, Ptr, in_a_block, MutBor, MutRef, mut_ref_to, mem, cell_at, block_ptr, Mark, Ura, Logic, sem, ent, Fml, GName, fsep, usize, plain, types_at, nothing, heard, opens, closes, Stays, stay_dropped, walk_of, Goes-spent_ref, Goes-dropped, Some, None, Option, proved_at, leaves, as_raw, word, word-Good, after, El, R, args, el_x, elτ, Cells, First, first_had, Good}
+use Rattle.spend_ring.proofs.Steps.{◌≡◌, refl, sym, subst, ◌∙◌, ℕ, ◌+◌, ◌*◌, ◌<◌, ◌^◌, arith, List, [], ◌∷◌, ◌++◌, length, get_or, set, length-set, full_share, never, SProp, id⊢, ftrue, fat, flft, Fn, named, inst_fn, Val, vptr, Env, WpFn, prop, ‵, raw, ◌⊛◌, some, later, pick, await, group, fjoin3, fpack, at_ret, ◌$◌, ◌∵◌, !, qed, by, done, move, keep, use0, use1, use2, split, join, fsplit, fsplit3, fjoin, feq_l, flt_i, flt_l, rewrite, regoal, whole, sub, enter, of_opd, addr, bin, size_lit, stop, fld, first_of, blocks, exec, returns, alloc_all, pass_all, free_all, look_at, get, get_in, through, sets, sets_last, take_at, give_at, env, fact, fact_i, tables, yes, no, owns, layout, Ptr, in_a_block, MutBor, MutRef, mut_ref_to, mem, cell_at, block_ptr, Mark, Ura, Logic, sem, ent, Fml, GName, fsep, usize, plain, types_at, nothing, heard, opens, Stays, stay_dropped, walk_of, Goes-spent_ref, Goes-dropped, Some, None, Option, proved_at, leaves, word, word-Good, after, El, R, args, el_x, Cells, First, first_had}
 use base.Logic.{emp}
 use base.Logic.{sep}
 use contract.BorrowLft.{◌⊑◌}
@@ -47,7 +47,7 @@ get_mut_spec 𝓤 𝓛 𝓜 𝓡 wired X LX =
     let κs = y.0.0 in let qs = y.0.1 in let a = y.0.3 in let vss = y.0.4 in let Post : Val → SProp 𝓤 = (walk_of 𝓛 T stayed c).post y in
     let self = a.0 in let rb = self.ref_ptr.0 in let ro = self.ref_ptr.1 in let d = self.now in let p = a.1.0.cell in let place = a.1.1.0 in
     qed 𝓛 (((‵ (flft κs.0 qs.0) ⊛ (‵ (flft κs.1.0 qs.1.0) ⊛ ‵ ftrue)) ⊛ ‵ (owns (types_at T.signature.params κs) a vss))
-        ∷ (raw (fact 𝓤 (κs.1.0 ⊑ X.lives)) ⊛ raw (fact 𝓤 ((p ≡ d.at) × IsFull d.held place))) ∷ []) ∵
+    ∷ (raw (fact 𝓤 (κs.1.0 ⊑ X.lives)) ⊛ raw (fact 𝓤 ((p ≡ d.at) × IsFull d.held place))) ∷ []) ∵
     move ! (1 ∷ []) $ split ! $ heard ! _ (λ lives. heard ! _ (λ asked.
     split ! $ split ! $ move ! (2 ∷ []) $ fsplit ! $ fsplit3 ! $ feq_l ! (λ e0.
     move ! (2 ∷ []) $ fsplit ! $ first_had E ! p _ (λ e1. fsplit ! $ fsplit ! $ feq_l ! (λ e2. flt_l ! (λ place_fits.

@@ -1,4 +1,4 @@
-use Rattle.std.proofs.Common.{sym, ap, ◌∙◌}
+use Rattle.std.proofs.Common.{ap, ◌∙◌}
 use Rattle.spend_ring.proofs.Laid.{all_empty}
 use Rattle.spend_ring.proofs.ring.SpendRing.close.Goals as goal
 

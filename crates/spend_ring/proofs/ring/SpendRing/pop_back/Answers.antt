@@ -1,4 +1,4 @@
-use Rattle.std.proofs.Common.{◌≡◌, ◌<◌, ◌≤◌, ◌-◌, ◌++◌, [], ◌∷◌, List, take, length, Some, refl, sym, ap, ◌∙◌, subst, arith}
+use Rattle.std.proofs.Common.{◌≡◌, ◌<◌, ◌-◌, ◌++◌, [], ◌∷◌, length, Some, sym, ap, ◌∙◌, subst, arith}
 use Rattle.spend_ring.specs.Cells.{items_from, IsLaid}
 use Rattle.spend_ring.proofs.Laid.{count-within, popped_back, without_last}
 use Rattle.spend_ring.proofs.ring.SpendRing.pop_back.Goals as goal

@@ -1,4 +1,4 @@
-use Rattle.std.proofs.Common.{◌≡◌, ◌<◌, ◌≤◌, ◌-◌, ◌∷◌, length, drop, Some, sym, ap, ◌∙◌, subst, arith}
+use Rattle.std.proofs.Common.{◌≡◌, ◌<◌, ◌-◌, ◌∷◌, length, drop, Some, sym, ap, ◌∙◌, subst, arith}
 use Rattle.spend_ring.specs.Cells.{items_from, IsLaid}
 use Rattle.spend_ring.proofs.Laid.{count-within, popped_front}
 use Rattle.spend_ring.proofs.ring.SpendRing.pop_front.Goals as goal

@@ -1,4 +1,4 @@
-use Rattle.std.proofs.Common.{◌≡◌, ◌≤◌, [], ◌∷◌, length, refl, ap, ◌∙◌, arith, length-append}
+use Rattle.std.proofs.Common.{◌≡◌, [], ◌∷◌, length, refl, ap, ◌∙◌, arith, length-append}
 use Rattle.spend_ring.proofs.Laid.{count-within, newest-full}
 use Rattle.spend_ring.proofs.ring.SpendRing.push_back.Goals as goal
 
@@ -21,5 +21,14 @@ returns-in-Some-clause-newest g c =
 pub returns-in-Some-clause-bounded : goal.returns-in-Some-clause-bounded
 returns-in-Some-clause-bounded g c =
     let r = c.self.inside in let h = c.self.invariant.4 in let counted = h.counted in let left = c.in-Some.ensures in let put = c.append-in-Some.ensures in
-    omega (arith, count-within r.start r.count r.capacity r.cells.held h, ap (λ v. length v.items) c.self.view_is, ap (λ v. v.capacity) c.self.view_is, ap length left.order, left.capacity,
-    ap (λ v. length v.items) put, ap (λ v. v.capacity) put, length-append c.pop_front.new.self.items (c.args.item ∷ []))
+    omega (
+      arith,
+      count-within r.start r.count r.capacity r.cells.held h,
+      ap (λ v. length v.items) c.self.view_is,
+      ap (λ v. v.capacity) c.self.view_is,
+      ap length left.order,
+      left.capacity,
+      ap (λ v. length v.items) put,
+      ap (λ v. v.capacity) put,
+      length-append c.pop_front.new.self.items (c.args.item ∷ []),
+    )
