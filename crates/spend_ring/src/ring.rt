@@ -127,10 +127,10 @@ impl<T> SpendRing<T> {
         if self.count == 0 {
             return None;
         }
-        let place = self.start;
-        self.start = place_after(place, 1, self.capacity);
+        let oldest = self.start;
+        self.start = place_after(oldest, 1, self.capacity);
         self.count -= 1;
-        Some(self.cells.take(self.first, place))
+        Some(self.cells.take(self.first, oldest))
     }
 
     /// Takes the newest value out.
@@ -144,8 +144,9 @@ impl<T> SpendRing<T> {
         if self.count == 0 {
             return None;
         }
-        self.count -= 1;
-        let place = place_after(self.start, self.count, self.capacity);
+        let last = self.count - 1;
+        let place = place_after(self.start, last, self.capacity);
+        self.count = last;
         Some(self.cells.take(self.first, place))
     }
 
