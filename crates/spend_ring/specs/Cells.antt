@@ -6,6 +6,10 @@ abbrev pub IsPlace : ℕ → ℕ → ℕ → ℕ → Type 0
 IsPlace start i n p = (p < n) × ((p ≡ start + i) ⊎ (p + n ≡ start + i))
 
 module _ {X : Type 0} where
+  -- the place has a cell, and it is empty
+  abbrev pub IsEmpty : List (Option X) → ℕ → Type 0
+  IsEmpty held p = (p < length held) × (get_or held p None ≡ None)
+
   -- the cell at the place holds a value
   abbrev pub IsFull : List (Option X) → ℕ → Type 0
   IsFull held p = (x : X) × (get_or held p None ≡ Some x)

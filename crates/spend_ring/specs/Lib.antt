@@ -1,3 +1,4 @@
+pub mod Block
 pub mod Cells
 pub mod Lends
 pub mod Memory

@@ -7,7 +7,7 @@ ghost use Rattle.std.specs.Borrow.{sem};
 ghost use Rattle.spend_ring.specs.Cells.{IsPlace};
 ghost use Rattle.spend_ring.specs.Ring.{ring, newest};
 
-use crate::cells::{Cells, First, Lease, give_back, reserve};
+use crate::cells::{Cells, First, Lease};
 use std::alloc::{AllocError, Global};
 use std::marker::Model;
 use std_alloc::room::may_hold;
@@ -25,7 +25,9 @@ fn place_after(start: usize, offset: usize, places: usize) -> usize
 pub struct SpendRing<T> {
     first: First<T>,
     capacity: usize,
+    /// The place of the oldest value.
     start: usize,
+    /// The number of values.
     count: usize,
     cells: Cells<T>,
     lease: Lease<T, Global>,
@@ -33,7 +35,7 @@ pub struct SpendRing<T> {
 }
 
 impl<T> Model for SpendRing<T> {
-    ghost use Rattle.std.specs.Prelude.{◌≡◌};
+    ghost use Rattle.spend_ring.specs.Block.{IsBlock};
     ghost use Rattle.spend_ring.specs.Cells.{items_from, IsLaid};
     ghost use Rattle.spend_ring.specs.Ring.{Ring, ring, ring_code};
 
@@ -43,7 +45,7 @@ impl<T> Model for SpendRing<T> {
 
     ghost view = { λ r. ring (items_from r.start r.cells.held) r.capacity };
 
-    ghost invariant = { λ r. (r.cells.at ≡ r.first.cell) × (r.lease.at ≡ r.first.cell) × (r.lease.count ≡ r.capacity) × (r.lease.alloc ≡ r.alloc) × IsLaid r.start r.count r.capacity r.cells.held };
+    ghost invariant = { λ r. IsBlock r.first r.cells r.lease r.capacity r.alloc × IsLaid r.start r.count r.capacity r.cells.held };
 }
 
 impl<T> SpendRing<T> {
@@ -57,7 +59,7 @@ impl<T> SpendRing<T> {
         if !may_hold::<T>(capacity) {
             return Err(AllocError);
         }
-        let (first, cells, lease) = reserve(&alloc, capacity)?;
+        let (first, cells, lease) = Lease::reserve(&alloc, capacity)?;
         Ok(SpendRing {
             first,
             capacity,
@@ -73,6 +75,7 @@ impl<T> SpendRing<T> {
     pub fn len(&self) -> usize
         ensures len { result ≡ length self.now.items }
         ensures bounded { result ≤ self.now.capacity }
+        ensures small { result < 2 ^ 63 }
     {
         self.count
     }
@@ -81,6 +84,7 @@ impl<T> SpendRing<T> {
     pub fn capacity(&self) -> usize
         ensures capacity { result ≡ self.now.capacity }
         ensures bounded { length self.now.items ≤ result }
+        ensures small { result < 2 ^ 63 }
     {
         self.capacity
     }
@@ -188,6 +192,6 @@ impl<T> SpendRing<T> {
             lease,
             alloc,
         } = self;
-        give_back(&alloc, first, capacity, cells, lease);
+        lease.give_back(&alloc, first, capacity, cells);
     }
 }

@@ -47,8 +47,8 @@ get_mut_spec 𝓤 𝓛 𝓜 𝓡 wired X LX =
     let κs = y.0.0 in let qs = y.0.1 in let a = y.0.3 in let vss = y.0.4 in let Post : Val → SProp 𝓤 = (walk_of 𝓛 T stayed c).post y in
     let self = a.0 in let rb = self.ref_ptr.0 in let ro = self.ref_ptr.1 in let d = self.now in let p = a.1.0.cell in let place = a.1.1.0 in
     qed 𝓛 (((‵ (flft κs.0 qs.0) ⊛ (‵ (flft κs.1.0 qs.1.0) ⊛ ‵ ftrue)) ⊛ ‵ (owns (types_at T.signature.params κs) a vss))
-    ∷ (raw (fact 𝓤 (κs.1.0 ⊑ X.lives)) ⊛ raw (fact 𝓤 ((p ≡ d.at) × IsFull d.held place))) ∷ []) ∵
-    move ! (1 ∷ []) $ split ! $ heard ! _ (λ lives. heard ! _ (λ asked.
+    ∷ (raw (fact 𝓤 (κs.1.0 ⊑ X.lives)) ⊛ raw (fact 𝓤 (p ≡ d.at)) ⊛ raw (fact 𝓤 (IsFull d.held place))) ∷ []) ∵
+    move ! (1 ∷ []) $ split ! $ heard ! _ (λ lives. split ! $ heard ! _ (λ same. heard ! _ (λ full.
     split ! $ split ! $ move ! (2 ∷ []) $ fsplit ! $ fsplit3 ! $ feq_l ! (λ e0.
     move ! (2 ∷ []) $ fsplit ! $ first_had E ! p _ (λ e1. fsplit ! $ fsplit ! $ feq_l ! (λ e2. flt_l ! (λ place_fits.
     regoal ! (λ (us : List Val). prop (WpFn 𝓤 𝓛.H 𝓣.C 𝓣.Λ fn us Post)) (λ j. e0 j ++ (e1 j ++ (e2 j ++ []))) refl $ move ! (1 ∷ 2 ∷ 3 ∷ []) $
@@ -57,15 +57,15 @@ get_mut_spec 𝓤 𝓛 𝓜 𝓡 wired X LX =
     let En : Env 𝓤 𝓛.H = env fn.locals l in
     opens ! tt (Cells E) {h = d} rb ro (λ vs. move ! (1 ∷ []) $ fsplit ! $ move ! (1 ∷ []) $
     in_a_block ! d.at (λ r. cells_own (R E) r d.held) (id⊢ 𝓤 (never 𝓤)) (λ b o at. fsplit ! $ flt_l ! (λ small.
-    let s = type_size (R E) in let x = asked.1.0 in let inside = full_within d.held place x asked.1.1 in
+    let s = type_size (R E) in let x = full.0 in let inside = full_within d.held place x full.1 in
     let size_fits : s < 2 ^ 64 = omega (arith, one_below (length d.held) s (2 ^ 63) (omega arith) small) in
     let far_fits : place * s < 2 ^ 64 = omega (arith, times_below place (length d.held) s (2 ^ 63) (omega arith) small) in
-    take_at ! 2 $ rewrite ! 0 (λ (r : Ptr). ‵ (fat full_share (layout (First E)) (l 2) 0 (word r))) (asked.0 ∙ at) refl $ give_at ! 2 $
+    take_at ! 2 $ rewrite ! 0 (λ (r : Ptr). ‵ (fat full_share (layout (First E)) (l 2) 0 (word r))) (same ∙ at) refl $ give_at ! 2 $
     first_of ! $ blocks ! $
     sets ! (bin ! (get ! refl) (size_lit ! (record { fits = size_fits })) (record { fits = far_fits })) refl (tt, record { fits = far_fits }) $
     sets ! (bin ! (get_in ! (fld ! refl (stop !)) (sub ! 0 refl (whole !))) (get ! refl) tt) refl (tt, tt) $
     use1 𝓛 (‵ (cell (R E) b (place * s + o) (get_or d.held place None)) ⊛ ‵ (others E b o d.held place)) (cell_out E 𝓛 b d.held place o inside) $ split ! $
-    rewrite ! 0 (λ (k : Option (el_x E)). ‵ (cell (R E) b (place * s + o) k)) asked.1.1 refl $
+    rewrite ! 0 (λ (k : Option (el_x E)). ‵ (cell (R E) b (place * s + o) k)) full.1 refl $
     -- [the value; the other cells; the mark; its cell; the open borrow; obs; auth; ..]
     sets_last ! (addr ! (through ! refl (stop !))) refl (tt, tt) $ exec ! 𝓣.C 𝓣.Λ En (after 1 fn.body) (at_ret En Post) $ sets ! (of_opd ! (get ! refl)) refl (tt, tt) $
     let there : Val = vptr b (place * s + o) in let left = Left E d place rb ro vs b o in let way = back E 𝓛 d place rb ro vs b o at inside small in let code = (Cells E).coded.code d in
@@ -77,6 +77,6 @@ get_mut_spec 𝓤 𝓛 𝓜 𝓡 wired X LX =
     -- [the token; the way back; the `&mut` to the value; nothing; the other token]
     move ! (0 ∷ 4 ∷ []) $ join ! $
     nothing ! $ nothing ! $ fjoin ! $ nothing ! $ fjoin ! $ nothing ! $ fjoin ! $
-    use0 𝓛 (raw (fact 𝓤 (get_or d.held place None ≡ Some x))) (fact_i 𝓤 (get_or d.held place None ≡ Some x) (emp 𝓤) asked.1.1) $
+    use0 𝓛 (raw (fact 𝓤 (get_or d.held place None ≡ Some x))) (fact_i 𝓤 (get_or d.held place None ≡ Some x) (emp 𝓤) full.1) $
     move ! (3 ∷ 0 ∷ []) $ join ! $ keep ! (2 ∷ 1 ∷ 3 ∷ 0 ∷ []) $
-    by ! (leaves 𝓛 T stayed c y there (lent δ) (tt, (tt, (tt, tt))) (tt, (tt, (tt, tt))))))))))))))))
+    by ! (leaves 𝓛 T stayed c y there (lent δ) (tt, (tt, (tt, tt))) (tt, (tt, (tt, tt)))))))))))))))))

@@ -4,6 +4,7 @@ use base.Logic.{emp}
 use contract.BorrowLft.{◌⊑◌}
 use Rattle.core.proofs.ptr.Rows.{times_below, one_below, el_in}
 use Rattle.std.specs.Mem.{type_size}
+use Rattle.spend_ring.specs.Cells.{IsEmpty}
 use Rattle.spend_ring.specs.Memory.{cell, row, cells_own}
 use Rattle.spend_ring.proofs.Rows.{others, cell_out, cell_in}
 use Rattle.spend_ring.specs.contracts.cells.Cells.put as f
@@ -20,8 +21,8 @@ put_spec 𝓤 𝓛 𝓜 𝓡 wired X LX =
     let κs = y.0.0 in let qs = y.0.1 in let a = y.0.3 in let vss = y.0.4 in let Post : Val → SProp 𝓤 = (walk_of 𝓛 T stayed c).post y in
     let self = a.0 in let rb = self.ref_ptr.0 in let ro = self.ref_ptr.1 in let d = self.now in let p = a.1.0.cell in let place = a.1.1.0 in let item = a.1.1.1.0 in
     qed 𝓛 (((‵ (flft κs.0 qs.0) ⊛ (‵ (flft κs.1.0 qs.1.0) ⊛ ‵ ftrue)) ⊛ ‵ (owns (types_at T.signature.params κs) a vss))
-    ∷ (raw (fact 𝓤 (κs.1.0 ⊑ X.lives)) ⊛ raw (fact 𝓤 ((p ≡ d.at) × (place < length d.held) × (get_or d.held place None ≡ None)))) ∷ []) ∵
-    move ! (1 ∷ []) $ split ! $ heard ! _ (λ lives. heard ! _ (λ asked.
+    ∷ (raw (fact 𝓤 (κs.1.0 ⊑ X.lives)) ⊛ raw (fact 𝓤 (p ≡ d.at)) ⊛ raw (fact 𝓤 (IsEmpty d.held place))) ∷ []) ∵
+    move ! (1 ∷ []) $ split ! $ heard ! _ (λ lives. split ! $ heard ! _ (λ same. heard ! _ (λ asked.
     split ! $ split ! $ move ! (2 ∷ []) $ fsplit ! $ fsplit3 ! $ feq_l ! (λ e0.
     move ! (2 ∷ []) $ fsplit ! $ first_had E ! p _ (λ e1. fsplit ! $ fsplit ! $ feq_l ! (λ e2. flt_l ! (λ place_fits. fsplit ! $ value_had E ! item _ (λ v e3 good.
     regoal ! (λ (us : List Val). prop (WpFn 𝓤 𝓛.H 𝓣.C 𝓣.Λ fn us Post)) (λ j. e0 j ++ (e1 j ++ (e2 j ++ (e3 j ++ [])))) refl $ move ! (2 ∷ 3 ∷ 4 ∷ []) $
@@ -30,15 +31,15 @@ put_spec 𝓤 𝓛 𝓜 𝓡 wired X LX =
     let En : Env 𝓤 𝓛.H = env fn.locals l in
     opens ! tt (Cells E) {h = d} rb ro (λ vs. move ! (1 ∷ []) $ fsplit ! $ move ! (1 ∷ []) $
     in_a_block ! d.at (λ r. cells_own (R E) r d.held) (id⊢ 𝓤 (never 𝓤)) (λ b o at. fsplit ! $ flt_l ! (λ small.
-    let s = type_size (R E) in let inside = asked.1 in
+    let s = type_size (R E) in let inside = asked.0 in
     let size_fits : s < 2 ^ 64 = omega (arith, one_below (length d.held) s (2 ^ 63) (omega arith) small) in
     let far_fits : place * s < 2 ^ 64 = omega (arith, times_below place (length d.held) s (2 ^ 63) (omega arith) small) in
-    take_at ! 2 $ rewrite ! 0 (λ (r : Ptr). ‵ (fat full_share (layout (First E)) (l 2) 0 (word r))) (asked.0 ∙ at) refl $ give_at ! 2 $
+    take_at ! 2 $ rewrite ! 0 (λ (r : Ptr). ‵ (fat full_share (layout (First E)) (l 2) 0 (word r))) (same ∙ at) refl $ give_at ! 2 $
     first_of ! $ blocks ! $
     sets ! (bin ! (get ! refl) (size_lit ! (record { fits = size_fits })) (record { fits = far_fits })) refl (tt, record { fits = far_fits }) $
     sets ! (bin ! (get_in ! (fld ! refl (stop !)) (sub ! 0 refl (whole !))) (get ! refl) tt) refl (tt, tt) $
     use1 𝓛 (‵ (cell (R E) b (place * s + o) (get_or d.held place None)) ⊛ ‵ (others E b o d.held place)) (cell_out E 𝓛 b d.held place o inside) $ split ! $
-    rewrite ! 0 (λ (k : Option (el_x E)). ‵ (cell (R E) b (place * s + o) k)) asked.2 refl $ as_written ! (elτ E) b (place * s + o) $
+    rewrite ! 0 (λ (k : Option (el_x E)). ‵ (cell (R E) b (place * s + o) k)) asked.1 refl $ as_written ! (elτ E) b (place * s + o) $
     -- [the room; the other cells; the mark; its cell; the open borrow; obs; auth; the value; ..]
     sets ! (of_opd ! (get ! refl)) refl good $ assigns_last ! (of_opd ! (get ! refl)) (through ! refl (stop !)) (init ! 0 refl good) $
     exec ! 𝓣.C 𝓣.Λ En (after 1 fn.body) (at_ret En Post) $ sets ! (of_opd ! (unit_lit !)) refl (tt, tt) $
@@ -51,5 +52,5 @@ put_spec 𝓤 𝓛 𝓜 𝓡 wired X LX =
     -- [obs; the borrow of the cells; its token; nothing; the other token]
     feq_i ! (List Val) vss.0 (vptr rb ro ∷ []) e0 $ fjoin3 ! $ nothing ! $ nothing ! $ fjoin ! $ nothing ! $ fjoin ! $ nothing ! $ fjoin ! $ move ! (1 ∷ 0 ∷ []) $ fjoin ! $
     feq_i ! (List Val) (vunit ∷ []) (vunit ∷ []) refl $
-    let done_so = (new.at ≡ d.at) × (new.held ≡ set d.held place (Some item)) in use0 𝓛 (raw (fact 𝓤 done_so)) (fact_i 𝓤 done_so (emp 𝓤) (refl, refl)) $
-    move ! (3 ∷ 5 ∷ []) $ join ! $ keep ! (0 ∷ 3 ∷ 2 ∷ 1 ∷ []) $ by ! (leaves 𝓛 T stayed c y vunit tt (new, (tt, (tt, (tt, tt)))) (tt, (tt, (tt, (tt, tt)))))))))))))))))
+    let Held = new.held ≡ set d.held place (Some item) in use0 𝓛 (raw (fact 𝓤 Held)) (fact_i 𝓤 Held (emp 𝓤) refl) $ use0 𝓛 (raw (fact 𝓤 (new.at ≡ d.at))) (fact_i 𝓤 (new.at ≡ d.at) (emp 𝓤) refl) $ join ! $
+    move ! (3 ∷ 5 ∷ []) $ join ! $ keep ! (0 ∷ 3 ∷ 2 ∷ 1 ∷ []) $ by ! (leaves 𝓛 T stayed c y vunit tt (new, (tt, (tt, (tt, tt)))) (tt, (tt, (tt, (tt, tt))))))))))))))))))

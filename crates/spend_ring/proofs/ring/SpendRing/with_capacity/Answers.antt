@@ -7,9 +7,9 @@ use Rattle.spend_ring.proofs.ring.SpendRing.with_capacity.Goals as goal
 pub invariant_of-result : goal.invariant_of-result
 invariant_of-result g c =
     let made = c.in_ok-first.ensures in let n = c.args.capacity in let small = (c.may_hold.ensures (grind (arith, common_steps))).1 in
-    (made.0, made.2, made.3, made.4, subst (IsLaid 0 0 n) (sym made.1) (laid-empty g.row.T.Denot n small).0)
+    (made.block, subst (IsLaid 0 0 n) (sym made.empty) (laid-empty g.row.T.Denot n small).0)
 
 pub returns-clause-empty : goal.returns-clause-empty
 returns-clause-empty g c =
     let n = c.args.capacity in let small = (c.may_hold.ensures (grind (arith, common_steps))).1 in
-    ap (items_from 0) c.in_ok-first.ensures.1 ∙ (laid-empty g.row.T.Denot n small).1
+    ap (items_from 0) c.in_ok-first.ensures.empty ∙ (laid-empty g.row.T.Denot n small).1

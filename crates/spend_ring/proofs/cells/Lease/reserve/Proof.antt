@@ -28,12 +28,13 @@ use Rattle.std.specs.Prelude.{true, false, IfOk, Ok, Err}
 use Rattle.std.specs.Vec.Ownership.{FitsInBlock}
 use Rattle.std_alloc.proofs.RcSteps.{Good, first_Good}
 use Rattle.std_alloc.proofs.ResultValues.{ok_of, err_of}
+use Rattle.spend_ring.specs.Block.{IsBlock}
 use Rattle.spend_ring.specs.Memory.{row}
 use Rattle.spend_ring.proofs.Rows.{row_of_room}
 use Rattle.spend_ring.specs.contracts.cells.Lease as lease
-use Rattle.spend_ring.specs.contracts.cells.reserve as f
-use Rattle.spend_ring.proofs.cells.reserve.Statement.{statement}
-use Rattle.spend_ring.proofs.cells.reserve.Code as code
+use Rattle.spend_ring.specs.contracts.cells.Lease.reserve as f
+use Rattle.spend_ring.proofs.cells.Lease.reserve.Statement.{statement}
+use Rattle.spend_ring.proofs.cells.Lease.reserve.Code as code
 
 abbrev three : Val → Val → Val → Val
 three u v w = vstruct (vcons u (vcons v (vcons w vnil)))
@@ -59,11 +60,10 @@ reserve_spec 𝓤 𝓛 𝓜 𝓡 wired X W LX LW g d dd met md =
     let at = ps.0.ref_ptr in let a = ps.0.now in let count = ps.1.0 in
     let s = type_size (R E) in let mem = 𝓜.mem in let run = 𝓡.returns in
     let other_tokens = ‵ (flft κs.1.0 qs.1.0) ⊛ ‵ (flft κs.1.1.0 qs.1.1.0) ⊛ ‵ ftrue in
-    let ends : (r : Out.Denot) (v : Val) → IfOk r (λ t. (t.1.at ≡ t.0.cell) × (t.1.held ≡ replicate count None) × (t.2.at ≡ t.0.cell) × (t.2.count ≡ count) × (t.2.alloc ≡ a))
-    → ent 𝓤 (⋆ 𝓛 (‵ (Out.own_val r (v ∷ [])) ∷ ‵ (flft κs.0 qs.0) ∷ ‵ ftrue ∷ other_tokens ∷ [])) (Post v) = λ r v told.
-    (let said = IfOk r (λ t. (t.1.at ≡ t.0.cell) × (t.1.held ≡ replicate count None) × (t.2.at ≡ t.0.cell) × (t.2.count ≡ count) × (t.2.alloc ≡ a)) in
-    qed 𝓛 (‵ (Out.own_val r (v ∷ [])) ∷ ‵ (flft κs.0 qs.0) ∷ ‵ ftrue ∷ other_tokens ∷ []) ∵
-    use0 𝓛 (raw (fact 𝓤 said)) (fact_i 𝓤 said (emp 𝓤) told) $ nothing ! $ nothing ! $ fjoin ! $ nothing ! $ fjoin ! $
+    let Block : Out.Denot → Type 0 = λ r. IfOk r (λ t. IsBlock t.0 t.1 t.2 count a) in let Empty : Out.Denot → Type 0 = λ r. IfOk r (λ t. t.1.held ≡ replicate count None) in
+    let ends : (r : Out.Denot) (v : Val) → Block r → Empty r → ent 𝓤 (⋆ 𝓛 (‵ (Out.own_val r (v ∷ [])) ∷ ‵ (flft κs.0 qs.0) ∷ ‵ ftrue ∷ other_tokens ∷ [])) (Post v) = λ r v block none.
+    (qed 𝓛 (‵ (Out.own_val r (v ∷ [])) ∷ ‵ (flft κs.0 qs.0) ∷ ‵ ftrue ∷ other_tokens ∷ []) ∵
+    use0 𝓛 (raw (fact 𝓤 (Empty r))) (fact_i 𝓤 (Empty r) (emp 𝓤) none) $ use0 𝓛 (raw (fact 𝓤 (Block r))) (fact_i 𝓤 (Block r) (emp 𝓤) block) $ join ! $ nothing ! $ nothing ! $ fjoin ! $ nothing ! $ fjoin ! $
     move ! (3 ∷ 5 ∷ []) $ join ! $ keep ! (0 ∷ 1 ∷ 3 ∷ 2 ∷ []) $ by ! (leaves 𝓛 T stayed c y v r (tt, (tt, tt)) (tt, (tt, tt)))) in
     qed 𝓛 (((‵ (flft κs.0 qs.0) ⊛ other_tokens) ⊛ ‵ (owns (types_at T.signature.params κs) ps vss))
     ∷ (raw (fact 𝓤 (κs.1.0 ⊑ X.lives)) ⊛ raw (fact 𝓤 (κs.1.1.0 ⊑ W.lives)) ⊛ raw (fact 𝓤 (FitsInBlock (R E) count))) ∷ []) ∵
@@ -85,8 +85,9 @@ reserve_spec 𝓤 𝓛 𝓜 𝓡 wired X W LX LW g d dd met md =
     let p : Ptr = block_ptr b o in let r : Three.Denot = (record { cell = p }, record { mark = record {}; at = p; held = replicate count None }, record { mark = record {}; at = p; count = count; alloc = a }) in
     let made : Val = three (word p) mark mark in let typed : Good (layout Three) made = (tt, ((tt, tt), ((tt, tt), ((tt, tt), tt)))) in let ok = first_Good (layout Three) made typed in
     lands_as ! e refl (Answer-typed true b o) $ first_of ! $ switches_on ! (get_tag ! (vrt ! refl (fld ! refl (stop !))) (whole !)) $ exec ! 𝓣.C 𝓣.Λ En (arm_body 0 both) Then $
-    sets ! (of_opd ! (get_in ! (vrt ! refl (fld ! refl (stop !))) (in_variant ! 0 0 refl refl (whole !)))) refl (tt, tt) $ sets ! (of_opd ! (get ! refl)) refl (tt, tt) $ sets ! (agg ! (no_more !)) refl (tt, tt) $
-    sets ! (agg ! (and_then ! (get ! refl) (no_more !))) refl (word-Good [] p) $ sets ! (agg ! (and_then ! (get ! refl) (no_more !))) refl (tt, (tt, tt)) $
+    sets ! (of_opd ! (get_in ! (vrt ! refl (fld ! refl (stop !))) (in_variant ! 0 0 refl refl (whole !)))) refl (tt, tt) $ sets ! (of_opd ! (get ! refl)) refl (tt, tt) $
+    sets ! (agg ! (and_then ! (get ! refl) (no_more !))) refl (word-Good [] p) $
+    sets ! (agg ! (no_more !)) refl (tt, tt) $ sets ! (agg ! (and_then ! (get ! refl) (no_more !))) refl (tt, (tt, tt)) $
     sets ! (agg ! (no_more !)) refl (tt, tt) $ sets ! (agg ! (and_then ! (get ! refl) (no_more !))) refl (tt, (tt, tt)) $
     sets ! (agg ! (and_then ! (get ! refl) (and_then ! (get ! refl) (and_then ! (get ! refl) (no_more !))))) refl typed $ sets_last ! (agg ! (and_then ! (lit ! tt) (and_then ! (get ! refl) (no_more !)))) refl ok $
     exec ! 𝓣.C 𝓣.Λ En (after 3 fn.body) (at_ret En Post) $ sets ! (of_opd ! (get ! refl)) refl ok $
@@ -96,7 +97,7 @@ reserve_spec 𝓤 𝓛 𝓜 𝓡 wired X W LX LW g d dd met md =
     flt_i ! (length r.1.held * s) (2 ^ 63) (subst (λ k. k * s < 2 ^ 63) (sym (length-replicate count None)) small) $ fjoin ! $ use0 𝓛 (‵ ((Mark E).own_val (tt, tt) (mark ∷ []))) (mark_made E 𝓛) $ fjoin ! $ first_made E ! p $
     use3 𝓛 (‵ (Three.own_val r (made ∷ []))) (three_made 𝓛 (First E) (Cells E) Lease r.0 r.1 r.2 (word p) mark mark) $
     use1 𝓛 (‵ (Out.own_val (Ok r) (live 0 (vcons made vnil) ∷ []))) (ok_of 𝓛 Three AE.the_row r made) $
-    returns ! (look_at ! 0 refl) $ free_all ! refl $ keep ! (0 ∷ 1 ∷ 2 ∷ 3 ∷ []) $ by ! (ends (Ok r) (live 0 (vcons made vnil)) (refl, refl, refl, refl, refl)))
+    returns ! (look_at ! 0 refl) $ free_all ! refl $ keep ! (0 ∷ 1 ∷ 2 ∷ 3 ∷ []) $ by ! (ends (Ok r) (live 0 (vcons made vnil)) (refl, refl, refl, refl) refl))
     (λ e.
     let Refused : RattleType = Struct (Declared.shape AE.the_type) in let none : Val = live 1 (vcons (vstruct vnil) vnil) in let err : Good (layout Out) none = (tt, (record { fits = lit< tt }, (tt, tt))) in
     lands_as ! e refl (Answer-typed false 0 0) $ first_of ! $ switches_on ! (get_tag ! (vrt ! refl (fld ! refl (stop !))) (whole !)) $ exec ! 𝓣.C 𝓣.Λ En (arm_body 1 both) Then $
@@ -104,4 +105,4 @@ reserve_spec 𝓤 𝓛 𝓜 𝓡 wired X W LX LW g d dd met md =
     exec ! 𝓣.C 𝓣.Λ En (after 3 fn.body) (at_ret En Post) $ sets ! (of_opd ! (get ! refl)) refl err $
     owned ! Refused (Is Refused) (Struct-Makes 𝓛 (Declared.shape AE.the_type) tt) tt (vstruct vnil ∷ []) (tt, (refl, tt)) $
     use1 𝓛 (‵ (Out.own_val (Err (record {})) (none ∷ []))) (err_of 𝓛 Three AE.the_row (record {}) (vstruct vnil)) $
-    returns ! (look_at ! 0 refl) $ free_all ! refl $ keep ! (0 ∷ 1 ∷ 2 ∷ 3 ∷ []) $ by ! (ends (Err (record {})) none tt)))))))))))
+    returns ! (look_at ! 0 refl) $ free_all ! refl $ keep ! (0 ∷ 1 ∷ 2 ∷ 3 ∷ []) $ by ! (ends (Err (record {})) none tt tt)))))))))))
