@@ -1,4 +1,4 @@
--- One cell is taken out of the row of cells, seen in it, or put back; and room for an array is a row of empty cells. Assumes `Logic`.
+-- One cell is taken out of the row of cells, seen in it, or put back; and room for an array is a row of empty cells.
 use mathlib.Core.Path.{◌≡◌, refl, sym}
 use Prim.Native.Nat.{ℕ, zero, suc, ◌+◌, ◌*◌, ◌<◌}
 use native.Mathlib.Omega.{arith}

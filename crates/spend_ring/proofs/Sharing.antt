@@ -1,4 +1,4 @@
--- A `&` to the cells is a `&` to each value that they hold. Assumes `Logic`.
+-- A `&` to the cells is a `&` to each value that they hold.
 use Prim.Native.Nat.{ℕ, ◌+◌}
 use Rattle.std.specs.Prelude.{List, [], ◌∷◌, Option, Some, None}
 use Rattle.std.specs.Mem.{type_size}

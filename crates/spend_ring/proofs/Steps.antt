@@ -1,4 +1,4 @@
--- The names that the walks of `cells` share, and their common steps. Assumes `Logic`.
+-- The names that the walks of `cells` share, and their common steps.
 --     first_had, first_made      what is owned of a `First` is its pointer's word
 --     mark_had, mark_made        what is owned of a mark is a struct of no bytes
 --     value_had                  what is owned of a value of T is one machine value, of its type

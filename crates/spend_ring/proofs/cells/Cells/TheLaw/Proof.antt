@@ -1,4 +1,4 @@
--- A `&` to the cells shows their values. Assumes `Logic`.
+-- A `&` to the cells shows their values.
 use mathlib.Core.List.{[], ◌++◌}
 use base.Fml.{Incl-trans}
 use contract.BorrowLft.{meet_⊑_left}

@@ -1,4 +1,4 @@
--- `get_mut` lends the value of a cell, and the cells follow it. Assumes `Logic`.
+-- `get_mut` lends the value of a cell, and the cells follow it.
 use Rattle.spend_ring.proofs.Steps.{◌≡◌, refl, sym, subst, ◌∙◌, ℕ, ◌+◌, ◌*◌, ◌<◌, ◌^◌, arith, List, [], ◌∷◌, ◌++◌, length, get_or, set, length-set, full_share, never, SProp, id⊢, ftrue, fat, flft, Fn, named, inst_fn, Val, vptr, Env, WpFn, prop, ‵, raw, ◌⊛◌, some, later, pick, await, group, fjoin3, fpack, at_ret, ◌$◌, ◌∵◌, !, qed, by, done, move, keep, use0, use1, use2, split, join, fsplit, fsplit3, fjoin, feq_l, flt_i, flt_l, rewrite, regoal, whole, sub, enter, of_opd, addr, bin, size_lit, stop, fld, first_of, blocks, exec, returns, alloc_all, pass_all, free_all, look_at, get, get_in, through, sets, sets_last, take_at, give_at, env, fact, fact_i, tables, yes, no, owns, layout, Ptr, in_a_block, MutBor, MutRef, mut_ref_to, mem, cell_at, block_ptr, Mark, Ura, Logic, sem, ent, Fml, GName, fsep, usize, plain, types_at, nothing, heard, opens, Stays, stay_dropped, walk_of, Goes-spent_ref, Goes-dropped, Some, None, Option, proved_at, leaves, word, word-Good, after, El, R, args, el_x, Cells, First, first_had}
 use base.Logic.{emp}
 use base.Logic.{sep}

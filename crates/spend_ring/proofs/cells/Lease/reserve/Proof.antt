@@ -1,4 +1,4 @@
--- `reserve` makes empty cells of a new block, and keeps the right to give it back. Assumes `Logic`.
+-- `reserve` makes empty cells of a new block, and keeps the right to give it back.
 use Rattle.spend_ring.proofs.Steps.{◌≡◌, refl, sym, ap, subst, ◌*◌, ◌<◌, ◌^◌, arith, List, [], ◌∷◌, ◌++◌, replicate, length-replicate, length, SProp, ent, Incl-trans, ftrue, flft, Fn, Body, w64, inst_fn, Val, vint, vstruct, vcons, vnil, Env, WpFn, Logic, sem, prop, ‵, raw, ◌⊛◌, later, at_ret, ◌$◌, ◌∵◌, !, qed, by, move, keep, use0, use1, use2, use3, split, join, fsplit, fjoin, fpack, feq_i, feq_l, flt_i, flt_l, await, regoal, done, whole, agg, enter, of_opd, lit, bin, size_word, align_word, stop, fld, and_then, no_more, first_of, exec, returns, alloc_all, pass_all, free_all, look_at, get, get_in, sets, sets_last, is_so, env, fact, fact_i, tables, yes, RattleType, Valss, owns, layout, Ptr, block_ptr, RefOf, usize, plain, types_at, nothing, heard, Stays, stay_dropped, walk_of, Goes-dropped, None, proved_at, leaves, as_written, word, word-Good, after, El, R, elτ, Cells, First, Mark, mark, mark_made, first_made, Ura}
 use base.Logic.{emp, sep}
 use lib.Dec.{lit<}
