@@ -1,0 +1,4 @@
+pub mod Id
+pub mod Pre
+pub mod Settings
+pub mod Sizes

@@ -1,0 +1,44 @@
+//! Each call once, with numbers from the architecture.
+use super::*;
+use std::test::Fail;
+
+#[test]
+fn settings_have_their_ranges(rt: HostRuntime) -> Result<(), Fail> {
+    let settings = Settings::new(4096, 1, 4).ok().ok_or("these are settings")?;
+    assert_eq!(rt;
+        (
+            settings.depth(),
+            settings.vmid_bytes(),
+            settings.cid_bytes()
+        ),
+        (4096, 1, 4)
+    );
+    let ctx = Ctx {
+        el: 3,
+        ns: true,
+        vmid: 0xff,
+        cid: 0xffff_ffff,
+    };
+    assert!(rt; settings.fits(&ctx));
+    assert!(rt; !settings.fits(&Ctx { vmid: 0x100, ..ctx }));
+    assert_eq!(rt;
+        Settings::new(5000, 3, 4),
+        Err(SettingsFault::DepthRange(5000))
+    );
+    assert_eq!(rt; Settings::new(16, 3, 5), Err(SettingsFault::SizeRange(3)));
+    assert_eq!(rt; Settings::new(16, 2, 5), Err(SettingsFault::SizeRange(5)));
+    Ok(())
+}
+
+#[test]
+fn ids_are_1_to_111(rt: HostRuntime) {
+    for (n, is_id) in [
+        (0, false),
+        (1, true),
+        (111, true),
+        (112, false),
+        (255, false),
+    ] {
+        assert_eq!(rt; Id::new(n).map(|id| id.get()), is_id.then_some(n), "at {n}");
+    }
+}
