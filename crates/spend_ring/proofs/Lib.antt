@@ -1,0 +1,5 @@
+pub mod Laid
+pub mod Rows
+pub mod Sharing
+pub mod Steps
+pub mod Turns
