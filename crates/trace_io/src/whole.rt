@@ -1,0 +1,78 @@
+// All of a list of bytes written, and all that a source has left read.
+ghost use Rattle.std.specs.Prelude.{◌≡◌, ◌+◌, ◌^◌, ◌<◌, ◌≤◌, [], vec_len, OnOk, OnErr, IfOk, IsErrOf};
+ghost use Rattle.std.specs.Io.KnownBytes.{Appends};
+ghost use Rattle.trace_io.specs.Causes.{Rose, HasCause};
+ghost use Rattle.trace_io.specs.Bytes.{AppendsShorter, TellsAsBefore, TakesAll, TakesCount, TakesAtMost};
+
+use crate::{Failed, Sink, Source};
+use std::alloc::Global;
+use thiserror::Error;
+
+/// Writes all of `bytes`, in as many writes as the sink wants. Where it fails, the sink has taken a
+/// front of `bytes` that is shorter. No write is made of an empty `bytes`.
+pub fn write_all<K: Sink>(sink: &mut K, bytes: &[u8]) -> Result<(), Failed>
+    ensures ok { OnOk result (Appends (K.written sink.old) (K.written sink.new) bytes.now) }
+    ensures failed { OnErr result
+        (AppendsShorter (K.written sink.old) (K.written sink.new) bytes.now) }
+    ensures empty { bytes.now ≡ [] → sink.new ≡ sink.old }
+    ensures tells { TellsAsBefore (K.written sink.old) (K.written sink.new) }
+    ensures cause { HasCause (K.faults sink.old) (K.faults sink.new) result }
+{
+    let mut done = 0;
+    while done < bytes.len() {
+        done += sink.write(&bytes[done..])?;
+    }
+    Ok(())
+}
+
+/// Why `read_all` gave no bytes.
+#[derive(Clone, Copy, Debug, PartialEq, Eq, Error)]
+pub enum ReadAllFault {
+    #[error("a read failed")]
+    Failed,
+    #[error("there are more bytes than the limit allows")]
+    TooLong,
+    #[error("out of memory")]
+    Memory,
+}
+
+/// The most bytes that `read_all` asks for in one read.
+const MOST_AT_ONCE: usize = 4096;
+
+/// Reads all that is left, at most `limit` bytes. It takes at most `limit + 1` bytes off the
+/// source, and `TooLong` means that it took so many.
+pub fn read_all<S: Source>(
+    alloc: Global,
+    source: &mut S,
+    limit: usize,
+) -> Result<Vec<u8>, ReadAllFault>
+    requires { limit < 2 ^ 31 }
+    ensures whole { IfOk result (λ v. TakesAll (S.left source.old) (S.left source.new) v.items) }
+    ensures limit { IfOk result (λ v. vec_len v ≤ limit) }
+    ensures too_long { IsErrOf result ReadAllFault.TooLong
+        → TakesCount (S.left source.old) (S.left source.new) (limit + 1) }
+    ensures few { IsErrOf result ReadAllFault.Failed
+        → TakesAtMost (S.left source.old) (S.left source.new) limit }
+    ensures taken { TakesAtMost (S.left source.old) (S.left source.new) (limit + 1) }
+    ensures tells { TellsAsBefore (S.left source.old) (S.left source.new) }
+    ensures later { S.faults source.old ≤ S.faults source.new }
+    ensures failed { IsErrOf result ReadAllFault.Failed
+        → Rose (S.faults source.old) (S.faults source.new) }
+{
+    let mut all = Vec::new(alloc);
+    let mut buf = [0u8; MOST_AT_ONCE];
+    while all.len() <= limit {
+        let room = (limit + 1 - all.len()).min(MOST_AT_ONCE);
+        let count = match source.read(&mut buf[..room]) {
+            Ok(count) => count,
+            Err(_) => return Err(ReadAllFault::Failed),
+        };
+        if count == 0 {
+            return Ok(all);
+        }
+        if all.extend_from_slice(&buf[..count]).is_err() {
+            return Err(ReadAllFault::Memory);
+        }
+    }
+    Err(ReadAllFault::TooLong)
+}
