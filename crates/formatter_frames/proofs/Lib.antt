@@ -1,0 +1,4 @@
+pub mod Symbols
+pub mod Places
+pub mod Pieces
+pub mod Writing
