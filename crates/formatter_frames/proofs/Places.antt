@@ -50,7 +50,7 @@ bit_small : (x : Symbol) → auxiliary_bit x < 2
 bit_small (NewId id) = omega arith
 bit_small (Data byte) = omega arith
 
-pair_small : (x y : Symbol) → (pair_of x y).bit < 2
+pub pair_small : (x y : Symbol) → (pair_of x y).bit < 2
 pair_small x (NewId id) = omega arith
 pair_small x (Data byte) = bit_small x
 
@@ -68,17 +68,17 @@ length-bytes_of (x ∷ []) = refl
 length-bytes_of (x ∷ y ∷ symbols) = ap (λ n. suc (suc n)) (length-bytes_of symbols)
 
 -- the next two symbols, where the bit is the lowest of those that are left
-pub two_read : (bits mixed next : ℕ) (bytes rest : List ℕ) (symbols : Symbol × Symbol) → bytes ≡ mixed ∷ next ∷ rest → symbols ≡ pair_symbols (record { mixed = mixed; next = next; bit = bit_and bits 1 }) → symbols_at bits bytes ≡ symbols.0 ∷ symbols.1 ∷ symbols_at (bits / 2) rest
+pub two_read : (bits mixed next : ℕ) (bytes rest : List ℕ) (symbols : Symbol × Symbol) → bytes ≡ mixed ∷ next ∷ rest → symbols ≡ pair_symbols (record { mixed = mixed; «data» = next; bit = bit_and bits 1 }) → symbols_at bits bytes ≡ symbols.0 ∷ symbols.1 ∷ symbols_at (bits / 2) rest
 two_read bits mixed next bytes rest symbols are is = rw (are, is, and_mask bits 1) refl
 
 pub one_read : (bits mixed : ℕ) (bytes : List ℕ) (symbol : Symbol) → bytes ≡ mixed ∷ [] → symbol ≡ mixed_symbol mixed (bit_and bits 1) → symbols_at bits bytes ≡ symbol ∷ []
 one_read bits mixed bytes symbol are is = rw (are, is, and_mask bits 1) refl
 
 -- one pair more laid out, from the end
-pub laid : (frame : List ℕ) (symbols : List Symbol) (n m : ℕ) (x y : Symbol) (pair : BytePair) → n ≡ m + 1 → pair ≡ pair_of x y → drop (2 * m) symbols ≡ x ∷ y ∷ drop (2 * (m + 1)) symbols → 2 * m + 1 < length frame → drop (2 * n) frame ≡ bytes_of (drop (2 * n) symbols) ++ 0 ∷ [] → drop (2 * m) (set (set frame (2 * m) pair.mixed) (2 * m + 1) pair.next) ≡ bytes_of (drop (2 * m) symbols) ++ 0 ∷ []
+pub laid : (frame : List ℕ) (symbols : List Symbol) (n m : ℕ) (x y : Symbol) (pair : BytePair) → n ≡ m + 1 → pair ≡ pair_of x y → drop (2 * m) symbols ≡ x ∷ y ∷ drop (2 * (m + 1)) symbols → 2 * m + 1 < length frame → drop (2 * n) frame ≡ bytes_of (drop (2 * n) symbols) ++ 0 ∷ [] → drop (2 * m) (set (set frame (2 * m) pair.mixed) (2 * m + 1) pair.data) ≡ bytes_of (drop (2 * m) symbols) ++ 0 ∷ []
 laid frame symbols n m x y pair more is two lt rest =
     let after : drop (2 * (m + 1)) frame ≡ bytes_of (drop (2 * (m + 1)) symbols) ++ 0 ∷ [] = rw more at rest in
-    two_set frame m pair.mixed pair.next lt ∙ rw (is, two, after) refl
+    two_set frame m pair.mixed pair.data lt ∙ rw (is, two, after) refl
 
 pub bit_more : (symbols : List Symbol) (bits n m : ℕ) (x y : Symbol) (pair : BytePair) → n ≡ m + 1 → pair ≡ pair_of x y → drop (2 * m) symbols ≡ x ∷ y ∷ drop (2 * (m + 1)) symbols → bits ≡ bits_of (drop (2 * n) symbols) → 2 * bits + pair.bit ≡ bits_of (drop (2 * m) symbols)
 bit_more symbols bits n m x y pair more is two rest =

@@ -13,15 +13,15 @@ mixed_symbol mixed bit = if mixed % 2 == 0 then Data (mixed + bit) else NewId (m
 -- The auxiliary bit of an ID byte tells when the new ID holds: 0, from the next byte on; 1, from the byte after it on.
 abbrev pub pair_symbols : BytePair → Symbol × Symbol
 pair_symbols pair =
-    if (pair.mixed % 2 == 1) && (pair.bit == 1) then (Data pair.next, NewId (pair.mixed / 2))
-    else (mixed_symbol pair.mixed pair.bit, Data pair.next)
+    if (pair.mixed % 2 == 1) && (pair.bit == 1) then (Data pair.data, NewId (pair.mixed / 2))
+    else (mixed_symbol pair.mixed pair.bit, Data pair.data)
 
 -- the symbols of mixed-use and data bytes in turn, whose auxiliary bits stand in a number, lowest first
 abbrev pub symbols_at : ℕ → List ℕ → List Symbol
 symbols_at bits [] = []
 symbols_at bits (mixed ∷ []) = mixed_symbol mixed (bits % 2) ∷ []
-symbols_at bits (mixed ∷ next ∷ bytes) =
-    let symbols = pair_symbols (record { mixed = mixed; next = next; bit = bits % 2 }) in
+symbols_at bits (mixed ∷ «data» ∷ bytes) =
+    let symbols = pair_symbols (record { mixed = mixed; «data» = «data»; bit = bits % 2 }) in
     symbols.0 ∷ symbols.1 ∷ symbols_at (bits / 2) bytes
 
 -- the fifteen symbols of a frame
@@ -45,14 +45,14 @@ data_byte (Data byte) = byte
 -- Two symbols as a pair of bytes. An ID has no place among the data bytes: it takes the place before, and the byte that
 -- stood there comes after it, with the auxiliary bit 1. An ID never follows an ID at once.
 abbrev pub pair_of : Symbol → Symbol → BytePair
-pair_of first (Data byte) = record { mixed = mixed_byte first; next = byte; bit = auxiliary_bit first }
-pair_of first (NewId id) = record { mixed = 2 * id + 1; next = data_byte first; bit = 1 }
+pair_of first (Data byte) = record { mixed = mixed_byte first; «data» = byte; bit = auxiliary_bit first }
+pair_of first (NewId id) = record { mixed = 2 * id + 1; «data» = data_byte first; bit = 1 }
 
 -- the mixed-use and data bytes of symbols
 abbrev pub bytes_of : List Symbol → List ℕ
 bytes_of [] = []
 bytes_of (first ∷ []) = mixed_byte first ∷ []
-bytes_of (first ∷ second ∷ symbols) = let pair = pair_of first second in pair.mixed ∷ pair.next ∷ bytes_of symbols
+bytes_of (first ∷ second ∷ symbols) = let pair = pair_of first second in pair.mixed ∷ pair.data ∷ bytes_of symbols
 
 -- their auxiliary bits, lowest first
 abbrev pub bits_of : List Symbol → ℕ

@@ -1,5 +1,5 @@
 -- The frames of a list of pairs of ID and byte.
-use Rattle.std.specs.Prelude.{ℕ, ◌-◌, List, [], ◌∷◌, ◌++◌, length, replicate, None, flat_map}
+use Rattle.std.specs.Prelude.{ℕ, ◌-◌, ◌<◌, List, [], ◌∷◌, ◌++◌, length, replicate, None, flat_map}
 use Rattle.formatter_frames.specs.declared.symbol.Symbol.{Symbol}
 use Rattle.formatter_frames.specs.declared.symbol.Symbol.TheVariants.{NewId, Data}
 use Rattle.formatter_frames.specs.Symbols.{symbols_of}
@@ -28,3 +28,10 @@ filled (symbol ∷ symbols) = frame_of ((symbol ∷ symbols) ++ filling (length 
 
 abbrev pub framed : List (ℕ × ℕ) → List ℕ
 framed pairs = whole_frames pairs ++ filled (begun pairs)
+
+-- a byte and its ID, which has seven bits
+abbrev pub IsPair : ℕ × ℕ → Type 0
+IsPair pair = (pair.0 < 128) × (pair.1 < 256)
+
+abbrev pub IsByte : ℕ → Type 0
+IsByte byte = byte < 256

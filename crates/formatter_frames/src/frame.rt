@@ -27,7 +27,7 @@ const ID_BIT: u8 = 1;
 #[derive(Clone, Copy)]
 pub struct BytePair {
     pub mixed: u8,
-    pub next: u8,
+    pub data: u8,
     pub bit: u8,
 }
 
@@ -49,10 +49,10 @@ pub fn pair_symbols(pair: BytePair) -> (Symbol, Symbol)
     ensures { result ≡ pair_symbols pair }
 {
     let first = mixed_symbol(pair.mixed, pair.bit);
-    let next = Symbol::Data(pair.next);
+    let second = Symbol::Data(pair.data);
     match first {
-        Symbol::NewId(_) if pair.bit != 0 => (next, first),
-        _ => (first, next),
+        Symbol::NewId(_) if pair.bit != 0 => (second, first),
+        _ => (first, second),
     }
 }
 
@@ -93,14 +93,14 @@ pub fn pair_of(first: &Symbol, second: &Symbol) -> BytePair
     ensures within { result.bit < 2 }
 {
     match *second {
-        Symbol::Data(next) => BytePair {
+        Symbol::Data(data) => BytePair {
             mixed: mixed_byte(first),
-            next,
+            data,
             bit: auxiliary_bit(first),
         },
         Symbol::NewId(_) => BytePair {
             mixed: mixed_byte(second),
-            next: data_byte(first),
+            data: data_byte(first),
             bit: 1,
         },
     }
@@ -116,7 +116,7 @@ pub fn frame_of(symbols: &[Symbol; SYMBOLS]) -> [u8; FRAME_BYTES]
     for n in (0..PAIRS).rev() {
         let pair = pair_of(&symbols[2 * n], &symbols[2 * n + 1]);
         frame[2 * n] = pair.mixed;
-        frame[2 * n + 1] = pair.next;
+        frame[2 * n + 1] = pair.data;
         auxiliary = 2 * auxiliary + pair.bit;
     }
     frame[AUXILIARY] = auxiliary;

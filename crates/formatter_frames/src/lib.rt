@@ -11,10 +11,15 @@
 #![tactic(auto)]
 
 mod frame;
+mod laws;
 mod symbol;
 mod unpacked;
 mod writer;
 
 pub use frame::FRAME_BYTES;
+pub use laws::{framed_pairs_come_back, unframing_goes_on};
 pub use unpacked::{FrameBytes, unpack};
 pub use writer::FrameWriter;
+
+#[cfg(test)]
+mod tests;

@@ -90,7 +90,7 @@ pub fn unpack(frame: &[u8; FRAME_BYTES], current: &mut Option<u8>) -> FrameBytes
     for n in 0..PAIRS {
         let pair = BytePair {
             mixed: frame[2 * n],
-            next: frame[2 * n + 1],
+            data: frame[2 * n + 1],
             bit: auxiliary & 1,
         };
         let (first, second) = pair_symbols(pair);

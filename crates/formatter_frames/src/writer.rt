@@ -3,7 +3,7 @@ ghost use Rattle.std.specs.Prelude.{◌≡◌, ℕ, List, [], ◌∷◌, ◌++�
 ghost use Rattle.trace_io.specs.Causes.{HasCause};
 ghost use Rattle.trace_io.specs.Bytes.{TellsAsBefore};
 ghost use Rattle.formatter_frames.specs.Symbols.{told};
-ghost use Rattle.formatter_frames.specs.Framed.{whole_frames, framed};
+ghost use Rattle.formatter_frames.specs.Framed.{frames_of, whole_frames, framed};
 ghost use Rattle.formatter_frames.specs.Writer.{StandsAt, AppendsGrowth, Puts};
 
 use crate::frame::{SYMBOLS, frame_of};
@@ -55,6 +55,8 @@ impl FrameWriter {
         ensures written { (pairs : List (ℕ × ℕ)) → StandsAt self.old pairs
             → AppendsGrowth (K.written sink.old) (K.written sink.new)
             (whole_frames pairs) (whole_frames (pairs ++ (id, byte) ∷ [])) result }
+        ensures idle { (pairs : List (ℕ × ℕ)) → StandsAt self.old pairs
+            → whole_frames (pairs ++ (id, byte) ∷ []) ≡ whole_frames pairs → sink.new ≡ sink.old }
         ensures tells { TellsAsBefore (K.written sink.old) (K.written sink.new) }
         ensures cause { HasCause (K.faults sink.old) (K.faults sink.new) result }
     {
@@ -68,6 +70,8 @@ impl FrameWriter {
         ensures written { (pairs : List (ℕ × ℕ)) → StandsAt self pairs
             → AppendsGrowth (K.written sink.old) (K.written sink.new)
             (whole_frames pairs) (framed pairs) result }
+        ensures idle { (pairs : List (ℕ × ℕ)) → StandsAt self pairs
+            → framed pairs ≡ whole_frames pairs → sink.new ≡ sink.old }
         ensures tells { TellsAsBefore (K.written sink.old) (K.written sink.new) }
         ensures cause { HasCause (K.faults sink.old) (K.faults sink.new) result }
     {
@@ -87,6 +91,7 @@ impl FrameWriter {
         requires { self.old.failed ≡ false }
         ensures puts { Puts self.old self.new (told self.old.current id) (K.written sink.old) (K.written sink.new) result }
         ensures current { OnOk result (self.new.current ≡ Some id) }
+        ensures idle { frames_of (self.old.symbols ++ told self.old.current id) ≡ [] → sink.new ≡ sink.old }
         ensures tells { TellsAsBefore (K.written sink.old) (K.written sink.new) }
         ensures cause { HasCause (K.faults sink.old) (K.faults sink.new) result }
     {
@@ -102,6 +107,7 @@ impl FrameWriter {
         requires { self.old.failed ≡ false }
         ensures puts { Puts self.old self.new (symbol ∷ []) (K.written sink.old) (K.written sink.new) result }
         ensures current { self.new.current ≡ self.old.current }
+        ensures idle { frames_of (self.old.symbols ++ symbol ∷ []) ≡ [] → sink.new ≡ sink.old }
         ensures tells { TellsAsBefore (K.written sink.old) (K.written sink.new) }
         ensures cause { HasCause (K.faults sink.old) (K.faults sink.new) result }
     {

@@ -28,7 +28,7 @@ loop-n-preserved c =
     let within : 2 * (c.loop-n.n - 1) + 1 < length c.args.symbols.now = omega arith in
     let room : 2 * (c.loop-n.n - 1) + 1 < length c.loop-n.frame = omega arith in
     record {
-      size = length-set (set c.loop-n.frame (2 * m) c.pair_of-pair.result.mixed) (2 * m + 1) c.pair_of-pair.result.next ∙ length-set c.loop-n.frame (2 * m) c.pair_of-pair.result.mixed ∙ c.loop-n.invariant.size;
+      size = length-set (set c.loop-n.frame (2 * m) c.pair_of-pair.result.mixed) (2 * m + 1) c.pair_of-pair.result.data ∙ length-set c.loop-n.frame (2 * m) c.pair_of-pair.result.mixed ∙ c.loop-n.invariant.size;
       bytes = laid c.loop-n.frame c.args.symbols.now c.loop-n.n m _ _ c.pair_of-pair.result more c.pair_of-pair.ensures.value (next_two c.args.symbols.now m _ _ within) room c.loop-n.invariant.bytes;
       bits = grown (goal.at.loop-n-preserved c).After-pair_of-pair;
     }

@@ -6,10 +6,11 @@ use Rattle.std.proofs.lemmas.List.{take_more_set, replicate_more}
 use Rattle.formatter_frames.specs.declared.symbol.Symbol.{Symbol}
 use Rattle.formatter_frames.specs.declared.symbol.Symbol.TheVariants.{NewId, Data}
 use Rattle.formatter_frames.specs.Frame.{frame_of}
-use Rattle.formatter_frames.specs.Framed.{filled, whole_frames}
-use Rattle.formatter_frames.proofs.Writing.{filled_some}
+use Rattle.formatter_frames.specs.Framed.{filled, framed, whole_frames}
+use Rattle.formatter_frames.specs.Writer.{StandsAt}
+use Rattle.formatter_frames.proofs.Writing.{filled_some, no_growth}
 use Rattle.formatter_frames.proofs.writer.FrameWriter.finish.Goals as goal
-use Rattle.formatter_frames.proofs.writer.FrameWriter.finish.Goals.{After-new}
+use Rattle.formatter_frames.proofs.writer.FrameWriter.finish.Goals.{After-write_all}
 use Rattle.formatter_frames.proofs.writer.FrameWriter.finish.Given.{Over}
 use Rattle.std.proofs.lemmas.Bool.{eqb-false}
 
@@ -23,17 +24,13 @@ more_filled symbols front place long within past so_far =
     ∙ append_assoc front (NewId 0 ∷ replicate (place - (length front + 1)) (Data 0)) (Data 0 ∷ [])
     ∙ ap (λ xs. front ++ NewId 0 ∷ xs) (replicate_more (place - (length front + 1)) (Data 0) ∙ ap (λ n. replicate n (Data 0)) count)
 
--- the symbols that the begun frame has
-held : (g : Over) (c : After-new g) → (take c.self.inside.begun c.self.inside.symbols ≡ c.args.self.symbols) × (length c.args.self.symbols ≡ c.self.inside.begun)
-held g c =
-    let front : take c.self.inside.begun c.self.inside.symbols ≡ c.args.self.symbols = ap (λ v. v.symbols) c.self.view_is in
-    let within : c.self.inside.begun ≤ 15 = c.self.invariant.0 in
-    let long : length c.self.inside.symbols ≡ 15 = c.self.invariant.1 in
-    (front, omega (arith, sym (ap length front), length-take c.self.inside.begun c.self.inside.symbols, within, long))
+-- how many symbols the begun frame has
+count_held : (symbols front : List Symbol) (begun : ℕ) → take begun symbols ≡ front → begun ≤ 15 → length symbols ≡ 15 → length front ≡ begun
+count_held symbols front begun is within long = omega (arith, sym (ap length is), length-take begun symbols)
 
 pub loop-place-preserved : goal.loop-place-preserved
 loop-place-preserved g c =
-    let count = (held g (goal.at.loop-place-preserved g c).After-new).1 in
+    let count = count_held c.self.inside.symbols c.args.self.symbols c.self.inside.begun (ap (λ v. v.symbols) c.self.view_is) c.self.invariant.0 c.self.invariant.1 in
     let past : length c.args.self.symbols + 1 ≤ c.loop-place.place = omega (arith, count) in
     record {
       size = length-set c.loop-place.symbols c.loop-place.place (Data 0) ∙ c.loop-place.invariant.size;
@@ -48,17 +45,27 @@ all_filled symbols front place long end some are =
     ap frame_of (sym (take-length symbols) ∙ ap (λ n. take n symbols) whole ∙ are ∙ ap (λ n. front ++ NewId 0 ∷ replicate n (Data 0)) count)
     ∙ sym (filled_some front some)
 
-pub returns-clause-written : goal.returns-clause-written
-returns-clause-written g c = λ pairs at.
-    let count = (held g (goal.at.returns-clause-written g c).After-new).1 in
+-- the frame that is written
+last_frame : (g : Over) (c : After-write_all g) → c.frame_of.result ≡ filled c.args.self.symbols
+last_frame g c =
+    let count = count_held c.self.inside.symbols c.args.self.symbols c.self.inside.begun (ap (λ v. v.symbols) c.self.view_is) c.self.invariant.0 c.self.invariant.1 in
     let within : c.self.inside.begun ≤ 15 = c.self.invariant.0 in
     let not_full = eqb-false c.self.inside.begun 15 (ap (λ v. v.failed) c.self.view_is ∙ c.requires) in
     let some : 0 < length c.args.self.symbols = omega (arith, count) in
     let end : c.loop-place.place ≡ 15 = omega (arith, not_full, within) in
-    let frame : c.frame_of.result ≡ filled c.args.self.symbols = c.frame_of.ensures ∙ all_filled c.loop-place.symbols c.args.self.symbols c.loop-place.place c.loop-place.invariant.size end some c.loop-place.invariant.filled in
-    record {
-      growth = filled c.args.self.symbols;
-      grows = ap (λ xs. whole_frames pairs ++ filled xs) (sym at.symbols);
-      ok = rw frame at c.write_all.ensures.ok;
-      failed = rw frame at c.write_all.ensures.failed;
-    }
+    c.frame_of.ensures ∙ all_filled c.loop-place.symbols c.args.self.symbols c.loop-place.place c.loop-place.invariant.size end some c.loop-place.invariant.filled
+
+grows : (g : Over) (c : After-write_all g) (pairs : List (ℕ × ℕ)) → StandsAt c.args.self pairs → framed pairs ≡ whole_frames pairs ++ filled c.args.self.symbols
+grows g c pairs at = ap (λ xs. whole_frames pairs ++ filled xs) (sym at.symbols)
+
+pub returns-clause-written : goal.returns-clause-written
+returns-clause-written g c = λ pairs at. record {
+  growth = filled c.args.self.symbols;
+  grows = grows g c pairs at;
+  ok = rw (last_frame g c) at c.write_all.ensures.ok;
+  failed = rw (last_frame g c) at c.write_all.ensures.failed;
+}
+
+pub returns-clause-idle : goal.returns-clause-idle
+returns-clause-idle g c = λ pairs at same.
+    c.write_all.ensures.empty (last_frame g c ∙ no_growth (whole_frames pairs) (filled c.args.self.symbols) (sym (grows g c pairs at) ∙ same))
