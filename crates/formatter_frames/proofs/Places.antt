@@ -1,13 +1,15 @@
 -- The places of a frame.
-use Rattle.std.proofs.Common.{◌≡◌, ◌≢◌, pow_pos, ◌/◌, ℕ, zero, suc, ◌+◌, ◌*◌, ◌^◌, ◌<◌, ◌≤◌, List, [], ◌∷◌, length, get_or, take, drop, arith, length-take, ap, ◌∙◌, sym, refl, add_comm, ◌++◌}
+use Rattle.std.proofs.Common.{◌≡◌, ◌≢◌, pow_pos, ◌/◌, ℕ, zero, suc, ◌+◌, ◌*◌, ◌^◌, ◌<◌, ◌≤◌, List, [], ◌∷◌, length, get_or, take, drop, arith, length-take, ap, ◌∙◌, sym, refl, add_comm, add-one, ◌++◌, ◌%◌}
 use Rattle.std.proofs.lemmas.List.{drop_more, get_or-take, drop-set, drop-set-lt, get_or-set_other, get_or-set_same}
 use Rattle.std.proofs.Math.ListN.{drop_of_length-le, set, length-set}
 use Rattle.formatter_frames.specs.declared.symbol.Symbol.{Symbol}
 use Rattle.formatter_frames.specs.declared.symbol.Symbol.TheVariants.{NewId, Data}
 use Rattle.std.proofs.lemmas.Nat.{and_mask}
-use Rattle.std.specs.Prelude.{bit_and}
+use Rattle.std.proofs.Math.Nat.{div-div-eq-div-mul, pow-suc, div-one}
+use Rattle.std.specs.Prelude.{bit_and, flat_map}
+use Rattle.std.specs.List.{range_with_len}
 use Rattle.formatter_frames.specs.declared.frame.BytePair.{BytePair}
-use Rattle.formatter_frames.specs.Frame.{mixed_symbol, pair_symbols, symbols_at, auxiliary_bit, pair_of, bits_of, bytes_of}
+use Rattle.formatter_frames.specs.Frame.{mixed_symbol, pair_symbols, symbols_of_pair, pair_at, symbols_in, auxiliary_bit, pair_of, bits_of, bytes_of}
 
 -- the next two of a list
 pub next_two : {X : Type 0} → (xs : List X) (n : ℕ) (d e : X) → 2 * n + 1 < length xs → drop (2 * n) xs ≡ get_or xs (2 * n) d ∷ get_or xs (2 * n + 1) e ∷ drop (2 * (n + 1)) xs
@@ -66,6 +68,34 @@ pub length-bytes_of : (symbols : List Symbol) → length (bytes_of symbols) ≡ 
 length-bytes_of [] = refl
 length-bytes_of (x ∷ []) = refl
 length-bytes_of (x ∷ y ∷ symbols) = ap (λ n. suc (suc n)) (length-bytes_of symbols)
+
+-- the symbols of mixed-use and data bytes in turn, whose auxiliary bits stand in a number, lowest first
+abbrev pub symbols_at : ℕ → List ℕ → List Symbol
+symbols_at bits [] = []
+symbols_at bits (mixed ∷ []) = mixed_symbol mixed (bits % 2) ∷ []
+symbols_at bits (mixed ∷ «data» ∷ bytes) =
+    let symbols = pair_symbols (record { mixed = mixed; «data» = «data»; bit = bits % 2 }) in
+    symbols.0 ∷ symbols.1 ∷ symbols_at (bits / 2) bytes
+
+-- the symbols of a frame, read from the left
+module _ (frame : List ℕ) (long : length frame ≡ 16) where
+  abbrev bits : ℕ → ℕ
+  bits n = get_or frame 15 0 / 2 ^ n
+
+  halved : (n : ℕ) → bits n / 2 ≡ bits (n + 1)
+  halved n = div-div-eq-div-mul (get_or frame 15 0) (2 ^ n) 2 ∙ ap (λ d. get_or frame 15 0 / d) (sym (pow-suc 2 n) ∙ ap (λ m. 2 ^ m) (sym (add-one n)))
+
+  from_pair : (k n : ℕ) → n + k ≡ 7 → symbols_at (bits n) (drop (2 * n) (take 15 frame)) ≡ flat_map (λ m. symbols_of_pair (pair_at frame m)) (range_with_len n k) ++ mixed_symbol (get_or frame 14 0) (bits 7 % 2) ∷ []
+  from_pair zero n all = let end : n ≡ 7 = omega arith in rw end (ap (symbols_at (bits 7)) (last_byte frame long))
+  from_pair (suc k) n all =
+      let within : n < 7 = omega arith in
+      let rest : n + 1 + k ≡ 7 = omega arith in
+      let symbols = pair_symbols (pair_at frame n) in
+      ap (symbols_at (bits n)) (next_pair frame n long within)
+      ∙ ap (λ xs. symbols.0 ∷ symbols.1 ∷ xs) (ap (λ b. symbols_at b (drop (2 * (n + 1)) (take 15 frame))) (halved n) ∙ from_pair k (n + 1) rest)
+
+  pub symbols_in_is : symbols_in frame ≡ symbols_at (get_or frame 15 0) (take 15 frame)
+  symbols_in_is = sym (from_pair 7 0 refl) ∙ ap (λ b. symbols_at b (take 15 frame)) (div-one (get_or frame 15 0))
 
 -- the next two symbols, where the bit is the lowest of those that are left
 pub two_read : (bits mixed next : ℕ) (bytes rest : List ℕ) (symbols : Symbol × Symbol) → bytes ≡ mixed ∷ next ∷ rest → symbols ≡ pair_symbols (record { mixed = mixed; «data» = next; bit = bit_and bits 1 }) → symbols_at bits bytes ≡ symbols.0 ∷ symbols.1 ∷ symbols_at (bits / 2) rest

@@ -9,12 +9,12 @@ use Rattle.std.proofs.lemmas.Nat.{div-add-mod'}
 use Rattle.formatter_frames.specs.declared.symbol.Symbol.{Symbol}
 use Rattle.formatter_frames.specs.declared.symbol.Symbol.TheVariants.{NewId, Data}
 use Rattle.formatter_frames.specs.Symbols.{pairs_of, id_after, told, symbols_of}
-use Rattle.formatter_frames.specs.Frame.{mixed_symbol, pair_symbols, symbols_at, symbols_in, mixed_byte, auxiliary_bit, pair_of, bytes_of, bits_of, frame_of}
+use Rattle.formatter_frames.specs.Frame.{mixed_symbol, pair_symbols, symbols_in, mixed_byte, auxiliary_bit, pair_of, bytes_of, bits_of, frame_of}
 use Rattle.formatter_frames.specs.Pieces.{pieces, left_over}
 use Rattle.formatter_frames.specs.Unframed.{symbols_of_frames, unframed}
 use Rattle.formatter_frames.specs.Framed.{frames_of, whole_frames, begun, filling, filled, framed}
 use Rattle.formatter_frames.proofs.Symbols.{pairs_of-append}
-use Rattle.formatter_frames.proofs.Places.{pair_small, length-bytes_of}
+use Rattle.formatter_frames.proofs.Places.{symbols_at, symbols_in_is, pair_small, length-bytes_of}
 use Rattle.formatter_frames.proofs.Pieces.{length-left_over}
 use Rattle.formatter_frames.proofs.Writing.{frames_of-append, frames_of_full}
 
@@ -104,7 +104,7 @@ frame_back xs long s =
     let count : length (bytes_of xs) ≡ 15 = length-bytes_of xs ∙ long in
     let last : get_or (bytes_of xs ++ bits_of xs ∷ []) 15 0 ≡ bits_of xs = ap (λ k. get_or (bytes_of xs ++ bits_of xs ∷ []) k 0) (sym count) ∙ get_or-append_seam (bytes_of xs) (bits_of xs) [] 0 in
     let front : take 15 (bytes_of xs ++ bits_of xs ∷ []) ≡ bytes_of xs = ap (λ k. take k (bytes_of xs ++ bits_of xs ∷ [])) (sym count) ∙ take-append_seam (bytes_of xs) (bits_of xs ∷ []) in
-    rw (last, front) (symbols_back xs s)
+    symbols_in_is (frame_of xs) (length-frame_of xs long) ∙ rw (last, front) (symbols_back xs s)
 
 -- so many frames are read as they were laid out
 frames_back : (n : ℕ) (xs : List Symbol) → n * 15 ≤ length xs → IsSpaced xs → flat_map symbols_in (pieces 16 n (flat_map frame_of (pieces 15 n xs))) ≡ take (n * 15) xs

@@ -1,9 +1,18 @@
 -- The sixteen bytes of a frame: eight mixed-use bytes and seven data bytes in turn, and the auxiliary byte, whose bit n
 -- belongs to the mixed-use byte n (Arm CoreSight architecture, IHI 0029, the trace formatter).
-use Rattle.std.specs.Prelude.{ℕ, ◌+◌, ◌-◌, ◌*◌, ◌/◌, ◌%◌, List, [], ◌∷◌, ◌++◌, take, slice_index, ◌&&◌, if◌then◌else◌, ◌==◌}
+use Rattle.std.specs.Prelude.{ℕ, ◌+◌, ◌-◌, ◌*◌, ◌/◌, ◌%◌, ◌^◌, List, [], ◌∷◌, ◌++◌, flat_map, slice_index, ◌&&◌, if◌then◌else◌, ◌==◌}
+use Rattle.std.specs.List.{range_with_len}
 use Rattle.formatter_frames.specs.declared.symbol.Symbol.{Symbol}
 use Rattle.formatter_frames.specs.declared.symbol.Symbol.TheVariants.{NewId, Data}
 use Rattle.formatter_frames.specs.declared.frame.BytePair.{BytePair}
+
+-- bit n of the auxiliary byte, which is byte 15
+abbrev pub auxiliary_bit_at : List ℕ → ℕ → ℕ
+auxiliary_bit_at frame n = slice_index frame 15 / 2 ^ n % 2
+
+-- the mixed-use byte 2n, the data byte after it, and their auxiliary bit
+abbrev pub pair_at : List ℕ → ℕ → BytePair
+pair_at frame n = record { mixed = slice_index frame (2 * n); «data» = slice_index frame (2 * n + 1); bit = auxiliary_bit_at frame n }
 
 -- A mixed-use byte whose bit 0 is 1 is an ID byte, with the ID in its bits 7 to 1. Another is a data byte, whose bit 0 is
 -- the auxiliary bit.
@@ -16,17 +25,14 @@ pair_symbols pair =
     if (pair.mixed % 2 == 1) && (pair.bit == 1) then (Data pair.data, NewId (pair.mixed / 2))
     else (mixed_symbol pair.mixed pair.bit, Data pair.data)
 
--- the symbols of mixed-use and data bytes in turn, whose auxiliary bits stand in a number, lowest first
-abbrev pub symbols_at : ℕ → List ℕ → List Symbol
-symbols_at bits [] = []
-symbols_at bits (mixed ∷ []) = mixed_symbol mixed (bits % 2) ∷ []
-symbols_at bits (mixed ∷ «data» ∷ bytes) =
-    let symbols = pair_symbols (record { mixed = mixed; «data» = «data»; bit = bits % 2 }) in
-    symbols.0 ∷ symbols.1 ∷ symbols_at (bits / 2) bytes
+abbrev pub symbols_of_pair : BytePair → List Symbol
+symbols_of_pair pair = let symbols = pair_symbols pair in symbols.0 ∷ symbols.1 ∷ []
 
--- the fifteen symbols of a frame
+-- The fifteen symbols of a frame: those of its seven pairs, and that of byte 14, which no data byte follows.
 abbrev pub symbols_in : List ℕ → List Symbol
-symbols_in frame = symbols_at (slice_index frame 15) (take 15 frame)
+symbols_in frame =
+    flat_map (λ n. symbols_of_pair (pair_at frame n)) (range_with_len 0 7)
+    ++ mixed_symbol (slice_index frame 14) (auxiliary_bit_at frame 7) ∷ []
 
 -- a symbol as a mixed-use byte, and its auxiliary bit
 abbrev pub mixed_byte : Symbol → ℕ

@@ -1,9 +1,18 @@
-use Rattle.std.proofs.Common.{◌≡◌, ◌+◌, ◌*◌, ◌/◌, ◌++◌, ◌∷◌, take, drop, arith, ◌∙◌, ap, sym}
+use Rattle.std.proofs.Common.{◌≡◌, ◌+◌, ◌*◌, ◌/◌, ◌++◌, ◌∷◌, length, take, drop, arith, ◌∙◌, ap, sym}
 use Rattle.formatter_frames.specs.Symbols.{pairs_of, id_after}
-use Rattle.formatter_frames.specs.Frame.{symbols_at}
 use Rattle.formatter_frames.proofs.Symbols.{one_taken, one_passed}
-use Rattle.formatter_frames.proofs.Places.{next_pair, last_byte, two_read, one_read}
+use Rattle.formatter_frames.proofs.Places.{symbols_at, symbols_in_is, next_pair, last_byte, two_read, one_read}
 use Rattle.formatter_frames.proofs.unpacked.unpack.Goals as goal
+
+pub loop-n-init : goal.loop-n-init
+loop-n-init c =
+    let read = symbols_in_is c.args.frame.now c.told-frame in
+    record {
+      few = omega (arith, ap length c.new-unpacked.ensures);
+      pairs = rw c.new-unpacked.ensures (ap (pairs_of c.args.current.now) read);
+      current = ap (id_after c.args.current.now) read;
+      within = c.requires;
+    }
 
 pub loop-n-preserved : goal.loop-n-preserved
 loop-n-preserved c =

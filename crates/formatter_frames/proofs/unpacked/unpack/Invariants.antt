@@ -1,6 +1,7 @@
 use Rattle.std.proofs.Common.{◌≡◌, ◌*◌, ◌≤◌, ◌++◌, length, take, drop, IfSome}
 use Rattle.formatter_frames.specs.Symbols.{pairs_of, id_after}
-use Rattle.formatter_frames.specs.Frame.{symbols_in, symbols_at}
+use Rattle.formatter_frames.specs.Frame.{symbols_in}
+use Rattle.formatter_frames.proofs.Places.{symbols_at}
 use Rattle.formatter_frames.proofs.unpacked.unpack.Given as goal
 
 -- what was taken, and what is left of the frame
