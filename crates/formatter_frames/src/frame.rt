@@ -1,6 +1,6 @@
 //! The sixteen bytes of a frame: eight mixed-use bytes and seven data bytes in turn, and the auxiliary
 //! byte, whose bit n belongs to the mixed-use byte n.
-ghost use Rattle.std.specs.Prelude.{◌≡◌, ◌<◌, ◌≤◌};
+ghost use Rattle.std.specs.Prelude.{◌≡◌, ◌<◌};
 ghost use Rattle.formatter_frames.specs.Frame.{mixed_symbol, pair_symbols, mixed_byte, auxiliary_bit, data_byte, pair_of, frame_of};
 
 use crate::symbol::{FrameId, Symbol};

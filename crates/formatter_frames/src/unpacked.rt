@@ -9,7 +9,8 @@ use crate::frame::{
 use crate::symbol::Symbol;
 use std::marker::Model;
 
-/// The data bytes of one frame in order, each with its ID. Contracts see the list of the pairs of ID and byte.
+/// The data bytes of one frame in order, each with its ID. Contracts see the list of the pairs of ID
+/// and byte.
 #[derive(Drop)]
 pub struct FrameBytes {
     pairs: [(u8, u8); SYMBOLS],
