@@ -1,8 +1,7 @@
 // What no clause says: errors of std's readers and writers, and each call once on its way.
 ghost use Rattle.std.specs.Prelude.{◌≤◌, IfOk};
-ghost use Rattle.std.specs.Prelude.{◌≤◌, IfOk};
 
-use super::{*, *};
+use super::*;
 use std::io;
 use std::io::{Cursor, ErrorKind, Read, Write};
 use std::test::Fail;

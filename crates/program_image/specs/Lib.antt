@@ -1,0 +1,5 @@
+pub mod Part
+pub mod ImageText
+pub mod Spelling
+pub mod Words
+pub mod Answers
