@@ -1,0 +1,7 @@
+pub mod Symbols
+pub mod Places
+pub mod Pieces
+pub mod Bytes
+pub mod Going
+pub mod RoundTrip
+pub mod Writing

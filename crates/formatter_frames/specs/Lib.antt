@@ -1,0 +1,6 @@
+pub mod Frame
+pub mod Framed
+pub mod Pieces
+pub mod Symbols
+pub mod Unframed
+pub mod Writer

@@ -1,0 +1,120 @@
+//! Frames with known bytes, written and taken apart.
+use super::*;
+use etm_types::Id;
+use std::alloc::Global;
+use std::test::Fail;
+use trace_io::MemSink;
+
+/// The frames of these pairs of ID and byte.
+fn frames_of(alloc: Global, pairs: &[(u8, u8)]) -> Result<Vec<u8>, Fail> {
+    let mut sink = MemSink::new(alloc, Vec::new(alloc));
+    let mut writer = FrameWriter::new();
+    for (id, byte) in pairs {
+        let id = Id::new(*id).ok_or("it is an ID")?;
+        writer
+            .push(id, *byte, &mut sink)
+            .ok()
+            .ok_or("a write failed")?;
+    }
+    writer.finish(&mut sink).ok().ok_or("a write failed")?;
+    Ok(sink.written().to_vec(alloc)?)
+}
+
+/// The pairs of ID and byte that these frames carry.
+fn pairs_of(alloc: Global, frames: &[[u8; FRAME_BYTES]]) -> Result<Vec<(u8, u8)>, Fail> {
+    let mut current = None;
+    let mut pairs = Vec::new(alloc);
+    for frame in frames {
+        let bytes = unpack(frame, &mut current);
+        for i in 0..bytes.len() {
+            pairs.push(bytes.get(i).ok_or("it is in range")?)?;
+        }
+    }
+    Ok(pairs)
+}
+
+#[test]
+fn an_id_byte_whose_auxiliary_bit_is_1_holds_one_byte_later(rt: HostRuntime) {
+    let frame = [
+        0x03, 0x11, 0x22, 0x33, 0x44, 0x55, 0x66, 0x77, 0x88, 0x99, 0xaa, 0xbb, 0x05, 0xcc, 0x07,
+        0x42,
+    ];
+    let mut current = None;
+    let bytes = unpack(&frame, &mut current);
+    let expected = [
+        0x11, 0x23, 0x33, 0x44, 0x55, 0x66, 0x77, 0x88, 0x99, 0xaa, 0xbb, 0xcc,
+    ];
+    assert_eq!(rt; bytes.len(), expected.len());
+    for (i, byte) in expected.iter().enumerate() {
+        assert_eq!(rt; bytes.get(i), Some((0x01, *byte)), "at {i}");
+    }
+    assert_eq!(rt; bytes.get(expected.len()), None);
+    assert_eq!(rt; current, Some(0x03));
+}
+
+#[test]
+fn each_byte_of_111_sources_has_its_id(rt: HostRuntime) -> Result<(), Fail> {
+    let alloc = rt.alloc();
+    let mut pairs = Vec::new(alloc);
+    for n in 1..=111 {
+        pairs.push((n, n))?;
+    }
+    let frames = frames_of(alloc, &pairs)?;
+    assert_eq!(rt; frames.len(), 240);
+    let first = [
+        0x03, 0x01, 0x05, 0x02, 0x07, 0x03, 0x09, 0x04, 0x0b, 0x05, 0x0d, 0x06, 0x0f, 0x07, 0x11,
+        0x00,
+    ];
+    let second = [
+        0x13, 0x08, 0x15, 0x09, 0x17, 0x0a, 0x19, 0x0b, 0x1b, 0x0c, 0x1d, 0x0d, 0x1f, 0x0e, 0x0e,
+        0xff,
+    ];
+    let last = [
+        0xd5, 0x6a, 0xd7, 0x6b, 0xd9, 0x6c, 0xdb, 0x6d, 0xdd, 0x6e, 0xdf, 0x6f, 0x01, 0x00, 0x00,
+        0x00,
+    ];
+    assert_eq!(rt; frames.get(..16), Some(first.as_slice()));
+    assert_eq!(rt; frames.get(16..32), Some(second.as_slice()));
+    assert_eq!(rt; frames.get(224..), Some(last.as_slice()));
+    Ok(())
+}
+
+#[test]
+fn the_null_id_fills_a_frame_at_an_odd_place(rt: HostRuntime) -> Result<(), Fail> {
+    let frames = frames_of(rt.alloc(), &[(1, 0x01); 13])?;
+    let expected = [
+        0x03, 0x01, 0x00, 0x01, 0x00, 0x01, 0x00, 0x01, 0x00, 0x01, 0x00, 0x01, 0x00, 0x01, 0x01,
+        0x7e,
+    ];
+    assert_eq!(rt; frames.as_slice(), expected.as_slice());
+    Ok(())
+}
+
+#[test]
+fn a_stream_comes_back_from_its_frames(rt: HostRuntime) -> Result<(), Fail> {
+    let alloc = rt.alloc();
+    let stream = [
+        0x00, 0x00, 0x00, 0x00, 0x00, 0x00, 0x00, 0x00, 0x00, 0x00, 0x00, 0x80, 0x01, 0x01, 0x00,
+        0x04, 0x85, 0x00, 0x08, 0x00, 0x00, 0x00, 0x00, 0x00, 0x00, 0x31, 0xda, 0x2d, 0x02,
+    ];
+    let frames = [
+        [
+            0x03, 0x00, 0x00, 0x00, 0x00, 0x00, 0x00, 0x00, 0x00, 0x00, 0x00, 0x00, 0x80, 0x01,
+            0x00, 0x80,
+        ],
+        [
+            0x00, 0x04, 0x84, 0x00, 0x08, 0x00, 0x00, 0x00, 0x00, 0x00, 0x00, 0x31, 0xda, 0x2d,
+            0x02, 0x02,
+        ],
+    ];
+    let mut pairs = Vec::new(alloc);
+    for byte in stream {
+        pairs.push((1, byte))?;
+    }
+    let written = frames_of(alloc, &pairs)?;
+    assert_eq!(rt; written.get(..16), Some(frames[0].as_slice()));
+    assert_eq!(rt; written.get(16..), Some(frames[1].as_slice()));
+    let back = pairs_of(alloc, &frames)?;
+    assert_eq!(rt; back.as_slice(), pairs.as_slice());
+    Ok(())
+}

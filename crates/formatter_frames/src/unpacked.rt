@@ -1,0 +1,104 @@
+//! One frame taken apart.
+ghost use Rattle.std.specs.Prelude.{◌≡◌, ℕ, ◌+◌, ◌≤◌, ◌<◌, [], ◌∷◌, ◌++◌, length, slice_get, IfSome, IsNone, ◌↔◌};
+ghost use Rattle.formatter_frames.specs.Symbols.{pairs_of, id_after};
+ghost use Rattle.formatter_frames.specs.Frame.{symbols_in};
+
+use crate::frame::{
+    AUXILIARY, BytePair, FRAME_BYTES, LAST, PAIRS, SYMBOLS, mixed_symbol, pair_symbols,
+};
+use crate::symbol::Symbol;
+use std::marker::Model;
+
+/// The data bytes of one frame in order, each with its ID. Contracts see the list of the pairs of ID
+/// and byte.
+#[derive(Drop)]
+pub struct FrameBytes {
+    pairs: [(u8, u8); SYMBOLS],
+    count: usize,
+}
+
+impl Model for FrameBytes {
+    ghost use Rattle.std.specs.Prelude.{◌≡◌, ℕ, ◌≤◌, List, length, take};
+
+    ghost Value = { List (ℕ × ℕ) };
+
+    ghost view = { λ bytes. take bytes.count bytes.pairs };
+
+    ghost invariant = { λ bytes. (bytes.count ≤ 15) × (length bytes.pairs ≡ 15) };
+}
+
+impl FrameBytes {
+    /// How many there are, at most fifteen.
+    pub fn len(&self) -> usize
+        ensures count { result ≡ length self.now }
+        ensures most { result ≤ 15 }
+    {
+        self.count
+    }
+
+    /// The ID and the byte at `i`, counted from 0.
+    pub fn get(&self, i: usize) -> Option<(u8, u8)>
+        ensures value { result ≡ slice_get self.now i }
+        ensures none { IsNone result ↔ (length self.now ≤ i) }
+    {
+        if i < self.count {
+            Some(self.pairs[i])
+        } else {
+            None
+        }
+    }
+
+    fn new() -> Self
+        ensures { result ≡ [] }
+    {
+        FrameBytes {
+            pairs: [(0, 0); SYMBOLS],
+            count: 0,
+        }
+    }
+
+    // Takes one symbol: a new ID, or a byte of the current ID, where there is one.
+    fn take(&mut self, symbol: Symbol, current: &mut Option<u8>)
+        requires { length self.old < 15 }
+        ensures pairs { self.new ≡ self.old ++ pairs_of current.old (symbol ∷ []) }
+        ensures current { current.new ≡ id_after current.old (symbol ∷ []) }
+        ensures few { length self.new ≤ length self.old + 1 }
+        ensures within { IfSome current.old (λ id. id ≤ 127) → IfSome current.new (λ id. id ≤ 127) }
+    {
+        match symbol {
+            Symbol::NewId(id) => *current = Some(id.get()),
+            Symbol::Data(byte) => {
+                if let Some(id) = *current {
+                    self.pairs[self.count] = (id, byte);
+                    self.count += 1;
+                }
+            }
+        }
+    }
+}
+
+/// Takes a frame apart. `current` is the ID that holds before it, and then the one that holds after
+/// it; bytes before the first ID are passed over. Bytes of every ID are given, also of the null ID 0
+/// and of IDs that are no source.
+pub fn unpack(frame: &[u8; FRAME_BYTES], current: &mut Option<u8>) -> FrameBytes
+    requires { IfSome current.old (λ id. id ≤ 127) }
+    ensures pairs { result ≡ pairs_of current.old (symbols_in frame.now) }
+    ensures current { current.new ≡ id_after current.old (symbols_in frame.now) }
+    ensures within { IfSome current.new (λ id. id ≤ 127) }
+{
+    let mut unpacked = FrameBytes::new();
+    let mut auxiliary = frame[AUXILIARY];
+    for n in 0..PAIRS {
+        let pair = BytePair {
+            mixed: frame[2 * n],
+            data: frame[2 * n + 1],
+            bit: auxiliary & 1,
+        };
+        let (first, second) = pair_symbols(pair);
+        unpacked.take(first, current);
+        unpacked.take(second, current);
+        auxiliary >>= 1;
+    }
+    unpacked.take(mixed_symbol(frame[LAST], auxiliary & 1), current);
+    unpacked
+}
