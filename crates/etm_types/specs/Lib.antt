@@ -1,3 +1,6 @@
+pub mod AddrForm
+pub mod Atoms
+pub mod CtxBits
 pub mod Id
 pub mod Pre
 pub mod Settings

@@ -1,4 +1,4 @@
-//! The context in which code is executed (Arm IHI 0064, context elements).
+//! The context in which code is executed (Arm IHI 0064, context elements and context packets).
 
 /// Exception level, security state, VMID and context ID.
 #[derive(Clone, Copy, Debug, PartialEq, Eq)]
@@ -11,4 +11,63 @@ pub struct Ctx {
     pub vmid: u32,
     /// The context identifier.
     pub cid: u32,
+}
+
+/// What a context packet tells: the VMID and the context ID only where they are needed.
+#[derive(Clone, Copy, Debug, PartialEq, Eq)]
+pub struct CtxBits {
+    /// The exception level, 0 to 3.
+    pub el: u8,
+    /// Whether the state is Non-secure.
+    pub ns: bool,
+    /// The virtual context identifier, where it is told.
+    pub vmid: Option<u32>,
+    /// The context identifier, where it is told.
+    pub cid: Option<u32>,
+}
+
+impl CtxBits {
+    ghost use Rattle.std.specs.Prelude.{◌≡◌};
+    ghost use Rattle.etm_types.specs.CtxBits.{bits_against, context_told};
+
+    /// What tells a context to one who has the last one: the VMID and the context ID are told exactly
+    /// where they differ.
+    pub fn against(last: &Ctx, ctx: &Ctx) -> CtxBits
+        ensures value { result ≡ bits_against last.now ctx.now }
+        ensures tells_it { context_told result last.now ≡ ctx.now }
+    {
+        CtxBits {
+            el: ctx.el,
+            ns: ctx.ns,
+            vmid: told(last.vmid, ctx.vmid),
+            cid: told(last.cid, ctx.cid),
+        }
+    }
+
+    /// The context that is told to one who has the last one: what is absent is that of the last one.
+    pub fn apply(&self, last: &Ctx) -> Ctx
+        ensures { result ≡ context_told self.now last.now }
+    {
+        Ctx {
+            el: self.el,
+            ns: self.ns,
+            vmid: self.vmid.unwrap_or(last.vmid),
+            cid: self.cid.unwrap_or(last.cid),
+        }
+    }
+}
+
+ghost use Rattle.std.specs.Prelude.{◌≡◌};
+ghost use Rattle.std.specs.Option.{unwrap_or};
+ghost use Rattle.etm_types.specs.CtxBits.{told};
+
+/// A number, where it differs from the last one.
+fn told(last: u32, new: u32) -> Option<u32>
+    ensures value { result ≡ told last new }
+    ensures tells_it { unwrap_or result last ≡ new }
+{
+    if new == last {
+        return None;
+    }
+    Some(new)
 }

@@ -1,5 +1,6 @@
 //! The values that the layers of the reader pass on: settings and stream IDs, the contexts of executed
-//! code, the elements of a trace with what was told before them, and the items of a path.
+//! code, the elements of a trace with what was told before them, the values that packets carry, and the
+//! items of a path.
 //!
 //! Ranges stand where a call asks for them: [`Settings`] and [`Id`] have private fields and exist only
 //! in their range, the other types are open. The terms are those of the ETMv4 architecture (Arm
@@ -7,13 +8,17 @@
 //! security state, the VMID and the context ID.
 #![tactic(auto)]
 
+mod address;
+mod atoms;
 mod context;
 mod element;
 mod id;
 mod item;
 mod settings;
 
-pub use context::Ctx;
+pub use address::AddrForm;
+pub use atoms::{AtomRun, FewAtoms};
+pub use context::{Ctx, CtxBits};
 pub use element::{Entry, P0, Pre, Thing};
 pub use id::Id;
 pub use item::Item;

@@ -42,3 +42,30 @@ fn ids_are_1_to_111(rt: HostRuntime) {
         assert_eq!(rt; Id::new(n).map(|id| id.get()), is_id.then_some(n), "at {n}");
     }
 }
+
+#[test]
+fn a_context_is_told_by_what_differs(rt: HostRuntime) {
+    let last = Ctx {
+        el: 0,
+        ns: false,
+        vmid: 7,
+        cid: 0x1234,
+    };
+    let ctx = Ctx {
+        el: 1,
+        ns: true,
+        vmid: 7,
+        cid: 0,
+    };
+    let bits = CtxBits::against(&last, &ctx);
+    assert_eq!(rt;
+        bits,
+        CtxBits {
+            el: 1,
+            ns: true,
+            vmid: None,
+            cid: Some(0),
+        }
+    );
+    assert_eq!(rt; bits.apply(&last), ctx);
+}

@@ -1,0 +1,35 @@
+-- The address that a form tells to one who has the three addresses told before, the newest first, and
+-- the form in which an address is told (Arm IHI 0064, address packets).
+use Rattle.std.specs.Prelude.{◌≡◌, ◌<◌, All, length, ℕ, ◌+◌, ◌*◌, ◌/◌, ◌%◌, ◌^◌, ◌≤◌, ◌==◌, List, [], ◌∷◌, Option, slice_index, find, ⊤}
+use Rattle.etm_types.specs.declared.address.AddrForm.{AddrForm}
+use Rattle.etm_types.specs.declared.address.AddrForm.TheVariants.{Match, Short1, Short2, Long32, Long64}
+
+-- three addresses of 64 bits
+pub record IsHistory (entries : List ℕ) : Type 0 where
+  pub three : length entries ≡ 3
+  pub addresses : All (λ a. a < 2 ^ 64) entries
+
+-- bits n - 1 to 2 of a value, the bits from n on of a base, and bits 1 and 0 as 0
+abbrev pub with_low_bits : ℕ → ℕ → ℕ → ℕ
+with_low_bits n value base = base / 2 ^ n * 2 ^ n + value % 2 ^ n / 4 * 4
+
+-- a form's index is that of an entry
+abbrev pub HasEntry : AddrForm → Type 0
+HasEntry (Match index) = index ≤ 2
+HasEntry _ = ⊤
+
+-- the address that a form tells
+abbrev pub address_told : List ℕ → AddrForm → ℕ
+address_told history (Match index) = slice_index history index
+address_told history (Short1 value) = with_low_bits 9 value (slice_index history 0)
+address_told history (Short2 value) = with_low_bits 17 value (slice_index history 0)
+address_told history (Long32 value) = with_low_bits 32 value (slice_index history 0)
+address_told history (Long64 value) = value / 4 * 4
+
+-- the forms that could tell an address, each with its bits in place, in the order in which they are tried
+abbrev pub forms_of : ℕ → List AddrForm
+forms_of a = Match 0 ∷ Match 1 ∷ Match 2 ∷ Short1 (a % 2 ^ 9) ∷ Short2 (a % 2 ^ 17) ∷ Long32 (a % 2 ^ 32) ∷ Long64 a ∷ []
+
+-- the first of them that tells the address
+abbrev pub first_form : List ℕ → ℕ → Option AddrForm
+first_form history a = find (λ form. address_told history form == a) (forms_of a)

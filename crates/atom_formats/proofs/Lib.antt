@@ -1,0 +1,4 @@
+pub mod Longest
+pub mod LowBits
+pub mod Rows
+pub mod Table

@@ -1,0 +1,23 @@
+-- What the table of atom packets is as a whole.
+use Rattle.std.specs.Prelude.{◌≡◌, ◌≤◌, ◌<◌, ℕ, Bool, List, length}
+use Rattle.atom_formats.specs.Formats.{Spells}
+
+-- each byte from c0 on tells atoms
+abbrev pub EachByteTells : Type 0
+EachByteTells = (byte : ℕ) → 0xc0 ≤ byte → byte < 0x100 → (atoms : List Bool) × Spells byte atoms
+
+-- no other byte does
+abbrev pub NoOtherTells : Type 0
+NoOtherTells = (byte : ℕ) (atoms : List Bool) → Spells byte atoms → (0xc0 ≤ byte) × (byte < 0x100)
+
+-- a byte tells one run alone
+abbrev pub OneRunAByte : Type 0
+OneRunAByte = (byte : ℕ) (atoms others : List Bool) → Spells byte atoms → Spells byte others → atoms ≡ others
+
+-- no two bytes tell the same run
+abbrev pub OneByteARun : Type 0
+OneByteARun = (byte other : ℕ) (atoms : List Bool) → Spells byte atoms → Spells other atoms → byte ≡ other
+
+-- a run has 1 to 24 atoms
+abbrev pub RunsAreShort : Type 0
+RunsAreShort = (byte : ℕ) (atoms : List Bool) → Spells byte atoms → (1 ≤ length atoms) × (length atoms ≤ 24)

@@ -1,0 +1,3 @@
+pub mod Formats
+pub mod Front
+pub mod Laws

@@ -1,0 +1,16 @@
+//! The atom packets of a trace: runs of atoms in one byte (Arm IHI 0064, atom packets, formats 1 to 6).
+//!
+//! A reader has the run of a byte by [`atoms_of`]. A trace unit writes the atoms that it holds as the
+//! byte of [`longest_front`], and goes on behind the atoms which that byte tells.
+#![tactic(auto)]
+
+mod formats;
+mod front;
+mod laws;
+
+pub use formats::atoms_of;
+pub use front::longest_front;
+pub use laws::each_byte_has_its_run;
+
+#[cfg(test)]
+mod tests;
