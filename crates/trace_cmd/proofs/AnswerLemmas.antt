@@ -1,6 +1,5 @@
 -- Answers whose text was not written whole, and answers of a call from those of its parts.
 use Rattle.std.proofs.Common.{◌≡◌, ◌⊎◌, ℕ, ◌≤◌, Bool, true, false, List, length, Option, Some, None, Result, Ok, Err, refl, sym, ap, subst, ◌∙◌, inl, inr, arith}
-use Rattle.std.proofs.lemmas.Result.{IfOk-at_ok}
 use Rattle.std.specs.Io.KnownBytes.{Keeps}
 use Rattle.program_image.specs.declared.fault.ImageWhy.{ImageWhy}
 use Rattle.program_image.specs.declared.fault.ImageWhy.TheVariants.{Later}
@@ -16,7 +15,7 @@ use Rattle.trace_cmd.specs.declared.status.Status.{Status}
 use Rattle.trace_cmd.specs.declared.status.Status.TheVariants as status
 use Rattle.trace_cmd.specs.Path.{IsPathText}
 use Rattle.trace_cmd.specs.Writing.{Writes}
-use Rattle.trace_cmd.specs.Answers.{usage_line, image_line, PrintsFront, raw_id, most_input, IsPathCall, IsUsage, IsAnswer, IsInputAnswer, AnswersSo}
+use Rattle.trace_cmd.specs.Answers.{usage_line, image_line, PrintsFront, raw_id, most_input, IsPathCall, IsAnswer, IsInputAnswer, AnswersSo}
 use Rattle.trace_cmd.proofs.Wrote.{answers_err}
 
 -- the path could not be written
@@ -59,14 +58,6 @@ path_call words name e = elim (command_cases (meaning words)) [ inl none ↦ abs
 -- words whose image has no name mean nothing
 pub no_command : (words : List (List ℕ)) → image_of (meaning words) ≡ None → meaning words ≡ None
 no_command words e = elim (command_cases (meaning words)) [ inl none ↦ none | inr path ↦ absurd (let x : image_of (Some (Path path.0)) ≡ None = ap image_of (sym path.1) ∙ e in cc) ]
-
--- a call of path is never answered by usage
-pub never_usage : (words : List (List ℕ)) (image image' input input' old new : Option (List ℕ)) (f g : ℕ) (r : Result Status Failed) → IsPathCall words
-    → AnswersSo (IsAnswer words image image' input input') {E = Failed} old new f g r → r ≡ Ok status.Usage → ⊥
-never_usage words image image' input input' old new f g r call a e =
-    let same : status.Usage ≡ a.status = IfOk-at_ok (λ s. s ≡ a.status) e a.same in
-    let u : IsUsage words a.text = subst (λ s. IsAnswer words image image' input input' s a.text) (sym same) a.answer in
-    let x = sym u.meaningless ∙ call.1 in cc
 
 -- the line of usage could not be written
 pub usage_fails : (words : List (List ℕ)) (image image' input input' old new : Option (List ℕ)) (f g : ℕ) (e : Failed) → meaning words ≡ None → AppendsShorter old new usage_line → TellsAsBefore old new

@@ -112,7 +112,7 @@ fn answer_words<I: Source, J: Source, K: Sink>(
         (K.written out.old) (K.written out.new) (K.faults out.old) (K.faults out.new) result }
     ensures read_fault { result ≡ Ok Status.ReadFault
         → Rose (I.faults image.old) (I.faults image.new) ⊎ Rose (J.faults input.old) (J.faults input.new) }
-    ensures words_first { result ≡ Ok Status.Usage → (image.new ≡ image.old) × (input.new ≡ input.old) }
+    ensures words_first { meaning (map (λ word. string_bytes word) words.now) ≡ None → (image.new ≡ image.old) × (input.new ≡ input.old) }
     ensures image_first { (line : ℕ) (why : ImageWhy) → result ≡ Ok (Status.ImageBad line why) → input.new ≡ input.old }
     ensures image_tells { TellsAsBefore (I.left image.old) (I.left image.new) }
     ensures image_later { I.faults image.old ≤ I.faults image.new }
@@ -143,7 +143,7 @@ pub fn run<I: Source, J: Source, K: Sink>(
     ensures usage { result ≡ Status.Usage
         → Prints (IsUsage (map (λ word. string_bytes word) words.now)) (K.written out.old) (K.written out.new) }
     ensures meaningless { meaning (map (λ word. string_bytes word) words.now) ≡ None → (result ≡ Status.Usage) ⊎ (result ≡ Status.WriteFault) }
-    ensures words_first { result ≡ Status.Usage → (image.new ≡ image.old) × (input.new ≡ input.old) }
+    ensures words_first { meaning (map (λ word. string_bytes word) words.now) ≡ None → (image.new ≡ image.old) × (input.new ≡ input.old) }
 
     // The text of the image is bad.
     ensures image_bad { (line : ℕ) (why : ImageWhy) → result ≡ Status.ImageBad line why

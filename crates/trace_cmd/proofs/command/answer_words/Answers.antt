@@ -1,6 +1,6 @@
-use Rattle.std.proofs.Common.{sym}
+use Rattle.std.proofs.Common.{sym, ◌∙◌}
 use Rattle.std.specs.Prelude.{map, string_bytes}
-use Rattle.trace_cmd.proofs.AnswerLemmas.{path_call, no_command, never_usage, usage_fails}
+use Rattle.trace_cmd.proofs.AnswerLemmas.{path_call, no_command, usage_fails}
 use Rattle.trace_cmd.proofs.command.answer_words.Goals as goal
 
 pub returns-in-Some-clause-answer : goal.returns-in-Some-clause-answer
@@ -10,9 +10,8 @@ returns-in-Some-clause-answer g c =
 
 pub returns-in-Some-clause-words_first : goal.returns-in-Some-clause-words_first
 returns-in-Some-clause-words_first g c =
-    λ e. let words = map (λ word. string_bytes word) c.args.words.now in
-    let call = path_call words _ (sym c.in-Some.ensures) in
-    absurd (never_usage words _ _ _ _ _ _ _ _ c.answer_call.result call (c.answer_call.ensures.answer words call) e)
+    λ e. let call = path_call (map (λ word. string_bytes word) c.args.words.now) _ (sym c.in-Some.ensures) in
+    absurd (let x = sym call.1 ∙ e in cc)
 
 pub returns-in-Err-clause-answer : goal.returns-in-Err-clause-answer
 returns-in-Err-clause-answer g c =
