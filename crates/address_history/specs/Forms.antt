@@ -1,6 +1,6 @@
 -- The address that a form tells to one who has the three addresses told before, the newest first, and
 -- the form in which an address is told (Arm IHI 0064, address packets).
-use Rattle.std.specs.Prelude.{◌≡◌, ◌<◌, All, length, ℕ, ◌+◌, ◌*◌, ◌/◌, ◌%◌, ◌^◌, ◌≤◌, ◌==◌, List, [], ◌∷◌, Option, slice_index, find, ⊤}
+use Rattle.std.specs.Prelude.{◌≡◌, ◌≢◌, ◌<◌, ◌≤◌, ◌==◌, ℕ, ◌+◌, ◌*◌, ◌/◌, ◌%◌, ◌^◌, List, [], ◌∷◌, length, slice_index, find, All, Option, ⊤}
 use Rattle.etm_types.specs.declared.address.AddrForm.{AddrForm}
 use Rattle.etm_types.specs.declared.address.AddrForm.TheVariants.{Match, Short1, Short2, Long32, Long64}
 
@@ -33,3 +33,11 @@ forms_of a = Match 0 ∷ Match 1 ∷ Match 2 ∷ Short1 (a % 2 ^ 9) ∷ Short2 (
 -- the first of them that tells the address
 abbrev pub first_form : List ℕ → ℕ → Option AddrForm
 first_form history a = find (λ form. address_told history form == a) (forms_of a)
+
+-- the bits that the form does not tell are those of the newest address, and a shorter form would tell too few
+abbrev pub IsNeeded : List ℕ → ℕ → AddrForm → Type 0
+IsNeeded history a (Match index) = slice_index history index ≡ a
+IsNeeded history a (Short1 value) = (a ≢ slice_index history 0) × (a / 2 ^ 9 ≡ slice_index history 0 / 2 ^ 9)
+IsNeeded history a (Short2 value) = (a / 2 ^ 9 ≢ slice_index history 0 / 2 ^ 9) × (a / 2 ^ 17 ≡ slice_index history 0 / 2 ^ 17)
+IsNeeded history a (Long32 value) = (a / 2 ^ 17 ≢ slice_index history 0 / 2 ^ 17) × (a / 2 ^ 32 ≡ slice_index history 0 / 2 ^ 32)
+IsNeeded history a (Long64 value) = a / 2 ^ 32 ≢ slice_index history 0 / 2 ^ 32

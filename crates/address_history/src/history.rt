@@ -38,7 +38,7 @@ impl Model for History {
 
 impl History {
     ghost use Rattle.etm_types.specs.AddrForm.{IsAddrForm};
-    ghost use Rattle.address_history.specs.Forms.{HasEntry, IsHistory, address_told, first_form};
+    ghost use Rattle.address_history.specs.Forms.{HasEntry, IsHistory, IsNeeded, address_told, first_form};
 
     /// The history at the start of a trace, and after a trace info packet: three times address 0.
     pub fn reset() -> History
@@ -73,6 +73,7 @@ impl History {
     pub fn choose(&self, addr: u64) -> AddrForm
         requires { addr % 4 ≡ 0 }
         ensures first { first_form self.now addr ≡ Some result }
+        ensures needed { IsNeeded self.now addr result }
         ensures tells_it { address_told self.now result ≡ addr }
         ensures within { IsAddrForm result }
         ensures applies { HasEntry result }

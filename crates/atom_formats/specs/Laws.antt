@@ -1,5 +1,7 @@
 -- What the table of atom packets is as a whole.
 use Rattle.std.specs.Prelude.{◌≡◌, ◌≤◌, ◌<◌, ℕ, Bool, List, length}
+use Rattle.etm_types.specs.declared.atoms.AtomRun.{AtomRun}
+use Rattle.etm_types.specs.Atoms.{IsAtomRun, atoms_in}
 use Rattle.atom_formats.specs.Formats.{Spells}
 
 -- each byte from c0 on tells atoms
@@ -21,3 +23,7 @@ OneByteARun = (byte other : ℕ) (atoms : List Bool) → Spells byte atoms → S
 -- a run has 1 to 24 atoms
 abbrev pub RunsAreShort : Type 0
 RunsAreShort = (byte : ℕ) (atoms : List Bool) → Spells byte atoms → (1 ≤ length atoms) × (length atoms ≤ 24)
+
+-- a run is known by its atoms
+abbrev pub RunsDiffer : Type 0
+RunsDiffer = (run other : AtomRun) → IsAtomRun run → IsAtomRun other → atoms_in run ≡ atoms_in other → run ≡ other

@@ -5,6 +5,9 @@ ghost use Rattle.atom_formats.specs.Formats.{Spells};
 
 use etm_types::AtomRun;
 
+/// The least number of atoms of format 6: three times E, and the last atom.
+const FEWEST_IN_FORMAT_6: u8 = 4;
+
 /// The run of atoms that a byte tells, where it is an atom packet: a byte of 0xc0 or above.
 pub fn atoms_of(byte: u8) -> Option<AtomRun>
     ensures none { (result ≡ None) ↔ (byte < 0xc0) }
@@ -18,17 +21,17 @@ pub fn atoms_of(byte: u8) -> Option<AtomRun>
         0xd8..=0xdb => run(2, byte),
         // Format 3: three atoms, bit 0 the oldest.
         0xf8..=0xff => run(3, byte),
-        // Format 4: four atoms. Here and below the oldest is written last.
-        0xdc => run(4, 0b1110),
-        0xdd => run(4, 0b0000),
-        0xde => run(4, 0b1010),
-        0xdf => run(4, 0b0101),
+        // Format 4: four atoms, the oldest in bit 0, so that a row's number reads from the right.
+        0xdc => run(4, 0b1110), // N E E E
+        0xdd => run(4, 0b0000), // N N N N
+        0xde => run(4, 0b1010), // N E N E
+        0xdf => run(4, 0b0101), // E N E N
         // Format 5: five atoms.
-        0xf5 => run(5, 0b11110),
-        0xd5 => run(5, 0b00000),
-        0xd6 => run(5, 0b01010),
-        0xd7 => run(5, 0b10101),
-        // Format 6: so many times E, and then E or N.
+        0xf5 => run(5, 0b11110), // N E E E E
+        0xd5 => run(5, 0b00000), // N N N N N
+        0xd6 => run(5, 0b01010), // N E N E N
+        0xd7 => run(5, 0b10101), // E N E N E
+        // Format 6: the low bits and three times more E, and then E or N.
         0xc0..=0xd4 => long_run(byte - 0xc0, true),
         0xe0..=0xf4 => long_run(byte - 0xe0, false),
         _ => None,
@@ -49,7 +52,7 @@ fn long_run(more: u8, last_is_e: bool) -> Option<AtomRun>
     requires { more ≤ 20 }
     ensures { result ≡ Some (record { count = more + 4; bits = (if last_is_e then 2 ^ (more + 4) else 2 ^ (more + 3)) - 1 }) }
 {
-    let count = more + 4;
+    let count = more + FEWEST_IN_FORMAT_6;
     let taken = if last_is_e { count } else { count - 1 };
     Some(AtomRun {
         count,

@@ -17,6 +17,7 @@ fn a_byte_tells_its_run(rt: HostRuntime) {
     }
     assert_eq!(rt; atoms_of(0xbf), None);
     each_byte_has_its_run();
+    runs_differ_in_their_atoms();
 }
 
 #[test]
