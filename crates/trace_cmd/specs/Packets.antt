@@ -1,4 +1,4 @@
--- Packets and their spellings (Arm IHI 0064, the tables of trace packets), as far as they are read today.
+-- Packets and their spellings (Arm IHI 0064, Descriptions of Trace Packets), as far as they are read today.
 use Rattle.std.specs.Prelude.{◌≡◌, ◌⊎◌, ℕ, ◌+◌, ◌*◌, ◌/◌, ◌%◌, ◌^◌, ◌<◌, Bool, true, false, if◌then◌else◌, List, [], ◌∷◌, ◌++◌, length, drop, ◌==◌, IsTrue, nat_eq}
 use Rattle.std.specs.List.{starts_with}
 use Rattle.trace_cmd.specs.declared.packets.Packet.{Packet}
@@ -7,19 +7,19 @@ use Rattle.trace_cmd.specs.declared.fault.Fault.TheVariants.{Later}
 use Rattle.trace_cmd.specs.declared.fault.End.{End}
 use Rattle.trace_cmd.specs.declared.fault.End.TheVariants as end
 
--- A-sync: eleven bytes 00, and 80
+-- A-sync (Alignment Synchronization packet): eleven bytes 00, and 80
 abbrev pub sync : List ℕ
 sync = 0 ∷ 0 ∷ 0 ∷ 0 ∷ 0 ∷ 0 ∷ 0 ∷ 0 ∷ 0 ∷ 0 ∷ 0 ∷ 128 ∷ []
 
--- trace info, with a control byte that announces INFO alone, and INFO 0
+-- trace info (Trace Info packet), with a control byte that announces INFO alone, and INFO 0
 abbrev pub info : List ℕ
 info = 1 ∷ 1 ∷ 0 ∷ []
 
--- trace on
+-- trace on (Trace On packet)
 abbrev pub on : List ℕ
 on = 4 ∷ []
 
--- atom format 1: E, a branch that was taken, or N
+-- one atom (Atom Format 1 packet): E, a branch that was taken, or N
 abbrev pub atom : Bool → List ℕ
 atom taken = (if taken then 247 else 246) ∷ []
 
@@ -43,7 +43,8 @@ address_of (a ∷ b ∷ high) = 4 * (a % 128) + 512 * (b % 128) + 65536 * little
 abbrev pub is_short_context : ℕ → Bool
 is_short_context byte = if bit 4 byte == 1 then (if bit 6 byte == 0 then bit 7 byte == 0 else false) else false
 
--- 85, eight address bytes and an info byte, with the address, the exception level (bits 1 and 0) and the security state (bit 5) that they tell
+-- An address with its context (Address with Context packet, long, 64-bit, IS0): 85, eight address bytes and an info byte,
+-- with the address, the exception level (bits 1 and 0) and the security state (bit 5) that they tell
 pub record SpellsAddress (address el : ℕ) (ns : Bool) (bytes : List ℕ) : Type 0 where
   pub given : List ℕ
   pub context : ℕ
