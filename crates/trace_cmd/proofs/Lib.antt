@@ -9,3 +9,6 @@ pub mod WalkLaws
 pub mod PathLaws
 pub mod PathTexts
 pub mod AnswerLemmas
+pub mod OneParse
+pub mod OneWalk
+pub mod OnePath

@@ -6,6 +6,7 @@ use Rattle.std.proofs.lemmas.List.{take_at}
 use Rattle.std.proofs.lemmas.Bool.{lt-ltb}
 use Rattle.program_image.specs.Part.{Part, IsPart}
 use Rattle.etm_types.specs.declared.element.Pre.{Pre}
+use Rattle.etm_types.specs.declared.element.P0.{P0}
 use Rattle.etm_types.specs.declared.element.P0.TheVariants as p0
 use Rattle.etm_types.specs.declared.element.Thing.{Thing}
 use Rattle.etm_types.specs.declared.element.Thing.TheVariants.{Seen}
@@ -24,7 +25,7 @@ use Rattle.trace_cmd.specs.declared.walk.Walker.{Walker}
 use Rattle.trace_cmd.specs.declared.path.Reader.{Reader}
 use Rattle.trace_cmd.specs.Packets.{Parses}
 use Rattle.trace_cmd.specs.Reading.{Read, first_at}
-use Rattle.trace_cmd.specs.Elements.{Element, P0Element, Resolved, untold, told_after, elements_of, all_elements, unresolved, resolve, resolve_all, committed_things}
+use Rattle.trace_cmd.specs.Elements.{Element, P0Element, Resolved, untold, told_after, elements_of, all_elements, unresolved, with_entry, resolve, resolve_all, committed_things}
 use Rattle.trace_cmd.specs.Pending.{pre_after, pending_after, atom_in}
 use Rattle.trace_cmd.specs.Walk.{ShowsThing, Walks, Stops, start}
 use Rattle.trace_cmd.specs.Walking.{walk_of, items_of}
@@ -82,7 +83,7 @@ stream_parses (suc n) at (b ∷ bytes) enough =
 
 -- ---- elements, one list behind another
 
-resolve_all-append : (d : ℕ) (r : Resolved) (xs ys : List (ℕ × Element)) → resolve_all d r (xs ++ ys) ≡ resolve_all d (resolve_all d r xs) ys
+pub resolve_all-append : (d : ℕ) (r : Resolved) (xs ys : List (ℕ × Element)) → resolve_all d r (xs ++ ys) ≡ resolve_all d (resolve_all d r xs) ys
 resolve_all-append d r [] ys = refl
 resolve_all-append d r (x ∷ xs) ys = resolve_all-append d (resolve d r x.1) xs ys
 
@@ -104,7 +105,7 @@ pub record Stands (image : Part) (elements : List (ℕ × Element)) (items : Lis
   pub resolved : resolve_all depth unresolved elements ≡ all_committed things reader.pending.pre
   pub walks : Walks image start things items reader.walker
 
-committed_are : (elements : List (ℕ × Element)) (things : List Thing) (pre : Pre) → resolve_all depth unresolved elements ≡ all_committed things pre → committed_things depth elements ≡ things
+pub committed_are : (elements : List (ℕ × Element)) (things : List Thing) (pre : Pre) → resolve_all depth unresolved elements ≡ all_committed things pre → committed_things depth elements ≡ things
 committed_are elements things pre e = ap (λ (r : Resolved). take r.committed r.things) e ∙ take-length things
 
 stands_walks : (image : Part) (elements : List (ℕ × Element)) (items : List Item) (reader : Reader) → Stands image elements items reader → WalksAll image elements items
@@ -147,12 +148,12 @@ one_atom r (packet.Atom t) pre taken e =
     ]
 one_atom r (packet.Address address el ns) pre taken e = absurd (let x = e in cc)
 
--- an atom commits its entry at once
-committed_at_once : (things : List Thing) (pre : Pre) (at : ℕ) (taken : Bool)
-    → resolve_all depth (all_committed things pre) (placed at (P0Element (p0.Atom taken) ∷ [])) ≡ all_committed (things ++ Seen (entry_of pre taken) ∷ []) nothing_told
-committed_at_once things pre at taken =
-    let more = things ++ Seen (entry_of pre taken) ∷ [] in
-    let some : nat_lt 0 (length more - length things) ≡ true = lt-ltb 0 (length more - length things) (omega (arith, length-append things (Seen (entry_of pre taken) ∷ []))) in
+-- a P0 element commits its entry at once
+pub entry_committed : (things : List Thing) (pre : Pre) (element : P0) → with_entry depth (all_committed things pre) element ≡ all_committed (things ++ Seen (record { pre = pre; p0 = element }) ∷ []) nothing_told
+entry_committed things pre element =
+    let entry = Seen (record { pre = pre; p0 = element }) in
+    let more = things ++ entry ∷ [] in
+    let some : nat_lt 0 (length more - length things) ≡ true = lt-ltb 0 (length more - length things) (omega (arith, length-append things (entry ∷ []))) in
     let with_count : ℕ → Resolved = λ n. record { things = more; committed = n; pending = nothing_told } in
     simp some (ap with_count (let e : length more - 0 ≡ length more = omega arith in e))
 
@@ -211,7 +212,7 @@ after_atom : (image : Part) (elements : List (ℕ × Element)) (items : List Ite
     → resolve_all depth unresolved (elements ++ placed at (P0Element (p0.Atom taken) ∷ [])) ≡ all_committed (s.things ++ Seen (entry_of pre taken) ∷ []) nothing_told
 after_atom image elements items r pre taken at s same =
     let atom = placed at (P0Element (p0.Atom taken) ∷ []) in
-    resolve_all-append depth unresolved elements atom ∙ ap (λ x. resolve_all depth x atom) s.resolved ∙ committed_at_once s.things r.pending.pre at taken
+    resolve_all-append depth unresolved elements atom ∙ ap (λ x. resolve_all depth x atom) s.resolved ∙ entry_committed s.things r.pending.pre (p0.Atom taken)
     ∙ ap (λ q. all_committed (s.things ++ Seen (entry_of q taken) ∷ []) nothing_told) (sym same)
 
 -- the entry that one packet commits has a fault

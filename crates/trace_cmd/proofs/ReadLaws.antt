@@ -78,7 +78,7 @@ nine : (bs : List ℕ) → 9 ≤ length bs → bs ≡ (take 8 bs ++ get_or bs 8 
 nine bs long = sym (take-append-drop 9 bs) ∙ ap (λ t. t ++ drop 9 bs) (take_more bs 8 0 (omega arith))
 
 -- of eight bytes, one more, and others
-ninth : (given rest bs : List ℕ) (context : ℕ) → length given ≡ 8 → bs ≡ given ++ (context ∷ rest) → (9 ≤ length bs) × (get_or bs 8 0 ≡ context)
+pub ninth : (given rest bs : List ℕ) (context : ℕ) → length given ≡ 8 → bs ≡ given ++ (context ∷ rest) → (9 ≤ length bs) × (get_or bs 8 0 ≡ context)
 ninth given rest bs context eight is = (
   omega (arith, ap length is, length-append given (context ∷ rest)),
   ap (λ t. get_or t 8 0) is ∙ ap (λ n. get_or (given ++ (context ∷ rest)) n 0) (sym eight) ∙ get_or-append_seam given context rest 0,
@@ -90,7 +90,7 @@ told bs = let context = get_or bs 8 0 in Address (address_of (take 8 bs)) (conte
 abbrev read : Packet → List ℕ → Read
 read p rest = Ok (p, rest)
 
-same_read : (p q : Packet) (r s : List ℕ) → read p r ≡ read q s → (p ≡ q) × (r ≡ s)
+pub same_read : (p q : Packet) (r s : List ℕ) → read p r ≡ read q s → (p ≡ q) × (r ≡ s)
 same_read p q r s e = let pair : (p, r) ≡ (q, s) = cc in (ap (λ (x : Packet × List ℕ). x.0) pair, ap (λ (x : Packet × List ℕ). x.1) pair)
 
 abbrev unread : Stop → Read

@@ -11,6 +11,7 @@
 mod command;
 mod elements;
 mod fault;
+mod laws;
 mod line;
 mod lines;
 mod packets;
@@ -20,5 +21,6 @@ mod walk;
 mod words;
 
 pub use command::run;
+pub use laws::an_input_has_one_path;
 pub use status::Status;
 pub use words::image_name;
