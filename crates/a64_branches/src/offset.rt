@@ -1,5 +1,5 @@
 //! The offsets of branches, and where they lead.
-ghost use Rattle.std.specs.Prelude.{◌≡◌, ◌<◌, ◌≤◌, ◌*◌, ◌^◌, nat_lt, pos, ◌-ℤ◌, if◌then◌else◌};
+ghost use Rattle.std.specs.Prelude.{◌≡◌, ◌<◌, ◌*◌, nat_lt, pos, ◌-ℤ◌, if◌then◌else◌};
 ghost use Rattle.a64_branches.specs.Offsets.{imm14, imm19, imm26, target};
 
 /// The bytes of an instruction, which an immediate counts.
