@@ -1,0 +1,75 @@
+-- Which class an instruction word has (Arm DDI 0487, "Branches, Exception Generating and System instructions", the
+-- encoding tables in their order).
+use Rattle.std.specs.Prelude.{ℕ, true, false, List, [], ◌∷◌, ◌++◌, bit_and, ◌==◌, if◌then◌else◌}
+use Rattle.a64_branches.specs.Offsets.{imm14, imm19, imm26}
+use Rattle.a64_branches.specs.declared.class.Class.{Class}
+use Rattle.a64_branches.specs.declared.class.Class.TheVariants.{Plain, Jump, Cond, Isb, Ind, Eret, Odd}
+
+-- the words whose bits under the mask are those of the value, and their class
+pub record Row : Type 0 where
+  mask : ℕ
+  value : ℕ
+  class : ℕ → Class
+
+abbrev pub row : ℕ → ℕ → (ℕ → Class) → Row
+row mask value class = record { mask = mask; value = value; class = class }
+
+-- Conditional branch (immediate)
+abbrev pub conditional_branches : List Row
+conditional_branches =
+    -- B.cond: 0101 0100 imm19 0 cond
+    row 0xff000010 0x54000000 (λ word. Cond (imm19 word))
+    -- BC.cond, which is not read: 0101 0100 imm19 1 cond
+    ∷ row 0xff000010 0x54000010 (λ word. Odd)
+    ∷ []
+
+-- Barriers
+abbrev pub barriers : List Row
+barriers =
+    -- ISB, with any option: 1101 0101 0000 0011 0011 CRm 110 11111
+    row 0xfffff0ff 0xd50330df (λ word. Isb)
+    ∷ []
+
+-- Unconditional branch (register)
+abbrev pub branches_to_registers : List Row
+branches_to_registers =
+    -- BR: 1101 0110 0001 1111 000000 Rn 00000
+    row 0xfffffc1f 0xd61f0000 (λ word. Ind false)
+    -- BLR: 1101 0110 0011 1111 000000 Rn 00000
+    ∷ row 0xfffffc1f 0xd63f0000 (λ word. Ind true)
+    -- RET: 1101 0110 0101 1111 000000 Rn 00000
+    ∷ row 0xfffffc1f 0xd65f0000 (λ word. Ind false)
+    -- ERET: 1101 0110 1001 1111 000000 11111 00000
+    ∷ row 0xffffffff 0xd69f03e0 (λ word. Eret)
+    -- all others, which are not read: 1101 011
+    ∷ row 0xfe000000 0xd6000000 (λ word. Odd)
+    ∷ []
+
+-- Unconditional branch (immediate)
+abbrev pub unconditional_branches : List Row
+unconditional_branches =
+    -- B: 000101 imm26
+    row 0xfc000000 0x14000000 (λ word. Jump (imm26 word) false)
+    -- BL: 100101 imm26
+    ∷ row 0xfc000000 0x94000000 (λ word. Jump (imm26 word) true)
+    ∷ []
+
+-- Compare and branch (immediate), and Test and branch (immediate)
+abbrev pub testing_branches : List Row
+testing_branches =
+    -- CBZ and CBNZ: sf 011010 op imm19 Rt
+    row 0x7e000000 0x34000000 (λ word. Cond (imm19 word))
+    -- TBZ and TBNZ: b5 011011 op b40 imm14 Rt
+    ∷ row 0x7e000000 0x36000000 (λ word. Cond (imm14 word))
+    ∷ []
+
+abbrev pub rows : List Row
+rows = conditional_branches ++ barriers ++ branches_to_registers ++ unconditional_branches ++ testing_branches
+
+-- the class of a word by the first row that it fits; a word that fits none is plain
+abbrev pub class_by : List Row → ℕ → Class
+class_by [] word = Plain
+class_by (r ∷ others) word = if bit_and word r.mask == r.value then r.class word else class_by others word
+
+unfoldable pub class_of : ℕ → Class
+class_of word = class_by rows word

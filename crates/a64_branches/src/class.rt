@@ -1,0 +1,69 @@
+//! The class of an instruction word.
+ghost use Rattle.std.specs.Prelude.{◌≡◌};
+ghost use Rattle.a64_branches.specs.Classes.{class_of};
+
+use crate::encoding::{
+    ANY_BRANCH_TO_REGISTER, BRANCH, BRANCH_CONDITIONALLY, BRANCH_CONSISTENT, BRANCH_TO_REGISTER,
+    BRANCH_WITH_LINK, BRANCH_WITH_LINK_TO_REGISTER, COMPARE_AND_BRANCH, EXCEPTION_RETURN, RETURN,
+    SYNCHRONIZATION_BARRIER, TEST_BIT_AND_BRANCH,
+};
+use crate::offset::{imm14, imm19, imm26};
+
+/// What an instruction is to a trace. Offsets are in bytes, from the address of the instruction.
+#[derive(Clone, Copy, Debug, PartialEq, Eq)]
+pub enum Class {
+    /// An instruction of which a trace does not tell: the word behind it is executed next.
+    Plain,
+    /// B, or BL where it links.
+    Jump { off: i64, link: bool },
+    /// B.cond, CBZ, CBNZ, TBZ or TBNZ.
+    Cond { off: i64 },
+    /// ISB.
+    Isb,
+    /// BR or RET, or BLR where it links.
+    Ind { link: bool },
+    /// ERET.
+    Eret,
+    /// A branch that is not read: of a later extension, or not allocated.
+    Odd,
+}
+
+/// The class of an instruction word: that of the first encoding which it has, or `Plain` without one.
+#[tactic(auto, unfolding(crate::specs::Classes::class_of))]
+pub fn class_of(word: u32) -> Class
+    ensures { result ≡ class_of word }
+{
+    if BRANCH_CONDITIONALLY.fits(word) {
+        Class::Cond { off: imm19(word) }
+    } else if BRANCH_CONSISTENT.fits(word) {
+        Class::Odd
+    } else if SYNCHRONIZATION_BARRIER.fits(word) {
+        Class::Isb
+    } else if BRANCH_TO_REGISTER.fits(word) {
+        Class::Ind { link: false }
+    } else if BRANCH_WITH_LINK_TO_REGISTER.fits(word) {
+        Class::Ind { link: true }
+    } else if RETURN.fits(word) {
+        Class::Ind { link: false }
+    } else if EXCEPTION_RETURN.fits(word) {
+        Class::Eret
+    } else if ANY_BRANCH_TO_REGISTER.fits(word) {
+        Class::Odd
+    } else if BRANCH.fits(word) {
+        Class::Jump {
+            off: imm26(word),
+            link: false,
+        }
+    } else if BRANCH_WITH_LINK.fits(word) {
+        Class::Jump {
+            off: imm26(word),
+            link: true,
+        }
+    } else if COMPARE_AND_BRANCH.fits(word) {
+        Class::Cond { off: imm19(word) }
+    } else if TEST_BIT_AND_BRANCH.fits(word) {
+        Class::Cond { off: imm14(word) }
+    } else {
+        Class::Plain
+    }
+}
