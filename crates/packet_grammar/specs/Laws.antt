@@ -1,0 +1,38 @@
+-- What holds of the spellings as a whole, under any settings.
+use Rattle.std.specs.Prelude.{◌≡◌, ◌⊎◌, ℕ, ◌<◌, ◌≤◌, All, List, [], ◌++◌, length}
+use Rattle.etm_types.specs.Settings.{Sizes, AreSettings}
+use Rattle.packet_grammar.specs.declared.packet.Packet.{Packet}
+use Rattle.packet_grammar.specs.Parts.{Outcome}
+use Rattle.packet_grammar.specs.Spelling.{Spells, Begins}
+
+-- a spelling that stands at the front of a spelling is all of it
+abbrev pub NoneBeginsAnother : Type 0
+NoneBeginsAnother =
+    (s : Sizes) → AreSettings s → (outcome other : Outcome Packet) (text rest : List ℕ)
+    → Spells s outcome (text ++ rest) → Spells s other text → rest ≡ []
+
+-- bytes spell one outcome at most
+abbrev pub OneOutcome : Type 0
+OneOutcome =
+    (s : Sizes) → AreSettings s → (outcome other : Outcome Packet) (bytes : List ℕ)
+    → Spells s outcome bytes → Spells s other bytes → outcome ≡ other
+
+-- a spelling stands at the front of the bytes
+pub record BeginsWithOne (s : Sizes) (bytes : List ℕ) : Type 0 where
+  pub outcome : Outcome Packet
+  pub text : List ℕ
+  pub rest : List ℕ
+  pub parts : bytes ≡ text ++ rest
+  pub spells : Spells s outcome text
+
+-- bytes lack the end of a spelling, or a spelling stands at their front
+abbrev pub SpelledOrBegun : Type 0
+SpelledOrBegun =
+    (s : Sizes) → AreSettings s → (bytes : List ℕ) → All (λ b. b < 256) bytes → Begins s bytes ⊎ BeginsWithOne s bytes
+
+abbrev pub NotBoth : Type 0
+NotBoth = (s : Sizes) → AreSettings s → (bytes : List ℕ) → Begins s bytes → BeginsWithOne s bytes → ⊥
+
+-- no spelling has more bytes
+abbrev pub AtMost : ℕ → Type 0
+AtMost most = (s : Sizes) → AreSettings s → (outcome : Outcome Packet) (bytes : List ℕ) → Spells s outcome bytes → length bytes ≤ most

@@ -1,0 +1,6 @@
+pub mod Parts
+pub mod Numbers
+pub mod Contexts
+pub mod Headers
+pub mod Spelling
+pub mod Laws

@@ -1,0 +1,19 @@
+//! What holds of the spellings as a whole, under any settings.
+ghost use Rattle.packet_grammar.specs.Laws.{NoneBeginsAnother, OneOutcome, SpelledOrBegun, NotBoth, AtMost};
+
+/// A reader that goes from left to right knows a spelling by its last byte, and what it spells.
+pub fn spellings_are_told_apart()
+    ensures none_begins_another { NoneBeginsAnother }
+    ensures one_outcome { OneOutcome }
+{}
+
+/// Whatever bytes come, they are one of two things.
+pub fn bytes_spell_or_begin()
+    ensures either { SpelledOrBegun }
+    ensures not_both { NotBoth }
+{}
+
+/// A reader has room for each spelling in 24 bytes.
+pub fn spellings_are_short()
+    ensures { AtMost 24 }
+{}
