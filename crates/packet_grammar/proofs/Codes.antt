@@ -1,5 +1,5 @@
 -- A part that is a code: a reader that goes from left to right knows where a spelling ends and what it spells.
-use Rattle.std.proofs.Common.{◌≡◌, ◌⊎◌, ℕ, zero, suc, ◌+◌, ◌-◌, ◌<◌, ◌≤◌, Bool, true, false, List, [], ◌∷◌, ◌++◌, length, take, drop, Result, Ok, Err, refl, sym, ap, subst, ◌∙◌, append-nil, append_assoc, inl, inr, arith, length-append, length-take}
+use Rattle.std.proofs.Common.{◌≡◌, ◌⊎◌, ℕ, suc, ◌+◌, ◌-◌, ◌<◌, ◌≤◌, Bool, true, false, List, [], ◌∷◌, ◌++◌, length, take, drop, Ok, Err, refl, sym, ap, subst, ◌∙◌, append_assoc, inl, inr, arith, length-append, length-take}
 use Rattle.std.specs.Prelude.{replicate}
 use Rattle.std.proofs.lemmas.Bool.{cases_lt}
 use Rattle.std.proofs.lemmas.List.{take-append-drop, length-replicate}
@@ -173,18 +173,18 @@ module _ {A B : Type 0} (m n : ℕ) (first : Part A) (next : A → Part B) (is_f
   goes_on : (bytes : List ℕ) (x : A) (front back : List ℕ) → bytes ≡ front ++ back → first (Ok x) front → Begun (Then first next) bytes ⊎ Stands (Then first next) bytes
   goes_on bytes x front back parts is = elim ((each x).covers back) [
     | inl begun ↦ inl (record {
-        outcome = begun.outcome;
-        more = begun.more;
-        some = begun.some;
-        is = inl (x, front, back ++ begun.more, ap (λ t. t ++ begun.more) parts ∙ append_assoc front back begun.more, is, begun.is);
-      })
+      outcome = begun.outcome;
+      more = begun.more;
+      some = begun.some;
+      is = inl (x, front, back ++ begun.more, ap (λ t. t ++ begun.more) parts ∙ append_assoc front back begun.more, is, begun.is);
+    })
     | inr stands ↦ inr (record {
-        outcome = stands.outcome;
-        text = front ++ stands.text;
-        rest = stands.rest;
-        parts = parts ∙ ap (λ t. front ++ t) stands.parts ∙ sym (append_assoc front stands.text stands.rest);
-        is = inl (x, front, stands.text, refl, is, stands.is);
-      })
+      outcome = stands.outcome;
+      text = front ++ stands.text;
+      rest = stands.rest;
+      parts = parts ∙ ap (λ t. front ++ t) stands.parts ∙ sym (append_assoc front stands.text stands.rest);
+      is = inl (x, front, stands.text, refl, is, stands.is);
+    })
   ]
 
   stops : (bytes : List ℕ) (outcome : Outcome A) (text rest : List ℕ) → bytes ≡ text ++ rest → first outcome text → Begun (Then first next) bytes ⊎ Stands (Then first next) bytes

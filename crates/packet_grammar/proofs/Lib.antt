@@ -1,1 +1,5 @@
 pub mod Codes
+pub mod Bodies
+pub mod Runs
+pub mod Rows
+pub mod Whole

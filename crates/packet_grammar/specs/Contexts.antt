@@ -1,9 +1,9 @@
 -- What tells a context, and what tells an address (Arm IHI 0064, "Context packet", "Address with Context packet", "Short
 -- Address packet", "Long Address packets").
-use Rattle.std.specs.Prelude.{ℕ, ◌+◌, ◌-◌, ◌*◌, ◌/◌, ◌%◌, ◌^◌, ◌==◌, ◌&&◌, not, Bool, true, false, List, [], ◌∷◌, Option, Some, None, Ok, Err, nat_lt}
+use Rattle.std.specs.Prelude.{ℕ, ◌+◌, ◌-◌, ◌*◌, ◌/◌, ◌%◌, ◌^◌, ◌==◌, ◌&&◌, not, Bool, List, ◌∷◌, Option, Some, None, Ok, Err, nat_lt}
 use Rattle.etm_types.specs.Settings.{Sizes}
 use Rattle.etm_types.specs.declared.address.AddrForm.{AddrForm}
-use Rattle.etm_types.specs.declared.address.AddrForm.TheVariants.{Short1, Short2}
+use Rattle.etm_types.specs.declared.address.AddrForm.TheVariants.{Short1, Short2, Long32, Long64}
 use Rattle.etm_types.specs.declared.context.CtxBits.{CtxBits}
 use Rattle.packet_grammar.specs.declared.fault.PacketFault.TheVariants.{Aarch32Context}
 use Rattle.packet_grammar.specs.Parts.{Part, Known, Byte, Bytes, Where, Then, As}
@@ -38,5 +38,8 @@ ShortAddress =
     Byte (λ a. Where (nat_lt a 128) (Known (Ok (Short1 (a * 4))))
     (Byte (λ b. Known (Ok (Short2 ((a - 128) * 4 + b * 2 ^ 9))))))
 
-abbrev pub LongAddress : ℕ → (ℕ → AddrForm) → Part AddrForm
-LongAddress size form = As (Bytes size) (λ given. form (address_of given))
+abbrev pub LongAddress32 : Part AddrForm
+LongAddress32 = As (Bytes 4) (λ given. Long32 (address_of given))
+
+abbrev pub LongAddress64 : Part AddrForm
+LongAddress64 = As (Bytes 8) (λ given. Long64 (address_of given))

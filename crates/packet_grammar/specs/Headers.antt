@@ -1,7 +1,6 @@
 -- The headers of packets, in the order of their numbers (Arm IHI 0064, "Descriptions of Trace Packets").
 use Rattle.std.specs.Prelude.{ℕ, ◌+◌, ◌-◌, ◌/◌, ◌%◌, ◌==◌, ◌&&◌, Bool, true, false, List, [], ◌∷◌, Option, Some, None, Ok, Err, nat_le, if◌then◌else◌}
-use Rattle.etm_types.specs.declared.address.AddrForm.{AddrForm}
-use Rattle.etm_types.specs.declared.address.AddrForm.TheVariants.{Match, Long32, Long64}
+use Rattle.etm_types.specs.declared.address.AddrForm.TheVariants.{Match}
 use Rattle.etm_types.specs.declared.atoms.FewAtoms.{FewAtoms}
 use Rattle.packet_grammar.specs.declared.packet.Packet.{Packet}
 use Rattle.packet_grammar.specs.declared.packet.Packet.TheVariants.{On, Ignore, Event, Mispredict, Cancel2, Cancel3, CtxSame, Addr}
@@ -22,8 +21,10 @@ pub data Body : Type 0 where
   cancel : Bool → Body
   context : Body
   short_address : Body
-  long_address : ℕ → (ℕ → AddrForm) → Body
-  address_with_context : ℕ → (ℕ → AddrForm) → Body
+  long_32 : Body
+  long_64 : Body
+  long_32_with_context : Body
+  long_64_with_context : Body
 
 -- the header is all
 abbrev pub whole : Packet → Body
@@ -90,10 +91,10 @@ headers =
     ∷ (0x80, 0x80, λ h. whole CtxSame)
     ∷ (0x81, 0x81, λ h. context)
     -- Address with Context packet
-    ∷ (0x82, 0x82, λ h. address_with_context 4 (λ a. Long32 a))
+    ∷ (0x82, 0x82, λ h. long_32_with_context)
     ∷ (0x83, 0x83, refused Aarch32Address)
     ∷ (0x84, 0x84, reserved)
-    ∷ (0x85, 0x85, λ h. address_with_context 8 (λ a. Long64 a))
+    ∷ (0x85, 0x85, λ h. long_64_with_context)
     ∷ (0x86, 0x86, refused Aarch32Address)
     ∷ (0x87, 0x8f, reserved)
     -- Exact Match Address packet
@@ -104,10 +105,10 @@ headers =
     ∷ (0x96, 0x96, refused Aarch32Address)
     ∷ (0x97, 0x99, reserved)
     -- Long Address packets
-    ∷ (0x9a, 0x9a, λ h. long_address 4 (λ a. Long32 a))
+    ∷ (0x9a, 0x9a, λ h. long_32)
     ∷ (0x9b, 0x9b, refused Aarch32Address)
     ∷ (0x9c, 0x9c, reserved)
-    ∷ (0x9d, 0x9d, λ h. long_address 8 (λ a. Long64 a))
+    ∷ (0x9d, 0x9d, λ h. long_64)
     ∷ (0x9e, 0x9e, refused Aarch32Address)
     ∷ (0x9f, 0x9f, reserved)
     ∷ (0xa0, 0xa2, refused Q)

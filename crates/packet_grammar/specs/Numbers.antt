@@ -2,7 +2,7 @@
 -- continuation bit). Bit 7 of a byte says that another byte follows. Groups of zeros at the end are as good as none.
 use Rattle.std.specs.Prelude.{ℕ, zero, suc, ◌+◌, ◌-◌, ◌*◌, List, [], ◌∷◌, Ok, Err, nat_lt}
 use Rattle.packet_grammar.specs.declared.fault.PacketFault.TheVariants.{NumberTooLong}
-use Rattle.packet_grammar.specs.Parts.{Part, Known, Byte, Where, Then, As}
+use Rattle.packet_grammar.specs.Parts.{Part, Known, Byte, Where, As}
 
 -- a number whose last byte may come after so many: that one has 4 bits
 abbrev pub NumberWithin : ℕ → Part ℕ

@@ -1,20 +1,18 @@
 -- Which bytes spell which packet, and which show which fault (Arm IHI 0064, "Descriptions of Trace Packets"). A packet
 -- is spelled by a list of bytes as a whole. A fault is shown by the bytes from the packet's first one up to the one that
 -- shows it.
-use Rattle.std.specs.Prelude.{◌≡◌, ℕ, zero, suc, ◌/◌, ◌%◌, ◌<◌, ◌==◌, ◌&&◌, not, Bool, true, false, List, [], ◌∷◌, ◌++◌, length, Option, Some, None, Ok, Err, nat_lt, if◌then◌else◌}
+use Rattle.std.specs.Prelude.{◌≡◌, ℕ, zero, suc, ◌/◌, ◌%◌, ◌<◌, ◌==◌, ◌&&◌, not, Bool, List, [], ◌∷◌, ◌++◌, length, Option, Some, None, Ok, Err, nat_lt, if◌then◌else◌}
 use Rattle.etm_types.specs.Settings.{Sizes}
 use Rattle.etm_types.specs.Atoms.{IsAtomRun, atoms_in}
-use Rattle.etm_types.specs.declared.address.AddrForm.{AddrForm}
 use Rattle.etm_types.specs.declared.atoms.AtomRun.{AtomRun}
 use Rattle.atom_formats.specs.Formats.{Spells as TellsAtoms}
 use Rattle.packet_grammar.specs.declared.packet.Packet.{Packet}
 use Rattle.packet_grammar.specs.declared.packet.Packet.TheVariants.{Async, Discard, Overflow, Info, Time, Exc, Commit, Cancel, CtxInfo, Addr, Atoms}
-use Rattle.packet_grammar.specs.declared.fault.PacketFault.{PacketFault}
 use Rattle.packet_grammar.specs.declared.fault.PacketFault.TheVariants.{Extension, BrokenSync, InfoControl, InfoMode, ExceptionTwoByte, ExceptionForm}
-use Rattle.packet_grammar.specs.Parts.{Outcome, Part, Known, Byte, Bytes, Where, Then, As}
+use Rattle.packet_grammar.specs.Parts.{Outcome, Part, Known, Byte, Where, Then, As}
 use Rattle.packet_grammar.specs.Numbers.{Number, TimeStamp}
-use Rattle.packet_grammar.specs.Contexts.{Context, ShortAddress, LongAddress, bit}
-use Rattle.packet_grammar.specs.Headers.{Body, alone, atoms, extension, trace_info, time_stamp, exception, commit, cancel, context, short_address, long_address, address_with_context, headers, body_in}
+use Rattle.packet_grammar.specs.Contexts.{Context, ShortAddress, LongAddress32, LongAddress64, bit}
+use Rattle.packet_grammar.specs.Headers.{Body, alone, atoms, extension, trace_info, time_stamp, exception, commit, cancel, context, short_address, long_32, long_64, long_32_with_context, long_64_with_context, headers, body_in}
 
 -- so many 00 more, and 80
 abbrev pub Sync : ℕ → Part Packet
@@ -67,8 +65,10 @@ Follows s commit = As Number (λ n. Commit n)
 Follows s (cancel flip) = As Number (λ n. Cancel n flip)
 Follows s context = As (Context s) (λ ctx. CtxInfo ctx)
 Follows s short_address = As ShortAddress (λ form. Addr form None)
-Follows s (long_address size form) = As (LongAddress size form) (λ told. Addr told None)
-Follows s (address_with_context size form) = Then (LongAddress size form) (λ told. As (Context s) (λ ctx. Addr told (Some ctx)))
+Follows s long_32 = As LongAddress32 (λ form. Addr form None)
+Follows s long_64 = As LongAddress64 (λ form. Addr form None)
+Follows s long_32_with_context = Then LongAddress32 (λ form. As (Context s) (λ ctx. Addr form (Some ctx)))
+Follows s long_64_with_context = Then LongAddress64 (λ form. As (Context s) (λ ctx. Addr form (Some ctx)))
 
 -- the bytes are a spelling of the outcome
 pub record Spells (s : Sizes) (outcome : Outcome Packet) (bytes : List ℕ) : Type 0 where
