@@ -3,3 +3,4 @@ pub mod Bodies
 pub mod Runs
 pub mod Rows
 pub mod Whole
+pub mod Streams

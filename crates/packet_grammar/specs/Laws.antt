@@ -4,6 +4,7 @@ use Rattle.etm_types.specs.Settings.{Sizes, AreSettings}
 use Rattle.packet_grammar.specs.declared.packet.Packet.{Packet}
 use Rattle.packet_grammar.specs.Parts.{Outcome}
 use Rattle.packet_grammar.specs.Spelling.{Spells, Begins}
+use Rattle.packet_grammar.specs.Parsed.{Ending, IsStream}
 
 -- a spelling that stands at the front of a spelling is all of it
 abbrev pub NoneBeginsAnother : Type 0
@@ -36,3 +37,19 @@ NotBoth = (s : Sizes) → AreSettings s → (bytes : List ℕ) → Begins s byte
 -- no spelling has more bytes
 abbrev pub AtMost : ℕ → Type 0
 AtMost most = (s : Sizes) → AreSettings s → (outcome : Outcome Packet) (bytes : List ℕ) → Spells s outcome bytes → length bytes ≤ most
+
+-- what a stream is: its packets, each with its offset, and how it ends
+pub record Stream (s : Sizes) (bytes : List ℕ) : Type 0 where
+  pub packets : List (ℕ × Packet)
+  pub ending : Ending
+  pub is : IsStream s bytes packets ending
+
+-- each list of bytes is a stream
+abbrev pub EachIsAStream : Type 0
+EachIsAStream = (s : Sizes) → AreSettings s → (bytes : List ℕ) → All (λ b. b < 256) bytes → Stream s bytes
+
+-- in one way alone
+abbrev pub OneStream : Type 0
+OneStream =
+    (s : Sizes) → AreSettings s → (bytes : List ℕ) (packets others : List (ℕ × Packet)) (ending other : Ending)
+    → IsStream s bytes packets ending → IsStream s bytes others other → (packets ≡ others) × (ending ≡ other)

@@ -3,4 +3,5 @@ pub mod Numbers
 pub mod Contexts
 pub mod Headers
 pub mod Spelling
+pub mod Parsed
 pub mod Laws

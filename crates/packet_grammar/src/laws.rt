@@ -1,5 +1,5 @@
 //! What holds of the spellings as a whole, under any settings.
-ghost use Rattle.packet_grammar.specs.Laws.{NoneBeginsAnother, OneOutcome, SpelledOrBegun, NotBoth, AtMost};
+ghost use Rattle.packet_grammar.specs.Laws.{AtMost, EachIsAStream, NoneBeginsAnother, NotBoth, OneOutcome, OneStream, SpelledOrBegun};
 
 /// A reader that goes from left to right knows a spelling by its last byte, and what it spells.
 pub fn spellings_are_told_apart()
@@ -16,4 +16,10 @@ pub fn bytes_spell_or_begin()
 /// A reader has room for each spelling in 24 bytes.
 pub fn spellings_are_short()
     ensures { AtMost 24 }
+{}
+
+/// What the packets of a stream are, and how it ends, is settled by its bytes.
+pub fn a_stream_parses_in_one_way()
+    ensures each { EachIsAStream }
+    ensures one_way { OneStream }
 {}

@@ -3,8 +3,8 @@
 //! There is no code here. The crate has the types of packets and of the faults that bytes can show, and
 //! its definitions say which bytes spell which packet, which show which fault, and how a stream parses.
 //! A reader and a writer of packets promise what they do in these terms. The laws that both build on
-//! are the contracts of [`spellings_are_told_apart`], [`bytes_spell_or_begin`] and
-//! [`spellings_are_short`].
+//! are the contracts of [`spellings_are_told_apart`], [`bytes_spell_or_begin`],
+//! [`spellings_are_short`] and [`a_stream_parses_in_one_way`].
 #![tactic(auto)]
 
 mod fault;
@@ -12,5 +12,7 @@ mod laws;
 mod packet;
 
 pub use fault::{PacketFault, RefusedKind};
-pub use laws::{bytes_spell_or_begin, spellings_are_short, spellings_are_told_apart};
+pub use laws::{
+    a_stream_parses_in_one_way, bytes_spell_or_begin, spellings_are_short, spellings_are_told_apart,
+};
 pub use packet::Packet;
