@@ -4,3 +4,4 @@ pub mod Runs
 pub mod Rows
 pub mod Whole
 pub mod Streams
+pub mod Examples

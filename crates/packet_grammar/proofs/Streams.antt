@@ -1,5 +1,5 @@
 -- Each list of bytes is a stream, in one way alone.
-use Rattle.std.proofs.Common.{◌≡◌, ◌⊎◌, ℕ, zero, suc, ◌+◌, ◌<◌, ◌≤◌, Bool, true, false, List, [], ◌∷◌, ◌++◌, length, drop, Ok, Err, refl, sym, ap, subst, ◌∙◌, inl, inr, arith, length-append, nat_eq}
+use Rattle.std.proofs.Common.{IsTrue, ◌≡◌, ◌⊎◌, ℕ, zero, suc, ◌+◌, ◌<◌, ◌≤◌, Bool, true, false, List, [], ◌∷◌, ◌++◌, length, drop, Ok, Err, refl, sym, ap, subst, ◌∙◌, inl, inr, arith, length-append, nat_eq}
 use Rattle.std.specs.Prelude.{All}
 use Rattle.std.specs.List.{starts_with}
 use Rattle.std.proofs.lemmas.Bool.{both_ways, cases_lt}
@@ -7,11 +7,15 @@ use Rattle.std.proofs.lemmas.List.Elements.{All-drop}
 use Rattle.std.proofs.lemmas.List.{drop_at}
 use Rattle.etm_types.specs.Settings.{Sizes, AreSettings}
 use Rattle.packet_grammar.specs.declared.packet.Packet.{Packet}
+use Rattle.packet_grammar.specs.declared.packet.Packet.TheVariants.{Async}
+use Rattle.packet_grammar.specs.Headers.{extension, headers}
+use Rattle.std.proofs.lemmas.Slice.Eq.{starts_is}
+use Rattle.std.proofs.lemmas.Bool.Decides.{Decides-eqb}
 use Rattle.packet_grammar.specs.declared.fault.PacketFault.{PacketFault}
 use Rattle.packet_grammar.specs.Parts.{Outcome}
 use Rattle.packet_grammar.specs.Spelling.{Spells, Begins}
 use Rattle.packet_grammar.specs.Parsed.{Ending, no_sync, clean, cut, fault, Parses, sync, SyncAt, FirstSync}
-use Rattle.packet_grammar.specs.Laws.{EachIsAStream, OneStream, Stream}
+use Rattle.packet_grammar.specs.Laws.{EachIsAStream, OneStream, StartsWithSync, Stream}
 use Rattle.packet_grammar.proofs.Whole.{spells_apart, spells_covers, not_both}
 
 -- a spelling has a byte
@@ -155,3 +159,31 @@ one_stream s are bytes packets others ending other (inl (at, first, parses)) (in
 one_stream s are bytes packets others ending other (inl (at, first, parses)) (inr (none, nothing, unsynced)) = absurd (none at first.here)
 one_stream s are bytes packets others ending other (inr (none, nothing, unsynced)) (inl (at, first, parses)) = absurd (none at first.here)
 one_stream s are bytes packets others ending other (inr (none, nothing, unsynced)) (inr (none', nothing', unsynced')) = (nothing ∙ sym nothing', unsynced ∙ sym unsynced')
+
+-- an A-sync at the front, and what is behind it
+split_sync : (bytes : List ℕ) → IsTrue (starts_with nat_eq bytes sync) → bytes ≡ sync ++ drop 12 bytes
+split_sync bytes here = (starts_is Decides-eqb bytes sync (starts_with nat_eq bytes sync) refl).0 here
+
+pub sync_spells : (s : Sizes) → Spells s (Ok Async) sync
+unfolding headers
+sync_spells s = record { header = 0; rest = drop 1 sync; body = extension; whole = refl; says = refl; follows = refl }
+
+module _ (s : Sizes) (are : AreSettings s) where
+  sync_first : (at : ℕ) (bytes rest : List ℕ) (packets : List (ℕ × Packet)) (ending : Ending) → bytes ≡ sync ++ rest → Parses s at bytes packets ending
+      → (others : List (ℕ × Packet)) × (packets ≡ (at, Async) ∷ others)
+  sync_first at bytes rest [] no_sync e is = absurd is
+  sync_first at bytes rest [] clean e is = absurd (nothing_whole s are bytes sync rest (Ok Async) is e (sync_spells s))
+  sync_first at bytes rest [] (cut n) e is = absurd (only_begun s are bytes sync rest (Ok Async) is.2 e (sync_spells s))
+  sync_first at bytes rest [] (fault place f) e (text, after, here, parts, spells) =
+      absurd (packet_or_fault Async f (spells_apart s are (Ok Async) (Err f) sync text rest after (sync_spells s) spells (sym e ∙ parts)).outcomes)
+  sync_first at bytes rest (p ∷ packets) ending e (text, after, here, parts, spells, later) =
+      let same = spells_apart s are (Ok p.1) (Ok Async) text sync after rest spells (sync_spells s) (sym parts ∙ e) in
+      let packet : p ≡ (at, Async) = same_pair p (at, Async) here (same_packet p.1 Async same.outcomes) in
+      (packets, λ i. packet i ∷ packets)
+
+pub starts_with_sync : StartsWithSync
+starts_with_sync s are bytes packets ending at (inl (at', first', parses)) first =
+    let place : at' ≡ at = one_first at' at bytes first' first in
+    sync_first s are at (drop at bytes) (drop 12 (drop at bytes)) packets ending (split_sync (drop at bytes) first.here)
+    (subst (λ n. Parses s n (drop n bytes) packets ending) place parses)
+starts_with_sync s are bytes packets ending at (inr (none, nothing, unsynced)) first = absurd (none at first.here)

@@ -1,10 +1,11 @@
 -- What holds of the spellings as a whole, under any settings.
-use Rattle.std.specs.Prelude.{◌≡◌, ◌⊎◌, ℕ, ◌<◌, ◌≤◌, All, List, [], ◌++◌, length}
+use Rattle.std.specs.Prelude.{◌≡◌, ◌⊎◌, ℕ, ◌<◌, ◌≤◌, All, List, [], ◌∷◌, ◌++◌, length}
 use Rattle.etm_types.specs.Settings.{Sizes, AreSettings}
 use Rattle.packet_grammar.specs.declared.packet.Packet.{Packet}
+use Rattle.packet_grammar.specs.declared.packet.Packet.TheVariants.{Async}
 use Rattle.packet_grammar.specs.Parts.{Outcome}
 use Rattle.packet_grammar.specs.Spelling.{Spells, Begins}
-use Rattle.packet_grammar.specs.Parsed.{Ending, IsStream}
+use Rattle.packet_grammar.specs.Parsed.{Ending, FirstSync, IsStream}
 
 -- a spelling that stands at the front of a spelling is all of it
 abbrev pub NoneBeginsAnother : Type 0
@@ -53,3 +54,9 @@ abbrev pub OneStream : Type 0
 OneStream =
     (s : Sizes) → AreSettings s → (bytes : List ℕ) (packets others : List (ℕ × Packet)) (ending other : Ending)
     → IsStream s bytes packets ending → IsStream s bytes others other → (packets ≡ others) × (ending ≡ other)
+
+-- with the A-sync that was found as its first packet
+abbrev pub StartsWithSync : Type 0
+StartsWithSync =
+    (s : Sizes) → AreSettings s → (bytes : List ℕ) (packets : List (ℕ × Packet)) (ending : Ending) (at : ℕ)
+    → IsStream s bytes packets ending → FirstSync at bytes → (others : List (ℕ × Packet)) × (packets ≡ (at, Async) ∷ others)
