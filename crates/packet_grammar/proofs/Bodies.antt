@@ -5,12 +5,12 @@ use Rattle.std.proofs.lemmas.Bool.{eqb-true, or_cases}
 use Rattle.etm_types.specs.Settings.{Sizes, AreSettings, is_vmid_size, is_cid_size}
 use Rattle.etm_types.specs.declared.address.AddrForm.TheVariants.{Short1, Short2, Long32, Long64}
 use Rattle.packet_grammar.specs.declared.packet.Packet.{Packet}
-use Rattle.packet_grammar.specs.declared.packet.Packet.TheVariants.{Async, Discard, Overflow, Info, Exc}
-use Rattle.packet_grammar.specs.declared.fault.PacketFault.TheVariants.{NumberTooLong, Extension, BrokenSync, InfoControl, InfoMode, ExceptionTwoByte, ExceptionForm, Aarch32Context}
+use Rattle.packet_grammar.specs.declared.packet.Packet.TheVariants.{Info, Exc}
+use Rattle.packet_grammar.specs.declared.fault.PacketFault.TheVariants.{NumberTooLong, InfoControl, InfoMode, ExceptionTwoByte, ExceptionForm, Aarch32Context}
 use Rattle.packet_grammar.specs.Parts.{Outcome, Part, Known, Byte, Bytes, Where, Then, As}
 use Rattle.packet_grammar.specs.Numbers.{NumberWithin, Number, StampWithin, TimeStamp, little}
 use Rattle.packet_grammar.specs.Contexts.{bit, Field, Context, ShortAddress, LongAddress32, LongAddress64, address_of}
-use Rattle.packet_grammar.specs.Spelling.{Sync, AfterZero, Section, Mode, TraceInfo, Exception}
+use Rattle.packet_grammar.specs.Spelling.{Section, Mode, TraceInfo, Exception}
 use Rattle.packet_grammar.proofs.Codes.{Code, loosen, known_code, byte_code, where_code, then_code, as_code, bytes_code}
 
 -- the same, where it matters not how short it is
@@ -86,17 +86,6 @@ long_32_code = as_code 4 (Bytes 4) (λ given. Long32 (address_of given)) (bytes_
 
 pub long_64_code : Code 8 LongAddress64
 long_64_code = as_code 8 (Bytes 8) (λ given. Long64 (address_of given)) (bytes_code 8)
-
-sync_within : (zeros : ℕ) → Code (suc zeros) (Sync zeros)
-sync_within zero = byte_code 0 (λ b. Known (if b == 128 then Ok Async else Err BrokenSync)) (λ b. known_code (if b == 128 then Ok Async else Err BrokenSync))
-sync_within (suc zeros) =
-    byte_code (suc zeros) (λ b. Where (b == 0) (Sync zeros) (Known (Err BrokenSync)))
-    (λ b. where_code (suc zeros) (b == 0) (sync_within zeros) (known_within (suc zeros) (Err BrokenSync)))
-
-pub zero_code : Code 11 AfterZero
-zero_code =
-    byte_code 10 (λ b. Where (b == 0) (Sync 9) (Known (if b == 3 then Ok Discard else if b == 5 then Ok Overflow else Err (Extension b))))
-    (λ b. where_code 10 (b == 0) (sync_within 9) (known_within 10 (if b == 3 then Ok Discard else if b == 5 then Ok Overflow else Err (Extension b))))
 
 section_code : (there : Bool) (number : Part ℕ) → Code 5 number → Code 5 (Section there number)
 section_code there number code = where_code 5 there (as_code 5 number (λ n. Some n) code) (known_within 5 (Ok None))

@@ -245,3 +245,18 @@ bytes_covers n bytes = elim (cases_lt (length bytes) n) [
 
 pub bytes_code : (n : ℕ) → Code n (Bytes n)
 bytes_code n = record { apart = bytes_apart n; covers = bytes_covers n; short = bytes_short n }
+
+-- a part that has the same spellings as a code
+module _ {A : Type 0} (n : ℕ) (P Q : Part A) (to : (outcome : Outcome A) (text : List ℕ) → P outcome text → Q outcome text) (back : (outcome : Outcome A) (text : List ℕ) → Q outcome text → P outcome text) where
+  same_covers : Covers P → Covers Q
+  same_covers covers bytes = elim (covers bytes) [
+    | inl x ↦ inl (record { outcome = x.outcome; more = x.more; some = x.some; is = to x.outcome (bytes ++ x.more) x.is })
+    | inr x ↦ inr (record { outcome = x.outcome; text = x.text; rest = x.rest; parts = x.parts; is = to x.outcome x.text x.is })
+  ]
+
+  pub same_code : Code n P → Code n Q
+  same_code code = record {
+    apart = λ outcome other text text' rest rest' is is' e. code.apart outcome other text text' rest rest' (back outcome text is) (back other text' is') e;
+    covers = same_covers code.covers;
+    short = λ outcome text is. code.short outcome text (back outcome text is);
+  }

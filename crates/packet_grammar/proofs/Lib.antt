@@ -1,6 +1,7 @@
 pub mod Codes
 pub mod Bodies
 pub mod Runs
+pub mod Syncs
 pub mod Rows
 pub mod Whole
 pub mod Streams

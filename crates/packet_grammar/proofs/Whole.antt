@@ -12,7 +12,8 @@ use Rattle.packet_grammar.specs.Spelling.{Follows, Spells, Begins}
 use Rattle.packet_grammar.specs.Laws.{NoneBeginsAnother, OneOutcome, BeginsWithOne, SpelledOrBegun, NotBoth}
 use Rattle.packet_grammar.specs.Laws.{AtMost as SpellingsAtMost}
 use Rattle.packet_grammar.proofs.Codes.{Apart, AtMost, Code, has_one, loosen, known_code, as_code, then_code}
-use Rattle.packet_grammar.proofs.Bodies.{number_code, stamp_code, context_code, short_code, long_32_code, long_64_code, zero_code, info_code, exception_code}
+use Rattle.packet_grammar.proofs.Bodies.{number_code, stamp_code, context_code, short_code, long_32_code, long_64_code, info_code, exception_code}
+use Rattle.packet_grammar.proofs.Syncs.{zero_code}
 use Rattle.packet_grammar.proofs.Runs.{run_apart, run_short, run_covers}
 use Rattle.packet_grammar.proofs.Rows.{is_sound, has_body, atoms_from}
 

@@ -1,7 +1,7 @@
 -- Which bytes spell which packet, and which show which fault (Arm IHI 0064, "Descriptions of Trace Packets"). A packet
 -- is spelled by a list of bytes as a whole. A fault is shown by the bytes from the packet's first one up to the one that
 -- shows it.
-use Rattle.std.specs.Prelude.{◌≡◌, ℕ, zero, suc, ◌/◌, ◌%◌, ◌<◌, ◌==◌, ◌&&◌, not, Bool, List, [], ◌∷◌, ◌++◌, length, Option, Some, None, Ok, Err, nat_lt, if◌then◌else◌}
+use Rattle.std.specs.Prelude.{◌≡◌, ◌≢◌, ◌≤◌, replicate, ℕ, ◌/◌, ◌%◌, ◌<◌, ◌==◌, ◌&&◌, not, Bool, List, [], ◌∷◌, ◌++◌, length, Option, Some, None, Ok, Err, nat_lt, if◌then◌else◌}
 use Rattle.etm_types.specs.Settings.{Sizes}
 use Rattle.etm_types.specs.Atoms.{IsAtomRun, atoms_in}
 use Rattle.etm_types.specs.declared.atoms.AtomRun.{AtomRun}
@@ -14,16 +14,25 @@ use Rattle.packet_grammar.specs.Numbers.{Number, TimeStamp}
 use Rattle.packet_grammar.specs.Contexts.{Context, ShortAddress, LongAddress32, LongAddress64, bit}
 use Rattle.packet_grammar.specs.Headers.{Body, alone, atoms, extension, trace_info, time_stamp, exception, commit, cancel, context, short_address, long_32, long_64, long_32_with_context, long_64_with_context, headers, body_in}
 
--- so many 00 more, and 80
-abbrev pub Sync : ℕ → Part Packet
-Sync zero = Byte (λ b. Known (if b == 0x80 then Ok Async else Err BrokenSync))
-Sync (suc zeros) = Byte (λ b. Where (b == 0) (Sync zeros) (Known (Err BrokenSync)))
+-- So many 00 and one byte more that break off what could be an A-sync: a byte other than 00 among its zeros, or other
+-- than 80 behind them. Another 00 stands before these bytes.
+pub record BreaksSync (bytes : List ℕ) : Type 0 where
+  pub zeros : ℕ
+  pub last : ℕ
+  pub whole : bytes ≡ replicate zeros 0x00 ++ last ∷ []
+  pub some : 1 ≤ zeros
+  pub most : zeros ≤ 10
+  pub early : zeros < 10 → last ≢ 0x00
+  pub late : zeros ≡ 10 → last ≢ 0x80
 
--- Behind 00. With it, an A-sync has eleven 00.
+-- Behind 00. With it an A-sync has eleven 00.
 abbrev pub AfterZero : Part Packet
-AfterZero =
-    Byte (λ b. Where (b == 0) (Sync 9)
-    (Known (if b == 0x03 then Ok Discard else if b == 0x05 then Ok Overflow else Err (Extension b))))
+AfterZero (Ok Async) bytes = bytes ≡ replicate 10 0x00 ++ 0x80 ∷ []
+AfterZero (Ok Discard) bytes = bytes ≡ 0x03 ∷ []
+AfterZero (Ok Overflow) bytes = bytes ≡ 0x05 ∷ []
+AfterZero (Err (Extension b)) bytes = (bytes ≡ b ∷ []) × (b ≢ 0x00) × (b ≢ 0x03) × (b ≢ 0x05)
+AfterZero (Err BrokenSync) bytes = BreaksSync bytes
+AfterZero outcome bytes = ⊥
 
 -- a section of a trace info packet, where its bit says that it is there
 abbrev pub Section : Bool → Part ℕ → Part (Option ℕ)
