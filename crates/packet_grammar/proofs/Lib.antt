@@ -6,3 +6,4 @@ pub mod Rows
 pub mod Whole
 pub mod Streams
 pub mod Examples
+pub mod Inverse

@@ -1,0 +1,66 @@
+-- The spellings of each packet, packet by packet (Arm IHI 0064, "Descriptions of Trace Packets").
+use Rattle.std.specs.Prelude.{◌≡◌, ℕ, ◌+◌, ◌-◌, ◌/◌, ◌%◌, ◌≤◌, ◌==◌, replicate, true, false, List, [], ◌∷◌, ◌++◌, Some, None, Ok, if◌then◌else◌}
+use Rattle.etm_types.specs.Settings.{Sizes}
+use Rattle.etm_types.specs.Atoms.{IsAtomRun, atoms_in}
+use Rattle.etm_types.specs.declared.address.AddrForm.TheVariants.{Match, Short1, Short2, Long32, Long64}
+use Rattle.atom_formats.specs.Formats.{Spells as TellsAtoms}
+use Rattle.packet_grammar.specs.declared.packet.Packet.{Packet}
+use Rattle.packet_grammar.specs.declared.packet.Packet.TheVariants.{Async, Discard, Overflow, Info, On, Ignore, Event, Time, Exc, Commit, Cancel, Mispredict, Cancel2, Cancel3, CtxSame, CtxInfo, Addr, Atoms}
+use Rattle.packet_grammar.specs.Numbers.{Number, TimeStamp}
+use Rattle.packet_grammar.specs.Contexts.{Context, ShortAddress, LongAddress32, LongAddress64, bit}
+use Rattle.packet_grammar.specs.Headers.{few_atoms}
+use Rattle.packet_grammar.specs.Spelling.{TraceInfo}
+
+-- one byte, from the first to the last of these
+abbrev pub OneOf : ℕ → ℕ → ℕ → List ℕ → Type 0
+OneOf first last header bytes = (first ≤ header) × (header ≤ last) × (bytes ≡ header ∷ [])
+
+abbrev pub SpellsPacket : Sizes → Packet → List ℕ → Type 0
+-- Alignment Synchronization packet
+SpellsPacket s Async bytes = bytes ≡ 0x00 ∷ replicate 10 0x00 ++ 0x80 ∷ []
+-- Discard packet
+SpellsPacket s Discard bytes = bytes ≡ 0x00 ∷ 0x03 ∷ []
+-- Overflow packet
+SpellsPacket s Overflow bytes = bytes ≡ 0x00 ∷ 0x05 ∷ []
+-- Trace Info packet
+SpellsPacket s (Info info key spec cyct) bytes = (rest : List ℕ) × (bytes ≡ 0x01 ∷ rest) × TraceInfo (Ok (Info info key spec cyct)) rest
+-- Timestamp packet
+SpellsPacket s (Time bits low) bytes = (rest : List ℕ) × (bytes ≡ 0x02 ∷ rest) × TimeStamp (Ok (record { bits = bits; low = low })) rest
+-- Trace On packet
+SpellsPacket s On bytes = bytes ≡ 0x04 ∷ []
+-- Exception packet
+SpellsPacket s (Exc kind) bytes =
+    (b : ℕ) × (bytes ≡ 0x06 ∷ b ∷ []) × (bit 7 b ≡ false) × (bit 6 b ≡ false) × (bit 0 b ≡ true) × (kind ≡ b / 2 % 32)
+-- Commit packet
+SpellsPacket s (Commit n) bytes = (rest : List ℕ) × (bytes ≡ 0x2d ∷ rest) × Number (Ok n) rest
+-- Cancel Format 1 packet
+SpellsPacket s (Cancel n flip) bytes = (rest : List ℕ) × (bytes ≡ (if flip then 0x2f else 0x2e) ∷ rest) × Number (Ok n) rest
+-- Mispredict packet
+SpellsPacket s (Mispredict few) bytes = (h : ℕ) × OneOf 0x30 0x33 h bytes × (few ≡ few_atoms h)
+-- Cancel Format 2 packet
+SpellsPacket s (Cancel2 few) bytes = (h : ℕ) × OneOf 0x34 0x37 h bytes × (few ≡ few_atoms h)
+-- Cancel Format 3 packet
+SpellsPacket s (Cancel3 e n) bytes = (h : ℕ) × OneOf 0x38 0x3f h bytes × (e ≡ (h % 2 == 1)) × (n ≡ h / 2 % 4 + 2)
+-- Ignore packet
+SpellsPacket s Ignore bytes = bytes ≡ 0x70 ∷ []
+-- Event packet
+SpellsPacket s (Event n) bytes = (h : ℕ) × OneOf 0x71 0x7f h bytes × (n ≡ h % 16)
+-- Context packet
+SpellsPacket s CtxSame bytes = bytes ≡ 0x80 ∷ []
+SpellsPacket s (CtxInfo ctx) bytes = (rest : List ℕ) × (bytes ≡ 0x81 ∷ rest) × Context s (Ok ctx) rest
+-- Address with Context packet
+SpellsPacket s (Addr (Long32 a) (Some ctx)) bytes =
+    (given : List ℕ) × (rest : List ℕ) × (bytes ≡ 0x82 ∷ given ++ rest) × LongAddress32 (Ok (Long32 a)) given × Context s (Ok ctx) rest
+SpellsPacket s (Addr (Long64 a) (Some ctx)) bytes =
+    (given : List ℕ) × (rest : List ℕ) × (bytes ≡ 0x85 ∷ given ++ rest) × LongAddress64 (Ok (Long64 a)) given × Context s (Ok ctx) rest
+SpellsPacket s (Addr form (Some ctx)) bytes = ⊥
+-- Exact Match Address packet
+SpellsPacket s (Addr (Match index) None) bytes = (h : ℕ) × OneOf 0x90 0x92 h bytes × (index ≡ h - 0x90)
+-- Short Address packet
+SpellsPacket s (Addr (Short1 a) None) bytes = (rest : List ℕ) × (bytes ≡ 0x95 ∷ rest) × ShortAddress (Ok (Short1 a)) rest
+SpellsPacket s (Addr (Short2 a) None) bytes = (rest : List ℕ) × (bytes ≡ 0x95 ∷ rest) × ShortAddress (Ok (Short2 a)) rest
+-- Long Address packets
+SpellsPacket s (Addr (Long32 a) None) bytes = (rest : List ℕ) × (bytes ≡ 0x9a ∷ rest) × LongAddress32 (Ok (Long32 a)) rest
+SpellsPacket s (Addr (Long64 a) None) bytes = (rest : List ℕ) × (bytes ≡ 0x9d ∷ rest) × LongAddress64 (Ok (Long64 a)) rest
+-- Atom Format 1 to 6 packets
+SpellsPacket s (Atoms run) bytes = (h : ℕ) × OneOf 0xc0 0xff h bytes × IsAtomRun run × TellsAtoms h (atoms_in run)
