@@ -1,16 +1,16 @@
 -- Each law at bytes that are written out: what holds, and beside it what does not.
-use Rattle.std.proofs.Common.{ℕ, zero, suc, ◌<◌, List, [], ◌∷◌, ◌++◌, Some, Ok, Err, refl, ap, inl, arith}
+use Rattle.std.proofs.Common.{ℕ, zero, suc, ◌<◌, List, [], ◌∷◌, ◌++◌, Some, Ok, Err, refl, ap, inl, inr, arith}
 use Rattle.etm_types.specs.Settings.{Sizes, AreSettings}
 use Rattle.packet_grammar.specs.declared.packet.Packet.{Packet}
 use Rattle.packet_grammar.specs.declared.packet.Packet.TheVariants.{Async, On, Info, Commit}
-use Rattle.packet_grammar.specs.declared.fault.PacketFault.TheVariants.{Reserved}
+use Rattle.packet_grammar.specs.declared.fault.PacketFault.TheVariants.{Reserved, InfoMode}
 use Rattle.packet_grammar.specs.Parts.{Outcome}
 use Rattle.packet_grammar.specs.Numbers.{Number}
-use Rattle.packet_grammar.specs.Headers.{alone, trace_info, commit, headers}
-use Rattle.packet_grammar.specs.Spelling.{Spells, Begins}
-use Rattle.packet_grammar.specs.Parsed.{clean, cut, sync, SyncAt, IsStream}
+use Rattle.packet_grammar.specs.Headers.{refused_headers}
+use Rattle.packet_grammar.specs.Faults.{in_header, in_info}
+use Rattle.packet_grammar.specs.Parsed.{Spells, Begins, clean, cut, sync, SyncAt, IsStream}
 use Rattle.packet_grammar.specs.Laws.{AtMost}
-use Rattle.packet_grammar.proofs.Whole.{none_begins_another, one_outcome, not_both}
+use Rattle.packet_grammar.proofs.AllLaws.{none_begins_another, one_outcome, not_both}
 use Rattle.packet_grammar.proofs.Streams.{sync_spells, one_stream}
 
 -- depth 8, a VMID of one byte and a context ID of four
@@ -23,21 +23,17 @@ sizes_are = record { depth = omega arith; vmid = refl; cid = refl }
 
 -- 04 spells Trace On, and so 04 04 spells nothing
 pub on_spells : (s : Sizes) → Spells s (Ok On) (4 ∷ [])
-unfolding headers
-on_spells s = record { header = 4; rest = []; body = alone (Ok On); whole = refl; says = refl; follows = refl }
+on_spells s = refl
 
 pub twice_on_spells_nothing : (s : Sizes) → AreSettings s → (outcome : Outcome Packet) → Spells s outcome (4 ∷ 4 ∷ []) → ⊥
 twice_on_spells_nothing s are outcome is = absurd (let e = none_begins_another s are outcome (Ok On) (4 ∷ []) (4 ∷ []) is (on_spells s) in cc)
 
 -- 2d 05 spells a commit of 5, as 2d 85 00 does, and not one of 6
 pub commit_spells : (s : Sizes) → Spells s (Ok (Commit 5)) (45 ∷ 5 ∷ [])
-unfolding headers
-commit_spells s = record { header = 45; rest = 5 ∷ []; body = commit; whole = refl; says = refl; follows = inl (5, 5 ∷ [], [], refl, refl, refl) }
+commit_spells s = (5 ∷ [], refl, refl)
 
 pub longer_commit_spells : (s : Sizes) → Spells s (Ok (Commit 5)) (45 ∷ 133 ∷ 0 ∷ [])
-unfolding headers
-longer_commit_spells s =
-    record { header = 45; rest = 133 ∷ 0 ∷ []; body = commit; whole = refl; says = refl; follows = inl (5, 133 ∷ 0 ∷ [], [], refl, inl (0, 0 ∷ [], [], refl, refl, refl), refl) }
+longer_commit_spells s = (133 ∷ 0 ∷ [], refl, inl (0, 0 ∷ [], [], refl, refl, refl))
 
 count_of : Outcome Packet → ℕ
 count_of (Ok (Commit n)) = n
@@ -52,12 +48,19 @@ pub commit_begins : (s : Sizes) → Begins s (45 ∷ [])
 commit_begins s = record { outcome = Ok (Commit 5); more = 5 ∷ []; some = omega arith; spells = commit_spells s }
 
 pub reserved_spells : (s : Sizes) → Spells s (Err (Reserved 8)) (8 ∷ [])
-unfolding headers
-reserved_spells s = record { header = 8; rest = []; body = alone (Err (Reserved 8)); whole = refl; says = refl; follows = refl }
+unfolding refused_headers
+reserved_spells s = (in_header, (8, refl, refl))
 
 pub reserved_begins_none : (s : Sizes) → AreSettings s → Begins s (8 ∷ []) → ⊥
 reserved_begins_none s are begun =
     not_both s are (8 ∷ []) begun (record { outcome = Err (Reserved 8); text = 8 ∷ []; rest = []; parts = refl; spells = reserved_spells s })
+
+-- an INFO of 5 is refused at its last byte, and before it begins a spelling that is no packet's
+pub mode_shown : (s : Sizes) → Spells s (Err (InfoMode 5)) (1 ∷ 1 ∷ 133 ∷ 0 ∷ [])
+mode_shown s = (in_info, (1 ∷ 133 ∷ 0 ∷ [], refl, inr (InfoMode 5, refl, inr (InfoMode 5, refl, inl (5, 133 ∷ 0 ∷ [], [], refl, inl (0, 0 ∷ [], [], refl, refl, refl), refl)))))
+
+pub mode_begins : (s : Sizes) → Begins s (1 ∷ 1 ∷ 133 ∷ [])
+mode_begins s = record { outcome = Err (InfoMode 5); more = 0 ∷ []; some = omega arith; spells = mode_shown s }
 
 -- A trace info packet with all sections in five bytes each has 22 bytes. So 24 bytes are enough, and 21 are not.
 zero_in_five : Number (Ok 0) (128 ∷ 128 ∷ 128 ∷ 128 ∷ 0 ∷ [])
@@ -71,37 +74,32 @@ abbrev long_info : List ℕ
 long_info = 1 ∷ 15 ∷ long_zero ++ long_zero ++ long_zero ++ long_zero
 
 pub long_info_spells : (s : Sizes) → Spells s (Ok (Info (Some 0) (Some 0) (Some 0) (Some 0))) long_info
-unfolding headers
-long_info_spells s =
-    record {
-      header = 1;
-      rest = 15 ∷ long_zero ++ long_zero ++ long_zero ++ long_zero;
-      body = trace_info;
-      whole = refl;
-      says = refl;
-      follows = inl (
+long_info_spells s = (
+  15 ∷ long_zero ++ long_zero ++ long_zero ++ long_zero,
+  refl,
+  inl (
+    Some 0,
+    long_zero,
+    long_zero ++ long_zero ++ long_zero,
+    refl,
+    inl (0, long_zero, [], refl, inl (0, long_zero, [], refl, zero_in_five, refl), refl),
+    inl (
+      Some 0,
+      long_zero,
+      long_zero ++ long_zero,
+      refl,
+      inl (0, long_zero, [], refl, zero_in_five, refl),
+      inl (
         Some 0,
         long_zero,
-        long_zero ++ long_zero ++ long_zero,
+        long_zero,
         refl,
-        inl (0, long_zero, [], refl, inl (0, long_zero, [], refl, zero_in_five, refl), refl),
-        inl (
-          Some 0,
-          long_zero,
-          long_zero ++ long_zero,
-          refl,
-          inl (0, long_zero, [], refl, zero_in_five, refl),
-          inl (
-            Some 0,
-            long_zero,
-            long_zero,
-            refl,
-            inl (0, long_zero, [], refl, zero_in_five, refl),
-            inl (Some 0, long_zero, [], refl, inl (0, long_zero, [], refl, zero_in_five, refl), refl),
-          ),
-        ),
-      );
-    }
+        inl (0, long_zero, [], refl, zero_in_five, refl),
+        inl (Some 0, long_zero, [], refl, inl (0, long_zero, [], refl, zero_in_five, refl), refl),
+      ),
+    ),
+  ),
+)
 
 pub more_than_21 : AtMost 21 → ⊥
 more_than_21 most = absurd (omega (arith, most sizes sizes_are (Ok (Info (Some 0) (Some 0) (Some 0) (Some 0))) long_info (long_info_spells sizes)))

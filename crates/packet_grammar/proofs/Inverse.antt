@@ -1,9 +1,9 @@
 -- The spellings of a packet by its own section, and by the table of headers.
-use Rattle.std.proofs.Common.{◌≡◌, ℕ, zero, suc, ◌+◌, ◌-◌, ◌*◌, ◌^◌, ◌/◌, ◌%◌, ◌<◌, ◌≤◌, ◌==◌, ◌&&◌, not, Bool, true, false, List, [], ◌∷◌, ◌++◌, Option, Some, None, Ok, Err, nat_le, nat_lt, refl, sym, ap, subst, ◌∙◌, append-nil, inl, inr, arith}
+use Rattle.std.proofs.Common.{◌⊎◌, ◌≡◌, ℕ, zero, suc, ◌+◌, ◌-◌, ◌*◌, ◌^◌, ◌/◌, ◌%◌, ◌<◌, ◌≤◌, ◌==◌, ◌&&◌, ◌||◌, not, Bool, true, false, List, [], ◌∷◌, ◌++◌, Option, Some, None, Ok, Err, nat_le, nat_lt, refl, sym, ap, subst, ◌∙◌, append-nil, inl, inr, arith}
 use Rattle.std.specs.Prelude.{if◌then◌else◌, replicate}
 use Rattle.std.specs.List.{list_all}
 use Rattle.std.proofs.Math.Bool.{beq}
-use Rattle.std.proofs.lemmas.Bool.{agree_below_at, and_parts, eqb-true, leb-true, ltb-true}
+use Rattle.std.proofs.lemmas.Bool.{agree_below_at, and_parts, cases_lt, eqb-true, leb-true, ltb-true}
 use Rattle.etm_types.specs.Settings.{Sizes}
 use Rattle.etm_types.specs.Atoms.{atoms_in}
 use Rattle.etm_types.specs.declared.address.AddrForm.{AddrForm}
@@ -13,14 +13,16 @@ use Rattle.atom_formats.specs.Formats.{Spells as TellsAtoms}
 use Rattle.atom_formats.proofs.Table.{each_from}
 use Rattle.packet_grammar.specs.declared.packet.Packet.{Packet}
 use Rattle.packet_grammar.specs.declared.packet.Packet.TheVariants.{Async, Discard, Overflow, Info, On, Ignore, Event, Time, Exc, Commit, Cancel, Mispredict, Cancel2, Cancel3, CtxSame, CtxInfo, Addr, Atoms}
+use Rattle.packet_grammar.specs.declared.fault.PacketFault.{PacketFault}
 use Rattle.packet_grammar.specs.declared.fault.PacketFault.TheVariants.{ExceptionTwoByte, ExceptionForm, InfoControl}
 use Rattle.packet_grammar.specs.Parts.{Outcome, Part, Known, Byte, Bytes, Where, Then, As}
-use Rattle.packet_grammar.specs.Numbers.{Number, TimeStamp}
+use Rattle.packet_grammar.specs.Numbers.{Number, Stamp, StampWithin, TimeStamp}
 use Rattle.packet_grammar.specs.Contexts.{Context, ShortAddress, LongAddress32, LongAddress64, address_of, bit}
-use Rattle.packet_grammar.specs.Headers.{Body, alone, atoms, extension, trace_info, time_stamp, exception, commit, cancel, context, short_address, long_32, long_64, long_32_with_context, long_64_with_context, headers, body_in, few_atoms, whole}
-use Rattle.packet_grammar.specs.Spelling.{Follows, Spells, AfterZero, Section, Mode, TraceInfo, Exception}
-use Rattle.packet_grammar.specs.Packets.{SpellsPacket, OneOf}
-use Rattle.packet_grammar.specs.Laws.{PacketsAreSpelledSo}
+use Rattle.packet_grammar.specs.Headers.{few_atoms, refused_headers, fault_in}
+use Rattle.packet_grammar.proofs.Table.{Body, alone, atoms, extension, trace_info, time_stamp, exception, commit, cancel, context, short_address, long_32, long_64, long_32_with_context, long_64_with_context, headers, body_in, body_of, pick, whole, Follows, Told, AfterZero, AtomsOf, Exception}
+use Rattle.packet_grammar.specs.Spelling.{Section, Mode, TraceInfo, SpellsPacket, OneOf}
+use Rattle.packet_grammar.specs.Faults.{SpellsFault, ShowsAt, Place, in_header, in_sync, in_info, in_exception, in_number, in_context, in_context_of_32, in_context_of_64}
+use Rattle.packet_grammar.specs.Parsed.{Spells}
 
 -- a value of another value's part
 pub as_ok : {A B : Type 0} (part : Part A) (made : A → B) (y : B) (bytes : List ℕ) → As part made (Ok y) bytes → (x : A) × part (Ok x) bytes × (y ≡ made x)
@@ -50,12 +52,12 @@ by_index : (rows : List (ℕ × ℕ × (ℕ → Body))) (h : ℕ) → body_in ro
 by_index [] h = refl
 by_index (row ∷ rows) h = by_test row rows h (nat_le row.0 h && nat_le h row.1) (by_index rows h)
 
-in_row : (k h : ℕ) → (index_in headers h == k) ≡ true → body_in headers h ≡ nth_body headers k h
-in_row k h e = by_index headers h ∙ ap (λ (n : ℕ). nth_body headers n h) (eqb-true (index_in headers h) k e)
+in_row : (k h : ℕ) → (index_in headers h == k) ≡ true → body_of h ≡ pick (nth_body headers k h) (fault_in refused_headers h)
+in_row k h e = ap (λ x. pick x (fault_in refused_headers h)) (by_index headers h ∙ ap (λ (n : ℕ). nth_body headers n h) (eqb-true (index_in headers h) k e))
 
-event_row : (h : ℕ) → 113 ≤ h → h ≤ 127 → body_in headers h ≡ Some (whole (Event (h % 16)))
+event_row : (h : ℕ) → 113 ≤ h → h ≤ 127 → body_of h ≡ Some (whole (Event (h % 16)))
 unfolding headers
-event_row h least most = in_row 27 h (each_from 113 14 (λ (b : ℕ). index_in headers b == 27) refl h least most)
+event_row h least most = in_row 12 h (each_from 113 14 (λ (b : ℕ). index_in headers b == 12) refl h least most)
 
 exc_known : (x7 x6 x0 : Bool) (b kind : ℕ) → x7 ≡ false → x6 ≡ false → x0 ≡ true → kind ≡ b / 2 % 32
     → ◌≡◌ {A = Outcome Packet} (Ok (Exc kind)) (if x7 then Err (ExceptionTwoByte b) else if x0 && not x6 then Ok (Exc (b / 2 % 32)) else Err (ExceptionForm b))
@@ -64,8 +66,8 @@ exc_known true x6 x0 b kind a c d e = absurd cc
 exc_known false true x0 b kind a c d e = absurd cc
 exc_known false false false b kind a c d e = absurd cc
 
-pub packet_back : (s : Sizes) (p : Packet) (bytes : List ℕ) → SpellsPacket s p bytes → Spells s (Ok p) bytes
-unfolding headers
+pub packet_back : (s : Sizes) (p : Packet) (bytes : List ℕ) → SpellsPacket s p bytes → Told s (Ok p) bytes
+unfolding headers refused_headers
 packet_back s Async bytes is = record { header = 0; rest = replicate 10 0 ++ 128 ∷ []; body = extension; whole = is; says = refl; follows = refl }
 packet_back s Discard bytes is = record { header = 0; rest = 3 ∷ []; body = extension; whole = is; says = refl; follows = refl }
 packet_back s Overflow bytes is = record { header = 0; rest = 5 ∷ []; body = extension; whole = is; says = refl; follows = refl }
@@ -81,13 +83,13 @@ packet_back s (Cancel n true) bytes (rest, e, is) =
 packet_back s (Cancel n false) bytes (rest, e, is) =
     record { header = 46; rest = rest; body = cancel false; whole = e; says = refl; follows = as_back Number (λ m. Cancel m false) n rest is }
 packet_back s (Mispredict few) bytes (h, (least, most, e), f) =
-    let row = in_row 14 h (each_from 48 3 (λ (b : ℕ). index_in headers b == 14) refl h least most) in
+    let row = in_row 8 h (each_from 48 3 (λ (b : ℕ). index_in headers b == 8) refl h least most) in
     record { header = h; rest = []; body = whole (Mispredict few); whole = e; says = row ∙ ap (λ x. Some (whole (Mispredict x))) (sym f); follows = refl }
 packet_back s (Cancel2 few) bytes (h, (least, most, e), f) =
-    let row = in_row 15 h (each_from 52 3 (λ (b : ℕ). index_in headers b == 15) refl h least most) in
+    let row = in_row 9 h (each_from 52 3 (λ (b : ℕ). index_in headers b == 9) refl h least most) in
     record { header = h; rest = []; body = whole (Cancel2 few); whole = e; says = row ∙ ap (λ x. Some (whole (Cancel2 x))) (sym f); follows = refl }
 packet_back s (Cancel3 one n) bytes (h, (least, most, e), f, g) =
-    let row = in_row 16 h (each_from 56 7 (λ (b : ℕ). index_in headers b == 16) refl h least most) in
+    let row = in_row 10 h (each_from 56 7 (λ (b : ℕ). index_in headers b == 10) refl h least most) in
     record { header = h; rest = []; body = whole (Cancel3 one n); whole = e; says = row ∙ (λ i. Some (whole (Cancel3 (sym f i) (sym g i)))); follows = refl }
 packet_back s Ignore bytes is = record { header = 112; rest = []; body = whole Ignore; whole = is; says = refl; follows = refl }
 packet_back s (Event n) bytes (h, (least, most, e), f) =
@@ -103,7 +105,7 @@ packet_back s (Addr (Match index) (Some ctx)) bytes is = absurd is
 packet_back s (Addr (Short1 a) (Some ctx)) bytes is = absurd is
 packet_back s (Addr (Short2 a) (Some ctx)) bytes is = absurd is
 packet_back s (Addr (Match index) None) bytes (h, (least, most, e), f) =
-    let row = in_row 36 h (each_from 144 2 (λ (b : ℕ). index_in headers b == 36) refl h least most) in
+    let row = in_row 17 h (each_from 144 2 (λ (b : ℕ). index_in headers b == 17) refl h least most) in
     record { header = h; rest = []; body = whole (Addr (Match index) None); whole = e; says = row ∙ ap (λ x. Some (whole (Addr (Match x) None))) (sym f); follows = refl }
 packet_back s (Addr (Short1 a) None) bytes (rest, e, is) =
     record { header = 149; rest = rest; body = short_address; whole = e; says = refl; follows = as_back ShortAddress (λ form. Addr form None) (Short1 a) rest is }
@@ -114,7 +116,7 @@ packet_back s (Addr (Long32 a) None) bytes (rest, e, is) =
 packet_back s (Addr (Long64 a) None) bytes (rest, e, is) =
     record { header = 157; rest = rest; body = long_64; whole = e; says = refl; follows = as_back LongAddress64 (λ form. Addr form None) (Long64 a) rest is }
 packet_back s (Atoms run) bytes (h, (least, most, e), fits, tells) =
-    let row = in_row 55 h (each_from 192 63 (λ (b : ℕ). index_in headers b == 55) refl h least most) in
+    let row = in_row 21 h (each_from 192 63 (λ (b : ℕ). index_in headers b == 21) refl h least most) in
     record { header = h; rest = []; body = atoms h; whole = e; says = row; follows = (run, refl, fits, tells, refl) }
 
 same_bool : (a b : Bool) → beq a b ≡ true → a ≡ b
@@ -170,9 +172,9 @@ abbrev fits_found : ℕ → Option Body → Bool
 fits_found h None = true
 fits_found h (Some body) = fits h body
 
-fits_below : (h : ℕ) → h < 256 → fits_found h (body_in headers h) ≡ true
-unfolding headers
-fits_below h below = agree_below_at (λ (j : ℕ). fits_found j (body_in headers j)) (λ _. true) 256 h refl below
+fits_below : (h : ℕ) → h < 256 → fits_found h (body_of h) ≡ true
+unfolding headers refused_headers
+fits_below h below = agree_below_at (λ (j : ℕ). fits_found j (body_of j)) (λ _. true) 256 h refl below
 
 row_below : (row : ℕ × ℕ × (ℕ → Body)) (rows : List (ℕ × ℕ × (ℕ → Body))) (h : ℕ) (body : Body) (test : Bool) → (nat_le row.0 h && nat_le h row.1) ≡ test → nat_lt row.1 256 ≡ true
     → (body_in rows h ≡ Some body → h < 256) → (if test then Some (row.2 h) else body_in rows h) ≡ Some body → h < 256
@@ -191,8 +193,33 @@ all_below : list_all (λ row. nat_lt row.1 256) headers ≡ true
 unfolding headers
 all_below = refl
 
-body_fits : (h : ℕ) (body : Body) → body_in headers h ≡ Some body → fits h body ≡ true
-body_fits h body e = ap (fits_found h) (sym e) ∙ fits_below h (rows_below headers all_below h body e)
+fault_below : (row : ℕ × ℕ × (ℕ → PacketFault)) (rows : List (ℕ × ℕ × (ℕ → PacketFault))) (h : ℕ) (f : PacketFault) (test : Bool) → (nat_le row.0 h && nat_le h row.1) ≡ test
+    → nat_lt row.1 256 ≡ true → (fault_in rows h ≡ Some f → h < 256) → (if test then Some (row.2 h) else fault_in rows h) ≡ Some f → h < 256
+fault_below row rows h f true inside low later e =
+    let upper = leb-true h row.1 (and_parts (nat_le row.0 h) (nat_le h row.1) inside).1 in
+    omega (arith, upper, ltb-true row.1 256 low)
+fault_below row rows h f false outside low later e = later e
+
+faults_below : (rows : List (ℕ × ℕ × (ℕ → PacketFault))) → list_all (λ row. nat_lt row.1 256) rows ≡ true → (h : ℕ) (f : PacketFault) → fault_in rows h ≡ Some f → h < 256
+faults_below [] all h f e = absurd cc
+faults_below (row ∷ rows) all h f e =
+    let parts = and_parts (nat_lt row.1 256) (list_all (λ (r : ℕ × ℕ × (ℕ → PacketFault)). nat_lt r.1 256) rows) all in
+    fault_below row rows h f (nat_le row.0 h && nat_le h row.1) refl parts.0 (faults_below rows parts.1 h f) e
+
+all_faults_below : list_all (λ row. nat_lt row.1 256) refused_headers ≡ true
+unfolding refused_headers
+all_faults_below = refl
+
+pick_below : (h : ℕ) (body : Body) (found : Option Body) (shown : Option PacketFault) → body_in headers h ≡ found → fault_in refused_headers h ≡ shown → pick found shown ≡ Some body → h < 256
+pick_below h body (Some b) shown e f is = rows_below headers all_below h b e
+pick_below h body None (Some g) e f is = faults_below refused_headers all_faults_below h g f
+pick_below h body None None e f is = absurd cc
+
+header_below : (h : ℕ) (body : Body) → body_of h ≡ Some body → h < 256
+header_below h body e = pick_below h body (body_in headers h) (fault_in refused_headers h) refl refl e
+
+body_fits : (h : ℕ) (body : Body) → body_of h ≡ Some body → fits h body ≡ true
+body_fits h body e = ap (fits_found h) (sym e) ∙ fits_below h (header_below h body e)
 
 by_packet : (s : Sizes) (p q : Packet) (bytes : List ℕ) → p ≡ q → SpellsPacket s q bytes → SpellsPacket s p bytes
 by_packet s p q bytes e is = subst (λ r. SpellsPacket s r bytes) (sym e) is
@@ -365,8 +392,193 @@ module _ (s : Sizes) (p : Packet) (h : ℕ) (rest : List ℕ) where
       by_packet s p (Addr (Long64 (address_of y.0)) (Some x.0)) (h ∷ rest) (x.2 ∙ ap (λ f. Addr f (Some x.0)) y.2)
       (w.1, w.2, (λ i. z i ∷ w.3 i), subst (λ f. LongAddress64 (Ok f) w.1) y.2 w.4, x.1)
 
-pub packet_to : (s : Sizes) (p : Packet) (bytes : List ℕ) → Spells s (Ok p) bytes → SpellsPacket s p bytes
+pub packet_to : (s : Sizes) (p : Packet) (bytes : List ℕ) → Told s (Ok p) bytes → SpellsPacket s p bytes
 packet_to s p bytes is = subst (λ t. SpellsPacket s p t) (sym is.whole) (body_to s p is.header is.rest is.body (body_fits is.header is.body is.says) is.follows)
 
-pub packets_are_spelled_so : PacketsAreSpelledSo
-packets_are_spelled_so s p bytes = (packet_to s p bytes, packet_back s p bytes)
+-- no header stands in both tables, and the packets' headers show no fault
+abbrev clash : Option Body → Option PacketFault → Bool
+clash (Some body) (Some f) = false
+clash _ _ = true
+
+no_clash : (h : ℕ) → h < 256 → clash (body_in headers h) (fault_in refused_headers h) ≡ true
+unfolding headers refused_headers
+no_clash h below = agree_below_at (λ (j : ℕ). clash (body_in headers j) (fault_in refused_headers j)) (λ _. true) 256 h refl below
+
+abbrev is_packet : Option Body → Bool
+is_packet (Some (alone (Err f))) = false
+is_packet _ = true
+
+all_packets : (h : ℕ) → h < 256 → is_packet (body_in headers h) ≡ true
+unfolding headers
+all_packets h below = agree_below_at (λ (j : ℕ). is_packet (body_in headers j)) (λ _. true) 256 h refl below
+
+pick_back : (f : PacketFault) (found : Option Body) (shown : Option PacketFault) → shown ≡ Some f → clash found shown ≡ true → pick found shown ≡ Some (alone (Err f))
+pick_back f (Some body) (Some g) e apart = absurd cc
+pick_back f None (Some g) e apart = let same : g ≡ f = cc in ap (λ x. Some (alone (Err x))) same
+pick_back f found None e apart = absurd cc
+
+fault_row : (h : ℕ) (f : PacketFault) → fault_in refused_headers h ≡ Some f → body_of h ≡ Some (alone (Err f))
+fault_row h f e = pick_back f (body_in headers h) (fault_in refused_headers h) e (no_clash h (faults_below refused_headers all_faults_below h f e))
+
+alone_fault : (f g : PacketFault) → ◌≡◌ {A = Option Body} (Some (alone (Err f))) (Some (alone (Err g))) → f ≡ g
+alone_fault f g e = cc
+
+pick_to : (f : PacketFault) (found : Option Body) (shown : Option PacketFault) → is_packet found ≡ true → pick found shown ≡ Some (alone (Err f)) → shown ≡ Some f
+pick_to f (Some body) shown packets e = let bad : is_packet (Some (alone (Err f))) ≡ true = ap is_packet (sym e) ∙ packets in absurd cc
+pick_to f None (Some g) packets e = ap (λ x. Some x) (alone_fault g f e)
+pick_to f None None packets e = absurd cc
+
+row_fault : (h : ℕ) (f : PacketFault) → body_of h ≡ Some (alone (Err f)) → fault_in refused_headers h ≡ Some f
+row_fault h f e = pick_to f (body_in headers h) (fault_in refused_headers h) (all_packets h (header_below h (alone (Err f)) e)) e
+
+as_err : {A B : Type 0} (part : Part A) (made : A → B) (f : PacketFault) (bytes : List ℕ) → As part made (Err f) bytes → part (Err f) bytes
+as_err part made f bytes (inl (x, front, [], parts, is, e)) = absurd cc
+as_err part made f bytes (inl (x, front, b ∷ back, parts, is, e)) = absurd e
+as_err part made f bytes (inr (g, e, is)) = let same : f ≡ g = cc in subst (λ k. part (Err k) bytes) (sym same) is
+
+stamp_more : (more b : ℕ) (f : PacketFault) (bytes : List ℕ) (test : Bool) → (StampWithin more (Err f) bytes → ⊥)
+    → Where {A = Stamp} test (Known (Ok (record { bits = 7; low = b }))) (As (StampWithin more) (λ high. record { bits = 7 + high.bits; low = b - 128 + 128 * high.low })) (Err f) bytes → ⊥
+stamp_more more b f [] true later is = absurd cc
+stamp_more more b f (c ∷ bytes) true later is = absurd is
+stamp_more more b f bytes false later is = later (as_err (StampWithin more) (λ high. record { bits = 7 + high.bits; low = b - 128 + 128 * high.low }) f bytes is)
+
+stamp_fault : (more : ℕ) (f : PacketFault) (bytes : List ℕ) → StampWithin more (Err f) bytes → ⊥
+stamp_fault zero f [] is = absurd is
+stamp_fault zero f (b ∷ []) is = absurd cc
+stamp_fault zero f (b ∷ c ∷ bytes) is = absurd is
+stamp_fault (suc more) f [] is = absurd is
+stamp_fault (suc more) f (b ∷ bytes) is = stamp_more more b f bytes (nat_lt b 128) (stamp_fault more f bytes) is
+
+short_more : (f : PacketFault) (a : ℕ) (bytes : List ℕ) (test : Bool)
+    → Where test (Known (Ok (Short1 (a * 4)))) (Byte (λ b. Known (Ok (Short2 ((a - 128) * 4 + b * 2 ^ 9))))) (Err f) bytes → ⊥
+short_more f a [] true is = absurd cc
+short_more f a (b ∷ bytes) true is = absurd is
+short_more f a [] false is = absurd is
+short_more f a (b ∷ []) false is = absurd cc
+short_more f a (b ∷ c ∷ bytes) false is = absurd is
+
+short_fault : (f : PacketFault) (bytes : List ℕ) → ShortAddress (Err f) bytes → ⊥
+short_fault f [] is = absurd is
+short_fault f (a ∷ bytes) is = short_more f a bytes (nat_lt a 128) is
+
+exc_fault : (s : Sizes) (x7 x6 x0 : Bool) (b : ℕ) (f : PacketFault) → bit 7 b ≡ x7 → bit 6 b ≡ x6 → bit 0 b ≡ x0
+    → ◌≡◌ {A = Outcome Packet} (Err f) (if x7 then Err (ExceptionTwoByte b) else if x0 && not x6 then Ok (Exc (b / 2 % 32)) else Err (ExceptionForm b))
+    → ((x7 || not (x0 && not x6)) ≡ true) × (f ≡ (if x7 then ExceptionTwoByte b else ExceptionForm b))
+exc_fault s false false true b f b7 b6 b0 e = absurd cc
+exc_fault s true x6 x0 b f b7 b6 b0 e = (refl, cc)
+exc_fault s false true true b f b7 b6 b0 e = (refl, cc)
+exc_fault s false x6 false b f b7 b6 b0 e = (refl, cc)
+
+exc_shown : (x7 x6 x0 : Bool) (b : ℕ) (f : PacketFault) → (x7 || not (x0 && not x6)) ≡ true → f ≡ (if x7 then ExceptionTwoByte b else ExceptionForm b)
+    → ◌≡◌ {A = Outcome Packet} (Err f) (if x7 then Err (ExceptionTwoByte b) else if x0 && not x6 then Ok (Exc (b / 2 % 32)) else Err (ExceptionForm b))
+exc_shown false false true b f wrong e = absurd cc
+exc_shown true x6 x0 b f wrong e = ap (λ k. Err k) e
+exc_shown false true true b f wrong e = ap (λ k. Err k) e
+exc_shown false x6 false b f wrong e = ap (λ k. Err k) e
+
+exception_fault : (s : Sizes) (f : PacketFault) (h : ℕ) (rest : List ℕ) → h ≡ 6 → Exception (Err f) rest → SpellsFault s f (h ∷ rest)
+exception_fault s f h [] z is = absurd is
+exception_fault s f h (b ∷ []) z is =
+    let x = exc_fault s (bit 7 b) (bit 6 b) (bit 0 b) b f refl refl refl is in
+    (in_exception, (b, (λ i. z i ∷ b ∷ []), x.0, x.1))
+exception_fault s f h (b ∷ c ∷ rest) z is = absurd is
+
+known_fault : (s : Sizes) (f : PacketFault) (h : ℕ) (rest : List ℕ) (outcome : Outcome Packet) → body_of h ≡ Some (alone outcome) → Known outcome (Err f) rest → SpellsFault s f (h ∷ rest)
+known_fault s f h [] (Err g) says is = let same : g ≡ f = cc in (in_header, (h, refl, row_fault h g says ∙ ap (λ k. Some k) same))
+known_fault s f h [] (Ok p) says is = absurd cc
+known_fault s f h (b ∷ rest) outcome says is = absurd is
+
+number_fault : (s : Sizes) (f : PacketFault) (h : ℕ) (rest : List ℕ) → 45 ≤ h → h ≤ 47 → Number (Err f) rest → SpellsFault s f (h ∷ rest)
+number_fault s f h rest least most is = (in_number, (h, rest, least, most, refl, is))
+
+cancel_within : (h : ℕ) (flip : Bool) → h ≡ (if flip then 47 else 46) → (45 ≤ h) × (h ≤ 47)
+cancel_within h true e = (omega (arith, e), omega (arith, e))
+cancel_within h false e = (omega (arith, e), omega (arith, e))
+
+module _ (s : Sizes) (f : PacketFault) (h : ℕ) (rest : List ℕ) where
+  context_32_fault : h ≡ 130 → Then LongAddress32 (λ form. As (Context s) (λ ctx. Addr form (Some ctx))) (Err f) rest → SpellsFault s f (h ∷ rest)
+  context_32_fault z (inl (form, front, back, parts, first, next)) =
+      let y = as_ok (Bytes 4) (λ given. Long32 (address_of given)) form front first in
+      (in_context_of_32, (front, back, (λ i. z i ∷ parts i), y.1.1, as_err (Context s) (λ ctx. Addr form (Some ctx)) f back next))
+  context_32_fault z (inr (g, e, is)) = absurd (as_err (Bytes 4) (λ given. Long32 (address_of given)) g rest is)
+
+  context_64_fault : h ≡ 133 → Then LongAddress64 (λ form. As (Context s) (λ ctx. Addr form (Some ctx))) (Err f) rest → SpellsFault s f (h ∷ rest)
+  context_64_fault z (inl (form, front, back, parts, first, next)) =
+      let y = as_ok (Bytes 8) (λ given. Long64 (address_of given)) form front first in
+      (in_context_of_64, (front, back, (λ i. z i ∷ parts i), y.1.1, as_err (Context s) (λ ctx. Addr form (Some ctx)) f back next))
+  context_64_fault z (inr (g, e, is)) = absurd (as_err (Bytes 8) (λ given. Long64 (address_of given)) g rest is)
+
+  atoms_fault : (k : ℕ) → AtomsOf k (Err f) rest → SpellsFault s f (h ∷ rest)
+  atoms_fault k (run, told, within, tells, none) = absurd cc
+
+  body_fault : (body : Body) → body_of h ≡ Some body → fits h body ≡ true → Follows s body (Err f) rest → SpellsFault s f (h ∷ rest)
+  body_fault (alone outcome) says e is = known_fault s f h rest outcome says is
+  body_fault (atoms k) says e is = atoms_fault k is
+  body_fault extension says e is = let z = eqb-true h 0 e in (in_sync, (rest, (λ i. z i ∷ rest), is))
+  body_fault trace_info says e is = let z = eqb-true h 1 e in (in_info, (rest, (λ i. z i ∷ rest), is))
+  body_fault time_stamp says e is = absurd (stamp_fault 8 f rest (as_err TimeStamp (λ stamp. Time stamp.bits stamp.low) f rest is))
+  body_fault exception says e is = exception_fault s f h rest (eqb-true h 6 e) is
+  body_fault commit says e is =
+      let z = eqb-true h 45 e in number_fault s f h rest (omega (arith, z)) (omega (arith, z)) (as_err Number (λ n. Commit n) f rest is)
+  body_fault (cancel flip) says e is =
+      let within = cancel_within h flip (eqb-true h (if flip then 47 else 46) e) in
+      number_fault s f h rest within.0 within.1 (as_err Number (λ n. Cancel n flip) f rest is)
+  body_fault context says e is = let z = eqb-true h 129 e in (in_context, (rest, (λ i. z i ∷ rest), as_err (Context s) (λ ctx. CtxInfo ctx) f rest is))
+  body_fault short_address says e is = absurd (short_fault f rest (as_err ShortAddress (λ form. Addr form None) f rest is))
+  body_fault long_32 says e is = absurd (as_err (Bytes 4) (λ given. Long32 (address_of given)) f rest (as_err LongAddress32 (λ form. Addr form None) f rest is))
+  body_fault long_64 says e is = absurd (as_err (Bytes 8) (λ given. Long64 (address_of given)) f rest (as_err LongAddress64 (λ form. Addr form None) f rest is))
+  body_fault long_32_with_context says e is = context_32_fault (eqb-true h 130 e) is
+  body_fault long_64_with_context says e is = context_64_fault (eqb-true h 133 e) is
+
+fault_to : (s : Sizes) (f : PacketFault) (bytes : List ℕ) → Told s (Err f) bytes → SpellsFault s f bytes
+fault_to s f bytes is = subst (λ t. SpellsFault s f t) (sym is.whole) (body_fault s f is.header is.rest is.body is.says (body_fits is.header is.body is.says) is.follows)
+
+three : (h : ℕ) → 45 ≤ h → h ≤ 47 → (h ≡ 45) ⊎ ((h ≡ 46) ⊎ (h ≡ 47))
+three h least most = elim (cases_lt h 46) [
+  | inl low ↦ inl (omega (arith, low, least))
+  | inr high ↦ elim (cases_lt h 47) [
+    | inl middle ↦ inr (inl (omega (arith, high, middle)))
+    | inr last ↦ inr (inr (omega (arith, last, most)))
+  ]
+]
+
+module _ (s : Sizes) (f : PacketFault) (bytes : List ℕ) where
+  number_back : (h : ℕ) (rest : List ℕ) → (h ≡ 45) ⊎ ((h ≡ 46) ⊎ (h ≡ 47)) → bytes ≡ h ∷ rest → Number (Err f) rest → Told s (Err f) bytes
+  unfolding headers refused_headers
+  number_back h rest (inl z) e is = record { header = 45; rest = rest; body = commit; whole = e ∙ (λ i. z i ∷ rest); says = refl; follows = inr (f, refl, is) }
+  number_back h rest (inr (inl z)) e is = record { header = 46; rest = rest; body = cancel false; whole = e ∙ (λ i. z i ∷ rest); says = refl; follows = inr (f, refl, is) }
+  number_back h rest (inr (inr z)) e is = record { header = 47; rest = rest; body = cancel true; whole = e ∙ (λ i. z i ∷ rest); says = refl; follows = inr (f, refl, is) }
+
+  fault_back : (place : Place) → ShowsAt s place f bytes → Told s (Err f) bytes
+  unfolding headers refused_headers
+  fault_back in_header (h, e, row) = record { header = h; rest = []; body = alone (Err f); whole = e; says = fault_row h f row; follows = refl }
+  fault_back in_sync (rest, e, is) = record { header = 0; rest = rest; body = extension; whole = e; says = refl; follows = is }
+  fault_back in_info (rest, e, is) = record { header = 1; rest = rest; body = trace_info; whole = e; says = refl; follows = is }
+  fault_back in_exception (b, e, wrong, is) =
+      record { header = 6; rest = b ∷ []; body = exception; whole = e; says = refl; follows = exc_shown (bit 7 b) (bit 6 b) (bit 0 b) b f wrong is }
+  fault_back in_number (h, rest, least, most, e, is) = number_back h rest (three h least most) e is
+  fault_back in_context (rest, e, is) = record { header = 129; rest = rest; body = context; whole = e; says = refl; follows = inr (f, refl, is) }
+  fault_back in_context_of_32 (given, rest, e, long, is) = record {
+    header = 130;
+    rest = given ++ rest;
+    body = long_32_with_context;
+    whole = e;
+    says = refl;
+    follows = inl (Long32 (address_of given), given, rest, refl, as_back (Bytes 4) (λ x. Long32 (address_of x)) given given (refl, long), inr (f, refl, is));
+  }
+  fault_back in_context_of_64 (given, rest, e, long, is) = record {
+    header = 133;
+    rest = given ++ rest;
+    body = long_64_with_context;
+    whole = e;
+    says = refl;
+    follows = inl (Long64 (address_of given), given, rest, refl, as_back (Bytes 8) (λ x. Long64 (address_of x)) given given (refl, long), inr (f, refl, is));
+  }
+
+pub told_to : (s : Sizes) (outcome : Outcome Packet) (bytes : List ℕ) → Told s outcome bytes → Spells s outcome bytes
+told_to s (Ok p) bytes is = packet_to s p bytes is
+told_to s (Err f) bytes is = fault_to s f bytes is
+
+pub told_back : (s : Sizes) (outcome : Outcome Packet) (bytes : List ℕ) → Spells s outcome bytes → Told s outcome bytes
+told_back s (Ok p) bytes is = packet_back s p bytes is
+told_back s (Err f) bytes is = fault_back s f bytes is.0 is.1

@@ -7,7 +7,7 @@ use Rattle.atom_formats.specs.Formats.{Spells as TellsAtoms}
 use Rattle.atom_formats.proofs.Rows.{each_byte_tells, one_run_a_byte, runs_are_short}
 use Rattle.atom_formats.proofs.LowBits.{runs_differ}
 use Rattle.packet_grammar.specs.declared.packet.Packet.TheVariants.{Atoms}
-use Rattle.packet_grammar.specs.Spelling.{AtomsOf}
+use Rattle.packet_grammar.proofs.Table.{AtomsOf}
 use Rattle.packet_grammar.proofs.Codes.{Apart, AtMost, Covers}
 
 bit_of : Bool → ℕ

@@ -8,19 +8,13 @@ use Rattle.std.proofs.lemmas.List.{drop_at}
 use Rattle.etm_types.specs.Settings.{Sizes, AreSettings}
 use Rattle.packet_grammar.specs.declared.packet.Packet.{Packet}
 use Rattle.packet_grammar.specs.declared.packet.Packet.TheVariants.{Async}
-use Rattle.packet_grammar.specs.Headers.{extension, headers}
 use Rattle.std.proofs.lemmas.Slice.Eq.{starts_is}
 use Rattle.std.proofs.lemmas.Bool.Decides.{Decides-eqb}
 use Rattle.packet_grammar.specs.declared.fault.PacketFault.{PacketFault}
 use Rattle.packet_grammar.specs.Parts.{Outcome}
-use Rattle.packet_grammar.specs.Spelling.{Spells, Begins}
-use Rattle.packet_grammar.specs.Parsed.{Ending, no_sync, clean, cut, fault, Parses, sync, SyncAt, FirstSync}
+use Rattle.packet_grammar.specs.Parsed.{Spells, Begins, Ending, no_sync, clean, cut, fault, Parses, sync, SyncAt, FirstSync}
 use Rattle.packet_grammar.specs.Laws.{EachIsAStream, OneStream, StartsWithSync, Stream}
-use Rattle.packet_grammar.proofs.Whole.{spells_apart, spells_covers, not_both}
-
--- a spelling has a byte
-some_byte : (s : Sizes) (outcome : Outcome Packet) (text : List ℕ) → Spells s outcome text → 0 < length text
-some_byte s outcome text is = omega (arith, ap length is.whole)
+use Rattle.packet_grammar.proofs.AllLaws.{some_byte, spells_apart, spells_covers, not_both}
 
 packet_or_fault : (p : Packet) (f : PacketFault) → ◌≡◌ {A = Outcome Packet} (Ok p) (Err f) → ⊥
 packet_or_fault p f e = absurd cc
@@ -165,8 +159,7 @@ split_sync : (bytes : List ℕ) → IsTrue (starts_with nat_eq bytes sync) → b
 split_sync bytes here = (starts_is Decides-eqb bytes sync (starts_with nat_eq bytes sync) refl).0 here
 
 pub sync_spells : (s : Sizes) → Spells s (Ok Async) sync
-unfolding headers
-sync_spells s = record { header = 0; rest = drop 1 sync; body = extension; whole = refl; says = refl; follows = refl }
+sync_spells s = refl
 
 module _ (s : Sizes) (are : AreSettings s) where
   sync_first : (at : ℕ) (bytes rest : List ℕ) (packets : List (ℕ × Packet)) (ending : Ending) → bytes ≡ sync ++ rest → Parses s at bytes packets ending

@@ -6,7 +6,7 @@ use Rattle.packet_grammar.specs.declared.packet.Packet.{Packet}
 use Rattle.packet_grammar.specs.declared.packet.Packet.TheVariants.{Async, Discard, Overflow}
 use Rattle.packet_grammar.specs.declared.fault.PacketFault.TheVariants.{BrokenSync, Extension}
 use Rattle.packet_grammar.specs.Parts.{Outcome, Part, Known, Byte, Where}
-use Rattle.packet_grammar.specs.Spelling.{AfterZero}
+use Rattle.packet_grammar.proofs.Table.{AfterZero}
 use Rattle.packet_grammar.proofs.Codes.{Code, loosen, known_code, byte_code, where_code, same_code}
 
 -- so many 00 more, and 80

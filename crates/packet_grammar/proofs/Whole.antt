@@ -1,5 +1,5 @@
 -- The spellings as a whole are a code.
-use Rattle.std.proofs.Common.{◌≡◌, ◌⊎◌, ℕ, ◌<◌, ◌≤◌, true, List, [], ◌∷◌, ◌++◌, length, Option, Some, None, refl, sym, ap, subst, ◌∙◌, append-nil, append_assoc, inl, inr, arith, length-append}
+use Rattle.std.proofs.Common.{◌≡◌, ◌⊎◌, ℕ, ◌<◌, ◌≤◌, true, List, [], ◌∷◌, ◌++◌, length, Option, Some, None, refl, sym, ap, subst, ◌∙◌, inl, inr, arith}
 use Rattle.std.specs.Prelude.{All}
 use Rattle.std.proofs.lemmas.List.Elements.{All-head}
 use Rattle.etm_types.specs.Settings.{Sizes, AreSettings}
@@ -7,11 +7,8 @@ use Rattle.packet_grammar.specs.declared.packet.Packet.TheVariants.{Time, Commit
 use Rattle.packet_grammar.specs.Parts.{As}
 use Rattle.packet_grammar.specs.Numbers.{Number, TimeStamp}
 use Rattle.packet_grammar.specs.Contexts.{Context, ShortAddress, LongAddress32, LongAddress64}
-use Rattle.packet_grammar.specs.Headers.{Body, alone, atoms, extension, trace_info, time_stamp, exception, commit, cancel, context, short_address, long_32, long_64, long_32_with_context, long_64_with_context, headers, body_in}
-use Rattle.packet_grammar.specs.Spelling.{Follows, Spells, Begins}
-use Rattle.packet_grammar.specs.Laws.{NoneBeginsAnother, OneOutcome, BeginsWithOne, SpelledOrBegun, NotBoth}
-use Rattle.packet_grammar.specs.Laws.{AtMost as SpellingsAtMost}
-use Rattle.packet_grammar.proofs.Codes.{Apart, AtMost, Code, has_one, loosen, known_code, as_code, then_code}
+use Rattle.packet_grammar.proofs.Table.{Follows, Told, body_of, Body, alone, atoms, extension, trace_info, time_stamp, exception, commit, cancel, context, short_address, long_32, long_64, long_32_with_context, long_64_with_context}
+use Rattle.packet_grammar.proofs.Codes.{Apart, AtMost, Begun, Code, Stands, has_one, loosen, known_code, as_code, then_code}
 use Rattle.packet_grammar.proofs.Bodies.{number_code, stamp_code, context_code, short_code, long_32_code, long_64_code, info_code, exception_code}
 use Rattle.packet_grammar.proofs.Syncs.{zero_code}
 use Rattle.packet_grammar.proofs.Runs.{run_apart, run_short, run_covers}
@@ -82,53 +79,33 @@ module _ (s : Sizes) (are : AreSettings s) where
   others_same : (b c : ℕ) (xs ys : List ℕ) → b ∷ xs ≡ c ∷ ys → xs ≡ ys
   others_same b c xs ys e = cc
 
-  pub spells_apart : Apart (Spells s)
-  spells_apart outcome other text text' rest rest' is is' e =
+  pub told_apart : Apart (Told s)
+  told_apart outcome other text text' rest rest' is is' e =
       let regrouped : is.header ∷ (is.rest ++ rest) ≡ is'.header ∷ (is'.rest ++ rest') =
       ap (λ t. t ++ rest) (sym is.whole) ∙ e ∙ ap (λ t. t ++ rest') is'.whole in
       let first : is.header ≡ is'.header = first_same is.header is'.header (is.rest ++ rest) (is'.rest ++ rest') regrouped in
-      let body : is.body ≡ is'.body = same_some is.body is'.body (sym is.says ∙ ap (body_in headers) first ∙ is'.says) in
+      let body : is.body ≡ is'.body = same_some is.body is'.body (sym is.says ∙ ap body_of first ∙ is'.says) in
       let same = body_apart is.body outcome other is.rest is'.rest rest rest' is.follows (subst (λ b. Follows s b other is'.rest) (sym body) is'.follows)
       (others_same is.header is'.header (is.rest ++ rest) (is'.rest ++ rest') regrouped) in
       record { outcomes = same.outcomes; texts = is.whole ∙ (λ i. first i ∷ same.texts i) ∙ sym is'.whole; rests = same.rests }
 
-  pub spells_short : AtMost 24 (Spells s)
-  spells_short outcome text is = omega (arith, ap length is.whole, body_short is.body outcome is.rest is.follows)
+  pub told_short : AtMost 24 (Told s)
+  told_short outcome text is = omega (arith, ap length is.whole, body_short is.body outcome is.rest is.follows)
 
-  pub spells_covers : (bytes : List ℕ) → All (λ b. b < 256) bytes → Begins s bytes ⊎ BeginsWithOne s bytes
-  spells_covers [] bounded =
+  pub told_covers : (bytes : List ℕ) → All (λ b. b < 256) bytes → Begun (Told s) bytes ⊎ Stands (Told s) bytes
+  told_covers [] bounded =
       let has = has_body 0 (omega arith) in
       let one = has_one (body_code has.0 has.2) in
-      inl (record { outcome = one.outcome; more = 0 ∷ one.text; some = omega arith; spells = record { header = 0; rest = one.text; body = has.0; whole = refl; says = has.1; follows = one.is } })
-  spells_covers (h ∷ bytes) bounded =
+      inl (record { outcome = one.outcome; more = 0 ∷ one.text; some = omega arith; is = record { header = 0; rest = one.text; body = has.0; whole = refl; says = has.1; follows = one.is } })
+  told_covers (h ∷ bytes) bounded =
       let has = has_body h (All-head (λ (b : ℕ). b < 256) h bytes bounded) in
       elim ((body_code has.0 has.2).covers bytes) [
-        | inl x ↦ inl (record { outcome = x.outcome; more = x.more; some = x.some; spells = record { header = h; rest = bytes ++ x.more; body = has.0; whole = refl; says = has.1; follows = x.is } })
+        | inl x ↦ inl (record { outcome = x.outcome; more = x.more; some = x.some; is = record { header = h; rest = bytes ++ x.more; body = has.0; whole = refl; says = has.1; follows = x.is } })
         | inr x ↦ inr (record {
           outcome = x.outcome;
           text = h ∷ x.text;
           rest = x.rest;
           parts = ap (λ t. h ∷ t) x.parts;
-          spells = record { header = h; rest = x.text; body = has.0; whole = refl; says = has.1; follows = x.is };
+          is = record { header = h; rest = x.text; body = has.0; whole = refl; says = has.1; follows = x.is };
         })
       ]
-
-pub none_begins_another : NoneBeginsAnother
-none_begins_another s are outcome other text rest is is' =
-    (spells_apart s are other outcome text (text ++ rest) rest [] is' is (sym (append-nil (text ++ rest)))).rests
-
-pub one_outcome : OneOutcome
-one_outcome s are outcome other bytes is is' = (spells_apart s are outcome other bytes bytes [] [] is is' refl).outcomes
-
-pub spelled_or_begun : SpelledOrBegun
-spelled_or_begun s are bytes bounded = spells_covers s are bytes bounded
-
-pub not_both : NotBoth
-not_both s are bytes begun stands =
-    let e : stands.text ++ (stands.rest ++ begun.more) ≡ (bytes ++ begun.more) ++ [] =
-    sym (append_assoc stands.text stands.rest begun.more) ∙ ap (λ t. t ++ begun.more) (sym stands.parts) ∙ sym (append-nil (bytes ++ begun.more)) in
-    let same = spells_apart s are stands.outcome begun.outcome stands.text (bytes ++ begun.more) (stands.rest ++ begun.more) [] stands.spells begun.spells e in
-    absurd (omega (arith, ap length same.rests, length-append stands.rest begun.more, begun.some))
-
-pub at_most : SpellingsAtMost 24
-at_most s are outcome bytes is = spells_short s are outcome bytes is

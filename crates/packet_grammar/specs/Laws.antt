@@ -1,12 +1,10 @@
 -- What holds of the spellings as a whole, under any settings.
-use Rattle.std.specs.Prelude.{◌≡◌, ◌⊎◌, ℕ, ◌<◌, ◌≤◌, All, List, [], ◌∷◌, ◌++◌, length, ◌↔◌, Ok}
+use Rattle.std.specs.Prelude.{◌≡◌, ◌⊎◌, ℕ, ◌<◌, ◌≤◌, All, List, [], ◌∷◌, ◌++◌, length}
 use Rattle.etm_types.specs.Settings.{Sizes, AreSettings}
 use Rattle.packet_grammar.specs.declared.packet.Packet.{Packet}
 use Rattle.packet_grammar.specs.declared.packet.Packet.TheVariants.{Async}
-use Rattle.packet_grammar.specs.Packets.{SpellsPacket}
 use Rattle.packet_grammar.specs.Parts.{Outcome}
-use Rattle.packet_grammar.specs.Spelling.{Spells, Begins}
-use Rattle.packet_grammar.specs.Parsed.{Ending, FirstSync, IsStream}
+use Rattle.packet_grammar.specs.Parsed.{Begins, Ending, FirstSync, IsStream, Spells}
 
 -- a spelling that stands at the front of a spelling is all of it
 abbrev pub NoneBeginsAnother : Type 0
@@ -61,7 +59,3 @@ abbrev pub StartsWithSync : Type 0
 StartsWithSync =
     (s : Sizes) → AreSettings s → (bytes : List ℕ) (packets : List (ℕ × Packet)) (ending : Ending) (at : ℕ)
     → IsStream s bytes packets ending → FirstSync at bytes → (others : List (ℕ × Packet)) × (packets ≡ (at, Async) ∷ others)
-
--- the spellings of a packet are those that the packet's own section says
-abbrev pub PacketsAreSpelledSo : Type 0
-PacketsAreSpelledSo = (s : Sizes) (packet : Packet) (bytes : List ℕ) → Spells s (Ok packet) bytes ↔ SpellsPacket s packet bytes

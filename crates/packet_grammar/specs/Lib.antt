@@ -3,6 +3,6 @@ pub mod Numbers
 pub mod Contexts
 pub mod Headers
 pub mod Spelling
-pub mod Packets
+pub mod Faults
 pub mod Parsed
 pub mod Laws

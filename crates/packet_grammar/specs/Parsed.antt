@@ -4,7 +4,21 @@ use Rattle.std.specs.List.{starts_with}
 use Rattle.etm_types.specs.Settings.{Sizes}
 use Rattle.packet_grammar.specs.declared.packet.Packet.{Packet}
 use Rattle.packet_grammar.specs.declared.fault.PacketFault.{PacketFault}
-use Rattle.packet_grammar.specs.Spelling.{Spells, Begins}
+use Rattle.packet_grammar.specs.Parts.{Outcome}
+use Rattle.packet_grammar.specs.Spelling.{SpellsPacket}
+use Rattle.packet_grammar.specs.Faults.{SpellsFault}
+
+-- the bytes are a spelling of the outcome
+abbrev pub Spells : Sizes → Outcome Packet → List ℕ → Type 0
+Spells s (Ok packet) bytes = SpellsPacket s packet bytes
+Spells s (Err fault) bytes = SpellsFault s fault bytes
+
+-- the bytes are a spelling that lacks its end
+pub record Begins (s : Sizes) (bytes : List ℕ) : Type 0 where
+  pub outcome : Outcome Packet
+  pub more : List ℕ
+  pub some : 0 < length more
+  pub spells : Spells s outcome (bytes ++ more)
 
 -- how a stream ends: no A-sync stands in it; after a packet; within one, of which so many bytes are there; or with a
 -- fault, which begins at an offset

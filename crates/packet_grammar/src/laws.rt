@@ -1,5 +1,5 @@
 //! What holds of the spellings as a whole, under any settings.
-ghost use Rattle.packet_grammar.specs.Laws.{AtMost, EachIsAStream, NoneBeginsAnother, NotBoth, OneOutcome, OneStream, PacketsAreSpelledSo, SpelledOrBegun, StartsWithSync};
+ghost use Rattle.packet_grammar.specs.Laws.{AtMost, EachIsAStream, NoneBeginsAnother, NotBoth, OneOutcome, OneStream, SpelledOrBegun, StartsWithSync};
 
 /// A reader that goes from left to right knows a spelling by its last byte, and what it spells.
 pub fn spellings_are_told_apart()
@@ -23,9 +23,4 @@ pub fn a_stream_parses_in_one_way()
     ensures each { EachIsAStream }
     ensures one_way { OneStream }
     ensures starts { StartsWithSync }
-{}
-
-/// The table of headers and the sections of the packets say the same.
-pub fn packets_are_spelled_by_their_sections()
-    ensures { PacketsAreSpelledSo }
 {}

@@ -13,7 +13,6 @@ mod packet;
 
 pub use fault::{PacketFault, RefusedKind};
 pub use laws::{
-    a_stream_parses_in_one_way, bytes_spell_or_begin, packets_are_spelled_by_their_sections,
-    spellings_are_short, spellings_are_told_apart,
+    a_stream_parses_in_one_way, bytes_spell_or_begin, spellings_are_short, spellings_are_told_apart,
 };
 pub use packet::Packet;

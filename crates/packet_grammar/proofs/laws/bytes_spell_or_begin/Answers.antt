@@ -1,4 +1,4 @@
-use Rattle.packet_grammar.proofs.Whole.{spelled_or_begun, not_both}
+use Rattle.packet_grammar.proofs.AllLaws.{spelled_or_begun, not_both}
 use Rattle.packet_grammar.proofs.laws.bytes_spell_or_begin.Goals as goal
 
 pub returns-clause-either : goal.returns-clause-either

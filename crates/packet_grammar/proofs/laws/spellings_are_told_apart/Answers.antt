@@ -1,4 +1,4 @@
-use Rattle.packet_grammar.proofs.Whole.{none_begins_another, one_outcome}
+use Rattle.packet_grammar.proofs.AllLaws.{none_begins_another, one_outcome}
 use Rattle.packet_grammar.proofs.laws.spellings_are_told_apart.Goals as goal
 
 pub returns-clause-none_begins_another : goal.returns-clause-none_begins_another
