@@ -9,3 +9,5 @@ pub mod Inverse
 pub mod AllLaws
 pub mod Streams
 pub mod Examples
+pub mod Fitting
+pub mod InRange

@@ -4,6 +4,8 @@ use Rattle.etm_types.specs.Settings.{Sizes, AreSettings}
 use Rattle.packet_grammar.specs.declared.packet.Packet.{Packet}
 use Rattle.packet_grammar.specs.declared.packet.Packet.TheVariants.{Async}
 use Rattle.packet_grammar.specs.Parts.{Outcome}
+use Rattle.packet_grammar.specs.Ranges.{IsPacket}
+use Rattle.packet_grammar.specs.Spelling.{SpellsPacket}
 use Rattle.packet_grammar.specs.Parsed.{Begins, Ending, FirstSync, IsStream, Spells}
 
 -- a spelling that stands at the front of a spelling is all of it
@@ -59,3 +61,7 @@ abbrev pub StartsWithSync : Type 0
 StartsWithSync =
     (s : Sizes) → AreSettings s → (bytes : List ℕ) (packets : List (ℕ × Packet)) (ending : Ending) (at : ℕ)
     → IsStream s bytes packets ending → FirstSync at bytes → (others : List (ℕ × Packet)) × (packets ≡ (at, Async) ∷ others)
+
+-- the values of a packet that bytes spell are in their ranges
+abbrev pub ValuesFit : Type 0
+ValuesFit = (s : Sizes) (packet : Packet) (bytes : List ℕ) → All (λ b. b < 256) bytes → SpellsPacket s packet bytes → IsPacket s packet

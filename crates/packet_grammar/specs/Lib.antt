@@ -4,5 +4,6 @@ pub mod Contexts
 pub mod Headers
 pub mod Spelling
 pub mod Faults
+pub mod Ranges
 pub mod Parsed
 pub mod Laws

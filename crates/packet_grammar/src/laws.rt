@@ -1,5 +1,5 @@
 //! What holds of the spellings as a whole, under any settings.
-ghost use Rattle.packet_grammar.specs.Laws.{AtMost, EachIsAStream, NoneBeginsAnother, NotBoth, OneOutcome, OneStream, SpelledOrBegun, StartsWithSync};
+ghost use Rattle.packet_grammar.specs.Laws.{AtMost, EachIsAStream, NoneBeginsAnother, NotBoth, OneOutcome, OneStream, SpelledOrBegun, StartsWithSync, ValuesFit};
 
 /// A reader that goes from left to right knows a spelling by its last byte, and what it spells.
 pub fn spellings_are_told_apart()
@@ -23,4 +23,9 @@ pub fn a_stream_parses_in_one_way()
     ensures each { EachIsAStream }
     ensures one_way { OneStream }
     ensures starts { StartsWithSync }
+{}
+
+/// A reader can keep the values of a packet in the fields that a packet has.
+pub fn spelled_values_are_in_range()
+    ensures { ValuesFit }
 {}
