@@ -1,8 +1,9 @@
 -- A part that is a code: a reader that goes from left to right knows where a spelling ends and what it spells.
 use Rattle.std.proofs.Common.{◌≡◌, ◌⊎◌, ℕ, suc, ◌+◌, ◌-◌, ◌<◌, ◌≤◌, Bool, true, false, List, [], ◌∷◌, ◌++◌, length, take, drop, Ok, Err, refl, sym, ap, subst, ◌∙◌, append_assoc, inl, inr, arith, length-append, length-take}
-use Rattle.std.specs.Prelude.{replicate}
+use Rattle.std.specs.Prelude.{All, replicate}
 use Rattle.std.proofs.lemmas.Bool.{cases_lt}
 use Rattle.std.proofs.lemmas.List.{take-append-drop, length-replicate}
+use Rattle.std.proofs.lemmas.List.Elements.{All-append, All-cons, All-nil, All-replicate}
 use Rattle.packet_grammar.specs.declared.fault.PacketFault.{PacketFault}
 use Rattle.packet_grammar.specs.Parts.{Outcome, Part, Known, Byte, Bytes, Where, Then, As}
 
@@ -16,11 +17,15 @@ abbrev pub Apart : {A : Type 0} → Part A → Type 0
 Apart {A} P = (outcome other : Outcome A) (text text' rest rest' : List ℕ)
     → P outcome text → P other text' → text ++ rest ≡ text' ++ rest' → Same outcome other text text' rest rest'
 
+abbrev pub Small : List ℕ → Type 0
+Small bytes = All (λ b. b < 256) bytes
+
 -- bytes that lack the end of a spelling
 pub record Begun {A : Type 0} (P : Outcome A → List ℕ → Type 0) (bytes : List ℕ) : Type 0 where
   pub outcome : Outcome A
   pub more : List ℕ
   pub some : 0 < length more
+  pub small : Small more
   pub is : P outcome (bytes ++ more)
 
 -- bytes with a spelling at their front
@@ -71,15 +76,17 @@ others_same b c xs ys e = cc
 pub record Has {A : Type 0} (P : Outcome A → List ℕ → Type 0) : Type 0 where
   pub outcome : Outcome A
   pub text : List ℕ
+  pub small : Small text
   pub is : P outcome text
 
-pub none_stands : {A : Type 0} (P : Part A) (text rest : List ℕ) (outcome : Outcome A) → [] ≡ text ++ rest → P outcome text → Has P
-none_stands P text rest outcome e is = record { outcome = outcome; text = text; is = is }
+nothing_small : (text rest : List ℕ) → [] ≡ text ++ rest → Small text
+nothing_small [] rest e = All-nil (λ (b : ℕ). b < 256)
+nothing_small (b ∷ text) rest e = absurd cc
 
 pub has_one : {A : Type 0} {P : Part A} {most : ℕ} → Code most P → Has P
 has_one {P = P} code = elim (code.covers []) [
-  | inl begun ↦ record { outcome = begun.outcome; text = begun.more; is = begun.is }
-  | inr stands ↦ record { outcome = stands.outcome; text = stands.text; is = stands.is }
+  | inl begun ↦ record { outcome = begun.outcome; text = begun.more; small = begun.small; is = begun.is }
+  | inr stands ↦ record { outcome = stands.outcome; text = stands.text; small = nothing_small stands.text stands.rest stands.parts; is = stands.is }
 ]
 
 module _ {A : Type 0} (most : ℕ) (next : ℕ → Part A) where
@@ -96,9 +103,9 @@ module _ {A : Type 0} (most : ℕ) (next : ℕ → Part A) where
   byte_short each outcome (b ∷ text) is = omega (arith, each b outcome text is)
 
   byte_covers : ((b : ℕ) → Code most (next b)) → Covers (Byte next)
-  byte_covers each [] = let has = has_one (each 0) in inl (record { outcome = has.outcome; more = 0 ∷ has.text; some = omega arith; is = has.is })
+  byte_covers each [] = let has = has_one (each 0) in inl (record { outcome = has.outcome; more = 0 ∷ has.text; some = omega arith; small = All-cons (λ (b : ℕ). b < 256) 0 has.text (omega arith) has.small; is = has.is })
   byte_covers each (b ∷ bytes) = elim ((each b).covers bytes) [
-    | inl begun ↦ inl (record { outcome = begun.outcome; more = begun.more; some = begun.some; is = begun.is })
+    | inl begun ↦ inl (record { outcome = begun.outcome; more = begun.more; some = begun.some; small = begun.small; is = begun.is })
     | inr stands ↦ inr (record { outcome = stands.outcome; text = b ∷ stands.text; rest = stands.rest; parts = ap (λ t. b ∷ t) stands.parts; is = stands.is })
   ]
 
@@ -115,11 +122,11 @@ where_short false P Q m n p q outcome text is = omega (arith, q outcome text is)
 
 where_covers : {A : Type 0} (test : Bool) (P Q : Part A) → Covers P → Covers Q → Covers (Where test P Q)
 where_covers true P Q p q bytes = elim (p bytes) [
-  | inl x ↦ inl (record { outcome = x.outcome; more = x.more; some = x.some; is = x.is })
+  | inl x ↦ inl (record { outcome = x.outcome; more = x.more; some = x.some; small = x.small; is = x.is })
   | inr x ↦ inr (record { outcome = x.outcome; text = x.text; rest = x.rest; parts = x.parts; is = x.is })
 ]
 where_covers false P Q p q bytes = elim (q bytes) [
-  | inl x ↦ inl (record { outcome = x.outcome; more = x.more; some = x.some; is = x.is })
+  | inl x ↦ inl (record { outcome = x.outcome; more = x.more; some = x.some; small = x.small; is = x.is })
   | inr x ↦ inr (record { outcome = x.outcome; text = x.text; rest = x.rest; parts = x.parts; is = x.is })
 ]
 
@@ -176,6 +183,7 @@ module _ {A B : Type 0} (m n : ℕ) (first : Part A) (next : A → Part B) (is_f
       outcome = begun.outcome;
       more = begun.more;
       some = begun.some;
+      small = begun.small;
       is = inl (x, front, back ++ begun.more, ap (λ t. t ++ begun.more) parts ∙ append_assoc front back begun.more, is, begun.is);
     })
     | inr stands ↦ inr (record {
@@ -191,18 +199,19 @@ module _ {A B : Type 0} (m n : ℕ) (first : Part A) (next : A → Part B) (is_f
   stops bytes (Ok x) text rest parts is = goes_on bytes x text rest parts is
   stops bytes (Err f) text rest parts is = inr (record { outcome = Err f; text = text; rest = rest; parts = parts; is = inr (f, refl, is) })
 
-  lacks : (bytes : List ℕ) (outcome : Outcome A) (more : List ℕ) → 0 < length more → first outcome (bytes ++ more) → Begun (Then first next) bytes
-  lacks bytes (Ok x) more some is = let has = has_one (each x) in record {
+  lacks : (bytes : List ℕ) (outcome : Outcome A) (more : List ℕ) → 0 < length more → Small more → first outcome (bytes ++ more) → Begun (Then first next) bytes
+  lacks bytes (Ok x) more some small is = let has = has_one (each x) in record {
     outcome = has.outcome;
     more = more ++ has.text;
     some = omega (arith, length-append more has.text, some);
+    small = All-append (λ (b : ℕ). b < 256) more has.text small has.small;
     is = inl (x, bytes ++ more, has.text, sym (append_assoc bytes more has.text), is, has.is);
   }
-  lacks bytes (Err f) more some is = record { outcome = Err f; more = more; some = some; is = inr (f, refl, is) }
+  lacks bytes (Err f) more some small is = record { outcome = Err f; more = more; some = some; small = small; is = inr (f, refl, is) }
 
   then_covers : Covers (Then first next)
   then_covers bytes = elim (is_first.covers bytes) [
-    | inl x ↦ inl (lacks bytes x.outcome x.more x.some x.is)
+    | inl x ↦ inl (lacks bytes x.outcome x.more x.some x.small x.is)
     | inr x ↦ stops bytes x.outcome x.text x.rest x.parts x.is
   ]
 
@@ -239,7 +248,7 @@ bytes_covers n bytes = elim (cases_lt (length bytes) n) [
   | inl short ↦
       let pad : List ℕ = replicate (n - length bytes) 0 in
       let padded : length pad ≡ n - length bytes = length-replicate {A = ℕ} (n - length bytes) 0 in
-      inl (record { outcome = Ok (bytes ++ pad); more = pad; some = omega (arith, padded, short); is = (refl, omega (arith, padded, short, length-append bytes pad)) })
+      inl (record { outcome = Ok (bytes ++ pad); more = pad; some = omega (arith, padded, short); small = All-replicate (λ (b : ℕ). b < 256) (n - length bytes) 0 (omega arith); is = (refl, omega (arith, padded, short, length-append bytes pad)) })
   | inr long ↦ inr (record { outcome = Ok (take n bytes); text = take n bytes; rest = drop n bytes; parts = sym (take-append-drop n bytes); is = (refl, omega (arith, long, length-take n bytes)) })
 ]
 
@@ -250,7 +259,7 @@ bytes_code n = record { apart = bytes_apart n; covers = bytes_covers n; short = 
 module _ {A : Type 0} (n : ℕ) (P Q : Part A) (to : (outcome : Outcome A) (text : List ℕ) → P outcome text → Q outcome text) (back : (outcome : Outcome A) (text : List ℕ) → Q outcome text → P outcome text) where
   same_covers : Covers P → Covers Q
   same_covers covers bytes = elim (covers bytes) [
-    | inl x ↦ inl (record { outcome = x.outcome; more = x.more; some = x.some; is = to x.outcome (bytes ++ x.more) x.is })
+    | inl x ↦ inl (record { outcome = x.outcome; more = x.more; some = x.some; small = x.small; is = to x.outcome (bytes ++ x.more) x.is })
     | inr x ↦ inr (record { outcome = x.outcome; text = x.text; rest = x.rest; parts = x.parts; is = to x.outcome x.text x.is })
   ]
 

@@ -1,5 +1,7 @@
 -- Each law at bytes that are written out: what holds, and beside it what does not.
 use Rattle.std.proofs.Common.{ℕ, zero, suc, ◌<◌, List, [], ◌∷◌, ◌++◌, Some, Ok, Err, refl, ap, inl, inr, arith}
+use Rattle.std.specs.Prelude.{All}
+use Rattle.std.proofs.lemmas.List.Elements.{All-cons, All-nil}
 use Rattle.etm_types.specs.Settings.{Sizes, AreSettings}
 use Rattle.packet_grammar.specs.declared.packet.Packet.{Packet}
 use Rattle.packet_grammar.specs.declared.packet.Packet.TheVariants.{Async, On, Info, Commit}
@@ -11,6 +13,7 @@ use Rattle.packet_grammar.specs.Faults.{in_header, in_info}
 use Rattle.packet_grammar.specs.Parsed.{Spells, Begins, clean, cut, sync, SyncAt, IsStream}
 use Rattle.packet_grammar.specs.Laws.{AtMost}
 use Rattle.packet_grammar.proofs.AllLaws.{none_begins_another, one_outcome, not_both}
+use Rattle.packet_grammar.proofs.InRange.{values_fit}
 use Rattle.packet_grammar.proofs.Streams.{sync_spells, one_stream}
 
 -- depth 8, a VMID of one byte and a context ID of four
@@ -20,6 +23,9 @@ sizes = record { depth = 8; vmid_bytes = 1; cid_bytes = 4 }
 sizes_are : AreSettings sizes
 unfolding sizes
 sizes_are = record { depth = omega arith; vmid = refl; cid = refl }
+
+one_small : (b : ℕ) → b < 256 → All (λ x. x < 256) (b ∷ [])
+one_small b low = All-cons (λ (x : ℕ). x < 256) b [] low (All-nil (λ (x : ℕ). x < 256))
 
 -- 04 spells Trace On, and so 04 04 spells nothing
 pub on_spells : (s : Sizes) → Spells s (Ok On) (4 ∷ [])
@@ -45,7 +51,7 @@ no_other_commit s are is = absurd (omega (arith, ap count_of (one_outcome s are 
 
 -- 2d begins a spelling, and so it has none at its front; 08 is reserved, and so it begins none
 pub commit_begins : (s : Sizes) → Begins s (45 ∷ [])
-commit_begins s = record { outcome = Ok (Commit 5); more = 5 ∷ []; some = omega arith; spells = commit_spells s }
+commit_begins s = record { outcome = Ok (Commit 5); more = 5 ∷ []; some = omega arith; small = one_small 5 (omega arith); spells = commit_spells s }
 
 pub reserved_spells : (s : Sizes) → Spells s (Err (Reserved 8)) (8 ∷ [])
 unfolding refused_headers
@@ -60,7 +66,7 @@ pub mode_shown : (s : Sizes) → Spells s (Err (InfoMode 5)) (1 ∷ 1 ∷ 133 �
 mode_shown s = (in_info, (1 ∷ 133 ∷ 0 ∷ [], refl, inr (InfoMode 5, refl, inr (InfoMode 5, refl, inl (5, 133 ∷ 0 ∷ [], [], refl, inl (0, 0 ∷ [], [], refl, refl, refl), refl)))))
 
 pub mode_begins : (s : Sizes) → Begins s (1 ∷ 1 ∷ 133 ∷ [])
-mode_begins s = record { outcome = Err (InfoMode 5); more = 0 ∷ []; some = omega arith; spells = mode_shown s }
+mode_begins s = record { outcome = Err (InfoMode 5); more = 0 ∷ []; some = omega arith; small = one_small 0 (omega arith); spells = mode_shown s }
 
 -- A trace info packet with all sections in five bytes each has 22 bytes. So 24 bytes are enough, and 21 are not.
 zero_in_five : Number (Ok 0) (128 ∷ 128 ∷ 128 ∷ 128 ∷ 0 ∷ [])
@@ -118,3 +124,7 @@ stream_parses s =
 
 pub stream_is_not_cut : (s : Sizes) → AreSettings s → IsStream s stream ((1, Async) ∷ []) (cut 1) → ⊥
 stream_is_not_cut s are is = absurd (let same = one_stream s are stream ((1, Async) ∷ (13, On) ∷ []) ((1, Async) ∷ []) clean (cut 1) (stream_parses s) is in let e = same.1 in cc)
+
+-- a commit has a number below 2^32, and so no bytes spell one of 2^32
+pub too_large : (s : Sizes) (bytes : List ℕ) → All (λ b. b < 256) bytes → Spells s (Ok (Commit 4294967296)) bytes → ⊥
+too_large s bytes small is = absurd (omega (arith, values_fit s (Commit 4294967296) bytes small is))

@@ -1,7 +1,7 @@
 -- The spellings as a whole are a code.
 use Rattle.std.proofs.Common.{◌≡◌, ◌⊎◌, ℕ, ◌<◌, ◌≤◌, true, List, [], ◌∷◌, ◌++◌, length, Option, Some, None, refl, sym, ap, subst, ◌∙◌, inl, inr, arith}
 use Rattle.std.specs.Prelude.{All}
-use Rattle.std.proofs.lemmas.List.Elements.{All-head}
+use Rattle.std.proofs.lemmas.List.Elements.{All-cons, All-head}
 use Rattle.etm_types.specs.Settings.{Sizes, AreSettings}
 use Rattle.packet_grammar.specs.declared.packet.Packet.TheVariants.{Time, Commit, Cancel, CtxInfo, Addr}
 use Rattle.packet_grammar.specs.Parts.{As}
@@ -96,11 +96,11 @@ module _ (s : Sizes) (are : AreSettings s) where
   told_covers [] bounded =
       let has = has_body 0 (omega arith) in
       let one = has_one (body_code has.0 has.2) in
-      inl (record { outcome = one.outcome; more = 0 ∷ one.text; some = omega arith; is = record { header = 0; rest = one.text; body = has.0; whole = refl; says = has.1; follows = one.is } })
+      inl (record { outcome = one.outcome; more = 0 ∷ one.text; some = omega arith; small = All-cons (λ (b : ℕ). b < 256) 0 one.text (omega arith) one.small; is = record { header = 0; rest = one.text; body = has.0; whole = refl; says = has.1; follows = one.is } })
   told_covers (h ∷ bytes) bounded =
       let has = has_body h (All-head (λ (b : ℕ). b < 256) h bytes bounded) in
       elim ((body_code has.0 has.2).covers bytes) [
-        | inl x ↦ inl (record { outcome = x.outcome; more = x.more; some = x.some; is = record { header = h; rest = bytes ++ x.more; body = has.0; whole = refl; says = has.1; follows = x.is } })
+        | inl x ↦ inl (record { outcome = x.outcome; more = x.more; some = x.some; small = x.small; is = record { header = h; rest = bytes ++ x.more; body = has.0; whole = refl; says = has.1; follows = x.is } })
         | inr x ↦ inr (record {
           outcome = x.outcome;
           text = h ∷ x.text;

@@ -1,5 +1,5 @@
 -- How the bytes of a stream parse: which packets they are, each with its offset, and how they end.
-use Rattle.std.specs.Prelude.{◌≡◌, ◌⊎◌, ℕ, ◌+◌, ◌<◌, List, [], ◌∷◌, ◌++◌, length, drop, Ok, Err, IsTrue, nat_eq}
+use Rattle.std.specs.Prelude.{All, ◌≡◌, ◌⊎◌, ℕ, ◌+◌, ◌<◌, List, [], ◌∷◌, ◌++◌, length, drop, Ok, Err, IsTrue, nat_eq}
 use Rattle.std.specs.List.{starts_with}
 use Rattle.etm_types.specs.Settings.{Sizes}
 use Rattle.packet_grammar.specs.declared.packet.Packet.{Packet}
@@ -13,11 +13,12 @@ abbrev pub Spells : Sizes → Outcome Packet → List ℕ → Type 0
 Spells s (Ok packet) bytes = SpellsPacket s packet bytes
 Spells s (Err fault) bytes = SpellsFault s fault bytes
 
--- the bytes are a spelling that lacks its end
+-- the bytes are a spelling that lacks its end, which is a list of bytes too
 pub record Begins (s : Sizes) (bytes : List ℕ) : Type 0 where
   pub outcome : Outcome Packet
   pub more : List ℕ
   pub some : 0 < length more
+  pub small : All (λ b. b < 256) more
   pub spells : Spells s outcome (bytes ++ more)
 
 -- how a stream ends: no A-sync stands in it; after a packet; within one, of which so many bytes are there; or with a
