@@ -66,10 +66,10 @@ known_code known = record {
   short = known_short known;
 }
 
-first_same : (b c : ℕ) (xs ys : List ℕ) → b ∷ xs ≡ c ∷ ys → b ≡ c
+pub first_same : (b c : ℕ) (xs ys : List ℕ) → b ∷ xs ≡ c ∷ ys → b ≡ c
 first_same b c xs ys e = cc
 
-others_same : (b c : ℕ) (xs ys : List ℕ) → b ∷ xs ≡ c ∷ ys → xs ≡ ys
+pub others_same : (b c : ℕ) (xs ys : List ℕ) → b ∷ xs ≡ c ∷ ys → xs ≡ ys
 others_same b c xs ys e = cc
 
 -- a part that has a spelling
@@ -116,10 +116,6 @@ where_apart : {A : Type 0} (test : Bool) (P Q : Part A) → Apart P → Apart Q 
 where_apart true P Q p q outcome other text text' rest rest' is is' e = p outcome other text text' rest rest' is is' e
 where_apart false P Q p q outcome other text text' rest rest' is is' e = q outcome other text text' rest rest' is is' e
 
-where_short : {A : Type 0} (test : Bool) (P Q : Part A) (m n : ℕ) → AtMost m P → AtMost n Q → AtMost (m + n) (Where test P Q)
-where_short true P Q m n p q outcome text is = omega (arith, p outcome text is)
-where_short false P Q m n p q outcome text is = omega (arith, q outcome text is)
-
 where_covers : {A : Type 0} (test : Bool) (P Q : Part A) → Covers P → Covers Q → Covers (Where test P Q)
 where_covers true P Q p q bytes = elim (p bytes) [
   | inl x ↦ inl (record { outcome = x.outcome; more = x.more; some = x.some; small = x.small; is = x.is })
@@ -130,12 +126,12 @@ where_covers false P Q p q bytes = elim (q bytes) [
   | inr x ↦ inr (record { outcome = x.outcome; text = x.text; rest = x.rest; parts = x.parts; is = x.is })
 ]
 
-where_short_same : {A : Type 0} (test : Bool) (P Q : Part A) (n : ℕ) → AtMost n P → AtMost n Q → AtMost n (Where test P Q)
-where_short_same true P Q n p q outcome text is = p outcome text is
-where_short_same false P Q n p q outcome text is = q outcome text is
+where_short : {A : Type 0} (test : Bool) (P Q : Part A) (n : ℕ) → AtMost n P → AtMost n Q → AtMost n (Where test P Q)
+where_short true P Q n p q outcome text is = p outcome text is
+where_short false P Q n p q outcome text is = q outcome text is
 
 pub where_code : {A : Type 0} {P Q : Part A} (n : ℕ) (test : Bool) → Code n P → Code n Q → Code n (Where test P Q)
-where_code {P = P} {Q = Q} n test p q = record { apart = where_apart test P Q p.apart q.apart; covers = where_covers test P Q p.covers q.covers; short = where_short_same test P Q n p.short q.short }
+where_code {P = P} {Q = Q} n test p q = record { apart = where_apart test P Q p.apart q.apart; covers = where_covers test P Q p.covers q.covers; short = where_short test P Q n p.short q.short }
 
 abbrev fine : {A : Type 0} → A → Outcome A
 fine x = Ok x

@@ -8,7 +8,7 @@ use Rattle.packet_grammar.specs.Parts.{As}
 use Rattle.packet_grammar.specs.Numbers.{Number, TimeStamp}
 use Rattle.packet_grammar.specs.Contexts.{Context, ShortAddress, LongAddress32, LongAddress64}
 use Rattle.packet_grammar.proofs.Table.{Follows, Told, body_of, Body, alone, atoms, extension, trace_info, time_stamp, exception, commit, cancel, context, short_address, long_32, long_64, long_32_with_context, long_64_with_context}
-use Rattle.packet_grammar.proofs.Codes.{Apart, AtMost, Begun, Code, Stands, has_one, loosen, known_code, as_code, then_code}
+use Rattle.packet_grammar.proofs.Codes.{Apart, AtMost, Begun, Code, Stands, has_one, loosen, known_code, as_code, then_code, first_same, others_same}
 use Rattle.packet_grammar.proofs.Bodies.{number_code, stamp_code, context_code, short_code, long_32_code, long_64_code, info_code, exception_code}
 use Rattle.packet_grammar.proofs.Syncs.{zero_code}
 use Rattle.packet_grammar.proofs.Runs.{run_apart, run_short, run_covers}
@@ -72,12 +72,6 @@ module _ (s : Sizes) (are : AreSettings s) where
   body_short long_64 = (body_code long_64 refl).short
   body_short long_32_with_context = (body_code long_32_with_context refl).short
   body_short long_64_with_context = (body_code long_64_with_context refl).short
-
-  first_same : (b c : ℕ) (xs ys : List ℕ) → b ∷ xs ≡ c ∷ ys → b ≡ c
-  first_same b c xs ys e = cc
-
-  others_same : (b c : ℕ) (xs ys : List ℕ) → b ∷ xs ≡ c ∷ ys → xs ≡ ys
-  others_same b c xs ys e = cc
 
   pub told_apart : Apart (Told s)
   told_apart outcome other text text' rest rest' is is' e =

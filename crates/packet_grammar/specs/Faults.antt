@@ -41,14 +41,14 @@ abbrev pub ShowsAt : Sizes → Place → PacketFault → List ℕ → Type 0
 ShowsAt s in_header fault bytes = (h : ℕ) × (bytes ≡ h ∷ []) × (fault_in refused_headers h ≡ Some fault)
 -- Alignment Synchronization packet, Discard packet, Overflow packet
 ShowsAt s in_sync fault bytes = (rest : List ℕ) × (bytes ≡ 0x00 ∷ rest) × BadSync fault rest
--- Trace Info packet
+-- Trace Info packet: bits 7 to 4 of the control byte, an INFO other than 0, or a number that is too long
 ShowsAt s in_info fault bytes = (rest : List ℕ) × (bytes ≡ 0x01 ∷ rest) × TraceInfo (Err fault) rest
 -- Exception packet
 ShowsAt s in_exception fault bytes =
     (b : ℕ) × (bytes ≡ 0x06 ∷ b ∷ []) × ((bit 7 b || not (bit 0 b && not (bit 6 b))) ≡ true) × (fault ≡ (if bit 7 b then ExceptionTwoByte b else ExceptionForm b))
 -- Commit packet, Cancel Format 1 packet
 ShowsAt s in_number fault bytes = (h : ℕ) × (rest : List ℕ) × (0x2d ≤ h) × (h ≤ 0x2f) × (bytes ≡ h ∷ rest) × Number (Err fault) rest
--- Context packet
+-- Context packet: an info byte in AArch32 state
 ShowsAt s in_context fault bytes = (rest : List ℕ) × (bytes ≡ 0x81 ∷ rest) × Context s (Err fault) rest
 -- Address with Context packet
 ShowsAt s in_context_of_32 fault bytes =

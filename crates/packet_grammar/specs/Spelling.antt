@@ -46,22 +46,23 @@ SpellsPacket s (Info info key spec cyct) bytes = (rest : List ℕ) × (bytes ≡
 SpellsPacket s (Time bits low) bytes = (rest : List ℕ) × (bytes ≡ 0x02 ∷ rest) × TimeStamp (Ok (record { bits = bits; low = low })) rest
 -- Trace On packet
 SpellsPacket s On bytes = bytes ≡ 0x04 ∷ []
--- Exception packet
+-- Exception packet: bits 6 and 0 (E1 and E0) say how the address is told, bits 5 to 1 are the type, and bit 7 says that
+-- another byte follows
 SpellsPacket s (Exc kind) bytes =
     (b : ℕ) × (bytes ≡ 0x06 ∷ b ∷ []) × (bit 7 b ≡ false) × (bit 6 b ≡ false) × (bit 0 b ≡ true) × (kind ≡ b / 2 % 32)
 -- Commit packet
 SpellsPacket s (Commit n) bytes = (rest : List ℕ) × (bytes ≡ 0x2d ∷ rest) × Number (Ok n) rest
--- Cancel Format 1 packet
+-- Cancel Format 1 packet: bit 0 says that a prediction was wrong
 SpellsPacket s (Cancel n flip) bytes = (rest : List ℕ) × (bytes ≡ (if flip then 0x2f else 0x2e) ∷ rest) × Number (Ok n) rest
 -- Mispredict packet
 SpellsPacket s (Mispredict few) bytes = (h : ℕ) × OneOf 0x30 0x33 h bytes × (few ≡ few_atoms h)
 -- Cancel Format 2 packet
 SpellsPacket s (Cancel2 few) bytes = (h : ℕ) × OneOf 0x34 0x37 h bytes × (few ≡ few_atoms h)
--- Cancel Format 3 packet
+-- Cancel Format 3 packet: bit 0 is an atom E, and bits 2 and 1 are the number of elements less 2
 SpellsPacket s (Cancel3 e n) bytes = (h : ℕ) × OneOf 0x38 0x3f h bytes × (e ≡ (h % 2 == 1)) × (n ≡ h / 2 % 4 + 2)
 -- Ignore packet
 SpellsPacket s Ignore bytes = bytes ≡ 0x70 ∷ []
--- Event packet
+-- Event packet: bits 3 to 0 are the events
 SpellsPacket s (Event n) bytes = (h : ℕ) × OneOf 0x71 0x7f h bytes × (n ≡ h % 16)
 -- Context packet
 SpellsPacket s CtxSame bytes = bytes ≡ 0x80 ∷ []
