@@ -1,0 +1,13 @@
+pub mod Table
+pub mod Codes
+pub mod Bodies
+pub mod Runs
+pub mod Syncs
+pub mod Rows
+pub mod Whole
+pub mod Inverse
+pub mod AllLaws
+pub mod Streams
+pub mod Examples
+pub mod Fitting
+pub mod InRange

@@ -1,0 +1,67 @@
+-- What holds of the spellings as a whole, under any settings.
+use Rattle.std.specs.Prelude.{◌≡◌, ◌⊎◌, ℕ, ◌<◌, ◌≤◌, All, List, [], ◌∷◌, ◌++◌, length}
+use Rattle.etm_types.specs.Settings.{Sizes, AreSettings}
+use Rattle.packet_grammar.specs.declared.packet.Packet.{Packet}
+use Rattle.packet_grammar.specs.declared.packet.Packet.TheVariants.{Async}
+use Rattle.packet_grammar.specs.Parts.{Outcome}
+use Rattle.packet_grammar.specs.Ranges.{IsPacket}
+use Rattle.packet_grammar.specs.Spelling.{SpellsPacket}
+use Rattle.packet_grammar.specs.Parsed.{Begins, Ending, FirstSync, IsStream, Spells}
+
+-- a spelling that stands at the front of a spelling is all of it
+abbrev pub NoneBeginsAnother : Type 0
+NoneBeginsAnother =
+    (s : Sizes) → AreSettings s → (outcome other : Outcome Packet) (text rest : List ℕ)
+    → Spells s outcome (text ++ rest) → Spells s other text → rest ≡ []
+
+-- bytes spell one outcome at most
+abbrev pub OneOutcome : Type 0
+OneOutcome =
+    (s : Sizes) → AreSettings s → (outcome other : Outcome Packet) (bytes : List ℕ)
+    → Spells s outcome bytes → Spells s other bytes → outcome ≡ other
+
+-- a spelling stands at the front of the bytes
+pub record BeginsWithOne (s : Sizes) (bytes : List ℕ) : Type 0 where
+  pub outcome : Outcome Packet
+  pub text : List ℕ
+  pub rest : List ℕ
+  pub parts : bytes ≡ text ++ rest
+  pub spells : Spells s outcome text
+
+-- bytes lack the end of a spelling, or a spelling stands at their front
+abbrev pub SpelledOrBegun : Type 0
+SpelledOrBegun =
+    (s : Sizes) → AreSettings s → (bytes : List ℕ) → All (λ b. b < 256) bytes → Begins s bytes ⊎ BeginsWithOne s bytes
+
+abbrev pub NotBoth : Type 0
+NotBoth = (s : Sizes) → AreSettings s → (bytes : List ℕ) → Begins s bytes → BeginsWithOne s bytes → ⊥
+
+-- no spelling has more bytes
+abbrev pub AtMost : ℕ → Type 0
+AtMost most = (s : Sizes) → AreSettings s → (outcome : Outcome Packet) (bytes : List ℕ) → Spells s outcome bytes → length bytes ≤ most
+
+-- what a stream is: its packets, each with its offset, and how it ends
+pub record Stream (s : Sizes) (bytes : List ℕ) : Type 0 where
+  pub packets : List (ℕ × Packet)
+  pub ending : Ending
+  pub is : IsStream s bytes packets ending
+
+-- each list of bytes is a stream
+abbrev pub EachIsAStream : Type 0
+EachIsAStream = (s : Sizes) → AreSettings s → (bytes : List ℕ) → All (λ b. b < 256) bytes → Stream s bytes
+
+-- in one way alone
+abbrev pub OneStream : Type 0
+OneStream =
+    (s : Sizes) → AreSettings s → (bytes : List ℕ) (packets others : List (ℕ × Packet)) (ending other : Ending)
+    → IsStream s bytes packets ending → IsStream s bytes others other → (packets ≡ others) × (ending ≡ other)
+
+-- with the A-sync that was found as its first packet
+abbrev pub StartsWithSync : Type 0
+StartsWithSync =
+    (s : Sizes) → AreSettings s → (bytes : List ℕ) (packets : List (ℕ × Packet)) (ending : Ending) (at : ℕ)
+    → IsStream s bytes packets ending → FirstSync at bytes → (others : List (ℕ × Packet)) × (packets ≡ (at, Async) ∷ others)
+
+-- the values of a packet that bytes spell are in their ranges
+abbrev pub ValuesFit : Type 0
+ValuesFit = (s : Sizes) (packet : Packet) (bytes : List ℕ) → All (λ b. b < 256) bytes → SpellsPacket s packet bytes → IsPacket s packet
