@@ -6,4 +6,5 @@ pub mod Headed
 pub mod Stream
 pub mod Steps
 pub mod Hunt
+pub mod Adds
 pub mod Asked

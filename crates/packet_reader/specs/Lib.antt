@@ -1,3 +1,4 @@
 pub mod Trees
 pub mod States
 pub mod Stands
+pub mod Answered

@@ -2,17 +2,20 @@
 //!
 //! [`PacketReader`] keeps what the bytes of the begun packet told so far, and not the bytes: each byte is
 //! looked at once. The layer above uses the contract of [`PacketReader::take`]: from a list of bytes the
-//! reader comes to stand at that list and the byte, and answers what the parse of the stream gains.
+//! reader comes to stand at that list and the byte, and answers what the parse of the stream gains. What
+//! the answers are as a whole is the contract of [`the_answers_are_the_parse`].
 #![tactic(auto)]
 
 mod advance;
 mod groups;
 mod headers;
+mod laws;
 mod phase;
 mod reader;
 mod state;
 mod step;
 
+pub use laws::the_answers_are_the_parse;
 pub use reader::PacketReader;
 pub use step::Step;
 

@@ -1,6 +1,7 @@
 //! The reader.
-ghost use Rattle.std.specs.Prelude.{◌≡◌, ◌≤◌, ◌<◌, ◌+◌, ◌-◌, ◌^◌, ◌++◌, ◌∷◌, [], ◌↔◌, length, List, ℕ, IsTrue};
+ghost use Rattle.std.specs.Prelude.{◌≡◌, ◌≤◌, ◌<◌, ◌+◌, ◌-◌, ◌^◌, ◌++◌, ◌∷◌, [], ◌↔◌, length, List, ℕ, IsTrue, All};
 ghost use Rattle.etm_types.specs.Settings.{AreSettings};
+ghost use Rattle.packet_grammar.specs.Ranges.{IsPacket};
 ghost use Rattle.packet_reader.specs.States.{FitsAfter};
 ghost use Rattle.packet_reader.specs.Stands.{FitsPhase, Moves, settled, hunted};
 
@@ -63,6 +64,8 @@ impl PacketReader {
         ensures taken { self.new.taken ≡ self.old.taken + 1 }
         ensures stands { (bytes : List ℕ) → StandsAt self.old bytes → StandsAt self.new (bytes ++ byte ∷ []) }
         ensures gains { (bytes : List ℕ) → StandsAt self.old bytes → Gains self.old.settings bytes byte result }
+        ensures values { (bytes : List ℕ) → StandsAt self.old bytes → All (λ b. b < 256) bytes
+            → (at : ℕ) (packet : Packet) → result ≡ Step.Whole at packet → IsPacket self.old.settings packet }
     {
         self.taken += 1;
         let moved = moved(&self.settings, self.phase, self.start, self.taken, byte);

@@ -1,0 +1,12 @@
+//! What the answers of a reader are as a whole.
+ghost use Rattle.std.specs.Prelude.{ℕ, List, []};
+ghost use Rattle.etm_types.specs.Settings.{Sizes, AreSettings};
+ghost use Rattle.packet_reader.specs.Answered.{Answered, AddUp};
+ghost use Rattle.packet_reader.specs.declared.step.Step.{Step};
+
+/// Where each byte of a stream has the answer that [`PacketReader::take`](crate::PacketReader::take)
+/// promises for it, the packets among the answers are those of the stream, with their offsets, and their
+/// fault is the one with which the stream ends.
+pub fn the_answers_are_the_parse()
+    ensures { (s : Sizes) → AreSettings s → (bytes : List ℕ) (steps : List Step) → Answered s [] bytes steps → AddUp s bytes steps }
+{}
