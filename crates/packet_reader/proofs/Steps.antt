@@ -50,10 +50,10 @@ state_open s Short fits = (_, refl)
 state_open s (ShortHigh low) fits = (_, refl)
 state_open s (LongFirst long) fits = (_, refl)
 state_open s (LongSecond long low) fits = (_, refl)
-state_open s (LongHigh long low left count high) fits = bytes_open left count high _ fits.1
+state_open s (LongHigh long low field) fits = bytes_open field.left field.count field.value _ fits.1.0
 state_open s (Context form) fits = (_, refl)
-state_open s (Vmid form info left count value) fits = bytes_open left count value _ fits.0
-state_open s (Cid form info vmid left count value) fits = bytes_open left count value _ fits.0
+state_open s (Vmid form info field) fits = bytes_open field.left field.count field.value _ fits.0
+state_open s (Cid form info vmid field) fits = bytes_open field.left field.count field.value _ fits.0
 
 -- each tree leads somewhere
 record LeadsOn (tree : Tree) : Type 0 where

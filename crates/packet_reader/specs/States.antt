@@ -16,6 +16,7 @@ use Rattle.packet_reader.specs.declared.state.State.TheVariants.{Extension as At
 use Rattle.packet_reader.specs.declared.state.Purpose.{Purpose}
 use Rattle.packet_reader.specs.declared.state.Purpose.TheVariants.{Commit as ForCommit, Cancel as ForCancel, Mode, Key, Spec, Cycles}
 use Rattle.packet_reader.specs.declared.state.Long.{Long}
+use Rattle.packet_reader.specs.declared.state.Field.{Field}
 use Rattle.packet_reader.specs.declared.state.Progress.{Progress}
 use Rattle.packet_reader.specs.declared.state.Progress.TheVariants.{Next, Done}
 use Rattle.packet_grammar.specs.Parsed.{Spells}
@@ -92,11 +93,11 @@ form_of long value = if long.wide then Long64 value else Long32 value
 abbrev pub behind_long : Sizes → Long → ℕ → Tree
 behind_long s long value = if long.with_context then context_tree s (Some (form_of long value)) else known (Ok (Addr (form_of long value) None))
 
-abbrev pub high_tree : Sizes → Long → ℕ → ℕ → ℕ → ℕ → Tree
-high_tree s long low left count high = bytes_tree left count high (λ value. behind_long s long (low + value * 2 ^ 16))
+abbrev pub high_tree : Sizes → Long → ℕ → Field → Tree
+high_tree s long low field = bytes_tree field.left field.count field.value (λ value. behind_long s long (low + value * 2 ^ 16))
 
 abbrev pub second_tree : Sizes → Long → ℕ → Tree
-second_tree s long low = byte (λ b. high_tree s long (low + b % 128 * 2 ^ 9) (if long.wide then 6 else 2) 0 0)
+second_tree s long low = byte (λ b. high_tree s long (low + b % 128 * 2 ^ 9) (record { left = if long.wide then 6 else 2; count = 0; value = 0 }))
 
 abbrev pub long_tree : Sizes → Long → Tree
 long_tree s long = byte (λ a. second_tree s long (a % 128 * 4))
@@ -113,15 +114,19 @@ tree_of s Short = short_tree
 tree_of s (ShortHigh low) = short_high_tree low
 tree_of s (LongFirst long) = long_tree s long
 tree_of s (LongSecond long low) = second_tree s long low
-tree_of s (LongHigh long low left count high) = high_tree s long low left count high
+tree_of s (LongHigh long low field) = high_tree s long low field
 tree_of s (Context form) = context_tree s form
-tree_of s (Vmid form info left count value) = bytes_tree left count value (λ vmid. cid_tree s form info (Some vmid))
-tree_of s (Cid form info vmid left count value) = bytes_tree left count value (λ cid. known (with_context form (context_of info vmid (Some cid))))
+tree_of s (Vmid form info field) = bytes_tree field.left field.count field.value (λ vmid. cid_tree s form info (Some vmid))
+tree_of s (Cid form info vmid field) = bytes_tree field.left field.count field.value (λ cid. known (with_context form (context_of info vmid (Some cid))))
 
 -- and what after a byte
 abbrev pub tree_after : Sizes → Progress → Tree
 tree_after s (Next state) = tree_of s state
 tree_after s (Done outcome) = known outcome
+
+-- at most so many bytes, of which some are left
+abbrev pub FitsField : ℕ → Field → Type 0
+FitsField most field = (1 ≤ field.left) × (field.left + field.count ≤ most) × (field.value < 256 ^ field.count)
 
 -- what a state holds is no more than its bytes could tell
 abbrev pub Fits : State → Type 0
@@ -129,9 +134,9 @@ Fits (Number purpose left groups value) = (left + groups ≡ 4) × (value < 128 
 Fits (Stamp left groups low) = (left + groups ≡ 8) × (low < 128 ^ groups)
 Fits (ShortHigh low) = low < 2 ^ 9
 Fits (LongSecond long low) = low < 2 ^ 9
-Fits (LongHigh long low left count high) = (low < 2 ^ 16) × (1 ≤ left) × (left + count ≤ 6) × (high < 256 ^ count)
-Fits (Vmid form info left count value) = (1 ≤ left) × (left + count ≤ 4) × (value < 256 ^ count)
-Fits (Cid form info vmid left count value) = (1 ≤ left) × (left + count ≤ 4) × (value < 256 ^ count)
+Fits (LongHigh long low field) = (low < 2 ^ 16) × FitsField 6 field
+Fits (Vmid form info field) = FitsField 4 field
+Fits (Cid form info vmid field) = FitsField 4 field
 Fits _ = Unit
 
 abbrev pub FitsAfter : Progress → Type 0

@@ -6,7 +6,7 @@ ghost use Rattle.packet_reader.specs.Trees.{after, known, number_tree, stamp_tre
 ghost use Rattle.packet_reader.specs.States.{tree_of, tree_after, Fits, FitsAfter, behind_number, mode_tree, info_tree, key_tree, spec_tree, cycles_tree, vmid_tree, cid_tree, context_tree, context_of, with_context, extension_tree, control_tree, exception_tree, short_tree, short_high_tree, long_tree, second_tree, high_tree, behind_long};
 
 use crate::groups::{with_byte, with_group};
-use crate::state::{Long, Progress, Purpose, State};
+use crate::state::{Field, Long, Progress, Purpose, State};
 use etm_types::{AddrForm, CtxBits, Settings};
 use packet_grammar::{Packet, PacketFault};
 
@@ -35,29 +35,15 @@ pub fn advance(settings: &Settings, state: State, byte: u8) -> Progress
         State::ShortHigh { low } => short_high(low, byte),
         State::LongFirst { long } => long_first(long, byte),
         State::LongSecond { long, low } => long_second(long, low, byte),
-        State::LongHigh {
-            long,
-            low,
-            left,
-            count,
-            high,
-        } => long_high(long, low, left, count, high, byte),
+        State::LongHigh { long, low, field } => long_high(long, low, field, byte),
         State::Context { form } => context(settings, form, byte),
-        State::Vmid {
-            form,
-            info,
-            left,
-            count,
-            value,
-        } => vmid(settings, form, info, left, count, value, byte),
+        State::Vmid { form, info, field } => vmid(settings, form, info, field, byte),
         State::Cid {
             form,
             info,
             vmid,
-            left,
-            count,
-            value,
-        } => cid(form, info, vmid, left, count, value, byte),
+            field,
+        } => cid(form, info, vmid, field, byte),
     }
 }
 
@@ -294,6 +280,17 @@ fn short_high(low: u64, byte: u8) -> Progress
     Progress::Done(Ok(Packet::Addr { form, ctx: None }))
 }
 
+/// A field of so many bytes begins.
+fn field_of(left: u8) -> Field
+    ensures { result ≡ record { left = left; count = 0; value = 0 } }
+{
+    Field {
+        left,
+        count: 0,
+        value: 0,
+    }
+}
+
 /// The first byte of a long address: bits 8 to 2.
 fn long_first(long: Long, byte: u8) -> Progress
     ensures tree { (s : Sizes) → tree_after s result ≡ after (long_tree s long) byte }
@@ -314,30 +311,27 @@ fn long_second(long: Long, low: u64, byte: u8) -> Progress
     Progress::Next(State::LongHigh {
         long,
         low: low + u64::from(byte % CONTINUES) * 512,
-        left: if long.wide { 6 } else { 2 },
-        count: 0,
-        high: 0,
+        field: field_of(if long.wide { 6 } else { 2 }),
     })
 }
 
 /// A whole byte of a long address.
 #[tactic(auto, unfolding(crate::specs::Trees::bytes_tree))]
-fn long_high(long: Long, low: u64, left: u8, count: u8, high: u64, byte: u8) -> Progress
-    requires { Fits (State.LongHigh long low left count high) }
-    ensures tree { (s : Sizes) → tree_after s result ≡ after (high_tree s long low left count high) byte }
+fn long_high(long: Long, low: u64, field: Field, byte: u8) -> Progress
+    requires { Fits (State.LongHigh long low field) }
+    ensures tree { (s : Sizes) → tree_after s result ≡ after (high_tree s long low field) byte }
     ensures fits { FitsAfter result }
 {
-    let high = with_byte(high, byte, count);
-    if left == 1 {
-        return behind_long(long, low + high * 65536);
+    let value = with_byte(field.value, byte, field.count);
+    if field.left == 1 {
+        return behind_long(long, low + value * 65536);
     }
-    Progress::Next(State::LongHigh {
-        long,
-        low,
-        left: left - 1,
-        count: count + 1,
-        high,
-    })
+    let field = Field {
+        left: field.left - 1,
+        count: field.count + 1,
+        value,
+    };
+    Progress::Next(State::LongHigh { long, low, field })
 }
 
 /// Behind the bytes of a long address.
@@ -366,43 +360,29 @@ fn context(settings: &Settings, form: Option<AddrForm>, info: u8) -> Progress
     }
     let left = settings.vmid_bytes();
     if bit(info, 6) && left != 0 {
-        return Progress::Next(State::Vmid {
-            form,
-            info,
-            left,
-            count: 0,
-            value: 0,
-        });
+        let field = field_of(left);
+        return Progress::Next(State::Vmid { form, info, field });
     }
     behind_vmid(settings, form, info, None)
 }
 
 /// A byte of a VMID.
 #[tactic(auto, unfolding(crate::specs::Trees::bytes_tree))]
-fn vmid(
-    settings: &Settings,
-    form: Option<AddrForm>,
-    info: u8,
-    left: u8,
-    count: u8,
-    value: u64,
-    byte: u8,
-) -> Progress
-    requires { Fits (State.Vmid form info left count value) }
-    ensures tree { tree_after settings.now result ≡ after (tree_of settings.now (State.Vmid form info left count value)) byte }
+fn vmid(settings: &Settings, form: Option<AddrForm>, info: u8, field: Field, byte: u8) -> Progress
+    requires { Fits (State.Vmid form info field) }
+    ensures tree { tree_after settings.now result ≡ after (tree_of settings.now (State.Vmid form info field)) byte }
     ensures fits { FitsAfter result }
 {
-    let value = with_byte(value, byte, count);
-    if left == 1 {
+    let value = with_byte(field.value, byte, field.count);
+    if field.left == 1 {
         return behind_vmid(settings, form, info, Some(value as u32));
     }
-    Progress::Next(State::Vmid {
-        form,
-        info,
-        left: left - 1,
-        count: count + 1,
+    let field = Field {
+        left: field.left - 1,
+        count: field.count + 1,
         value,
-    })
+    };
+    Progress::Next(State::Vmid { form, info, field })
 }
 
 /// Behind a VMID, or where there is none.
@@ -412,13 +392,12 @@ fn behind_vmid(settings: &Settings, form: Option<AddrForm>, info: u8, vmid: Opti
 {
     let left = settings.cid_bytes();
     if bit(info, 7) && left != 0 {
+        let field = field_of(left);
         return Progress::Next(State::Cid {
             form,
             info,
             vmid,
-            left,
-            count: 0,
-            value: 0,
+            field,
         });
     }
     Progress::Done(Ok(with_context(form, context_of(info, vmid, None))))
@@ -426,31 +405,26 @@ fn behind_vmid(settings: &Settings, form: Option<AddrForm>, info: u8, vmid: Opti
 
 /// A byte of a context ID.
 #[tactic(auto, unfolding(crate::specs::Trees::bytes_tree))]
-fn cid(
-    form: Option<AddrForm>,
-    info: u8,
-    vmid: Option<u32>,
-    left: u8,
-    count: u8,
-    value: u64,
-    byte: u8,
-) -> Progress
-    requires { Fits (State.Cid form info vmid left count value) }
-    ensures tree { (s : Sizes) → tree_after s result ≡ after (tree_of s (State.Cid form info vmid left count value)) byte }
+fn cid(form: Option<AddrForm>, info: u8, vmid: Option<u32>, field: Field, byte: u8) -> Progress
+    requires { Fits (State.Cid form info vmid field) }
+    ensures tree { (s : Sizes) → tree_after s result ≡ after (tree_of s (State.Cid form info vmid field)) byte }
     ensures fits { FitsAfter result }
 {
-    let value = with_byte(value, byte, count);
-    if left == 1 {
+    let value = with_byte(field.value, byte, field.count);
+    if field.left == 1 {
         let ctx = context_of(info, vmid, Some(value as u32));
         return Progress::Done(Ok(with_context(form, ctx)));
     }
+    let field = Field {
+        left: field.left - 1,
+        count: field.count + 1,
+        value,
+    };
     Progress::Next(State::Cid {
         form,
         info,
         vmid,
-        left: left - 1,
-        count: count + 1,
-        value,
+        field,
     })
 }
 

@@ -1,4 +1,7 @@
 //! What a header makes of a packet, in the order of the headers' numbers.
+//!
+//! A `match` has an arm for each number of a byte. So the first arm of a table below begins at 00 and the
+//! last one ends at ff, where the headers that the table is asked for do not go.
 ghost use Rattle.std.specs.Prelude.{◌≡◌, ◌<◌, ◌≤◌};
 ghost use Rattle.packet_reader.specs.States.{HeadsBy, IsRun, FitsAfter};
 

@@ -44,35 +44,40 @@ pub enum State {
         long: Long,
         low: u64,
     },
-    /// So many bytes of a long address are left. Those from bit 16 on that were read have a value.
+    /// Within the bytes of a long address from bit 16 on.
     LongHigh {
         long: Long,
         low: u64,
-        left: u8,
-        count: u8,
-        high: u64,
+        field: Field,
     },
     /// The info byte of a context comes, alone or behind an address.
     Context {
         form: Option<AddrForm>,
     },
-    /// So many bytes of a VMID are left.
+    /// Within a VMID.
     Vmid {
         form: Option<AddrForm>,
         info: u8,
-        left: u8,
-        count: u8,
-        value: u64,
+        field: Field,
     },
-    /// So many bytes of a context ID are left.
+    /// Within a context ID.
     Cid {
         form: Option<AddrForm>,
         info: u8,
         vmid: Option<u32>,
-        left: u8,
-        count: u8,
-        value: u64,
+        field: Field,
     },
+}
+
+/// Whole bytes that come one after the other, the low one first.
+#[derive(Clone, Copy, Debug, PartialEq, Eq)]
+pub struct Field {
+    /// How many are left.
+    pub left: u8,
+    /// How many were read.
+    pub count: u8,
+    /// What these are worth.
+    pub value: u64,
 }
 
 /// What a number is for. The sections of a trace info packet carry the control byte, and the sections
