@@ -1,0 +1,187 @@
+//! One line of the output, put together before it is written.
+ghost use Rattle.std.specs.Prelude.{◌≡◌, ◌+◌, ◌∷◌, ◌++◌, ◌^◌, ◌<◌, ◌≤◌, [], drop, length};
+ghost use Rattle.path_text.specs.Lines.{digit, in_base, line_start, byte_text};
+
+use etm_types::Id;
+use std::marker::Model;
+use trace_io::{Failed, Sink, write_all};
+
+/// The longest line, in bytes.
+const LONGEST: usize = 96;
+
+/// The most digits that a number has, in base 10 and above.
+const MOST_DIGITS: usize = 20;
+
+/// The begun line. Contracts see it as its bytes.
+#[derive(Drop)]
+pub struct Line {
+    bytes: [u8; LONGEST],
+    len: usize,
+}
+
+impl Model for Line {
+    ghost use Rattle.std.specs.Prelude.{ℕ, List, ◌≤◌, take};
+
+    ghost Value = { List ℕ };
+
+    ghost view = { λ line. take line.len line.bytes };
+
+    ghost invariant = { λ line. line.len ≤ 96 };
+}
+
+/// A digit of a base up to 16.
+fn digit(value: u8) -> u8
+    requires { value < 16 }
+    ensures { result ≡ digit value }
+{
+    if value < 10 {
+        b'0' + value
+    } else {
+        b'a' - 10 + value
+    }
+}
+
+/// The two hex digits of a byte.
+fn byte_digits(byte: u8) -> [u8; 2]
+    ensures { result ≡ byte_text byte }
+{
+    [digit(byte / 16), digit(byte % 16)]
+}
+
+/// Puts the digits of a number at the end of `digits`, and says where they begin.
+#[inline(always)]
+fn put_digits(base: u64, n: u64, digits: &mut [u8; MOST_DIGITS]) -> usize
+    requires base { (10 ≤ base) × (base ≤ 16) }
+    requires fits { n < base ^ 20 }
+    ensures within { result ≤ 20 }
+    ensures len { length digits.new ≡ 20 }
+    ensures value { drop result digits.new ≡ in_base base n }
+{
+    let mut at = MOST_DIGITS - 1;
+    digits[at] = digit((n % base) as u8);
+    let mut rest = n / base;
+    while rest > 0 {
+        at -= 1;
+        digits[at] = digit((rest % base) as u8);
+        rest /= base;
+    }
+    at
+}
+
+impl Line {
+    ghost use Rattle.path_text.specs.Lines.{hex, decimal};
+    ghost use Rattle.path_text.specs.Writing.{Writes};
+
+    /// A line without anything.
+    pub fn new() -> Line
+        ensures { result ≡ [] }
+    {
+        Line {
+            bytes: [0; LONGEST],
+            len: 0,
+        }
+    }
+
+    /// A line begins with the ID of its stream in two hex digits, and a space.
+    pub fn begin(id: Id) -> Line
+        ensures { result ≡ line_start id }
+    {
+        let id = id.get();
+        let mut bytes = [0; LONGEST];
+        bytes[0] = digit(id / 16);
+        bytes[1] = digit(id % 16);
+        bytes[2] = b' ';
+        Line { bytes, len: 3 }
+    }
+
+    /// Adds a text.
+    pub fn text(&mut self, text: &[u8])
+        requires { length self.old + length text.now ≤ 96 }
+        ensures { self.new ≡ self.old ++ text.now }
+    {
+        let end = self.len + text.len();
+        self.bytes[self.len..end].copy_from_slice(text);
+        self.len = end;
+    }
+
+    /// Adds the two hex digits of a byte.
+    pub fn byte(&mut self, byte: u8)
+        requires { length self.old + 2 ≤ 96 }
+        ensures { self.new ≡ self.old ++ byte_text byte }
+    {
+        self.text(&byte_digits(byte));
+    }
+
+    /// Adds a number without leading zeros.
+    #[inline(always)]
+    fn number(&mut self, base: u64, n: u64)
+        requires base { (10 ≤ base) × (base ≤ 16) }
+        requires fits { n < base ^ 20 }
+        requires room { length self.old + length (in_base base n) ≤ 96 }
+        ensures value { self.new ≡ self.old ++ in_base base n }
+        ensures len { length self.new ≡ length self.old + length (in_base base n) }
+    {
+        let mut digits = [0; MOST_DIGITS];
+        let from = put_digits(base, n, &mut digits);
+        self.text(&digits[from..]);
+    }
+
+    /// Adds a number of 64 bits in hex, at most 16 digits.
+    #[tactic(auto, using(crate::proofs::Digits::few_hex_64))]
+    pub fn hex(&mut self, n: u64)
+        requires { length self.old + 16 ≤ 96 }
+        ensures value { self.new ≡ self.old ++ hex n }
+        ensures short { length self.new ≤ length self.old + 16 }
+    {
+        self.number(16, n);
+    }
+
+    /// Adds a number of 32 bits in hex, at most 8 digits.
+    #[tactic(auto, using(crate::proofs::Digits::few_hex_32))]
+    pub fn hex_u32(&mut self, n: u32)
+        requires { length self.old + 8 ≤ 96 }
+        ensures value { self.new ≡ self.old ++ hex n }
+        ensures short { length self.new ≤ length self.old + 8 }
+    {
+        self.number(16, u64::from(n));
+    }
+
+    /// Adds a number of 64 bits in decimal, at most 20 digits.
+    #[tactic(auto, using(crate::proofs::Digits::few_decimal_64))]
+    pub fn decimal(&mut self, n: u64)
+        requires { length self.old + 20 ≤ 96 }
+        ensures value { self.new ≡ self.old ++ decimal n }
+        ensures short { length self.new ≤ length self.old + 20 }
+    {
+        self.number(10, n);
+    }
+
+    /// Adds a number of 32 bits in decimal, at most 10 digits.
+    #[tactic(auto, using(crate::proofs::Digits::few_decimal_32))]
+    pub fn decimal_u32(&mut self, n: u32)
+        requires { length self.old + 10 ≤ 96 }
+        ensures value { self.new ≡ self.old ++ decimal n }
+        ensures short { length self.new ≤ length self.old + 10 }
+    {
+        self.number(10, u64::from(n));
+    }
+
+    /// Adds a number of 8 bits in decimal, at most 3 digits.
+    #[tactic(auto, using(crate::proofs::Digits::few_decimal_8))]
+    pub fn decimal_u8(&mut self, n: u8)
+        requires { length self.old + 3 ≤ 96 }
+        ensures value { self.new ≡ self.old ++ decimal n }
+        ensures short { length self.new ≤ length self.old + 3 }
+    {
+        self.number(10, u64::from(n));
+    }
+
+    /// Ends the line, and writes it by one call.
+    pub fn write<K: Sink>(mut self, sink: &mut K) -> Result<(), Failed>
+        requires { length self < 96 }
+        ensures { Writes (K.written sink.old) (K.written sink.new) (K.faults sink.old) (K.faults sink.new) result (self ++ 10 ∷ []) }
+    {
+        self.text(b"\n");
+        write_all(sink, &self.bytes[..self.len])
+    }
+}
