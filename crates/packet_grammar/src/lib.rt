@@ -1,7 +1,8 @@
 //! The packets of an ETMv4 trace and their spellings (Arm IHI 0064, "Descriptions of Trace Packets").
 //!
-//! There is no code here. The crate has the types of packets and of the faults that bytes can show, and
-//! its definitions say which bytes spell which packet, which show which fault, and how a stream parses.
+//! There is no code here. The crate has the types of packets, of the faults that bytes can show, and of
+//! all faults of a stream, [`Fault`]. Its definitions say which bytes spell which packet, which show which
+//! fault, and how a stream parses.
 //! A reader and a writer of packets promise what they do in these terms. The laws that both build on
 //! are the contracts of [`spellings_are_told_apart`], [`bytes_spell_or_begin`],
 //! [`spellings_are_short`], [`spelled_values_are_in_range`] and [`a_stream_parses_in_one_way`].
@@ -10,6 +11,7 @@
 mod fault;
 mod laws;
 mod packet;
+mod stream_fault;
 
 pub use fault::{PacketFault, RefusedKind};
 pub use laws::{
@@ -17,3 +19,4 @@ pub use laws::{
     spellings_are_short, spellings_are_told_apart,
 };
 pub use packet::Packet;
+pub use stream_fault::Fault;

@@ -14,7 +14,7 @@ use Rattle.trace_io.specs.declared.traits.Failed.{Failed}
 use Rattle.trace_cmd.specs.declared.status.Status.{Status}
 use Rattle.trace_cmd.specs.declared.status.Status.TheVariants as status
 use Rattle.trace_cmd.specs.Path.{IsPathText}
-use Rattle.trace_cmd.specs.Writing.{Writes}
+use Rattle.path_text.specs.Writing.{Writes}
 use Rattle.trace_cmd.specs.Answers.{usage_line, image_line, PrintsFront, raw_id, most_input, IsPathCall, IsAnswer, IsInputAnswer, AnswersSo}
 use Rattle.trace_cmd.proofs.Wrote.{answers_err}
 

@@ -8,7 +8,7 @@ use Rattle.trace_cmd.specs.declared.walk.Walked.{Walked}
 use Rattle.trace_cmd.specs.declared.path.Reader.{Reader}
 use Rattle.trace_cmd.specs.Lines.{lines_of, shown_after_all, end_line}
 use Rattle.trace_cmd.specs.Steps.{Shown, before, fresh, step_of, path_from, stepped, items_shown, shown_lines}
-use Rattle.trace_cmd.specs.Writing.{Writes}
+use Rattle.path_text.specs.Writing.{Writes}
 use Rattle.trace_cmd.proofs.Wrote.{Wrote, wrote_nothing, wrote_by, wrote_more, fails_after}
 use Rattle.trace_cmd.proofs.LineLemmas.{lines_of-append}
 

@@ -1,6 +1,5 @@
 pub mod Tests
 pub mod PlainWords
-pub mod Digits
 pub mod Wrote
 pub mod LineLemmas
 pub mod Goes

@@ -4,7 +4,8 @@ use Rattle.std.specs.Prelude.{Bool, true, false}
 use Rattle.std.proofs.lemmas.Bool.{eq-eqb}
 use Rattle.etm_types.specs.declared.context.Ctx.{Ctx}
 use Rattle.etm_types.specs.declared.item.Item.{Item}
-use Rattle.trace_cmd.specs.Lines.{line_of, hex, instruction_lines, lines_of, item_lines, context_line, same_context, same_security, shown_after, shown_after_all}
+use Rattle.path_text.specs.Lines.{line_of, hex}
+use Rattle.trace_cmd.specs.Lines.{instruction_lines, lines_of, item_lines, context_line, same_context, same_security, shown_after, shown_after_all}
 use Rattle.std.specs.Prelude.{if◌then◌else◌}
 use Rattle.std.proofs.Common.{inl, inr}
 use Rattle.etm_types.specs.declared.item.Item.TheVariants.{On}

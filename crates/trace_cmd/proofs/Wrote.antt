@@ -6,7 +6,7 @@ use Rattle.std.proofs.KnownBytes.{Appends-trans, Appends-nil}
 use Rattle.trace_io.specs.Causes.{Rose}
 use Rattle.trace_io.specs.Bytes.{TellsAsBefore, AppendsFront}
 use Rattle.trace_io.proofs.Known.{front_after, front_more}
-use Rattle.trace_cmd.specs.Writing.{Writes}
+use Rattle.path_text.specs.Writing.{Writes}
 
 -- the sink took this text, in calls that did not fail
 pub record Wrote (old new : Option (List ℕ)) (before now : ℕ) (text : List ℕ) : Type 0 where

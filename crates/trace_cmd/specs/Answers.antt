@@ -10,9 +10,9 @@ use Rattle.program_image.specs.declared.fault.ImageWhy.TheVariants.{Later}
 use Rattle.trace_cmd.specs.declared.status.Status.{Status}
 use Rattle.trace_cmd.specs.declared.status.Status.TheVariants as status
 use Rattle.trace_cmd.specs.Words.{Path, meaning}
-use Rattle.trace_cmd.specs.Lines.{decimal}
+use Rattle.path_text.specs.Lines.{decimal}
 use Rattle.trace_cmd.specs.Path.{IsPathText}
-use Rattle.trace_cmd.specs.Writing.{Writes}
+use Rattle.path_text.specs.Writing.{Writes}
 
 -- the number of each answer; 3 is kept for a bench that is bad
 abbrev pub code_of : Status → ℕ

@@ -6,7 +6,6 @@ pub mod Pending
 pub mod Walk
 pub mod Walking
 pub mod Lines
-pub mod Writing
 pub mod Steps
 pub mod Path
 pub mod Answers

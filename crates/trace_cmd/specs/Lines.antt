@@ -1,39 +1,14 @@
--- The lines that are printed.
-use Rattle.std.specs.Prelude.{ℕ, zero, suc, ◌+◌, ◌/◌, ◌%◌, Bool, true, false, if◌then◌else◌, nat_lt, ◌==◌, ◌&&◌, not, List, [], ◌∷◌, ◌++◌, map, codes, Option, Some, None}
-use Rattle.std.specs.Int.Digits.{digits_of}
+-- The lines of a path.
+use Rattle.std.specs.Prelude.{ℕ, zero, suc, Bool, true, false, if◌then◌else◌, ◌==◌, ◌&&◌, not, List, [], ◌∷◌, ◌++◌, codes, Option, Some, None}
 use Rattle.etm_types.specs.declared.context.Ctx.{Ctx}
 use Rattle.etm_types.specs.declared.item.Item.{Item}
 use Rattle.etm_types.specs.declared.item.Item.TheVariants as item
+use Rattle.path_text.specs.Lines.{hex, decimal, line_of, security}
 use Rattle.trace_cmd.specs.Walk.{moved}
 use Rattle.trace_cmd.specs.declared.fault.Fault.{Fault}
 use Rattle.trace_cmd.specs.declared.fault.Fault.TheVariants.{AddressMismatch, NoCode, BadAtom, Later}
 use Rattle.trace_cmd.specs.declared.fault.End.{End}
 use Rattle.trace_cmd.specs.declared.fault.End.TheVariants as end
-
--- a digit: 0 to 9, then a to f
-abbrev pub digit : ℕ → ℕ
-digit d = if nat_lt d 10 then 48 + d else 87 + d
-
--- a number without leading zeros
-unfoldable pub in_base : ℕ → ℕ → List ℕ
-in_base base n = if n == 0 then 48 ∷ [] else map digit (digits_of base n)
-
-abbrev pub hex : ℕ → List ℕ
-hex n = in_base 16 n
-
-abbrev pub decimal : ℕ → List ℕ
-decimal n = in_base 10 n
-
--- a line begins with the ID of its stream in two hex digits and a space
-abbrev pub line_start : ℕ → List ℕ
-line_start id = digit (id / 16) ∷ digit (id % 16) ∷ 32 ∷ []
-
--- and ends with LF
-abbrev pub line_of : ℕ → List ℕ → List ℕ
-line_of id text = line_start id ++ text ++ 10 ∷ []
-
-abbrev pub security : Bool → List ℕ
-security ns = if ns then codes " ns " else codes " s "
 
 abbrev pub context_text : Ctx → List ℕ
 context_text ctx = codes "ctx el" ++ decimal ctx.el ++ security ctx.ns ++ hex ctx.vmid ++ codes " " ++ hex ctx.cid

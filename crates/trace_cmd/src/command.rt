@@ -5,14 +5,14 @@ ghost use Rattle.program_image.specs.Part.{IsPart};
 ghost use Rattle.trace_io.specs.Bytes.{TellsAsBefore};
 ghost use Rattle.trace_io.specs.Causes.{Rose};
 ghost use Rattle.trace_cmd.specs.Words.{meaning};
-ghost use Rattle.trace_cmd.specs.Writing.{Writes};
+ghost use Rattle.path_text.specs.Writing.{Writes};
 ghost use Rattle.trace_cmd.specs.Answers.{usage_line, image_line, why_text, IsPathCall, IsUsage, IsImageBad, IsPathOfInput, IsTooLong, IsAnswer, IsInputAnswer, AnswersSo, Prints, PrintsFront};
 
-use crate::line::Line;
 use crate::path::write_path;
 use crate::status::Status;
 use crate::words::image_name;
 use etm_types::Id;
+use path_text::Line;
 use program_image::{Image, ImageFault, ImageWhy};
 use std::alloc::Global;
 use trace_io::{Failed, ReadAllFault, Sink, Source, read_all, write_all};

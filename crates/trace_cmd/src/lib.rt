@@ -4,15 +4,14 @@
 //! what `specs/Path.antt` says of the image and the input; each other answer has its cause. The program
 //! calls it with files, and tests call it with memory.
 //!
-//! The packets, the elements, the walk and the lines are private parts of this crate today, with their
-//! definitions in `specs/`; each will be a crate of its own.
+//! The packets, the elements, the walk and the lines of a path are private parts of this crate today, with
+//! their definitions in `specs/`; each will be a crate of its own.
 #![tactic(auto)]
 
 mod command;
 mod elements;
 mod fault;
 mod laws;
-mod line;
 mod lines;
 mod packets;
 mod path;

@@ -1,14 +1,15 @@
 //! The lines of a path: what a walk shows, and how a stream ends.
 ghost use Rattle.std.specs.Prelude.{◌≡◌, ◌+◌, ◌++◌, ◌≤◌, length, if◌then◌else◌, [], codes, OnOk};
-ghost use Rattle.trace_cmd.specs.Lines.{line_of, context_text, same_context, context_line, instruction_lines, lines_of, shown_after_all, fault_text, end_text, end_line, hex, on_line};
+ghost use Rattle.path_text.specs.Lines.{line_of, hex};
+ghost use Rattle.trace_cmd.specs.Lines.{context_text, same_context, context_line, instruction_lines, lines_of, shown_after_all, fault_text, end_text, end_line, on_line};
 ghost use Rattle.trace_cmd.specs.Walking.{items_of, run_items};
-ghost use Rattle.trace_cmd.specs.Writing.{Writes};
+ghost use Rattle.path_text.specs.Writing.{Writes};
 ghost use Rattle.trace_cmd.specs.Walk.{instructions};
 
 use crate::fault::{End, Fault};
-use crate::line::Line;
 use crate::walk::Walked;
 use etm_types::{Ctx, Id};
+use path_text::Line;
 use trace_io::{Failed, Sink};
 
 /// The size of an instruction in bytes.
@@ -30,15 +31,15 @@ fn write_context<K: Sink>(id: Id, ctx: &Ctx, sink: &mut K) -> Result<(), Failed>
 {
     let mut line = Line::begin(id);
     line.text(b"ctx el");
-    line.decimal(u64::from(ctx.el));
+    line.decimal_u8(ctx.el);
     if ctx.ns {
         line.text(b" ns ");
     } else {
         line.text(b" s ");
     }
-    line.hex(u64::from(ctx.vmid));
+    line.hex_u32(ctx.vmid);
     line.text(b" ");
-    line.hex(u64::from(ctx.cid));
+    line.hex_u32(ctx.cid);
     line.write(sink)
 }
 

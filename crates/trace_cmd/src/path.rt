@@ -1,7 +1,7 @@
 //! The path of one stream that is not framed: packets are read, their entries walked, and what the walk
 //! shows is written, one packet after the other.
 ghost use Rattle.std.specs.Prelude.{◌≡◌, ℕ, ◌+◌, ◌^◌, ◌<◌, ◌≤◌, List, Bool, length, suc, MatchResult, IfOk, None};
-ghost use Rattle.trace_cmd.specs.Writing.{Writes};
+ghost use Rattle.path_text.specs.Writing.{Writes};
 ghost use Rattle.trace_cmd.specs.Lines.{lines_of, shown_after_all};
 ghost use Rattle.trace_cmd.specs.Steps.{fresh, packet_taken, step_of, items_shown, path_from, shown_lines};
 ghost use Rattle.trace_cmd.specs.Path.{is_fault, IsPathText};

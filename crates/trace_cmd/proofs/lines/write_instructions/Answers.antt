@@ -1,6 +1,7 @@
 use Rattle.std.proofs.Common.{◌+◌, ◌-◌, ◌++◌, sym, ap, ◌∙◌, arith, append_assoc}
 use Rattle.std.proofs.lemmas.Result.{err_from_is_err_and}
-use Rattle.trace_cmd.specs.Lines.{line_of, hex, instruction_lines}
+use Rattle.path_text.specs.Lines.{line_of, hex}
+use Rattle.trace_cmd.specs.Lines.{instruction_lines}
 use Rattle.trace_cmd.specs.Walk.{moved}
 use Rattle.trace_cmd.proofs.Wrote.{wrote_by, wrote_more, fails_after}
 use Rattle.trace_cmd.proofs.LineLemmas.{instruction_lines-next}

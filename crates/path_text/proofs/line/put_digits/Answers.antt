@@ -3,9 +3,9 @@ use Rattle.std.specs.Prelude.{map}
 use Rattle.std.specs.Int.Digits.{digits_of}
 use Rattle.std.proofs.lemmas.List.{length-set}
 use Rattle.std.proofs.lemmas.Int.Digits.{length-digits_of_step}
-use Rattle.trace_cmd.specs.Lines.{digit}
-use Rattle.trace_cmd.proofs.Digits.{digit_put, first_digit_put, room_left}
-use Rattle.trace_cmd.proofs.line.put_digits.Goals as goal
+use Rattle.path_text.specs.Lines.{digit}
+use Rattle.path_text.proofs.Digits.{digit_put, first_digit_put, room_left}
+use Rattle.path_text.proofs.line.put_digits.Goals as goal
 
 pub loop-rest-init : goal.loop-rest-init
 loop-rest-init c =

@@ -1,8 +1,8 @@
 use Rattle.std.proofs.Common.{◌≡◌, ◌++◌, ◌≤◌, ◌<◌, length, drop}
 use Rattle.std.specs.Prelude.{map}
 use Rattle.std.specs.Int.Digits.{digits_of}
-use Rattle.trace_cmd.specs.Lines.{digit, in_base}
-use Rattle.trace_cmd.proofs.line.put_digits.Given as goal
+use Rattle.path_text.specs.Lines.{digit, in_base}
+use Rattle.path_text.proofs.line.put_digits.Given as goal
 
 abbrev pub invariant-loop-rest : goal.invariant-loop-rest
 invariant-loop-rest l = record {

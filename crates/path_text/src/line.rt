@@ -1,6 +1,6 @@
 //! One line of the output, put together before it is written.
 ghost use Rattle.std.specs.Prelude.{◌≡◌, ◌+◌, ◌∷◌, ◌++◌, ◌^◌, ◌<◌, ◌≤◌, [], drop, length};
-ghost use Rattle.trace_cmd.specs.Lines.{digit, in_base, line_start};
+ghost use Rattle.path_text.specs.Lines.{digit, in_base, line_start, byte_text};
 
 use etm_types::Id;
 use std::marker::Model;
@@ -41,6 +41,13 @@ fn digit(value: u8) -> u8
     }
 }
 
+/// The two hex digits of a byte.
+fn byte_digits(byte: u8) -> [u8; 2]
+    ensures { result ≡ byte_text byte }
+{
+    [digit(byte / 16), digit(byte % 16)]
+}
+
 /// Puts the digits of a number at the end of `digits`, and says where they begin.
 #[inline(always)]
 fn put_digits(base: u64, n: u64, digits: &mut [u8; MOST_DIGITS]) -> usize
@@ -62,8 +69,8 @@ fn put_digits(base: u64, n: u64, digits: &mut [u8; MOST_DIGITS]) -> usize
 }
 
 impl Line {
-    ghost use Rattle.trace_cmd.specs.Lines.{line_start, hex, decimal};
-    ghost use Rattle.trace_cmd.specs.Writing.{Writes};
+    ghost use Rattle.path_text.specs.Lines.{hex, decimal};
+    ghost use Rattle.path_text.specs.Writing.{Writes};
 
     /// A line without anything.
     pub fn new() -> Line
@@ -97,36 +104,76 @@ impl Line {
         self.len = end;
     }
 
+    /// Adds the two hex digits of a byte.
+    pub fn byte(&mut self, byte: u8)
+        requires { length self.old + 2 ≤ 96 }
+        ensures { self.new ≡ self.old ++ byte_text byte }
+    {
+        self.text(&byte_digits(byte));
+    }
+
     /// Adds a number without leading zeros.
     #[inline(always)]
     fn number(&mut self, base: u64, n: u64)
         requires base { (10 ≤ base) × (base ≤ 16) }
         requires fits { n < base ^ 20 }
-        requires room { length self.old + 20 ≤ 96 }
+        requires room { length self.old + length (in_base base n) ≤ 96 }
         ensures value { self.new ≡ self.old ++ in_base base n }
-        ensures short { length self.new ≤ length self.old + 20 }
+        ensures len { length self.new ≡ length self.old + length (in_base base n) }
     {
         let mut digits = [0; MOST_DIGITS];
         let from = put_digits(base, n, &mut digits);
         self.text(&digits[from..]);
     }
 
-    /// Adds a number in hex.
+    /// Adds a number of 64 bits in hex, at most 16 digits.
+    #[tactic(auto, using(crate::proofs::Digits::few_hex_64))]
     pub fn hex(&mut self, n: u64)
-        requires { length self.old + 20 ≤ 96 }
+        requires { length self.old + 16 ≤ 96 }
         ensures value { self.new ≡ self.old ++ hex n }
-        ensures short { length self.new ≤ length self.old + 20 }
+        ensures short { length self.new ≤ length self.old + 16 }
     {
         self.number(16, n);
     }
 
-    /// Adds a number in decimal.
+    /// Adds a number of 32 bits in hex, at most 8 digits.
+    #[tactic(auto, using(crate::proofs::Digits::few_hex_32))]
+    pub fn hex_u32(&mut self, n: u32)
+        requires { length self.old + 8 ≤ 96 }
+        ensures value { self.new ≡ self.old ++ hex n }
+        ensures short { length self.new ≤ length self.old + 8 }
+    {
+        self.number(16, u64::from(n));
+    }
+
+    /// Adds a number of 64 bits in decimal, at most 20 digits.
+    #[tactic(auto, using(crate::proofs::Digits::few_decimal_64))]
     pub fn decimal(&mut self, n: u64)
         requires { length self.old + 20 ≤ 96 }
         ensures value { self.new ≡ self.old ++ decimal n }
         ensures short { length self.new ≤ length self.old + 20 }
     {
         self.number(10, n);
+    }
+
+    /// Adds a number of 32 bits in decimal, at most 10 digits.
+    #[tactic(auto, using(crate::proofs::Digits::few_decimal_32))]
+    pub fn decimal_u32(&mut self, n: u32)
+        requires { length self.old + 10 ≤ 96 }
+        ensures value { self.new ≡ self.old ++ decimal n }
+        ensures short { length self.new ≤ length self.old + 10 }
+    {
+        self.number(10, u64::from(n));
+    }
+
+    /// Adds a number of 8 bits in decimal, at most 3 digits.
+    #[tactic(auto, using(crate::proofs::Digits::few_decimal_8))]
+    pub fn decimal_u8(&mut self, n: u8)
+        requires { length self.old + 3 ≤ 96 }
+        ensures value { self.new ≡ self.old ++ decimal n }
+        ensures short { length self.new ≤ length self.old + 3 }
+    {
+        self.number(10, u64::from(n));
     }
 
     /// Ends the line, and writes it by one call.

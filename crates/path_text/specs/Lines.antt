@@ -1,0 +1,37 @@
+-- Numbers as they are printed, and how a line begins and ends.
+use Rattle.std.specs.Prelude.{ℕ, ◌+◌, ◌/◌, ◌%◌, Bool, if◌then◌else◌, nat_lt, ◌==◌, List, [], ◌∷◌, ◌++◌, map, codes, Option, Some, None}
+use Rattle.std.specs.Int.Digits.{digits_of}
+
+-- a digit: 0 to 9, then a to f
+abbrev pub digit : ℕ → ℕ
+digit d = if nat_lt d 10 then 48 + d else 87 + d
+
+-- a number without leading zeros
+unfoldable pub in_base : ℕ → ℕ → List ℕ
+in_base base n = if n == 0 then 48 ∷ [] else map digit (digits_of base n)
+
+abbrev pub hex : ℕ → List ℕ
+hex n = in_base 16 n
+
+abbrev pub decimal : ℕ → List ℕ
+decimal n = in_base 10 n
+
+-- a byte: two hex digits
+abbrev pub byte_text : ℕ → List ℕ
+byte_text byte = digit (byte / 16) ∷ digit (byte % 16) ∷ []
+
+-- a number where it is there, and else a dash
+abbrev pub number_or_dash : (ℕ → List ℕ) → Option ℕ → List ℕ
+number_or_dash text None = codes "-"
+number_or_dash text (Some n) = text n
+
+abbrev pub security : Bool → List ℕ
+security ns = if ns then codes " ns " else codes " s "
+
+-- a line begins with the ID of its stream in two hex digits and a space
+abbrev pub line_start : ℕ → List ℕ
+line_start id = byte_text id ++ 32 ∷ []
+
+-- and ends with LF
+abbrev pub line_of : ℕ → List ℕ → List ℕ
+line_of id text = line_start id ++ text ++ 10 ∷ []
