@@ -3,13 +3,13 @@
 
 Usage: packet_cases.py MODEL_DIR
 
-MODEL_DIR is the folder of a slow Python model of the packet rules, with the package etm_model; it is no part of this
-repository, and so tests/run does not run this script. The streams are made here, from the table of docs/FORMATS.md and
-with a fixed seed; the answers come from the model alone, with its profile `base`, which has this table.
+MODEL_DIR is the folder of a slow Python model of the packet rules, with the package etm_model. It is no part of this
+repository, and so tests/run does not run this script. The streams are made here, from the table of docs/FORMATS.md
+and with a fixed seed; the answers come from the model alone, in its profile `base`, which has this table.
 
-The file is blocks, an empty line between two. A block is one line `case NAME`, then `words` and the words of the command
-line, then one line or more `input` with bytes in hex (none where the input is empty), then `status N`, and then all the
-lines that must be printed, each behind two spaces. A line that begins with # is a comment.
+The file is blocks, an empty line between two. A block is a line `case NAME`, then `words` and the words of the command
+line, then lines `input` with the bytes in hex (none where the input is empty), then `status N`, and then all the lines
+that must be printed, each behind two spaces. A line that begins with # is a comment.
 """
 import collections
 import itertools
@@ -230,24 +230,33 @@ def chosen():
     yield "every_trace_info", SYNC + b"".join(
         bytes([1, control]) + b"\x00" * (control & 1) + b"\x85\x01" * bin(control >> 1).count("1")
         for control in range(16))
+
+
+def bad_values():
+    """Numbers, control bytes, exceptions and info bytes that are just wrong or just right, each as the last bytes of the
+    input, and with more behind it: a fault is told as soon as the bytes show it."""
+    spellings = {"trace_info_with_a_mode_of_five_bytes": b"\x01\x0f\x80\x80\x80\x80\x08"}
     for place in range(4):
-        yield f"trace_info_whose_number_{place}_is_too_long", (
-            SYNC + b"\x01\x0f" + bytes(place) + b"\xff\xff\xff\xff\x10" + bytes(3 - place))
-    yield "trace_info_with_a_mode_of_five_bytes", SYNC + b"\x01\x0f\x80\x80\x80\x80\x08\x00\x00\x00"
+        spellings[f"trace_info_whose_number_{place}_is_too_long"] = b"\x01\x0f" + bytes(place) + b"\xff\xff\xff\xff\x10"
     for control in (0x10, 0x20, 0x40, 0x80, 0xF0, 0x1F, 0x8F):
-        yield f"trace_info_of_control_{control:02x}", SYNC + bytes([1, control]) + bytes(4)
+        spellings[f"trace_info_of_control_{control:02x}"] = bytes([1, control])
     for mode in (b"\x01", b"\x02", b"\x10", b"\x7f", b"\x80\x01", b"\x80\x80\x80\x40", b"\xff\xff\xff\xff\x0f"):
-        yield f"trace_info_of_mode_{mode.hex()}", SYNC + b"\x01\x03" + mode + b"\x00"
+        spellings[f"trace_info_of_mode_{mode.hex()}"] = b"\x01\x03" + mode
     for second in (0x00, 0x02, 0x1C, 0x3E, 0x40, 0x5C, 0x7E, 0x41, 0x5D, 0x7F, 0x80, 0x81, 0x9D, 0xC0, 0xC1, 0xFF):
-        yield f"exception_of_{second:02x}", SYNC + bytes([6, second, 0x90])
-    for header in (0x2D, 0x2E, 0x2F):
-        for last in (0x0F, 0x10, 0x80, 0xFF):
-            yield f"number_of_{header:02x}_that_ends_with_{last:02x}", SYNC + bytes([header, 0x80, 0x80, 0x80, 0x80, last])
+        spellings[f"exception_of_{second:02x}"] = bytes([6, second])
+    for header, last in itertools.product((0x2D, 0x2E, 0x2F), (0x0F, 0x10, 0x80, 0xFF)):
+        spellings[f"number_of_{header:02x}_that_ends_with_{last:02x}"] = bytes([header, 0x80, 0x80, 0x80, 0x80, last])
+    for first in (0x00, 0x0F, 0x23, 0x40, 0x80, 0xC0, 0xEF):
+        for name, before in (("81", b"\x81"), ("82", b"\x82" + bytes(4)), ("85", b"\x85" + bytes(8))):
+            spellings[f"context_of_{first:02x}_behind_{name}"] = before + bytes([first])
+    for name, spelling in spellings.items():
+        yield f"{name}_at_the_end", SYNC + spelling
+        yield f"{name}_and_more", SYNC + spelling + b"\xff\xff\xff\xff\xff\xff"
 
 
 def cases():
     rng = random.Random(64)
-    return [*chosen(), *headers(rng), *zeros(), *streams(rng)]
+    return [*chosen(), *bad_values(), *headers(rng), *zeros(), *streams(rng)]
 
 
 # ---- what must occur -------------------------------------------------------
