@@ -133,7 +133,7 @@ after_byte : (b : ℕ) (bytes : List ℕ) (test : Bool) (outcome : Outcome Packe
 after_byte b bytes true outcome is goes = again_zero b bytes outcome (eqb-true b 0 is) (sync_to 9 outcome bytes goes)
 after_byte b bytes false outcome off goes = other_byte b bytes outcome off goes
 
-after_to : (outcome : Outcome Packet) (bytes : List ℕ) → After outcome bytes → AfterZero outcome bytes
+pub after_to : (outcome : Outcome Packet) (bytes : List ℕ) → After outcome bytes → AfterZero outcome bytes
 after_to outcome [] is = absurd is
 after_to outcome (b ∷ bytes) is = after_byte b bytes (b == 0) outcome refl is
 
@@ -148,7 +148,7 @@ extension_back b other second third =
     let no_overflow = off_from b 5 (b == 5) refl third in
     rw (off, no_discard, no_overflow) refl
 
-after_back : (outcome : Outcome Packet) (bytes : List ℕ) → AfterZero outcome bytes → After outcome bytes
+pub after_back : (outcome : Outcome Packet) (bytes : List ℕ) → AfterZero outcome bytes → After outcome bytes
 after_back (Ok Async) bytes is = subst (λ t. After (Ok Async) t) (sym is) (whole_sync 9)
 after_back (Ok Discard) bytes is = subst (λ t. After (Ok Discard) t) (sym is) refl
 after_back (Ok Overflow) bytes is = subst (λ t. After (Ok Overflow) t) (sym is) refl

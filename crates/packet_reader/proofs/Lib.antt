@@ -1,0 +1,9 @@
+pub mod Rows
+pub mod Meets
+pub mod Bodies
+pub mod Heads
+pub mod Headed
+pub mod Stream
+pub mod Steps
+pub mod Hunt
+pub mod Asked

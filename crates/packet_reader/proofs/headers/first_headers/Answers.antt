@@ -1,0 +1,98 @@
+use Rattle.std.proofs.Common.{true, false, Ok, Err, refl, ap, ◌∙◌, arith}
+use Rattle.etm_types.specs.declared.atoms.FewAtoms.{FewAtoms}
+use Rattle.packet_grammar.specs.declared.packet.Packet.{Packet}
+use Rattle.packet_reader.specs.declared.state.Progress.TheVariants.{Done}
+use Rattle.std.specs.Prelude.{◌==◌, ◌%◌, ◌/◌, ◌+◌}
+use Rattle.packet_grammar.specs.declared.packet.Packet.TheVariants.{On, Mispredict, Cancel2, Cancel3}
+use Rattle.packet_grammar.specs.declared.fault.RefusedKind.TheVariants.{CycleCount, TimeCycle, DataSync, MProfile}
+use Rattle.packet_grammar.specs.declared.fault.PacketFault.TheVariants.{Refused, Reserved}
+use Rattle.packet_grammar.specs.Headers.{refused_headers, few_atoms}
+use Rattle.packet_grammar.proofs.Table.{alone, headers, whole, extension, trace_info, time_stamp, exception, commit, cancel}
+use Rattle.packet_reader.proofs.Rows.{says, refuses}
+use Rattle.packet_reader.proofs.Headed.{by_row}
+use Rattle.packet_reader.proofs.headers.first_headers.Goals as goal
+
+pub returns-in-0-clause-row : goal.returns-in-0-clause-row
+unfolding headers refused_headers
+returns-in-0-clause-row c =
+    by_row c.args.h _ (extension) (says 0 c.args.h 0 0 (extension) refl refl (omega arith) (omega arith)) (refl)
+
+pub returns-in-1-clause-row : goal.returns-in-1-clause-row
+unfolding headers refused_headers
+returns-in-1-clause-row c =
+    by_row c.args.h _ (trace_info) (says 1 c.args.h 1 1 (trace_info) refl refl (omega arith) (omega arith)) (refl)
+
+pub returns-in-2-clause-row : goal.returns-in-2-clause-row
+unfolding headers refused_headers
+returns-in-2-clause-row c =
+    by_row c.args.h _ (time_stamp) (says 2 c.args.h 2 2 (time_stamp) refl refl (omega arith) (omega arith)) (c.time_stamp.ensures)
+
+pub returns-in-3-clause-row : goal.returns-in-3-clause-row
+unfolding headers refused_headers
+returns-in-3-clause-row c =
+    by_row c.args.h _ (alone (Err (Refused TimeCycle c.args.h))) (refuses 0 c.args.h 3 3 (Refused TimeCycle c.args.h) refl refl refl (omega arith) (omega arith)) (c.refused.ensures)
+
+pub returns-in-4-clause-row : goal.returns-in-4-clause-row
+unfolding headers refused_headers
+returns-in-4-clause-row c =
+    by_row c.args.h _ (whole On) (says 3 c.args.h 4 4 (whole On) refl refl (omega arith) (omega arith)) (c.whole.ensures)
+
+pub returns-in-5-clause-row : goal.returns-in-5-clause-row
+unfolding headers refused_headers
+returns-in-5-clause-row c =
+    by_row c.args.h _ (alone (Err (Refused MProfile c.args.h))) (refuses 1 c.args.h 5 5 (Refused MProfile c.args.h) refl refl refl (omega arith) (omega arith)) (c.refused-in-5.ensures)
+
+pub returns-in-6-clause-row : goal.returns-in-6-clause-row
+unfolding headers refused_headers
+returns-in-6-clause-row c =
+    by_row c.args.h _ (exception) (says 4 c.args.h 6 6 (exception) refl refl (omega arith) (omega arith)) (refl)
+
+pub returns-in-7-clause-row : goal.returns-in-7-clause-row
+unfolding headers refused_headers
+returns-in-7-clause-row c =
+    by_row c.args.h _ (alone (Err (Refused MProfile c.args.h))) (refuses 2 c.args.h 7 7 (Refused MProfile c.args.h) refl refl refl (omega arith) (omega arith)) (c.refused-in-7.ensures)
+
+pub returns-in-8-to-11-clause-row : goal.returns-in-8-to-11-clause-row
+unfolding headers refused_headers
+returns-in-8-to-11-clause-row c =
+    by_row c.args.h _ (alone (Err (Reserved c.args.h))) (refuses 3 c.args.h 8 11 (Reserved c.args.h) refl refl refl (omega arith) (omega arith)) (c.reserved.ensures)
+
+pub returns-in-12-to-31-clause-row : goal.returns-in-12-to-31-clause-row
+unfolding headers refused_headers
+returns-in-12-to-31-clause-row c =
+    by_row c.args.h _ (alone (Err (Refused CycleCount c.args.h))) (refuses 4 c.args.h 12 31 (Refused CycleCount c.args.h) refl refl refl (omega arith) (omega arith)) (c.refused-in-12-to-31.ensures)
+
+pub returns-in-32-to-44-clause-row : goal.returns-in-32-to-44-clause-row
+unfolding headers refused_headers
+returns-in-32-to-44-clause-row c =
+    by_row c.args.h _ (alone (Err (Refused DataSync c.args.h))) (refuses 5 c.args.h 32 44 (Refused DataSync c.args.h) refl refl refl (omega arith) (omega arith)) (c.refused-in-32-to-44.ensures)
+
+pub returns-in-45-clause-row : goal.returns-in-45-clause-row
+unfolding headers refused_headers
+returns-in-45-clause-row c =
+    by_row c.args.h _ (commit) (says 5 c.args.h 45 45 (commit) refl refl (omega arith) (omega arith)) (c.number.ensures)
+
+pub returns-in-46-clause-row : goal.returns-in-46-clause-row
+unfolding headers refused_headers
+returns-in-46-clause-row c =
+    by_row c.args.h _ (cancel false) (says 6 c.args.h 46 46 (cancel false) refl refl (omega arith) (omega arith)) (c.number-in-46.ensures)
+
+pub returns-in-47-clause-row : goal.returns-in-47-clause-row
+unfolding headers refused_headers
+returns-in-47-clause-row c =
+    by_row c.args.h _ (cancel true) (says 7 c.args.h 47 47 (cancel true) refl refl (omega arith) (omega arith)) (c.number-in-47.ensures)
+
+pub returns-in-48-to-51-clause-row : goal.returns-in-48-to-51-clause-row
+unfolding headers refused_headers
+returns-in-48-to-51-clause-row c =
+    by_row c.args.h _ (whole (Mispredict (few_atoms c.args.h))) (says 8 c.args.h 48 51 (whole (Mispredict (few_atoms c.args.h))) refl refl (omega arith) (omega arith)) (c.whole-in-48-to-51.ensures ∙ ap (λ (f : FewAtoms). Done (Ok (Mispredict f))) c.few_atoms.ensures)
+
+pub returns-in-52-to-55-clause-row : goal.returns-in-52-to-55-clause-row
+unfolding headers refused_headers
+returns-in-52-to-55-clause-row c =
+    by_row c.args.h _ (whole (Cancel2 (few_atoms c.args.h))) (says 9 c.args.h 52 55 (whole (Cancel2 (few_atoms c.args.h))) refl refl (omega arith) (omega arith)) (c.whole-in-52-to-55.ensures ∙ ap (λ (f : FewAtoms). Done (Ok (Cancel2 f))) c.few_atoms-in-52-to-55.ensures)
+
+pub returns-in-56-to-255-clause-row : goal.returns-in-56-to-255-clause-row
+unfolding headers refused_headers
+returns-in-56-to-255-clause-row c =
+    by_row c.args.h _ (whole (Cancel3 (c.args.h % 2 == 1) (c.args.h / 2 % 4 + 2))) (says 10 c.args.h 56 63 (whole (Cancel3 (c.args.h % 2 == 1) (c.args.h / 2 % 4 + 2))) refl refl (omega arith) (omega arith)) (c.whole-in-56-to-255.ensures ∙ ap (λ (p : Packet). Done (Ok p)) c.cancel_3.ensures)

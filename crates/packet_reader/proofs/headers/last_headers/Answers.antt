@@ -1,0 +1,53 @@
+use Rattle.std.proofs.Common.{Err, refl, arith}
+use Rattle.packet_grammar.specs.declared.fault.RefusedKind.TheVariants.{Q}
+use Rattle.packet_grammar.specs.declared.fault.PacketFault.TheVariants.{Refused, Reserved}
+use Rattle.packet_grammar.specs.Headers.{refused_headers}
+use Rattle.packet_grammar.proofs.Table.{alone, headers, atoms}
+use Rattle.packet_reader.proofs.Rows.{says, refuses}
+use Rattle.packet_reader.proofs.Headed.{by_row}
+use Rattle.packet_reader.proofs.headers.last_headers.Goals as goal
+
+pub returns-in-0-to-162-clause-row : goal.returns-in-0-to-162-clause-row
+unfolding headers refused_headers
+returns-in-0-to-162-clause-row c =
+    by_row c.args.h _ (alone (Err (Refused Q c.args.h))) (refuses 26 c.args.h 160 162 (Refused Q c.args.h) refl refl refl (omega arith) (omega arith)) (c.refused-in-0-to-162.ensures)
+
+pub returns-in-163-to-164-clause-row : goal.returns-in-163-to-164-clause-row
+unfolding headers refused_headers
+returns-in-163-to-164-clause-row c =
+    by_row c.args.h _ (alone (Err (Reserved c.args.h))) (refuses 27 c.args.h 163 164 (Reserved c.args.h) refl refl refl (omega arith) (omega arith)) (c.reserved.ensures)
+
+pub returns-in-165-to-166-clause-row : goal.returns-in-165-to-166-clause-row
+unfolding headers refused_headers
+returns-in-165-to-166-clause-row c =
+    by_row c.args.h _ (alone (Err (Refused Q c.args.h))) (refuses 28 c.args.h 165 166 (Refused Q c.args.h) refl refl refl (omega arith) (omega arith)) (c.refused-in-165-to-166.ensures)
+
+pub returns-in-167-to-169-clause-row : goal.returns-in-167-to-169-clause-row
+unfolding headers refused_headers
+returns-in-167-to-169-clause-row c =
+    by_row c.args.h _ (alone (Err (Reserved c.args.h))) (refuses 29 c.args.h 167 169 (Reserved c.args.h) refl refl refl (omega arith) (omega arith)) (c.reserved-in-167-to-169.ensures)
+
+pub returns-in-170-to-172-clause-row : goal.returns-in-170-to-172-clause-row
+unfolding headers refused_headers
+returns-in-170-to-172-clause-row c =
+    by_row c.args.h _ (alone (Err (Refused Q c.args.h))) (refuses 30 c.args.h 170 172 (Refused Q c.args.h) refl refl refl (omega arith) (omega arith)) (c.refused-in-170-to-172.ensures)
+
+pub returns-in-173-to-174-clause-row : goal.returns-in-173-to-174-clause-row
+unfolding headers refused_headers
+returns-in-173-to-174-clause-row c =
+    by_row c.args.h _ (alone (Err (Reserved c.args.h))) (refuses 31 c.args.h 173 174 (Reserved c.args.h) refl refl refl (omega arith) (omega arith)) (c.reserved-in-173-to-174.ensures)
+
+pub returns-in-175-clause-row : goal.returns-in-175-clause-row
+unfolding headers refused_headers
+returns-in-175-clause-row c =
+    by_row c.args.h _ (alone (Err (Refused Q c.args.h))) (refuses 32 c.args.h 175 175 (Refused Q c.args.h) refl refl refl (omega arith) (omega arith)) (c.refused.ensures)
+
+pub returns-in-176-to-191-clause-row : goal.returns-in-176-to-191-clause-row
+unfolding headers refused_headers
+returns-in-176-to-191-clause-row c =
+    by_row c.args.h _ (alone (Err (Reserved c.args.h))) (refuses 33 c.args.h 176 191 (Reserved c.args.h) refl refl refl (omega arith) (omega arith)) (c.reserved-in-176-to-191.ensures)
+
+pub returns-in-192-to-255-clause-row : goal.returns-in-192-to-255-clause-row
+unfolding headers refused_headers
+returns-in-192-to-255-clause-row c =
+    by_row c.args.h _ (atoms c.args.h) (says 21 c.args.h 192 255 (atoms c.args.h) refl refl (omega arith) (omega arith)) (c.atoms.ensures.run)

@@ -1,0 +1,109 @@
+-- At which bytes a reader stands, and what a byte more brings.
+use Rattle.std.specs.Prelude.{◌≡◌, ◌↔◌, Bool, true, false, ℕ, suc, ◌+◌, ◌-◌, ◌<◌, ◌≤◌, ◌==◌, ◌&&◌, List, [], ◌∷◌, ◌++◌, length, replicate, Ok, Err, nat_lt, if◌then◌else◌}
+use Rattle.etm_types.specs.Settings.{Sizes}
+use Rattle.packet_grammar.specs.declared.packet.Packet.{Packet}
+use Rattle.packet_grammar.specs.declared.packet.Packet.TheVariants.{Async}
+use Rattle.packet_grammar.specs.declared.fault.PacketFault.{PacketFault}
+use Rattle.packet_grammar.specs.Parts.{Outcome}
+use Rattle.packet_grammar.specs.Parsed.{Spells, Ending, no_sync, clean, cut, fault, IsStream, SyncAt}
+use Rattle.packet_reader.specs.declared.state.State.{State}
+use Rattle.packet_reader.specs.declared.state.Progress.{Progress}
+use Rattle.packet_reader.specs.declared.state.Progress.TheVariants.{Next, Done}
+use Rattle.packet_reader.specs.declared.phase.Phase.{Phase}
+use Rattle.packet_reader.specs.declared.phase.Phase.TheVariants.{Hunting, Between, Within, Failed}
+use Rattle.packet_reader.specs.declared.phase.Moved.{Moved}
+use Rattle.packet_reader.specs.declared.step.Step.{Step}
+use Rattle.packet_reader.specs.declared.step.Step.TheVariants.{Skipped, More, Whole, Bad, Stopped}
+use Rattle.packet_reader.specs.Trees.{Leads}
+use Rattle.packet_reader.specs.States.{tree_of, Fits}
+
+-- what contracts see of a reader
+pub record Standing : Type 0 where
+  pub settings : Sizes
+  pub phase : Phase
+  pub start : ℕ
+  pub taken : ℕ
+
+abbrev pub FitsPhase : Phase → Type 0
+FitsPhase (Hunting zeros) = zeros ≤ 11
+FitsPhase (Within state) = Fits state
+FitsPhase _ = Unit
+
+-- a list ends in so many 00, and unless these are eleven, in no more
+pub record Zeros (zeros : ℕ) (bytes : List ℕ) : Type 0 where
+  pub front : List ℕ
+  pub whole : bytes ≡ front ++ replicate zeros 0x00
+  pub most : zeros ≤ 11
+  pub all : zeros < 11 → (other : List ℕ) → bytes ≡ other ++ replicate (suc zeros) 0x00 → ⊥
+
+-- The bytes are whole packets and the bytes of a begun one, and what may follow these is what may follow in the state.
+pub record Begun (s : Sizes) (state : State) (start : ℕ) (bytes : List ℕ) : Type 0 where
+  pub front : List ℕ
+  pub text : List ℕ
+  pub parts : bytes ≡ front ++ text
+  pub starts : length front ≡ start
+  pub some : 0 < length text
+  pub packets : List (ℕ × Packet)
+  pub whole : IsStream s front packets clean
+  pub follows : (outcome : Outcome Packet) (more : List ℕ) → Spells s outcome (text ++ more) ↔ Leads (tree_of s state) outcome more
+
+abbrev pub InPhase : Sizes → Phase → ℕ → List ℕ → Type 0
+InPhase s (Hunting zeros) start bytes = ((at : ℕ) → SyncAt at bytes → ⊥) × Zeros zeros bytes
+InPhase s Between start bytes = (length bytes ≡ start) × ((packets : List (ℕ × Packet)) × IsStream s bytes packets clean)
+InPhase s (Within state) start bytes = Begun s state start bytes
+InPhase s Failed start bytes = (packets : List (ℕ × Packet)) × (at : ℕ) × (f : PacketFault) × IsStream s bytes packets (fault at f)
+
+-- the reader took these bytes
+abbrev pub StandsAt : Standing → List ℕ → Type 0
+StandsAt r bytes = (length bytes ≡ r.taken) × InPhase r.settings r.phase r.start bytes
+
+-- an ending from which a stream may go on
+abbrev pub Goes : Ending → Type 0
+Goes clean = Unit
+Goes (cut n) = Unit
+Goes no_sync = ⊥
+Goes (fault at f) = ⊥
+
+-- What the parse of a stream gains by a byte: it was so and is so. The packets and the ending of each list are settled by
+-- its bytes.
+abbrev pub Gains : Sizes → List ℕ → ℕ → Step → Type 0
+Gains s bytes byte Skipped = IsStream s bytes [] no_sync × IsStream s (bytes ++ byte ∷ []) [] no_sync
+Gains s bytes byte More =
+    (packets : List (ℕ × Packet)) × (ending : Ending) × (n : ℕ) × Goes ending × IsStream s bytes packets ending × IsStream s (bytes ++ byte ∷ []) packets (cut n)
+Gains s bytes byte (Whole at packet) =
+    (packets : List (ℕ × Packet)) × (ending : Ending) × IsStream s bytes packets ending × IsStream s (bytes ++ byte ∷ []) (packets ++ (at, packet) ∷ []) clean
+Gains s bytes byte (Bad at f) =
+    (packets : List (ℕ × Packet)) × (ending : Ending) × Goes ending × IsStream s bytes packets ending × IsStream s (bytes ++ byte ∷ []) packets (fault at f)
+Gains s bytes byte Stopped =
+    (packets : List (ℕ × Packet)) × (at : ℕ) × (f : PacketFault) × IsStream s bytes packets (fault at f) × IsStream s (bytes ++ byte ∷ []) packets (fault at f)
+
+-- what progress on a packet that began at an offset makes of a reader that has taken so many bytes
+abbrev pub settled : Progress → ℕ → ℕ → Moved
+settled (Next state) at taken = record { phase = Within state; start = at; step = More }
+settled (Done (Ok packet)) at taken = record { phase = Between; start = taken; step = Whole at packet }
+settled (Done (Err f)) at taken = record { phase = Failed; start = taken; step = Bad at f }
+
+-- what a byte makes of a reader that has found no A-sync
+abbrev pub hunted : ℕ → ℕ → ℕ → Moved
+hunted zeros byte taken =
+    if (zeros == 11) && (byte == 0x80) then record { phase = Between; start = taken; step = Whole (taken - 12) Async }
+    else record { phase = Hunting (if byte == 0x00 then (if nat_lt zeros 11 then zeros + 1 else 11) else 0); start = 0; step = Skipped }
+
+-- from a list to the list with a byte more
+abbrev pub Moves : Sizes → Phase → ℕ → ℕ → ℕ → Moved → Type 0
+Moves s phase start taken byte m =
+    (bytes : List ℕ) → length bytes + 1 ≡ taken → InPhase s phase start bytes → InPhase s m.phase m.start (bytes ++ byte ∷ []) × Gains s bytes byte m.step
+
+abbrev pub is_synced : Phase → Bool
+is_synced (Hunting zeros) = false
+is_synced _ = true
+
+-- of how many bytes of a begun packet a reader tells
+abbrev pub rest_in : Phase → ℕ → ℕ → ℕ
+rest_in (Within state) start taken = taken - start
+rest_in _ start taken = 0
+
+-- how many bytes a stream has behind its last packet
+abbrev pub rest_of : Ending → ℕ
+rest_of (cut n) = n
+rest_of _ = 0

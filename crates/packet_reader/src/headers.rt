@@ -1,0 +1,228 @@
+//! What a header makes of a packet, in the order of the headers' numbers.
+ghost use Rattle.std.specs.Prelude.{◌≡◌, ◌<◌, ◌≤◌};
+ghost use Rattle.packet_reader.specs.States.{HeadsBy, IsRun, FitsAfter};
+
+use crate::state::{Long, Progress, Purpose, State};
+use atom_formats::atoms_of;
+use etm_types::{AddrForm, FewAtoms};
+use packet_grammar::{Packet, PacketFault, RefusedKind};
+
+/// The header of a packet.
+pub fn header(h: u8) -> Progress
+    ensures row { HeadsBy h result }
+    ensures fits { FitsAfter result }
+{
+    match h {
+        0x00..=0x3f => first_headers(h),
+        0x40..=0x7f => middle_headers(h),
+        0x80..=0x9f => address_headers(h),
+        _ => last_headers(h),
+    }
+}
+
+/// Synchronization, trace info, timestamps, exceptions, and what becomes of elements.
+fn first_headers(h: u8) -> Progress
+    requires { h ≤ 0x3f }
+    ensures row { HeadsBy h result }
+    ensures fits { FitsAfter result }
+{
+    match h {
+        0x00 => Progress::Next(State::Extension),
+        0x01 => Progress::Next(State::Control),
+        0x02 => time_stamp(),
+        0x03 => refused(RefusedKind::TimeCycle, h),
+        0x04 => whole(Packet::On),
+        0x05 => refused(RefusedKind::MProfile, h),
+        0x06 => Progress::Next(State::Exception),
+        0x07 => refused(RefusedKind::MProfile, h),
+        0x08..=0x0b => reserved(h),
+        0x0c..=0x1f => refused(RefusedKind::CycleCount, h),
+        0x20..=0x2c => refused(RefusedKind::DataSync, h),
+        0x2d => number(Purpose::Commit),
+        0x2e => number(Purpose::Cancel { flip: false }),
+        0x2f => number(Purpose::Cancel { flip: true }),
+        0x30..=0x33 => whole(Packet::Mispredict(few_atoms(h))),
+        0x34..=0x37 => whole(Packet::Cancel2(few_atoms(h))),
+        0x38..=0xff => whole(cancel_3(h)),
+    }
+}
+
+/// Conditional instructions and events.
+fn middle_headers(h: u8) -> Progress
+    requires { (0x40 ≤ h) × (h ≤ 0x7f) }
+    ensures row { HeadsBy h result }
+    ensures fits { FitsAfter result }
+{
+    match h {
+        0x00..=0x46 => refused(RefusedKind::Conditional, h),
+        0x47 => reserved(h),
+        0x48..=0x4a => refused(RefusedKind::Conditional, h),
+        0x4b => reserved(h),
+        0x4c..=0x4e => refused(RefusedKind::Conditional, h),
+        0x4f => reserved(h),
+        0x50..=0x5f => refused(RefusedKind::Conditional, h),
+        0x60..=0x67 => reserved(h),
+        0x68..=0x6f => refused(RefusedKind::Conditional, h),
+        0x70 => whole(Packet::Ignore),
+        0x71..=0xff => whole(Packet::Event(h % 16)),
+    }
+}
+
+/// Contexts and addresses.
+fn address_headers(h: u8) -> Progress
+    requires { (0x80 ≤ h) × (h ≤ 0x9f) }
+    ensures row { HeadsBy h result }
+    ensures fits { FitsAfter result }
+{
+    match h {
+        0x00..=0x80 => whole(Packet::CtxSame),
+        0x81 => Progress::Next(State::Context { form: None }),
+        0x82 => long(false, true),
+        0x83 => refused(RefusedKind::Aarch32Address, h),
+        0x84 => reserved(h),
+        0x85 => long(true, true),
+        0x86 => refused(RefusedKind::Aarch32Address, h),
+        0x87..=0x8f => reserved(h),
+        0x90..=0x92 => whole(told_before(h)),
+        0x93..=0x94 => reserved(h),
+        0x95 => Progress::Next(State::Short),
+        0x96 => refused(RefusedKind::Aarch32Address, h),
+        0x97..=0x99 => reserved(h),
+        0x9a => long(false, false),
+        0x9b => refused(RefusedKind::Aarch32Address, h),
+        0x9c => reserved(h),
+        0x9d => long(true, false),
+        0x9e => refused(RefusedKind::Aarch32Address, h),
+        0x9f..=0xff => reserved(h),
+    }
+}
+
+/// Executed instructions of which only the number is told, and atoms.
+fn last_headers(h: u8) -> Progress
+    requires { 0xa0 ≤ h }
+    ensures row { HeadsBy h result }
+    ensures fits { FitsAfter result }
+{
+    match h {
+        0x00..=0xa2 => refused(RefusedKind::Q, h),
+        0xa3..=0xa4 => reserved(h),
+        0xa5..=0xa6 => refused(RefusedKind::Q, h),
+        0xa7..=0xa9 => reserved(h),
+        0xaa..=0xac => refused(RefusedKind::Q, h),
+        0xad..=0xae => reserved(h),
+        0xaf => refused(RefusedKind::Q, h),
+        0xb0..=0xbf => reserved(h),
+        0xc0..=0xff => atoms(h),
+    }
+}
+
+ghost use Rattle.std.specs.Prelude.{Ok, Err, None, ◌==◌, ◌%◌, ◌/◌, ◌+◌, ◌-◌};
+ghost use Rattle.packet_grammar.specs.Headers.{few_atoms};
+
+/// The header is all.
+fn whole(packet: Packet) -> Progress
+    ensures { result ≡ Progress.Done (Ok packet) }
+{
+    Progress::Done(Ok(packet))
+}
+
+fn refused(kind: RefusedKind, h: u8) -> Progress
+    ensures { result ≡ Progress.Done (Err (PacketFault.Refused kind h)) }
+{
+    Progress::Done(Err(PacketFault::Refused(kind, h)))
+}
+
+fn reserved(h: u8) -> Progress
+    ensures { result ≡ Progress.Done (Err (PacketFault.Reserved h)) }
+{
+    Progress::Done(Err(PacketFault::Reserved(h)))
+}
+
+/// A number follows.
+fn number(purpose: Purpose) -> Progress
+    ensures { result ≡ Progress.Next (State.Number purpose 4 0 0) }
+{
+    Progress::Next(State::Number {
+        purpose,
+        left: 4,
+        groups: 0,
+        value: 0,
+    })
+}
+
+/// A long address follows.
+fn long(wide: bool, with_context: bool) -> Progress
+    ensures { result ≡ Progress.Next (State.LongFirst (record { wide = wide; with_context = with_context })) }
+{
+    Progress::Next(State::LongFirst {
+        long: Long { wide, with_context },
+    })
+}
+
+/// Bits 1 and 0: no atom, E, EE, N.
+fn few_atoms(h: u8) -> FewAtoms
+    ensures { result ≡ few_atoms h }
+{
+    match h % 4 {
+        0 => FewAtoms {
+            count: 0,
+            first: false,
+        },
+        1 => FewAtoms {
+            count: 1,
+            first: true,
+        },
+        2 => FewAtoms {
+            count: 2,
+            first: true,
+        },
+        _ => FewAtoms {
+            count: 1,
+            first: false,
+        },
+    }
+}
+
+/// Bit 0 is an atom E, and bits 2 and 1 are the number of elements less 2.
+fn cancel_3(h: u8) -> Packet
+    ensures { result ≡ Packet.Cancel3 (h % 2 == 1) (h / 2 % 4 + 2) }
+{
+    Packet::Cancel3 {
+        e: h % 2 == 1,
+        n: h / 2 % 4 + 2,
+    }
+}
+
+/// The address told before, of this index.
+fn told_before(h: u8) -> Packet
+    requires { 0x90 ≤ h }
+    ensures { result ≡ Packet.Addr (AddrForm.Match (h - 0x90)) None }
+{
+    Packet::Addr {
+        form: AddrForm::Match(h - 0x90),
+        ctx: None,
+    }
+}
+
+/// A timestamp follows.
+fn time_stamp() -> Progress
+    ensures { result ≡ Progress.Next (State.Stamp 8 0 0) }
+{
+    Progress::Next(State::Stamp {
+        left: 8,
+        groups: 0,
+        low: 0,
+    })
+}
+
+/// A run of atoms.
+fn atoms(h: u8) -> Progress
+    requires { 0xc0 ≤ h }
+    ensures run { IsRun h result }
+    ensures fits { FitsAfter result }
+{
+    match atoms_of(h) {
+        Some(run) => whole(Packet::Atoms(run)),
+        None => reserved(h),
+    }
+}

@@ -1,0 +1,20 @@
+//! A reader of packets that takes one byte at a time (Arm IHI 0064, "Descriptions of Trace Packets").
+//!
+//! [`PacketReader`] keeps what the bytes of the begun packet told so far, and not the bytes: each byte is
+//! looked at once. The layer above uses the contract of [`PacketReader::take`]: from a list of bytes the
+//! reader comes to stand at that list and the byte, and answers what the parse of the stream gains.
+#![tactic(auto)]
+
+mod advance;
+mod groups;
+mod headers;
+mod phase;
+mod reader;
+mod state;
+mod step;
+
+pub use reader::PacketReader;
+pub use step::Step;
+
+#[cfg(test)]
+mod tests;

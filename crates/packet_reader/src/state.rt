@@ -1,0 +1,121 @@
+//! How far the begun packet is read.
+
+use etm_types::AddrForm;
+use packet_grammar::{Packet, PacketFault};
+
+/// What is known of the begun packet, and which byte comes next.
+#[derive(Clone, Copy, Debug, PartialEq, Eq)]
+pub enum State {
+    /// Behind one 00.
+    Extension,
+    /// Behind two 00 or more: so many come before the last byte of an A-sync.
+    Zeros {
+        left: u8,
+    },
+    /// The control byte of a trace info packet comes.
+    Control,
+    /// Within a number: so many groups may come after the next one, and so many were read.
+    Number {
+        purpose: Purpose,
+        left: u8,
+        groups: u8,
+        value: u64,
+    },
+    /// Within a timestamp, in the same way.
+    Stamp {
+        left: u8,
+        groups: u8,
+        low: u64,
+    },
+    /// The byte of information of an exception packet comes.
+    Exception,
+    /// The first byte of a short address comes.
+    Short,
+    /// Its second byte comes, behind bits 8 to 2.
+    ShortHigh {
+        low: u64,
+    },
+    /// The first byte of a long address comes.
+    LongFirst {
+        long: Long,
+    },
+    /// Its second byte comes, behind bits 8 to 2.
+    LongSecond {
+        long: Long,
+        low: u64,
+    },
+    /// So many bytes of a long address are left. Those from bit 16 on that were read have a value.
+    LongHigh {
+        long: Long,
+        low: u64,
+        left: u8,
+        count: u8,
+        high: u64,
+    },
+    /// The info byte of a context comes, alone or behind an address.
+    Context {
+        form: Option<AddrForm>,
+    },
+    /// So many bytes of a VMID are left.
+    Vmid {
+        form: Option<AddrForm>,
+        info: u8,
+        left: u8,
+        count: u8,
+        value: u64,
+    },
+    /// So many bytes of a context ID are left.
+    Cid {
+        form: Option<AddrForm>,
+        info: u8,
+        vmid: Option<u32>,
+        left: u8,
+        count: u8,
+        value: u64,
+    },
+}
+
+/// What a number is for. The sections of a trace info packet carry the control byte, and the sections
+/// that were read.
+#[derive(Clone, Copy, Debug, PartialEq, Eq)]
+pub enum Purpose {
+    Commit,
+    Cancel {
+        flip: bool,
+    },
+    Mode {
+        control: u8,
+    },
+    Key {
+        control: u8,
+        info: Option<u32>,
+    },
+    Spec {
+        control: u8,
+        info: Option<u32>,
+        key: Option<u32>,
+    },
+    Cycles {
+        info: Option<u32>,
+        key: Option<u32>,
+        spec: Option<u32>,
+    },
+}
+
+/// Which long address comes.
+#[derive(Clone, Copy, Debug, PartialEq, Eq)]
+pub struct Long {
+    /// Whether it has 64 bits.
+    pub wide: bool,
+    /// Whether a context follows it.
+    pub with_context: bool,
+}
+
+/// What a byte made of a state.
+#[derive(Clone, Copy, Debug, PartialEq, Eq)]
+pub enum Progress {
+    /// The packet has not ended.
+    Next(State),
+    /// It has, or a fault is shown.
+    Done(Result<Packet, PacketFault>),
+}

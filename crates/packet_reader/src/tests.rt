@@ -1,0 +1,76 @@
+//! Each call once, and the bytes at which readers go wrong.
+use super::*;
+use etm_types::{AtomRun, Settings};
+use packet_grammar::{Packet, PacketFault};
+
+/// The answer to the last of the bytes behind an A-sync, in a reader of a VMID of one byte and a context
+/// ID of four.
+fn last_answer(bytes: &[u8]) -> Option<Step> {
+    let settings = Settings::new(16, 1, 4).ok()?;
+    let mut reader = PacketReader::new(&settings);
+    for byte in [0, 0, 0, 0, 0, 0, 0, 0, 0, 0, 0, 0x80] {
+        if reader.taken() < 100 {
+            reader.take(byte);
+        }
+    }
+    let mut last = None;
+    for byte in bytes {
+        if reader.taken() < 1000 {
+            last = Some(reader.take(*byte));
+        }
+    }
+    last
+}
+
+#[test]
+fn more_zeros_than_an_a_sync_has_are_skipped(rt: HostRuntime) {
+    let settings = Settings::new(16, 0, 0).expect(&rt, "settings");
+    let mut reader = PacketReader::new(&settings);
+    for _ in 0..12 {
+        if reader.taken() < 100 {
+            assert_eq!(rt; reader.take(0), Step::Skipped);
+        }
+    }
+    if reader.taken() < 100 {
+        let packet = Packet::Async;
+        assert_eq!(rt; reader.take(0x80), Step::Whole { at: 1, packet });
+        assert!(rt; reader.synced());
+        assert_eq!(rt; reader.rest(), 0);
+    }
+}
+
+#[test]
+fn packets_end_with_their_last_byte(rt: HostRuntime) {
+    for (bytes, packet) in [
+        (
+            &[0x2d, 0xff, 0xff, 0xff, 0xff, 0x0f][..],
+            Packet::Commit(0xffff_ffff),
+        ),
+        (
+            &[0x02, 0xff, 0xff, 0xff, 0xff, 0xff, 0xff, 0xff, 0xff, 0xff][..],
+            Packet::Time {
+                bits: 64,
+                low: 0xffff_ffff_ffff_ffff,
+            },
+        ),
+        (&[0xf7][..], Packet::Atoms(AtomRun { count: 1, bits: 1 })),
+    ] {
+        assert_eq!(rt; last_answer(bytes), Some(Step::Whole { at: 12, packet }));
+    }
+    assert_eq!(rt; last_answer(&[0x9d, 0x00]), Some(Step::More));
+}
+
+#[test]
+fn faults_come_with_the_byte_that_shows_them(rt: HostRuntime) {
+    for (bytes, fault) in [
+        (
+            &[0x2d, 0xff, 0xff, 0xff, 0xff, 0x10][..],
+            PacketFault::NumberTooLong,
+        ),
+        (&[0x01, 0x01, 0x85, 0x01][..], PacketFault::InfoMode(133)),
+        (&[0x00, 0x00, 0x01][..], PacketFault::BrokenSync),
+    ] {
+        assert_eq!(rt; last_answer(bytes), Some(Step::Bad { at: 12, fault }));
+    }
+    assert_eq!(rt; last_answer(&[0x08, 0x04]), Some(Step::Stopped));
+}
