@@ -90,8 +90,11 @@ no_sync_in_nothing : (at : ℕ) → SyncAt at [] → ⊥
 no_sync_in_nothing zero is = absurd cc
 no_sync_in_nothing (suc at) is = absurd cc
 
+pub nothing_is_a_stream : (s : Sizes) → IsStream s [] [] no_sync
+nothing_is_a_stream s = inr (no_sync_in_nothing, refl, refl)
+
 pub nothing_told : (s : Sizes) → Told s [] [] None
-nothing_told s = record { ending = no_sync; stream = inr (no_sync_in_nothing, refl, refl); fault = refl }
+nothing_told s = record { ending = no_sync; stream = nothing_is_a_stream s; fault = refl }
 
 pub add_up : (s : Sizes) → AreSettings s → (bytes : List ℕ) (steps : List Step) → Answered s [] bytes steps → AddUp s bytes steps
 add_up s are bytes steps answered =

@@ -1,63 +1,108 @@
 -- Answers whose text was not written whole, and answers of a call from those of its parts.
-use Rattle.std.proofs.Common.{◌≡◌, ◌⊎◌, ℕ, ◌≤◌, Bool, true, false, List, length, Option, Some, None, Result, Ok, Err, refl, sym, ap, subst, ◌∙◌, inl, inr, arith}
+use Rattle.std.proofs.Common.{◌≡◌, ℕ, ◌≤◌, Bool, true, false, List, [], length, Option, Some, None, Result, Ok, Err, refl, ap, subst, ◌∙◌, inl, inr, arith}
 use Rattle.std.specs.Io.KnownBytes.{Keeps}
 use Rattle.program_image.specs.declared.fault.ImageWhy.{ImageWhy}
 use Rattle.program_image.specs.declared.fault.ImageWhy.TheVariants.{Later}
 use Rattle.trace_io.specs.Causes.{Rose, HasCause}
 use Rattle.trace_io.specs.Bytes.{TellsAsBefore, AppendsFront, AppendsShorter}
 use Rattle.trace_io.proofs.Known.{front_of_shorter, front_of_all, front_kept}
-use Rattle.trace_cmd.specs.Words.{Command, Path, meaning, image_of}
+use Rattle.trace_cmd.specs.Words.{Command, Path, Packets, meaning, image_of, asks_packets}
 use Rattle.program_image.specs.Part.{Part}
 use Rattle.program_image.specs.Answers.{TakesImage, TakesNoImage}
 use Rattle.trace_io.specs.Bytes.{TakesAll}
 use Rattle.trace_io.specs.declared.traits.Failed.{Failed}
 use Rattle.trace_cmd.specs.declared.status.Status.{Status}
 use Rattle.trace_cmd.specs.declared.status.Status.TheVariants as status
-use Rattle.trace_cmd.specs.Path.{IsPathText}
 use Rattle.path_text.specs.Writing.{Writes}
-use Rattle.trace_cmd.specs.Answers.{usage_line, image_line, PrintsFront, raw_id, most_input, IsPathCall, IsAnswer, IsInputAnswer, AnswersSo}
-use Rattle.trace_cmd.proofs.Wrote.{answers_err}
+use Rattle.trace_cmd.specs.Answers.{usage_line, image_line, PrintsFront, most_input, IsPathCall, IsPacketsCall, IsUnread, IsAnswer, IsInputAnswer, PathShown, PacketsShown, AnswersSo}
+use Rattle.trace_cmd.proofs.Wrote.{wrote_nothing, writes_all, answers_err}
 
--- the path could not be written
-pub input_fails : (part : Part) (input input' old new : Option (List ℕ)) (f g : ℕ) (e d : Failed) (bytes text : List ℕ) (faulty : Bool) → TakesAll input input' bytes → length bytes ≤ most_input
-    → IsPathText part raw_id bytes text faulty → Writes {T = Bool} old new f g (Err e) text → AnswersSo (IsInputAnswer part input input') {E = Failed} old new f g (Err d)
-input_fails part input input' old new f g e d bytes text true all few shown w =
+-- what is shown of the input could not be written
+pub input_fails : (Shown : List ℕ → List ℕ → Bool → Type 0) (input input' old new : Option (List ℕ)) (f g : ℕ) (e d : Failed) (bytes text : List ℕ) (faulty : Bool) → TakesAll input input' bytes
+    → length bytes ≤ most_input → Shown bytes text faulty → Writes {T = Bool} old new f g (Err e) text → AnswersSo (IsInputAnswer Shown input input') {E = Failed} old new f g (Err d)
+input_fails Shown input input' old new f g e d bytes text true all few shown w =
     record { status = status.Faulted; text = text; answer = (bytes, all, few, shown); writes = answers_err old new f g e d text w; same = tt }
-input_fails part input input' old new f g e d bytes text false all few shown w =
+input_fails Shown input input' old new f g e d bytes text false all few shown w =
     record { status = status.Done; text = text; answer = (bytes, all, few, shown); writes = answers_err old new f g e d text w; same = tt }
 
--- an answer that hangs on the input is one of the call, where the image was read
-pub of_input : (words : List (List ℕ)) (part : Part) (image image' input input' : Option (List ℕ)) (s : Status) (text : List ℕ) → IsPathCall words → TakesImage image image' part
-    → IsInputAnswer part input input' s text → IsAnswer words image image' input input' s text
-of_input words part image image' input input' status.Done text call read (bytes, all, few, shown) =
-    record { call = call; part = part; bytes = bytes; image_read = read; input_read = all; few = few; shown = shown }
-of_input words part image image' input input' status.Faulted text call read (bytes, all, few, shown) =
-    record { call = call; part = part; bytes = bytes; image_read = read; input_read = all; few = few; shown = shown }
-of_input words part image image' input input' status.InputTooLong text call read (many, none) = (record { call = call; part = part; image_read = read; many = many }, none)
-of_input words part image image' input input' status.ReadFault text call read none = (call, none)
-of_input words part image image' input input' status.NoMemory text call read none = (call, none)
-of_input words part image image' input input' status.Usage text call read none = absurd none
-of_input words part image image' input input' (status.ImageBad line why) text call read none = absurd none
-of_input words part image image' input input' status.WriteFault text call read none = absurd none
+-- the input could not be read
+unread_is : (Shown : List ℕ → List ℕ → Bool → Type 0) (input input' : Option (List ℕ)) (s : Status) → IsUnread input input' s → IsInputAnswer Shown input input' s []
+unread_is Shown input input' status.InputTooLong is = (is, refl)
+unread_is Shown input input' status.ReadFault is = (is, refl)
+unread_is Shown input input' status.NoMemory is = (is, refl)
+unread_is Shown input input' s is = absurd is
 
-pub so_of_input : (words : List (List ℕ)) (part : Part) (image image' input input' old new : Option (List ℕ)) (f g : ℕ) (r : Result Status Failed) → IsPathCall words → TakesImage image image' part
-    → AnswersSo (IsInputAnswer part input input') {E = Failed} old new f g r → AnswersSo (IsAnswer words image image' input input') {E = Failed} old new f g r
-so_of_input words part image image' input input' old new f g r call read a =
-    record { status = a.status; text = a.text; answer = of_input words part image image' input input' a.status a.text call read a.answer; writes = a.writes; same = a.same }
+pub unread : (Shown : List ℕ → List ℕ → Bool → Type 0) (input input' out : Option (List ℕ)) (f : ℕ) (s : Status) → IsUnread input input' s → AnswersSo (IsInputAnswer Shown input input') {E = Failed} out out f f (Ok s)
+unread Shown input input' out f s is = record { status = s; text = []; answer = unread_is Shown input input' s is; writes = writes_all out out f f s [] (wrote_nothing out f); same = refl }
+
+-- that speaks of no image
+pub unread_without_image : (input input' : Option (List ℕ)) (s : Status) → IsUnread input input' s → (line : ℕ) (why : ImageWhy) → ◌≡◌ {A = Result Status Failed} (Ok s) (Ok (status.ImageBad line why)) → ⊥
+unread_without_image input input' s is line why e = let same : s ≡ status.ImageBad line why = cc in subst (IsUnread input input') same is
+
+-- an answer by the input is one of the call, where the image was read
+pub of_path : (words : List (List ℕ)) (part : Part) (image image' input input' : Option (List ℕ)) (s : Status) (text : List ℕ) → IsPathCall words → TakesImage image image' part
+    → IsInputAnswer (PathShown part) input input' s text → IsAnswer words image image' input input' s text
+of_path words part image image' input input' status.Done text call read (bytes, all, few, shown) =
+    inl (record { call = call; part = part; bytes = bytes; image_read = read; input_read = all; few = few; shown = shown })
+of_path words part image image' input input' status.Faulted text call read (bytes, all, few, shown) =
+    inl (record { call = call; part = part; bytes = bytes; image_read = read; input_read = all; few = few; shown = shown })
+of_path words part image image' input input' status.InputTooLong text call read (many, none) = (record { first = inl (call, (part, read)); many = many }, none)
+of_path words part image image' input input' status.ReadFault text call read is = (inl call, is.1)
+of_path words part image image' input input' status.NoMemory text call read is = (inl call, is.1)
+of_path words part image image' input input' status.Usage text call read is = absurd is.0
+of_path words part image image' input input' (status.ImageBad line why) text call read is = absurd is.0
+of_path words part image image' input input' status.WriteFault text call read is = absurd is.0
+
+pub so_of_path : (words : List (List ℕ)) (part : Part) (image image' input input' old new : Option (List ℕ)) (f g : ℕ) (r : Result Status Failed) → IsPathCall words → TakesImage image image' part
+    → AnswersSo (IsInputAnswer (PathShown part) input input') {E = Failed} old new f g r → AnswersSo (IsAnswer words image image' input input') {E = Failed} old new f g r
+so_of_path words part image image' input input' old new f g r call read a =
+    record { status = a.status; text = a.text; answer = of_path words part image image' input input' a.status a.text call read a.answer; writes = a.writes; same = a.same }
+
+-- and where the packets are asked for
+of_packets : (words : List (List ℕ)) (image image' input input' : Option (List ℕ)) (s : Status) (text : List ℕ) → IsPacketsCall words
+    → IsInputAnswer PacketsShown input input' s text → IsAnswer words image image' input input' s text
+of_packets words image image' input input' status.Done text call (bytes, all, few, shown) = inr (record { call = call; bytes = bytes; input_read = all; few = few; shown = shown })
+of_packets words image image' input input' status.Faulted text call (bytes, all, few, shown) = inr (record { call = call; bytes = bytes; input_read = all; few = few; shown = shown })
+of_packets words image image' input input' status.InputTooLong text call (many, none) = (record { first = inr call; many = many }, none)
+of_packets words image image' input input' status.ReadFault text call is = (inr call, is.1)
+of_packets words image image' input input' status.NoMemory text call is = (inr call, is.1)
+of_packets words image image' input input' status.Usage text call is = absurd is.0
+of_packets words image image' input input' (status.ImageBad line why) text call is = absurd is.0
+of_packets words image image' input input' status.WriteFault text call is = absurd is.0
+
+pub so_of_packets : (words : List (List ℕ)) (image image' input input' old new : Option (List ℕ)) (f g : ℕ) (r : Result Status Failed) → IsPacketsCall words
+    → AnswersSo (IsInputAnswer PacketsShown input input') {E = Failed} old new f g r → AnswersSo (IsAnswer words image image' input input') {E = Failed} old new f g r
+so_of_packets words image image' input input' old new f g r call a =
+    record { status = a.status; text = a.text; answer = of_packets words image image' input input' a.status a.text call a.answer; writes = a.writes; same = a.same }
 
 -- ---- words
 
-command_cases : (c : Option Command) → (c ≡ None) ⊎ ((image : List ℕ) × (c ≡ Some (Path image)))
-command_cases None = inl refl
-command_cases (Some (Path image)) = inr (image, refl)
-
 -- words whose image has a name are a call of path
-pub path_call : (words : List (List ℕ)) (name : List ℕ) → image_of (meaning words) ≡ Some name → IsPathCall words
-path_call words name e = elim (command_cases (meaning words)) [ inl none ↦ absurd (let x : image_of None ≡ Some name = ap image_of (sym none) ∙ e in cc) | inr path ↦ path ]
+path_of : (c : Option Command) (name : List ℕ) → image_of c ≡ Some name → (image : List ℕ) × (c ≡ Some (Path image))
+path_of None name e = absurd cc
+path_of (Some (Path image)) name e = (image, refl)
+path_of (Some Packets) name e = absurd cc
 
--- words whose image has no name mean nothing
-pub no_command : (words : List (List ℕ)) → image_of (meaning words) ≡ None → meaning words ≡ None
-no_command words e = elim (command_cases (meaning words)) [ inl none ↦ none | inr path ↦ absurd (let x : image_of (Some (Path path.0)) ≡ None = ap image_of (sym path.1) ∙ e in cc) ]
+pub path_call : (words : List (List ℕ)) (name : List ℕ) → image_of (meaning words) ≡ Some name → IsPathCall words
+path_call words name e = path_of (meaning words) name e
+
+-- words that ask for packets are a call of packets
+packets_of : (c : Option Command) → asks_packets c ≡ true → c ≡ Some Packets
+packets_of None e = absurd cc
+packets_of (Some (Path image)) e = absurd cc
+packets_of (Some Packets) e = refl
+
+pub packets_call : (words : List (List ℕ)) → asks_packets (meaning words) ≡ true → IsPacketsCall words
+packets_call words e = packets_of (meaning words) e
+
+-- all others mean nothing
+nothing_of : (c : Option Command) → image_of c ≡ None → asks_packets c ≡ false → c ≡ None
+nothing_of None e f = refl
+nothing_of (Some (Path image)) e f = absurd cc
+nothing_of (Some Packets) e f = absurd cc
+
+pub no_command : (words : List (List ℕ)) → image_of (meaning words) ≡ None → asks_packets (meaning words) ≡ false → meaning words ≡ None
+no_command words e f = nothing_of (meaning words) e f
 
 -- the line of usage could not be written
 pub usage_fails : (words : List (List ℕ)) (image image' input input' old new : Option (List ℕ)) (f g : ℕ) (e : Failed) → meaning words ≡ None → AppendsShorter old new usage_line → TellsAsBefore old new

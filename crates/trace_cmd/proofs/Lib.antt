@@ -11,3 +11,4 @@ pub mod AnswerLemmas
 pub mod OneParse
 pub mod OneWalk
 pub mod OnePath
+pub mod PacketLists

@@ -1,17 +1,20 @@
 -- What each answer of a call means, and the text that comes with it. `image` and `image'` are what the image's source had
 -- left before and after the call, where it tells it, and `input` and `input'` what the input had.
-use Rattle.std.specs.Prelude.{◌≡◌, ℕ, ◌+◌, ◌^◌, ◌≤◌, Bool, true, false, List, [], ◌∷◌, ◌++◌, length, codes, Option, Some, None, Result, IfOk}
+use Rattle.std.specs.Prelude.{◌≡◌, ◌⊎◌, ℕ, ◌+◌, ◌^◌, ◌≤◌, Bool, true, false, List, [], ◌∷◌, ◌++◌, length, codes, Option, Some, None, Result, IfOk}
 use Rattle.std.specs.Io.KnownBytes.{Appends}
 use Rattle.trace_io.specs.Bytes.{TakesAll, TakesCount, AppendsFront}
+use Rattle.trace_io.specs.Causes.{Rose}
 use Rattle.program_image.specs.Part.{Part}
 use Rattle.program_image.specs.Answers.{TakesImage, TakesNoImage}
 use Rattle.program_image.specs.declared.fault.ImageWhy.{ImageWhy}
 use Rattle.program_image.specs.declared.fault.ImageWhy.TheVariants.{Later}
 use Rattle.trace_cmd.specs.declared.status.Status.{Status}
 use Rattle.trace_cmd.specs.declared.status.Status.TheVariants as status
-use Rattle.trace_cmd.specs.Words.{Path, meaning}
+use Rattle.trace_cmd.specs.Words.{Path, Packets, meaning}
 use Rattle.path_text.specs.Lines.{decimal}
+use Rattle.etm_types.specs.Settings.{Sizes}
 use Rattle.trace_cmd.specs.Path.{IsPathText}
+use Rattle.trace_cmd.specs.PacketList.{IsPacketList}
 use Rattle.path_text.specs.Writing.{Writes}
 
 -- the number of each answer; 3 is kept for a bench that is bad
@@ -38,12 +41,28 @@ image_line line why = codes "image line " ++ decimal line ++ codes ": " ++ why_t
 abbrev pub raw_id : ℕ
 raw_id = 1
 
+-- the sizes of contexts that a reader takes where none are told: a VMID of one byte and a context ID of four
+abbrev pub raw_sizes : Sizes
+raw_sizes = record { depth = 0; vmid_bytes = 1; cid_bytes = 4 }
+
 -- the most bytes of input
 abbrev pub most_input : ℕ
 most_input = 2 ^ 30
 
 abbrev pub IsPathCall : List (List ℕ) → Type 0
 IsPathCall words = (image : List ℕ) × (meaning words ≡ Some (Path image))
+
+abbrev pub IsPacketsCall : List (List ℕ) → Type 0
+IsPacketsCall words = meaning words ≡ Some Packets
+
+abbrev pub IsCall : List (List ℕ) → Type 0
+IsCall words = IsPathCall words ⊎ IsPacketsCall words
+
+-- ReadFault: a source failed that the command reads; the numbers are the counts of faults of image and input, before and
+-- after
+abbrev pub HasReadFault : List (List ℕ) → ℕ → ℕ → ℕ → ℕ → Type 0
+HasReadFault words image image' input input' =
+    (IsPathCall words × (Rose image image' ⊎ Rose input input')) ⊎ (IsPacketsCall words × Rose input input')
 
 -- Usage: the words mean nothing
 pub record IsUsage (words : List (List ℕ)) (text : List ℕ) : Type 0 where
@@ -58,8 +77,7 @@ pub record IsImageBad (words : List (List ℕ)) (image image' : Option (List ℕ
   pub why_is : why ≡ Later
   pub printed : text ≡ image_line line why
 
--- Done, and Faulted where the stream ends with a fault: image and input were read to their ends, and the text is what is
--- printed of the input as one stream without frames
+-- image and input were read to their ends, and the text is the path of the input as one stream without frames
 pub record IsPathOfInput (words : List (List ℕ)) (image image' input input' : Option (List ℕ)) (faulty : Bool) (text : List ℕ) : Type 0 where
   pub call : IsPathCall words
   pub part : Part
@@ -69,22 +87,37 @@ pub record IsPathOfInput (words : List (List ℕ)) (image image' input input' : 
   pub few : length bytes ≤ most_input
   pub shown : IsPathText part raw_id bytes text faulty
 
+-- the input was read to its end, and the text is the packets of the input as one stream without frames
+pub record IsPacketsOfInput (words : List (List ℕ)) (input input' : Option (List ℕ)) (faulty : Bool) (text : List ℕ) : Type 0 where
+  pub call : IsPacketsCall words
+  pub bytes : List ℕ
+  pub input_read : TakesAll input input' bytes
+  pub few : length bytes ≤ most_input
+  pub shown : IsPacketList raw_sizes raw_id bytes text faulty
+
+-- Done, and Faulted where the stream ends with a fault: the text is what the command prints of the input
+abbrev pub IsOutput : List (List ℕ) → Option (List ℕ) → Option (List ℕ) → Option (List ℕ) → Option (List ℕ) → Bool → List ℕ → Type 0
+IsOutput words image image' input input' faulty text =
+    IsPathOfInput words image image' input input' faulty text ⊎ IsPacketsOfInput words input input' faulty text
+
+-- what a command reads before the input: path its image, and packets nothing
+abbrev pub ReadsFirst : List (List ℕ) → Option (List ℕ) → Option (List ℕ) → Type 0
+ReadsFirst words image image' = (IsPathCall words × ((part : Part) × TakesImage image image' part)) ⊎ IsPacketsCall words
+
 -- InputTooLong: one byte more than the most was read
 pub record IsTooLong (words : List (List ℕ)) (image image' input input' : Option (List ℕ)) : Type 0 where
-  pub call : IsPathCall words
-  pub part : Part
-  pub image_read : TakesImage image image' part
+  pub first : ReadsFirst words image image'
   pub many : TakesCount input input' (most_input + 1)
 
 -- the text is that of this answer
 abbrev pub IsAnswer : List (List ℕ) → Option (List ℕ) → Option (List ℕ) → Option (List ℕ) → Option (List ℕ) → Status → List ℕ → Type 0
-IsAnswer words image image' input input' status.Done text = IsPathOfInput words image image' input input' false text
-IsAnswer words image image' input input' status.Faulted text = IsPathOfInput words image image' input input' true text
+IsAnswer words image image' input input' status.Done text = IsOutput words image image' input input' false text
+IsAnswer words image image' input input' status.Faulted text = IsOutput words image image' input input' true text
 IsAnswer words image image' input input' status.Usage text = IsUsage words text
 IsAnswer words image image' input input' (status.ImageBad line why) text = IsImageBad words image image' line why text
 IsAnswer words image image' input input' status.InputTooLong text = IsTooLong words image image' input input' × (text ≡ [])
-IsAnswer words image image' input input' status.ReadFault text = IsPathCall words × (text ≡ [])
-IsAnswer words image image' input input' status.NoMemory text = IsPathCall words × (text ≡ [])
+IsAnswer words image image' input input' status.ReadFault text = IsCall words × (text ≡ [])
+IsAnswer words image image' input input' status.NoMemory text = IsCall words × (text ≡ [])
 IsAnswer words image image' input input' status.WriteFault text = ⊥
 
 -- a text of this kind was appended
@@ -103,13 +136,23 @@ pub record AnswersSo (is : Status → List ℕ → Type 0) {E : Type 0} (old new
   pub writes : Writes old new before now result text
   pub same : IfOk result (λ s. s ≡ status)
 
--- the part of an answer that hangs on the input alone
-abbrev pub IsInputAnswer : Part → Option (List ℕ) → Option (List ℕ) → Status → List ℕ → Type 0
-IsInputAnswer part input input' status.Done text =
-    (bytes : List ℕ) × TakesAll input input' bytes × (length bytes ≤ most_input) × IsPathText part raw_id bytes text false
-IsInputAnswer part input input' status.Faulted text =
-    (bytes : List ℕ) × TakesAll input input' bytes × (length bytes ≤ most_input) × IsPathText part raw_id bytes text true
-IsInputAnswer part input input' status.InputTooLong text = TakesCount input input' (most_input + 1) × (text ≡ [])
-IsInputAnswer part input input' status.ReadFault text = text ≡ []
-IsInputAnswer part input input' status.NoMemory text = text ≡ []
-IsInputAnswer part input input' _ text = ⊥
+-- why the input could not be read
+abbrev pub IsUnread : Option (List ℕ) → Option (List ℕ) → Status → Type 0
+IsUnread input input' status.InputTooLong = TakesCount input input' (most_input + 1)
+IsUnread input input' status.ReadFault = Unit {0}
+IsUnread input input' status.NoMemory = Unit {0}
+IsUnread input input' _ = ⊥
+
+-- The part of an answer that hangs on the input alone: what is shown of its bytes, and whether they end with a fault, or why
+-- they could not be read.
+abbrev pub IsInputAnswer : (List ℕ → List ℕ → Bool → Type 0) → Option (List ℕ) → Option (List ℕ) → Status → List ℕ → Type 0
+IsInputAnswer Shown input input' status.Done text = (bytes : List ℕ) × TakesAll input input' bytes × (length bytes ≤ most_input) × Shown bytes text false
+IsInputAnswer Shown input input' status.Faulted text = (bytes : List ℕ) × TakesAll input input' bytes × (length bytes ≤ most_input) × Shown bytes text true
+IsInputAnswer Shown input input' status text = IsUnread input input' status × (text ≡ [])
+
+-- what the path of the input is over an image, and what its packets are
+abbrev pub PathShown : Part → List ℕ → List ℕ → Bool → Type 0
+PathShown part bytes text faulty = IsPathText part raw_id bytes text faulty
+
+abbrev pub PacketsShown : List ℕ → List ℕ → Bool → Type 0
+PacketsShown bytes text faulty = IsPacketList raw_sizes raw_id bytes text faulty

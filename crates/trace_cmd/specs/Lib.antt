@@ -7,5 +7,6 @@ pub mod Walk
 pub mod Walking
 pub mod Lines
 pub mod Steps
+pub mod PacketList
 pub mod Path
 pub mod Answers

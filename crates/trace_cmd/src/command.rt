@@ -1,34 +1,23 @@
 //! The top call: words, image and input, in this order, and what is written.
-ghost use Rattle.std.specs.Prelude.{◌≡◌, ◌⊎◌, ℕ, ◌≤◌, List, Bool, true, false, map, None, Ok, IsTrue, IfOk, string_bytes};
+ghost use Rattle.std.specs.Prelude.{◌≡◌, ◌⊎◌, ℕ, ◌≤◌, List, Option, true, false, map, None, Ok, IsTrue, string_bytes};
 ghost use Rattle.std.specs.Io.KnownBytes.{Keeps};
 ghost use Rattle.program_image.specs.Part.{IsPart};
 ghost use Rattle.trace_io.specs.Bytes.{TellsAsBefore};
 ghost use Rattle.trace_io.specs.Causes.{Rose};
-ghost use Rattle.trace_cmd.specs.Words.{meaning};
+ghost use Rattle.trace_cmd.specs.Words.{meaning, image_of};
 ghost use Rattle.path_text.specs.Writing.{Writes};
-ghost use Rattle.trace_cmd.specs.Answers.{usage_line, image_line, why_text, IsPathCall, IsUsage, IsImageBad, IsPathOfInput, IsTooLong, IsAnswer, IsInputAnswer, AnswersSo, Prints, PrintsFront};
+ghost use Rattle.trace_cmd.specs.Answers.{usage_line, image_line, why_text, IsPathCall, IsPacketsCall, IsCall, HasReadFault, IsUsage, IsImageBad, IsOutput, IsTooLong, IsAnswer, AnswersSo, Prints, PrintsFront};
 
-use crate::path::write_path;
+use crate::input::{answer_packets, answer_path};
 use crate::status::Status;
-use crate::words::image_name;
-use etm_types::Id;
+use crate::words::{asks_packets, image_name};
 use path_text::Line;
 use program_image::{Image, ImageFault, ImageWhy};
 use std::alloc::Global;
-use trace_io::{Failed, ReadAllFault, Sink, Source, read_all, write_all};
+use trace_io::{Failed, Sink, Source, write_all};
 
 /// The line that is printed where the words have no meaning.
 const USAGE: [u8; 47] = *b"usage: etm path|packets|trace|retired|selftest\n";
-
-/// The most bytes of input.
-const MOST_INPUT: usize = 1 << 30;
-
-/// The ID under which a stream is printed that is not framed.
-fn raw_id() -> Id
-    ensures { result ≡ 1 }
-{
-    Id::new(1).unwrap()
-}
 
 /// The line of an image that is bad.
 fn write_image_bad<K: Sink>(line: u64, why: ImageWhy, out: &mut K) -> Result<(), Failed>
@@ -44,35 +33,8 @@ fn write_image_bad<K: Sink>(line: u64, why: ImageWhy, out: &mut K) -> Result<(),
     text.write(out)
 }
 
-/// Reads the input, and writes its path.
-fn answer_input<J: Source, K: Sink>(
-    alloc: Global,
-    image: &Image,
-    input: &mut J,
-    out: &mut K,
-) -> Result<Status, Failed>
-    requires { IsPart image.now }
-    ensures answer { AnswersSo (IsInputAnswer image.now (J.left input.old) (J.left input.new))
-        (K.written out.old) (K.written out.new) (K.faults out.old) (K.faults out.new) result }
-    ensures read_fault { result ≡ Ok Status.ReadFault → Rose (J.faults input.old) (J.faults input.new) }
-    ensures tells { TellsAsBefore (J.left input.old) (J.left input.new) }
-    ensures later { J.faults input.old ≤ J.faults input.new }
-{
-    let bytes = match read_all(alloc, input, MOST_INPUT) {
-        Ok(bytes) => bytes,
-        Err(ReadAllFault::Failed) => return Ok(Status::ReadFault),
-        Err(ReadAllFault::TooLong) => return Ok(Status::InputTooLong),
-        Err(ReadAllFault::Memory) => return Ok(Status::NoMemory),
-    };
-    if write_path(raw_id(), image, &bytes, out)? {
-        Ok(Status::Faulted)
-    } else {
-        Ok(Status::Done)
-    }
-}
-
 /// Reads the image, and answers by it and the input.
-fn answer_call<I: Source, J: Source, K: Sink>(
+fn answer_path_call<I: Source, J: Source, K: Sink>(
     alloc: Global,
     image: &mut I,
     input: &mut J,
@@ -90,7 +52,7 @@ fn answer_call<I: Source, J: Source, K: Sink>(
     ensures input_later { J.faults input.old ≤ J.faults input.new }
 {
     match Image::read(alloc, image) {
-        Ok(image) => answer_input(alloc, &image, input, out),
+        Ok(image) => answer_path(alloc, &image, input, out),
         Err(ImageFault::Bad { line, why }) => {
             write_image_bad(line, why, out)?;
             Ok(Status::ImageBad { line, why })
@@ -100,7 +62,32 @@ fn answer_call<I: Source, J: Source, K: Sink>(
     }
 }
 
-/// Answers by the words, and then by image and input where the words name an image.
+/// Answers where the words name no image: with the packets of the input, or with the line of usage.
+fn answer_without_image<J: Source, K: Sink>(
+    alloc: Global,
+    words: &[String],
+    input: &mut J,
+    out: &mut K,
+) -> Result<Status, Failed>
+    requires { image_of (meaning (map (λ word. string_bytes word) words.now)) ≡ None }
+    ensures answer { (image image' : Option (List ℕ)) → AnswersSo (IsAnswer (map (λ word. string_bytes word) words.now) image image' (J.left input.old) (J.left input.new))
+        (K.written out.old) (K.written out.new) (K.faults out.old) (K.faults out.new) result }
+    ensures read_fault { result ≡ Ok Status.ReadFault → IsPacketsCall (map (λ word. string_bytes word) words.now) × Rose (J.faults input.old) (J.faults input.new) }
+    ensures words_first { meaning (map (λ word. string_bytes word) words.now) ≡ None → input.new ≡ input.old }
+    ensures no_image { (line : ℕ) (why : ImageWhy) → result ≡ Ok (Status.ImageBad line why) → ⊥ }
+    ensures tells { TellsAsBefore (J.left input.old) (J.left input.new) }
+    ensures later { J.faults input.old ≤ J.faults input.new }
+{
+    if asks_packets(words) {
+        return answer_packets(alloc, input, out);
+    }
+    match write_all(out, &USAGE) {
+        Ok(()) => Ok(Status::Usage),
+        Err(failed) => Err(failed),
+    }
+}
+
+/// Answers by the words, and then by image and input as far as the command reads them.
 fn answer_words<I: Source, J: Source, K: Sink>(
     alloc: Global,
     words: &[String],
@@ -111,8 +98,9 @@ fn answer_words<I: Source, J: Source, K: Sink>(
     ensures answer { AnswersSo (IsAnswer (map (λ word. string_bytes word) words.now) (I.left image.old) (I.left image.new) (J.left input.old) (J.left input.new))
         (K.written out.old) (K.written out.new) (K.faults out.old) (K.faults out.new) result }
     ensures read_fault { result ≡ Ok Status.ReadFault
-        → Rose (I.faults image.old) (I.faults image.new) ⊎ Rose (J.faults input.old) (J.faults input.new) }
+        → HasReadFault (map (λ word. string_bytes word) words.now) (I.faults image.old) (I.faults image.new) (J.faults input.old) (J.faults input.new) }
     ensures words_first { meaning (map (λ word. string_bytes word) words.now) ≡ None → (image.new ≡ image.old) × (input.new ≡ input.old) }
+    ensures image_untouched { IsPacketsCall (map (λ word. string_bytes word) words.now) → image.new ≡ image.old }
     ensures image_first { (line : ℕ) (why : ImageWhy) → result ≡ Ok (Status.ImageBad line why) → input.new ≡ input.old }
     ensures image_tells { TellsAsBefore (I.left image.old) (I.left image.new) }
     ensures image_later { I.faults image.old ≤ I.faults image.new }
@@ -120,16 +108,14 @@ fn answer_words<I: Source, J: Source, K: Sink>(
     ensures input_later { J.faults input.old ≤ J.faults input.new }
 {
     match image_name(words) {
-        Some(_) => answer_call(alloc, image, input, out),
-        None => match write_all(out, &USAGE) {
-            Ok(()) => Ok(Status::Usage),
-            Err(failed) => Err(failed),
-        },
+        Some(_) => answer_path_call(alloc, image, input, out),
+        None => answer_without_image(alloc, words, input, out),
     }
 }
 
 /// Runs the command that the words mean: `path --raw --depth 0 IMAGE` prints the path of one stream that
-/// is not framed. `image` is what the word IMAGE names, and `input` the bytes of the stream.
+/// is not framed, and `packets --raw` its packets. `image` is what the word IMAGE names, and `input` the
+/// bytes of the stream.
 ///
 /// All is flushed before it answers, and a flush that fails is `WriteFault`.
 pub fn run<I: Source, J: Source, K: Sink>(
@@ -145,25 +131,28 @@ pub fn run<I: Source, J: Source, K: Sink>(
     ensures meaningless { meaning (map (λ word. string_bytes word) words.now) ≡ None → (result ≡ Status.Usage) ⊎ (result ≡ Status.WriteFault) }
     ensures words_first { meaning (map (λ word. string_bytes word) words.now) ≡ None → (image.new ≡ image.old) × (input.new ≡ input.old) }
 
+    // Packets are told without an image.
+    ensures image_untouched { IsPacketsCall (map (λ word. string_bytes word) words.now) → image.new ≡ image.old }
+
     // The text of the image is bad.
     ensures image_bad { (line : ℕ) (why : ImageWhy) → result ≡ Status.ImageBad line why
         → Prints (IsImageBad (map (λ word. string_bytes word) words.now) (I.left image.old) (I.left image.new) line why) (K.written out.old) (K.written out.new) }
     ensures image_first { (line : ℕ) (why : ImageWhy) → result ≡ Status.ImageBad line why → input.new ≡ input.old }
 
-    // The path of the input is printed, and says whether it ends with a fault.
+    // The path of the input is printed, or its packets, and the answer says whether it ends with a fault.
     ensures done { result ≡ Status.Done
-        → Prints (IsPathOfInput (map (λ word. string_bytes word) words.now) (I.left image.old) (I.left image.new) (J.left input.old) (J.left input.new) false) (K.written out.old) (K.written out.new) }
+        → Prints (IsOutput (map (λ word. string_bytes word) words.now) (I.left image.old) (I.left image.new) (J.left input.old) (J.left input.new) false) (K.written out.old) (K.written out.new) }
     ensures faulted { result ≡ Status.Faulted
-        → Prints (IsPathOfInput (map (λ word. string_bytes word) words.now) (I.left image.old) (I.left image.new) (J.left input.old) (J.left input.new) true) (K.written out.old) (K.written out.new) }
+        → Prints (IsOutput (map (λ word. string_bytes word) words.now) (I.left image.old) (I.left image.new) (J.left input.old) (J.left input.new) true) (K.written out.old) (K.written out.new) }
 
-    // The path could not be told.
+    // The input could not be told.
     ensures too_long { result ≡ Status.InputTooLong
         → IsTooLong (map (λ word. string_bytes word) words.now) (I.left image.old) (I.left image.new) (J.left input.old) (J.left input.new) × Keeps (K.written out.old) (K.written out.new) }
     ensures read_fault { result ≡ Status.ReadFault
-        → (Rose (I.faults image.old) (I.faults image.new) ⊎ Rose (J.faults input.old) (J.faults input.new))
-        × IsPathCall (map (λ word. string_bytes word) words.now) × Keeps (K.written out.old) (K.written out.new) }
+        → HasReadFault (map (λ word. string_bytes word) words.now) (I.faults image.old) (I.faults image.new) (J.faults input.old) (J.faults input.new)
+        × Keeps (K.written out.old) (K.written out.new) }
     ensures no_memory { result ≡ Status.NoMemory
-        → IsPathCall (map (λ word. string_bytes word) words.now) × Keeps (K.written out.old) (K.written out.new) }
+        → IsCall (map (λ word. string_bytes word) words.now) × Keeps (K.written out.old) (K.written out.new) }
 
     // The text of an answer that was due could not be written.
     ensures write_fault { result ≡ Status.WriteFault

@@ -1,6 +1,8 @@
-//! What the definition of a path is as a whole.
-ghost use Rattle.std.specs.Prelude.{◌≡◌, ℕ, List, Bool};
+//! What the definitions of a path and of a packet list are as a whole.
+ghost use Rattle.std.specs.Prelude.{◌≡◌, ◌<◌, ℕ, List, Bool, All};
+ghost use Rattle.etm_types.specs.Settings.{Sizes, AreSettings};
 ghost use Rattle.program_image.specs.Part.{IsPart, Part};
+ghost use Rattle.trace_cmd.specs.PacketList.{IsPacketList};
 ghost use Rattle.trace_cmd.specs.Path.{IsPathText};
 
 /// Over an image, an input has one path and no other: one text that is printed of it, and one answer to
@@ -10,4 +12,12 @@ pub fn an_input_has_one_path()
         → IsPathText image id bytes text faulty → IsPathText image id bytes other also → (text ≡ other) × (faulty ≡ also) }
     ensures some { (image : Part) (id : ℕ) (bytes : List ℕ) → IsPart image
         → (text : List ℕ) × (faulty : Bool) × IsPathText image id bytes text faulty }
+{}
+
+/// Under given sizes, an input has one packet list and no other.
+pub fn an_input_has_one_packet_list()
+    ensures one { (s : Sizes) → AreSettings s → (id : ℕ) (bytes text other : List ℕ) (faulty also : Bool)
+        → IsPacketList s id bytes text faulty → IsPacketList s id bytes other also → (text ≡ other) × (faulty ≡ also) }
+    ensures some { (s : Sizes) → AreSettings s → (id : ℕ) (bytes : List ℕ) → All (λ b. b < 256) bytes
+        → (text : List ℕ) × (faulty : Bool) × IsPacketList s id bytes text faulty }
 {}

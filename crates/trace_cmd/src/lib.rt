@@ -11,8 +11,10 @@
 mod command;
 mod elements;
 mod fault;
+mod input;
 mod laws;
 mod lines;
+mod packet_list;
 mod packets;
 mod path;
 mod status;
@@ -20,6 +22,6 @@ mod walk;
 mod words;
 
 pub use command::run;
-pub use laws::an_input_has_one_path;
+pub use laws::{an_input_has_one_packet_list, an_input_has_one_path};
 pub use status::Status;
 pub use words::image_name;

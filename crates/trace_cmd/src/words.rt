@@ -1,7 +1,7 @@
 //! The words of the command line.
 ghost use Rattle.std.specs.Prelude.{◌≡◌, map, string_bytes};
 ghost use Rattle.std.specs.Option.{option_map};
-ghost use Rattle.trace_cmd.specs.Words.{is_image_word, meaning, image_of};
+ghost use Rattle.trace_cmd.specs.Words.{is_image_word, meaning, image_of, asks_packets};
 
 /// Whether a word may name an image: `-` alone, or a word that does not begin with `-`.
 fn is_image_word(word: &str) -> bool
@@ -27,4 +27,14 @@ pub fn image_name(words: &[String]) -> Option<&str>
         && zero.as_str() == "0"
         && is_image_word(image.as_str());
     if is_path { Some(image.as_str()) } else { None }
+}
+
+/// Whether the words ask for the packets of a stream.
+pub fn asks_packets(words: &[String]) -> bool
+    ensures { result ≡ asks_packets (meaning (map (λ word. string_bytes word) words.now)) }
+{
+    let [command, raw] = words else {
+        return false;
+    };
+    command.as_str() == "packets" && raw.as_str() == "--raw"
 }

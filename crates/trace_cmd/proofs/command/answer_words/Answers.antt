@@ -1,19 +1,17 @@
 use Rattle.std.proofs.Common.{sym, ◌∙◌}
 use Rattle.std.specs.Prelude.{map, string_bytes}
-use Rattle.trace_cmd.proofs.AnswerLemmas.{path_call, no_command, usage_fails}
+use Rattle.trace_cmd.proofs.AnswerLemmas.{path_call}
 use Rattle.trace_cmd.proofs.command.answer_words.Goals as goal
 
 pub returns-in-Some-clause-answer : goal.returns-in-Some-clause-answer
 returns-in-Some-clause-answer g c =
     let words = map (λ word. string_bytes word) c.args.words.now in
-    c.answer_call.ensures.answer words (path_call words _ (sym c.in-Some.ensures))
+    c.answer_path_call.ensures.answer words (path_call words _ (sym c.in-Some.ensures))
 
 pub returns-in-Some-clause-words_first : goal.returns-in-Some-clause-words_first
 returns-in-Some-clause-words_first g c =
     λ e. let call = path_call (map (λ word. string_bytes word) c.args.words.now) _ (sym c.in-Some.ensures) in
     absurd (let x = sym call.1 ∙ e in cc)
 
-pub returns-in-Err-clause-answer : goal.returns-in-Err-clause-answer
-returns-in-Err-clause-answer g c =
-    let words = map (λ word. string_bytes word) c.args.words.now in
-    usage_fails words _ _ _ _ _ _ _ _ c.in-Err.failed (no_command words (sym c.in-None.ensures)) c.in-Err.ensures.failed c.in-Err.ensures.tells c.in-Err.ensures.cause
+pub returns-in-None-clause-answer : goal.returns-in-None-clause-answer
+returns-in-None-clause-answer g c = c.answer_without_image.ensures.answer (g.I.Source.left c.args.image.now) (g.I.Source.left c.args.image.now)

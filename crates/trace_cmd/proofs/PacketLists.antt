@@ -1,0 +1,151 @@
+-- How far the packet list of a stream has come, and how it ends.
+use Rattle.std.proofs.Common.{◌≡◌, ℕ, zero, suc, ◌+◌, ◌<◌, ◌==◌, Bool, true, false, List, [], ◌∷◌, ◌++◌, length, drop, Option, None, Ok, Err, refl, sym, ap, subst, ◌∙◌, inl, inr, arith, append_assoc}
+use Rattle.std.specs.Prelude.{All, is_some, if◌then◌else◌}
+use Rattle.etm_types.specs.Settings.{Sizes, AreSettings}
+use Rattle.packet_grammar.specs.declared.packet.Packet.{Packet}
+use Rattle.packet_grammar.specs.declared.packet.Packet.TheVariants.{Mispredict, Cancel2, Atoms}
+use Rattle.packet_grammar.specs.declared.fault.PacketFault.{PacketFault}
+use Rattle.packet_grammar.specs.Parsed.{Ending, no_sync, clean, cut, fault, FirstSync, IsStream, Parses}
+use Rattle.packet_grammar.specs.Ranges.{IsPacket}
+use Rattle.packet_grammar.proofs.Streams.{each_is_a_stream, one_stream, parsed}
+use Rattle.packet_reader.specs.declared.step.Step.{Step}
+use Rattle.packet_reader.specs.declared.step.Step.TheVariants.{Whole}
+use Rattle.packet_reader.specs.Stands.{Gains, rest_of}
+use Rattle.packet_reader.specs.Answered.{told, fault_after, fault_of}
+use Rattle.packet_reader.proofs.Stream.{stream_on}
+use Rattle.packet_reader.proofs.Adds.{Told, gains_more, nothing_is_a_stream, nothing_told}
+use Rattle.path_text.specs.declared.end.End.{End}
+use Rattle.path_text.specs.declared.end.End.TheVariants.{Clean, Cut}
+use Rattle.path_text.specs.PacketLines.{HasText, packet_line}
+use Rattle.path_text.specs.EndLines.{end_line}
+use Rattle.path_text.specs.Writing.{Writes}
+use Rattle.trace_io.specs.declared.traits.Failed.{Failed}
+use Rattle.trace_cmd.specs.PacketList.{packet_lines, end_of, is_faulty, list_text, IsPacketList}
+use Rattle.std.proofs.lemmas.Bool.{eqb-true}
+use Rattle.trace_cmd.proofs.Tests.{cases}
+use Rattle.trace_cmd.proofs.Wrote.{Wrote, wrote_nothing, wrote_more, writes_all, fails_after}
+
+-- ---- how a stream ends
+
+never_without_sync : (s : Sizes) (at : ℕ) (bytes : List ℕ) (packets : List (ℕ × Packet)) → Parses s at bytes packets no_sync → ⊥
+never_without_sync s at bytes [] is = is
+never_without_sync s at bytes (p ∷ packets) (text, rest, starts, parts, spells, is) = never_without_sync s (at + length text) rest packets is
+
+cut_has_bytes : (s : Sizes) (at : ℕ) (bytes : List ℕ) (packets : List (ℕ × Packet)) (n : ℕ) → Parses s at bytes packets (cut n) → 0 < n
+cut_has_bytes s at bytes [] n is = is.1
+cut_has_bytes s at bytes (p ∷ packets) n (text, rest, starts, parts, spells, is) = cut_has_bytes s (at + length text) rest packets n is
+
+abbrev pub by_rest : ℕ → End
+by_rest n = if n == 0 then Clean else Cut n
+
+by_some : (n : ℕ) → 0 < n → by_rest n ≡ Cut n
+by_some n some = elim (cases (n == 0)) [ inl t ↦ absurd (omega (arith, eqb-true n 0 t, some)) | inr f ↦ rw f refl ]
+
+pub end_when_none : (n : ℕ) (last : End) → by_rest n ≡ last → n ≡ 0 → Clean ≡ last
+end_when_none n last e none = subst (λ k. by_rest k ≡ last) none e
+
+pub end_when_some : (n : ℕ) (last : End) → by_rest n ≡ last → (n ≡ 0 → ⊥) → Cut n ≡ last
+end_when_some zero last e some = absurd (some refl)
+end_when_some (suc n) last e some = sym (by_some (suc n) (omega arith)) ∙ e
+
+end_behind_sync : (s : Sizes) (bytes : List ℕ) (packets : List (ℕ × Packet)) (ending : Ending) → (at : ℕ) → FirstSync at bytes → IsStream s bytes packets ending → fault_of ending ≡ None
+    → by_rest (rest_of ending) ≡ end_of ending
+end_behind_sync s bytes packets no_sync place found (inl (at, first, is)) none = absurd (never_without_sync s at (drop at bytes) packets is)
+end_behind_sync s bytes packets no_sync place found (inr (nowhere, e, f)) none = absurd (nowhere place found.here)
+end_behind_sync s bytes packets clean place found is none = refl
+end_behind_sync s bytes packets (cut n) place found (inl (at, first, is)) none = by_some n (cut_has_bytes s at (drop at bytes) packets n is)
+end_behind_sync s bytes packets (cut n) place found (inr (nowhere, e, f)) none = absurd cc
+end_behind_sync s bytes packets (fault at f) place found is none = absurd cc
+
+-- the bytes of the begun packet tell how a stream ends in which an A-sync stands, and no fault
+pub end_by_rest : (s : Sizes) → AreSettings s → (bytes : List ℕ) (packets others : List (ℕ × Packet)) (ending other : Ending) (n at : ℕ) → FirstSync at bytes
+    → IsStream s bytes packets ending → IsStream s bytes others other → n ≡ rest_of other → fault_of ending ≡ None → by_rest n ≡ end_of ending
+end_by_rest s are bytes packets others ending other n at found is also e none =
+    let same = one_stream s are bytes packets others ending other is also in
+    ap by_rest (e ∙ ap rest_of (sym same.1)) ∙ end_behind_sync s bytes packets ending at found is none
+
+-- ---- how far the list has come
+
+pub has_text : (s : Sizes) (packet : Packet) → IsPacket s packet → HasText packet
+has_text s (Mispredict few) is = is
+has_text s (Cancel2 few) is = is
+has_text s (Atoms run) is = is.most
+has_text s packet is = tt
+
+pub packet_lines-append : (id : ℕ) (xs ys : List (ℕ × Packet)) → packet_lines id (xs ++ ys) ≡ packet_lines id xs ++ packet_lines id ys
+packet_lines-append id [] ys = refl
+packet_lines-append id (x ∷ xs) ys = ap (λ t. packet_line id x.0 x.1 ++ t) (packet_lines-append id xs ys) ∙ sym (append_assoc (packet_line id x.0 x.1) (packet_lines id xs) (packet_lines id ys))
+
+-- the lines of the packets so far are written
+pub record Listed (s : Sizes) (id : ℕ) (old new : Option (List ℕ)) (before now : ℕ) (front : List ℕ) (last : Option (ℕ × PacketFault)) : Type 0 where
+  pub packets : List (ℕ × Packet)
+  pub told : Told s front packets last
+  pub wrote : Wrote old new before now (packet_lines id packets)
+
+pub listed_first : (s : Sizes) (id : ℕ) (a : Option (List ℕ)) (f : ℕ) → Listed s id a a f f [] None
+listed_first s id a f = record { packets = []; told = nothing_told s; wrote = wrote_nothing a f }
+
+module _ (s : Sizes) (are : AreSettings s) (id : ℕ) (old mid new : Option (List ℕ)) (f g h : ℕ) (front : List ℕ) (byte : ℕ) (last : Option (ℕ × PacketFault)) where
+  pub listed_more : (step : Step) → Listed s id old mid f g front last → Gains s front byte step → Wrote mid new g h (packet_lines id (told step))
+      → Listed s id old new f h (front ++ byte ∷ []) (fault_after last step)
+  listed_more step is gains wrote = record {
+    packets = is.packets ++ told step;
+    told = gains_more s are front byte is.packets last step is.told gains;
+    wrote = subst (Wrote old new f h) (sym (packet_lines-append id is.packets (told step)))
+        (wrote_more old mid new f g h (packet_lines id is.packets) (packet_lines id (told step)) is.wrote wrote);
+  }
+
+  -- the line of a packet could not be written
+  pub listed_fails : {T U : Type 0} (at : ℕ) (packet : Packet) (e d : Failed) (rest : List ℕ) → Listed s id old mid f g front last → Gains s front byte (Whole at packet)
+      → Writes {T = T} mid new g h (Err e) (packet_line id at packet) → All (λ b. b < 256) rest
+      → (packets : List (ℕ × Packet)) × (ending : Ending) × IsStream s ((front ++ byte ∷ []) ++ rest) packets ending × Writes {T = U} old new f h (Err d) (packet_lines id packets)
+  listed_fails {T} {U} at packet e d rest is (others, ending, before, now) writes small =
+      let front' = front ++ byte ∷ [] in
+      let same = one_stream s are front is.packets others is.told.ending ending is.told.stream before in
+      let later = parsed s are (length rest) (length front') rest (omega arith) small in
+      let all = (others ++ (at, packet) ∷ []) ++ later.packets in
+      let lines : packet_lines id is.packets ++ (packet_line id at packet ++ packet_lines id later.packets) ≡ packet_lines id all =
+      ap (λ p. packet_lines id p ++ (packet_line id at packet ++ packet_lines id later.packets)) same.0
+      ∙ sym (packet_lines-append id others ((at, packet) ∷ later.packets)) ∙ ap (packet_lines id) (sym (append_assoc others ((at, packet) ∷ []) later.packets)) in (
+        all,
+        later.ending,
+        stream_on s front' rest (others ++ (at, packet) ∷ []) later.packets later.ending now later.is,
+        fails_after old mid new f g h e d (packet_lines id is.packets) (packet_line id at packet) (packet_lines id later.packets) (packet_lines id all) lines is.wrote writes,
+      )
+
+-- all bytes are taken
+pub listed_all : (s : Sizes) (id : ℕ) (old new : Option (List ℕ)) (f g : ℕ) (bytes : List ℕ) (last : Option (ℕ × PacketFault)) → Listed s id old new f g bytes last
+    → (packets : List (ℕ × Packet)) × (ending : Ending) × IsStream s bytes packets ending × Writes {E = Failed} old new f g (Ok last) (packet_lines id packets) × (fault_of ending ≡ last)
+listed_all s id old new f g bytes last is = (is.packets, is.told.ending, is.told.stream, writes_all old new f g last (packet_lines id is.packets) is.wrote, is.told.fault)
+
+-- ---- the list as a whole
+
+pub list_of_nothing : (s : Sizes) (id : ℕ) (bytes : List ℕ) → (length bytes == 0) ≡ true → IsPacketList s id bytes [] false
+list_of_nothing s id [] empty = record { packets = []; ending = no_sync; stream = nothing_is_a_stream s; printed = refl; fault = refl }
+list_of_nothing s id (b ∷ bytes) empty = absurd (omega (arith, eqb-true (length (b ∷ bytes)) 0 empty))
+
+pub list_of_some : (s : Sizes) (id : ℕ) (bytes : List ℕ) (packets : List (ℕ × Packet)) (ending : Ending) → (length bytes == 0) ≡ false → IsStream s bytes packets ending
+    → IsPacketList s id bytes (packet_lines id packets ++ end_line id (end_of ending)) (is_faulty ending)
+list_of_some s id bytes packets ending some is = record { packets = packets; ending = ending; stream = is; printed = rw some refl; fault = refl }
+
+pub faulty_where : (ending : Ending) (last : Option (ℕ × PacketFault)) → fault_of ending ≡ last → is_some last ≡ is_faulty ending
+faulty_where no_sync last e = sym (ap is_some e)
+faulty_where clean last e = sym (ap is_some e)
+faulty_where (cut n) last e = sym (ap is_some e)
+faulty_where (fault at f) last e = sym (ap is_some e)
+
+pub one_list : (s : Sizes) → AreSettings s → (id : ℕ) (bytes text other : List ℕ) (faulty also : Bool) → IsPacketList s id bytes text faulty → IsPacketList s id bytes other also
+    → (text ≡ other) × (faulty ≡ also)
+one_list s are id bytes text other faulty also is too =
+    let same = one_stream s are bytes is.packets too.packets is.ending too.ending is.stream too.stream in (
+      is.printed ∙ ap (λ p. list_text id bytes p is.ending) same.0 ∙ ap (λ e. list_text id bytes too.packets e) same.1 ∙ sym too.printed,
+      is.fault ∙ ap is_faulty same.1 ∙ sym too.fault,
+    )
+
+pub some_list : (s : Sizes) → AreSettings s → (id : ℕ) (bytes : List ℕ) → All (λ b. b < 256) bytes → (text : List ℕ) × (faulty : Bool) × IsPacketList s id bytes text faulty
+some_list s are id bytes small =
+    let all = each_is_a_stream s are bytes small in (
+      list_text id bytes all.packets all.ending,
+      is_faulty all.ending,
+      record { packets = all.packets; ending = all.ending; stream = all.is; printed = refl; fault = refl },
+    )

@@ -1,0 +1,16 @@
+use Rattle.std.proofs.Common.{subst, refl}
+use Rattle.std.proofs.lemmas.Result.{err_from_is_err_and}
+use Rattle.trace_cmd.specs.Path.{IsPathText}
+use Rattle.trace_cmd.specs.Answers.{raw_id, PathShown}
+use Rattle.trace_cmd.proofs.AnswerLemmas.{input_fails, unread}
+use Rattle.trace_cmd.proofs.input.answer_path.Goals as goal
+
+pub returns-in-Err-clause-answer : goal.returns-in-Err-clause-answer
+returns-in-Err-clause-answer g c = unread (PathShown c.args.image.now) _ _ _ _ c.in-Err.status (c.in-Err.ensures.unread c.in-Err.status refl)
+
+pub returns-in_err-write_path-clause-answer : goal.returns-in_err-write_path-clause-answer
+returns-in_err-write_path-clause-answer g c =
+    let p = err_from_is_err_and c.from_residual.result c.from_residual.ensures.1 in
+    let w = c.in_err-write_path.ensures in let image = c.args.image.now in
+    let shown = subst (λ bytes. IsPathText image raw_id bytes w.0 w.1) c.deref.ensures.value (subst (λ id. IsPathText image id c.deref.result.now w.0 w.1) c.raw_id.ensures w.2) in
+    rw p.1 (input_fails (PathShown image) _ _ _ _ _ _ c.in_err-write_path.field-0.0 p.0 c.in-Ok.bytes.items w.0 w.1 c.in-Ok.ensures.bytes.0 c.in-Ok.ensures.bytes.1 shown w.3)

@@ -1,0 +1,38 @@
+-- What is printed of a stream's packets.
+use Rattle.std.specs.Prelude.{◌≡◌, ℕ, ◌==◌, Bool, true, false, if◌then◌else◌, List, [], ◌∷◌, ◌++◌, length}
+use Rattle.etm_types.specs.Settings.{Sizes}
+use Rattle.packet_grammar.specs.declared.packet.Packet.{Packet}
+use Rattle.packet_grammar.specs.declared.stream_fault.Fault.TheVariants as stream
+use Rattle.packet_grammar.specs.Parsed.{Ending, no_sync, clean, cut, fault, IsStream}
+use Rattle.path_text.specs.declared.end.End.{End}
+use Rattle.path_text.specs.declared.end.End.TheVariants as end
+use Rattle.path_text.specs.EndLines.{end_line}
+use Rattle.path_text.specs.PacketLines.{packet_line}
+
+-- the lines of packets, each with its offset
+abbrev pub packet_lines : ℕ → List (ℕ × Packet) → List ℕ
+packet_lines id [] = []
+packet_lines id (p ∷ packets) = packet_line id p.0 p.1 ++ packet_lines id packets
+
+-- how an ending is told
+abbrev pub end_of : Ending → End
+end_of no_sync = end.NoSync
+end_of clean = end.Clean
+end_of (cut n) = end.Cut n
+end_of (fault at f) = end.Fault at (stream.Packet f)
+
+abbrev pub is_faulty : Ending → Bool
+is_faulty (fault at f) = true
+is_faulty ending = false
+
+-- the packets, and how the stream ends; nothing of a stream without bytes
+abbrev pub list_text : ℕ → List ℕ → List (ℕ × Packet) → Ending → List ℕ
+list_text id bytes packets ending = if length bytes == 0 then [] else packet_lines id packets ++ end_line id (end_of ending)
+
+-- the text is what is printed of the bytes' packets, and faulty says whether the stream ends with a fault
+pub record IsPacketList (s : Sizes) (id : ℕ) (bytes text : List ℕ) (faulty : Bool) : Type 0 where
+  pub packets : List (ℕ × Packet)
+  pub ending : Ending
+  pub stream : IsStream s bytes packets ending
+  pub printed : text ≡ list_text id bytes packets ending
+  pub fault : faulty ≡ is_faulty ending

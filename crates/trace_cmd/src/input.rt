@@ -1,0 +1,102 @@
+//! The answers that hang on the input: it is read whole, and then its path or its packets are written.
+ghost use Rattle.std.specs.Prelude.{◌≡◌, ℕ, ◌≤◌, Ok, Err, length, IfOk};
+ghost use Rattle.program_image.specs.Part.{IsPart};
+ghost use Rattle.trace_io.specs.Bytes.{TakesAll, TellsAsBefore};
+ghost use Rattle.trace_io.specs.Causes.{Rose};
+ghost use Rattle.trace_cmd.specs.Answers.{raw_id, raw_sizes, most_input, IsUnread, IsInputAnswer, AnswersSo, PathShown, PacketsShown};
+
+use crate::packet_list::write_packet_list;
+use crate::path::write_path;
+use crate::status::Status;
+use etm_types::{Id, Settings};
+use program_image::{Image, ImageWhy};
+use std::alloc::Global;
+use trace_io::{Failed, ReadAllFault, Sink, Source, read_all};
+
+/// The most bytes of input.
+const MOST_INPUT: usize = 1 << 30;
+
+/// The size of a VMID in bytes, where none is told.
+const VMID_BYTES: u8 = 1;
+
+/// The size of a context ID in bytes, where none is told.
+const CID_BYTES: u8 = 4;
+
+/// The ID under which a stream is printed that is not framed.
+fn raw_id() -> Id
+    ensures { result ≡ raw_id }
+{
+    Id::new(1).unwrap()
+}
+
+/// The settings of a reader of packets, where none are told.
+fn raw_settings() -> Settings
+    ensures { result ≡ raw_sizes }
+{
+    Settings::new(0, VMID_BYTES, CID_BYTES).unwrap()
+}
+
+/// Reads the whole input, or says why that can't be done.
+fn read_input<J: Source>(alloc: Global, input: &mut J) -> Result<Vec<u8>, Status>
+    ensures bytes { IfOk result (λ bytes. TakesAll (J.left input.old) (J.left input.new) bytes.items × (length bytes.items ≤ most_input)) }
+    ensures unread { (status : Status) → result ≡ Err status → IsUnread (J.left input.old) (J.left input.new) status }
+    ensures read_fault { result ≡ Err Status.ReadFault → Rose (J.faults input.old) (J.faults input.new) }
+    ensures tells { TellsAsBefore (J.left input.old) (J.left input.new) }
+    ensures later { J.faults input.old ≤ J.faults input.new }
+{
+    match read_all(alloc, input, MOST_INPUT) {
+        Ok(bytes) => Ok(bytes),
+        Err(ReadAllFault::Failed) => Err(Status::ReadFault),
+        Err(ReadAllFault::TooLong) => Err(Status::InputTooLong),
+        Err(ReadAllFault::Memory) => Err(Status::NoMemory),
+    }
+}
+
+/// Reads the input, and writes its path.
+pub fn answer_path<J: Source, K: Sink>(
+    alloc: Global,
+    image: &Image,
+    input: &mut J,
+    out: &mut K,
+) -> Result<Status, Failed>
+    requires { IsPart image.now }
+    ensures answer { AnswersSo (IsInputAnswer (PathShown image.now) (J.left input.old) (J.left input.new))
+        (K.written out.old) (K.written out.new) (K.faults out.old) (K.faults out.new) result }
+    ensures read_fault { result ≡ Ok Status.ReadFault → Rose (J.faults input.old) (J.faults input.new) }
+    ensures tells { TellsAsBefore (J.left input.old) (J.left input.new) }
+    ensures later { J.faults input.old ≤ J.faults input.new }
+{
+    let bytes = match read_input(alloc, input) {
+        Ok(bytes) => bytes,
+        Err(status) => return Ok(status),
+    };
+    if write_path(raw_id(), image, &bytes, out)? {
+        Ok(Status::Faulted)
+    } else {
+        Ok(Status::Done)
+    }
+}
+
+/// Reads the input, and writes its packets.
+pub fn answer_packets<J: Source, K: Sink>(
+    alloc: Global,
+    input: &mut J,
+    out: &mut K,
+) -> Result<Status, Failed>
+    ensures answer { AnswersSo (IsInputAnswer PacketsShown (J.left input.old) (J.left input.new))
+        (K.written out.old) (K.written out.new) (K.faults out.old) (K.faults out.new) result }
+    ensures read_fault { result ≡ Ok Status.ReadFault → Rose (J.faults input.old) (J.faults input.new) }
+    ensures no_image { (line : ℕ) (why : ImageWhy) → result ≡ Ok (Status.ImageBad line why) → ⊥ }
+    ensures tells { TellsAsBefore (J.left input.old) (J.left input.new) }
+    ensures later { J.faults input.old ≤ J.faults input.new }
+{
+    let bytes = match read_input(alloc, input) {
+        Ok(bytes) => bytes,
+        Err(status) => return Ok(status),
+    };
+    if write_packet_list(raw_id(), &raw_settings(), &bytes, out)? {
+        Ok(Status::Faulted)
+    } else {
+        Ok(Status::Done)
+    }
+}
