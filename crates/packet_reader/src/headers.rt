@@ -10,12 +10,13 @@ use atom_formats::atoms_of;
 use etm_types::{AddrForm, FewAtoms};
 use packet_grammar::{Packet, PacketFault, RefusedKind};
 
-/// The header of a packet.
+/// The header of a packet. Most headers are those of atoms, so these come first.
 pub fn header(h: u8) -> Progress
     ensures row { HeadsBy h result }
     ensures fits { FitsAfter result }
 {
     match h {
+        0xc0..=0xff => atoms(h),
         0x00..=0x3f => first_headers(h),
         0x40..=0x7f => middle_headers(h),
         0x80..=0x9f => address_headers(h),
@@ -100,9 +101,9 @@ fn address_headers(h: u8) -> Progress
     }
 }
 
-/// Executed instructions of which only the number is told, and atoms.
+/// Executed instructions of which only the number is told.
 fn last_headers(h: u8) -> Progress
-    requires { 0xa0 ≤ h }
+    requires { (0xa0 ≤ h) × (h ≤ 0xbf) }
     ensures row { HeadsBy h result }
     ensures fits { FitsAfter result }
 {
@@ -114,8 +115,7 @@ fn last_headers(h: u8) -> Progress
         0xaa..=0xac => refused(RefusedKind::Q, h),
         0xad..=0xae => reserved(h),
         0xaf => refused(RefusedKind::Q, h),
-        0xb0..=0xbf => reserved(h),
-        0xc0..=0xff => atoms(h),
+        0xb0..=0xff => reserved(h),
     }
 }
 

@@ -2,8 +2,8 @@ use Rattle.std.proofs.Common.{Err, refl, arith}
 use Rattle.packet_grammar.specs.declared.fault.RefusedKind.TheVariants.{Q}
 use Rattle.packet_grammar.specs.declared.fault.PacketFault.TheVariants.{Refused, Reserved}
 use Rattle.packet_grammar.specs.Headers.{refused_headers}
-use Rattle.packet_grammar.proofs.Table.{alone, headers, atoms}
-use Rattle.packet_reader.proofs.Rows.{says, refuses}
+use Rattle.packet_grammar.proofs.Table.{alone, headers}
+use Rattle.packet_reader.proofs.Rows.{refuses}
 use Rattle.packet_reader.proofs.Headed.{by_row}
 use Rattle.packet_reader.proofs.headers.last_headers.Goals as goal
 
@@ -42,12 +42,7 @@ unfolding headers refused_headers
 returns-in-175-clause-row c =
     by_row c.args.h _ (alone (Err (Refused Q c.args.h))) (refuses 32 c.args.h 175 175 (Refused Q c.args.h) refl refl refl (omega arith) (omega arith)) (c.refused.ensures)
 
-pub returns-in-176-to-191-clause-row : goal.returns-in-176-to-191-clause-row
+pub returns-in-176-to-255-clause-row : goal.returns-in-176-to-255-clause-row
 unfolding headers refused_headers
-returns-in-176-to-191-clause-row c =
-    by_row c.args.h _ (alone (Err (Reserved c.args.h))) (refuses 33 c.args.h 176 191 (Reserved c.args.h) refl refl refl (omega arith) (omega arith)) (c.reserved-in-176-to-191.ensures)
-
-pub returns-in-192-to-255-clause-row : goal.returns-in-192-to-255-clause-row
-unfolding headers refused_headers
-returns-in-192-to-255-clause-row c =
-    by_row c.args.h _ (atoms c.args.h) (says 21 c.args.h 192 255 (atoms c.args.h) refl refl (omega arith) (omega arith)) (c.atoms.ensures.run)
+returns-in-176-to-255-clause-row c =
+    by_row c.args.h _ (alone (Err (Reserved c.args.h))) (refuses 33 c.args.h 176 191 (Reserved c.args.h) refl refl refl (omega arith) (omega arith)) (c.reserved-in-176-to-255.ensures)
