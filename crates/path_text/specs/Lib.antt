@@ -1,4 +1,5 @@
 pub mod Writing
 pub mod Lines
 pub mod PacketLines
+pub mod PathLines
 pub mod EndLines

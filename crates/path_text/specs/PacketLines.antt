@@ -31,14 +31,15 @@ form_text (Short2 value) = codes "short2 " ++ hex value
 form_text (Long32 value) = codes "long32 " ++ hex value
 form_text (Long64 value) = codes "long64 " ++ hex value
 
-abbrev pub context_text : CtxBits → List ℕ
-context_text ctx =
+-- a context packet tells a number or leaves it out
+abbrev pub told_context_text : CtxBits → List ℕ
+told_context_text ctx =
     codes "ctx el" ++ decimal ctx.el ++ security ctx.ns ++ number_or_dash hex ctx.vmid ++ codes " " ++ number_or_dash hex ctx.cid
 
 -- a context that an address carries
 abbrev pub carried_text : Option CtxBits → List ℕ
 carried_text None = codes ""
-carried_text (Some ctx) = codes " " ++ context_text ctx
+carried_text (Some ctx) = codes " " ++ told_context_text ctx
 
 abbrev pub mispredict_text : Bool → List ℕ
 mispredict_text flip = if flip then codes " mispredict" else codes ""
@@ -60,7 +61,7 @@ packet_text (packet.Mispredict few) = codes "mispredict " ++ few_text few
 packet_text (packet.Cancel2 few) = codes "cancel2 " ++ few_text few
 packet_text (packet.Cancel3 e n) = (if e then codes "cancel3 E " else codes "cancel3 - ") ++ decimal n
 packet_text packet.CtxSame = codes "ctx same"
-packet_text (packet.CtxInfo ctx) = context_text ctx
+packet_text (packet.CtxInfo ctx) = told_context_text ctx
 packet_text (packet.Addr form ctx) = codes "addr " ++ form_text form ++ carried_text ctx
 packet_text (packet.Atoms run) = codes "atoms " ++ atoms_text run
 

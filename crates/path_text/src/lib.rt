@@ -1,21 +1,23 @@
-//! The lines that are printed of a stream: one for each packet, and one for how the stream ends.
+//! The lines that are printed of a stream: those of its path or of its packets, and one for how it ends.
 //!
 //! A line has the ID of its stream, a text, and LF. It is put together in a small array and written by one
-//! call of `write_all`, so that a sink sees whole lines. [`write_packet_line`] and [`write_end`] promise
-//! exactly the text that `specs/` gives for their value.
+//! call of `write_all`, so that a sink sees whole lines. Each function promises exactly the text that
+//! `specs/` gives for its value, or a front of it where a write fails.
 //!
-//! [`Line`] is public because the lines of a path are written elsewhere for now, with it.
+//! [`Line`] is public because `trace_cmd` writes lines of its own with it for now.
 #![tactic(auto)]
 
 mod end;
 mod end_lines;
 mod line;
 mod packet_lines;
+mod path_lines;
 
 pub use end::End;
 pub use end_lines::write_end;
 pub use line::Line;
 pub use packet_lines::write_packet_line;
+pub use path_lines::{write_gap, write_stop, write_walked};
 
 #[cfg(test)]
 mod tests;

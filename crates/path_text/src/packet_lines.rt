@@ -2,7 +2,7 @@
 ghost use Rattle.std.specs.Prelude.{◌≡◌, ◌+◌, ◌++◌, ◌≤◌, length, codes};
 ghost use Rattle.etm_types.specs.Atoms.{IsFewAtoms};
 ghost use Rattle.path_text.specs.Lines.{hex, decimal, number_or_dash};
-ghost use Rattle.path_text.specs.PacketLines.{HasText, letter, atoms_text, few_text, form_text, context_text, carried_text, mispredict_text, packet_text, packet_line};
+ghost use Rattle.path_text.specs.PacketLines.{HasText, letter, atoms_text, few_text, form_text, told_context_text, carried_text, mispredict_text, packet_text, packet_line};
 ghost use Rattle.path_text.specs.Writing.{Writes};
 
 use crate::line::Line;
@@ -154,7 +154,7 @@ fn add_cancel3(line: &mut Line, e: bool, n: u8)
 /// Adds what is told of a context.
 fn add_context(line: &mut Line, ctx: &CtxBits)
     requires { length line.old ≤ 60 }
-    ensures value { line.new ≡ line.old ++ context_text ctx.now }
+    ensures value { line.new ≡ line.old ++ told_context_text ctx.now }
     ensures short { length line.new ≤ length line.old + 30 }
 {
     line.text(b"ctx el");

@@ -1,0 +1,106 @@
+-- Lines of several items.
+use Rattle.std.proofs.Common.{◌≡◌, ℕ, zero, suc, ◌+◌, ◌-◌, ◌%◌, ◌^◌, ◌<◌, Bool, true, false, List, [], ◌∷◌, ◌++◌, Option, Some, None, refl, sym, ap, ◌∙◌, arith, append_assoc, append-nil}
+use Rattle.std.specs.Prelude.{if◌then◌else◌}
+use Rattle.std.proofs.lemmas.Bool.{eq-eqb}
+use Rattle.etm_types.specs.Walked.{instructions, exception, items_of}
+use Rattle.etm_types.specs.declared.context.Ctx.{Ctx}
+use Rattle.etm_types.specs.declared.item.Item.{Item}
+use Rattle.etm_types.specs.declared.item.Item.TheVariants.{On}
+use Rattle.etm_types.specs.declared.walked.ExcMark.{ExcMark}
+use Rattle.etm_types.specs.declared.walked.Walked.{Walked}
+use Rattle.path_text.specs.Lines.{line_of, hex}
+use Rattle.path_text.specs.PathLines.{exception_text, instruction_lines, lines_of, item_lines, context_line, same_context, same_security, shown_after, shown_after_all, on_line, block_items}
+
+pub instruction_lines-next : (id address left : ℕ) → 0 < left → instruction_lines id address left ≡ line_of id (hex address) ++ instruction_lines id ((address + 4) % 2 ^ 64) (left - 1)
+instruction_lines-next id address zero some = absurd (omega arith)
+instruction_lines-next id address (suc n) some = ap (λ k. line_of id (hex address) ++ instruction_lines id ((address + 4) % 2 ^ 64) k) (omega arith)
+
+-- ---- contexts that are printed once
+
+same_security-refl : (b : Bool) → same_security b b ≡ true
+same_security-refl true = refl
+same_security-refl false = refl
+
+same_context-refl : (ctx : Ctx) → same_context ctx ctx ≡ true
+same_context-refl ctx = simp (eq-eqb ctx.el ctx.el refl, same_security-refl ctx.ns, eq-eqb ctx.vmid ctx.vmid refl, eq-eqb ctx.cid ctx.cid refl)
+
+context_line-again : (id : ℕ) (ctx : Ctx) → context_line id (Some ctx) ctx ≡ []
+context_line-again id ctx = simp (same_context-refl ctx)
+
+-- the lines of instructions whose context was printed
+lines_of-instructions : (id address : ℕ) (ctx : Ctx) (n : ℕ) → lines_of id (Some ctx) (instructions ctx address n) ≡ instruction_lines id address n
+lines_of-instructions id address ctx zero = refl
+lines_of-instructions id address ctx (suc n) =
+    ap (λ t. (t ++ line_of id (hex address)) ++ lines_of id (Some ctx) (instructions ctx ((address + 4) % 2 ^ 64) n)) (context_line-again id ctx)
+    ∙ ap (λ t. line_of id (hex address) ++ t) (lines_of-instructions id ((address + 4) % 2 ^ 64) ctx n)
+
+-- a context, where it was not printed last, and then instructions
+pub lines_of-run : (id : ℕ) (shown : Option Ctx) (ctx : Ctx) (address n : ℕ) → 0 < n
+    → lines_of id shown (instructions ctx address n) ≡ context_line id shown ctx ++ instruction_lines id address n
+lines_of-run id shown ctx address zero some = absurd (omega arith)
+lines_of-run id shown ctx address (suc n) some =
+    ap (λ t. (context_line id shown ctx ++ line_of id (hex address)) ++ t) (lines_of-instructions id ((address + 4) % 2 ^ 64) ctx n)
+    ∙ append_assoc (context_line id shown ctx) (line_of id (hex address)) (instruction_lines id ((address + 4) % 2 ^ 64) n)
+
+-- ---- lines of items, one list behind another
+
+pub lines_of-append : (id : ℕ) (shown : Option Ctx) (xs ys : List Item) → lines_of id shown (xs ++ ys) ≡ lines_of id shown xs ++ lines_of id (shown_after_all shown xs) ys
+lines_of-append id shown [] ys = refl
+lines_of-append id shown (x ∷ xs) ys =
+    ap (λ t. item_lines id shown x ++ t) (lines_of-append id (shown_after shown x) xs ys) ∙ sym (append_assoc (item_lines id shown x) (lines_of id (shown_after shown x) xs) _)
+
+pub shown_after_all-append : (shown : Option Ctx) (xs ys : List Item) → shown_after_all shown (xs ++ ys) ≡ shown_after_all (shown_after_all shown xs) ys
+shown_after_all-append shown [] ys = refl
+shown_after_all-append shown (x ∷ xs) ys = shown_after_all-append (shown_after shown x) xs ys
+
+pub shown_after_all-run : (shown : Option Ctx) (ctx : Ctx) (address n : ℕ) → 0 < n → shown_after_all shown (instructions ctx address n) ≡ Some ctx
+shown_after_all-run shown ctx address zero some = absurd (omega arith)
+shown_after_all-run shown ctx address (suc zero) some = refl
+shown_after_all-run shown ctx address (suc (suc n)) some = shown_after_all-run (Some ctx) ctx ((address + 4) % 2 ^ 64) (suc n) (omega arith)
+
+-- ---- exceptions, whose line no context changes
+
+pub lines_of-mark : (id : ℕ) (mark : ExcMark) → line_of id (exception_text mark.kind mark.ret) ≡ lines_of id None (exception (Some mark))
+lines_of-mark id mark = sym (append-nil (line_of id (exception_text mark.kind mark.ret)))
+
+lines_of-exception : (id : ℕ) (shown : Option Ctx) (exc : Option ExcMark) → lines_of id None (exception exc) ≡ lines_of id shown (exception exc)
+lines_of-exception id shown None = refl
+lines_of-exception id shown (Some mark) = refl
+
+shown_after_all-exception : (shown : Option Ctx) (exc : Option ExcMark) → shown_after_all shown (exception exc) ≡ shown
+shown_after_all-exception shown None = refl
+shown_after_all-exception shown (Some mark) = refl
+
+-- ---- what a walk shows
+
+rest_lines : (id : ℕ) (shown : Option Ctx) (w : Walked) → lines_of id shown (block_items w) ++ lines_of id None (exception w.exc) ≡ lines_of id shown (block_items w ++ exception w.exc)
+rest_lines id shown w =
+    ap (λ t. lines_of id shown (block_items w) ++ t) (lines_of-exception id (shown_after_all shown (block_items w)) w.exc)
+    ∙ sym (lines_of-append id shown (block_items w) (exception w.exc))
+
+on_items : Bool → List Item
+on_items on = if on then On ∷ [] else []
+
+lines_of-on : (id : ℕ) (shown : Option Ctx) (on : Bool) (items : List Item) → on_line id on ++ lines_of id shown items ≡ lines_of id shown (on_items on ++ items)
+unfolding on_items
+lines_of-on id shown true items = refl
+lines_of-on id shown false items = refl
+
+shown_after_all-on : (shown : Option Ctx) (on : Bool) (items : List Item) → shown_after_all shown (on_items on ++ items) ≡ shown_after_all shown items
+unfolding on_items
+shown_after_all-on shown true items = refl
+shown_after_all-on shown false items = refl
+
+behind_on : (w : Walked) → on_items w.on ++ (block_items w ++ exception w.exc) ≡ items_of w
+unfolding on_items
+behind_on w = sym (append_assoc (on_items w.on) (block_items w) (exception w.exc))
+
+pub lines_of-items : (id : ℕ) (shown : Option Ctx) (w : Walked)
+    → on_line id w.on ++ (lines_of id shown (block_items w) ++ lines_of id None (exception w.exc)) ≡ lines_of id shown (items_of w)
+lines_of-items id shown w =
+    ap (λ t. on_line id w.on ++ t) (rest_lines id shown w) ∙ lines_of-on id shown w.on (block_items w ++ exception w.exc) ∙ ap (lines_of id shown) (behind_on w)
+
+pub shown_after_all-items : (shown : Option Ctx) (w : Walked) → shown_after_all shown (block_items w) ≡ shown_after_all shown (items_of w)
+shown_after_all-items shown w =
+    sym (shown_after_all-exception (shown_after_all shown (block_items w)) w.exc) ∙ sym (shown_after_all-append shown (block_items w) (exception w.exc))
+    ∙ sym (shown_after_all-on shown w.on (block_items w ++ exception w.exc)) ∙ ap (shown_after_all shown) (behind_on w)

@@ -1,0 +1,208 @@
+//! The lines of a path.
+ghost use Rattle.std.specs.Prelude.{◌≡◌, ◌+◌, ◌++◌, ◌≤◌, length, codes, IfOk, Some, None};
+ghost use Rattle.etm_types.specs.Walked.{instructions, exception, items_of};
+ghost use Rattle.path_text.specs.Lines.{line_of, hex};
+ghost use Rattle.path_text.specs.PathLines.{whole_context_text, exception_names, name_among, exception_text, same_context, context_line, instruction_lines, lines_of, shown_after_all, on_line, block_items};
+ghost use Rattle.path_text.specs.Writing.{Writes};
+
+use crate::line::Line;
+use etm_types::{Ctx, ExcMark, Id, Walked};
+use trace_io::{Failed, Sink};
+
+/// The size of an instruction in bytes.
+const STEP: u64 = 4;
+
+/// Writes the line of one text.
+fn write_text<K: Sink>(id: Id, text: &[u8], sink: &mut K) -> Result<(), Failed>
+    requires { length text.now ≤ 8 }
+    ensures { Writes (K.written sink.old) (K.written sink.new) (K.faults sink.old) (K.faults sink.new) result (line_of id text.now) }
+{
+    let mut line = Line::begin(id);
+    line.text(text);
+    line.write(sink)
+}
+
+/// Writes the line of a context.
+fn write_context<K: Sink>(id: Id, ctx: &Ctx, sink: &mut K) -> Result<(), Failed>
+    ensures { Writes (K.written sink.old) (K.written sink.new) (K.faults sink.old) (K.faults sink.new) result (line_of id (whole_context_text ctx.now)) }
+{
+    let mut line = Line::begin(id);
+    line.text(b"ctx el");
+    line.decimal_u8(ctx.el);
+    if ctx.ns {
+        line.text(b" ns ");
+    } else {
+        line.text(b" s ");
+    }
+    line.hex_u32(ctx.vmid);
+    line.text(b" ");
+    line.hex_u32(ctx.cid);
+    line.write(sink)
+}
+
+/// Whether two contexts are the same.
+fn same_context(a: &Ctx, b: &Ctx) -> bool
+    ensures { result ≡ same_context a.now b.now }
+{
+    a.el == b.el && a.ns == b.ns && a.vmid == b.vmid && a.cid == b.cid
+}
+
+/// Writes the line of a context, unless it was printed last.
+fn write_context_once<K: Sink>(
+    id: Id,
+    ctx: &Ctx,
+    shown: &mut Option<Ctx>,
+    sink: &mut K,
+) -> Result<(), Failed>
+    ensures lines { Writes (K.written sink.old) (K.written sink.new) (K.faults sink.old) (K.faults sink.new) result (context_line id shown.old ctx.now) }
+    ensures shown { IfOk result (λ _. shown.new ≡ Some ctx.now) }
+{
+    match shown {
+        Some(last) if same_context(last, ctx) => Ok(()),
+        _ => {
+            *shown = Some(*ctx);
+            write_context(id, ctx, sink)
+        }
+    }
+}
+
+/// Writes the line of an instruction.
+fn write_instruction<K: Sink>(id: Id, address: u64, sink: &mut K) -> Result<(), Failed>
+    ensures { Writes (K.written sink.old) (K.written sink.new) (K.faults sink.old) (K.faults sink.new) result (line_of id (hex address)) }
+{
+    let mut line = Line::begin(id);
+    line.hex(address);
+    line.write(sink)
+}
+
+/// Writes the lines of so many instructions, one behind the other.
+fn write_instructions<K: Sink>(id: Id, start: u64, count: u64, sink: &mut K) -> Result<(), Failed>
+    ensures { Writes (K.written sink.old) (K.written sink.new) (K.faults sink.old) (K.faults sink.new) result (instruction_lines id start count) }
+{
+    let mut address = start;
+    for _done in 0..count {
+        write_instruction(id, address, sink)?;
+        address = address.wrapping_add(STEP);
+    }
+    Ok(())
+}
+
+/// Writes the lines of the instructions of a walk, behind that of their context.
+fn write_run<K: Sink>(
+    id: Id,
+    walked: &Walked,
+    shown: &mut Option<Ctx>,
+    sink: &mut K,
+) -> Result<(), Failed>
+    ensures lines { Writes (K.written sink.old) (K.written sink.new) (K.faults sink.old) (K.faults sink.new) result (lines_of id shown.old (instructions walked.now.ctx walked.now.start walked.now.count)) }
+    ensures shown { IfOk result (λ _. shown.new ≡ shown_after_all shown.old (instructions walked.now.ctx walked.now.start walked.now.count)) }
+{
+    if walked.count == 0 {
+        return Ok(());
+    }
+    write_context_once(id, &walked.ctx, shown, sink)?;
+    write_instructions(id, walked.start, walked.count, sink)
+}
+
+/// Writes the lines of what a walk shows between trace on and the exception.
+fn write_block<K: Sink>(
+    id: Id,
+    walked: &Walked,
+    shown: &mut Option<Ctx>,
+    sink: &mut K,
+) -> Result<(), Failed>
+    ensures lines { Writes (K.written sink.old) (K.written sink.new) (K.faults sink.old) (K.faults sink.new) result (lines_of id shown.old (block_items walked.now)) }
+    ensures shown { IfOk result (λ _. shown.new ≡ shown_after_all shown.old (block_items walked.now)) }
+{
+    if walked.unknown {
+        write_text(id, b"?", sink)
+    } else {
+        write_run(id, walked, shown, sink)
+    }
+}
+
+/// Writes the line of trace on, where it is shown.
+fn write_on<K: Sink>(id: Id, on: bool, sink: &mut K) -> Result<(), Failed>
+    ensures { Writes (K.written sink.old) (K.written sink.new) (K.faults sink.old) (K.faults sink.new) result (on_line id on) }
+{
+    if on {
+        write_text(id, b"on", sink)
+    } else {
+        Ok(())
+    }
+}
+
+/// Adds the name of an exception's type, or its number where it has none (Arm IHI 0064, exception types).
+fn add_name(line: &mut Line, kind: u8)
+    requires { length line.old ≤ 32 }
+    ensures value { line.new ≡ line.old ++ name_among exception_names kind }
+    ensures short { length line.new ≤ length line.old + 12 }
+{
+    match kind {
+        0 => line.text(b"reset"),
+        1 => line.text(b"debug-halt"),
+        2 => line.text(b"call"),
+        3 => line.text(b"trap"),
+        4 => line.text(b"system-error"),
+        6 => line.text(b"inst-debug"),
+        7 => line.text(b"data-debug"),
+        10 => line.text(b"alignment"),
+        11 => line.text(b"inst-fault"),
+        12 => line.text(b"data-fault"),
+        14 => line.text(b"irq"),
+        15 => line.text(b"fiq"),
+        _ => line.decimal_u8(kind),
+    }
+}
+
+/// Writes the line of an exception.
+fn write_mark<K: Sink>(id: Id, mark: &ExcMark, sink: &mut K) -> Result<(), Failed>
+    ensures { Writes (K.written sink.old) (K.written sink.new) (K.faults sink.old) (K.faults sink.new) result (line_of id (exception_text mark.now.kind mark.now.ret)) }
+{
+    let mut line = Line::begin(id);
+    line.text(b"exc ");
+    add_name(&mut line, mark.kind);
+    line.text(b" ");
+    line.hex(mark.ret);
+    line.write(sink)
+}
+
+/// Writes the line of an exception, where there is one.
+fn write_exception<K: Sink>(id: Id, exc: &Option<ExcMark>, sink: &mut K) -> Result<(), Failed>
+    ensures { Writes (K.written sink.old) (K.written sink.new) (K.faults sink.old) (K.faults sink.new) result (lines_of id None (exception exc.now)) }
+{
+    match exc {
+        Some(mark) => write_mark(id, mark, sink),
+        None => Ok(()),
+    }
+}
+
+/// Writes the lines of what the walk of one P0 element shows: `on`, then `?` or the instructions, then
+/// the exception. `shown` is the context that was printed last, here and before.
+pub fn write_walked<K: Sink>(
+    id: Id,
+    walked: &Walked,
+    shown: &mut Option<Ctx>,
+    sink: &mut K,
+) -> Result<(), Failed>
+    ensures lines { Writes (K.written sink.old) (K.written sink.new) (K.faults sink.old) (K.faults sink.new) result (lines_of id shown.old (items_of walked.now)) }
+    ensures shown { IfOk result (λ _. shown.new ≡ shown_after_all shown.old (items_of walked.now)) }
+{
+    write_on(id, walked.on, sink)?;
+    write_block(id, walked, shown, sink)?;
+    write_exception(id, &walked.exc, sink)
+}
+
+/// Writes the line of trace that was lost by an overflow.
+pub fn write_gap<K: Sink>(id: Id, sink: &mut K) -> Result<(), Failed>
+    ensures { Writes (K.written sink.old) (K.written sink.new) (K.faults sink.old) (K.faults sink.new) result (line_of id (codes "gap")) }
+{
+    write_text(id, b"gap", sink)
+}
+
+/// Writes the line of a stop of tracing.
+pub fn write_stop<K: Sink>(id: Id, sink: &mut K) -> Result<(), Failed>
+    ensures { Writes (K.written sink.old) (K.written sink.new) (K.faults sink.old) (K.faults sink.new) result (line_of id (codes "stop")) }
+{
+    write_text(id, b"stop", sink)
+}
