@@ -2,7 +2,9 @@
 ghost use Rattle.path_text.specs.PacketLines.{HasText};
 
 use super::*;
-use etm_types::{AddrForm, AtomRun, CtxBits, FewAtoms, Id, QueueFault, WalkFault};
+use etm_types::{
+    AddrForm, AtomRun, Ctx, CtxBits, ExcMark, FewAtoms, Id, QueueFault, WalkFault, Walked,
+};
 use packet_grammar::{Fault, Packet, PacketFault, RefusedKind};
 use std::test::Fail;
 use trace_io::{Failed, MemSink};
@@ -50,6 +52,42 @@ fn show(sink: &mut MemSink, at: u64, packet: &Packet) -> Result<(), Fail>
 fn show_end(sink: &mut MemSink, id: u8, end: &End) -> Result<(), Fail> {
     let id = Id::new(id).ok_or("it is an ID")?;
     write_end(id, end, sink).ok().ok_or("a write failed")?;
+    Ok(())
+}
+
+/// EL0 in Non-secure state, with this context ID.
+fn user(cid: u32) -> Ctx {
+    Ctx {
+        el: 0,
+        ns: true,
+        vmid: 0,
+        cid,
+    }
+}
+
+/// So many instructions from an address on, and nothing else.
+fn block(ctx: Ctx, start: u64, count: u64) -> Walked {
+    Walked {
+        on: false,
+        unknown: false,
+        ctx,
+        start,
+        count,
+        exc: None,
+    }
+}
+
+/// Writes the lines of what a walk shows.
+fn show_walked(
+    sink: &mut MemSink,
+    id: u8,
+    shown: &mut Option<Ctx>,
+    walked: &Walked,
+) -> Result<(), Fail> {
+    let id = Id::new(id).ok_or("it is an ID")?;
+    write_walked(id, walked, shown, sink)
+        .ok()
+        .ok_or("a write failed")?;
     Ok(())
 }
 
@@ -215,6 +253,113 @@ fn a_line_is_written_by_one_call(rt: HostRuntime) -> Result<(), Fail> {
     assert_eq!(rt; write_packet_line(id, 1 << 63, &packet, &mut sink), Ok(()));
     assert_eq!(rt; write_end(id, &End::Clean, &mut sink), Err(Failed));
     let line = b"01 9223372036854775808 mispredict EE\n";
+    assert_eq!(rt; sink.written(), line.as_slice());
+    Ok(())
+}
+
+#[test]
+fn a_path_with_an_exception_has_its_lines(rt: HostRuntime) -> Result<(), Fail> {
+    let mut sink = MemSink::new(rt.alloc(), Vec::new(rt.alloc()));
+    let mut shown = None;
+    let system = Ctx { el: 1, ..user(0) };
+    let interrupted = Walked {
+        on: true,
+        exc: Some(ExcMark {
+            kind: 14,
+            ret: 0x1004,
+        }),
+        ..block(user(0), 0x1000, 1)
+    };
+    show_walked(&mut sink, 1, &mut shown, &interrupted)?;
+    show_walked(&mut sink, 1, &mut shown, &block(system, 0x8000, 2))?;
+    show_walked(&mut sink, 1, &mut shown, &block(user(0), 0x1004, 1))?;
+    show_end(&mut sink, 1, &End::Clean)?;
+    let lines = b"01 on\n01 ctx el0 ns 0 0\n01 1000\n01 exc irq 1004\n01 ctx el1 ns 0 0\n\
+        01 8000\n01 8004\n01 ctx el0 ns 0 0\n01 1004\n01 end\n";
+    assert_eq!(rt; sink.written(), lines.as_slice());
+    Ok(())
+}
+
+#[test]
+fn a_context_is_printed_where_it_changes(rt: HostRuntime) -> Result<(), Fail> {
+    let mut sink = MemSink::new(rt.alloc(), Vec::new(rt.alloc()));
+    let mut shown = None;
+    let first = Walked {
+        on: true,
+        ..block(user(0x101), 0x4000, 2)
+    };
+    show_walked(&mut sink, 16, &mut shown, &first)?;
+    show_walked(&mut sink, 16, &mut shown, &block(user(0x102), 0x4008, 2))?;
+    show_walked(&mut sink, 16, &mut shown, &block(user(0x102), 0x4000, 2))?;
+    let lines = b"10 on\n10 ctx el0 ns 0 101\n10 4000\n10 4004\n10 ctx el0 ns 0 102\n\
+        10 4008\n10 400c\n10 4000\n10 4004\n";
+    assert_eq!(rt; sink.written(), lines.as_slice());
+    Ok(())
+}
+
+#[test]
+fn a_gap_a_stop_and_an_unknown_stretch_keep_the_context(rt: HostRuntime) -> Result<(), Fail> {
+    let id = Id::new(1).ok_or("it is an ID")?;
+    let mut sink = MemSink::new(rt.alloc(), Vec::new(rt.alloc()));
+    let mut shown = None;
+    let secure = Ctx {
+        ns: false,
+        ..user(0)
+    };
+    let first = Walked {
+        on: true,
+        ..block(secure, 0x1000, 2)
+    };
+    let unknown = Walked {
+        unknown: true,
+        ..block(user(0), 0, 0)
+    };
+    let second = Walked {
+        on: true,
+        ..block(secure, 0x1008, 2)
+    };
+    show_walked(&mut sink, 1, &mut shown, &first)?;
+    assert_eq!(rt; write_gap(id, &mut sink), Ok(()));
+    show_walked(&mut sink, 1, &mut shown, &unknown)?;
+    show_walked(&mut sink, 1, &mut shown, &second)?;
+    assert_eq!(rt; write_stop(id, &mut sink), Ok(()));
+    let lines = b"01 on\n01 ctx el0 s 0 0\n01 1000\n01 1004\n01 gap\n01 ?\n\
+        01 on\n01 1008\n01 100c\n01 stop\n";
+    assert_eq!(rt; sink.written(), lines.as_slice());
+    Ok(())
+}
+
+#[test]
+fn an_exception_has_its_name_or_its_number(rt: HostRuntime) -> Result<(), Fail> {
+    let mut sink = MemSink::new(rt.alloc(), Vec::new(rt.alloc()));
+    let mut shown = None;
+    for kind in 0..17 {
+        let exception = Walked {
+            exc: Some(ExcMark { kind, ret: 0x101c }),
+            ..block(user(0), 0, 0)
+        };
+        show_walked(&mut sink, 1, &mut shown, &exception)?;
+    }
+    let lines = b"01 exc reset 101c\n01 exc debug-halt 101c\n01 exc call 101c\n\
+        01 exc trap 101c\n01 exc system-error 101c\n01 exc 5 101c\n01 exc inst-debug 101c\n\
+        01 exc data-debug 101c\n01 exc 8 101c\n01 exc 9 101c\n01 exc alignment 101c\n\
+        01 exc inst-fault 101c\n01 exc data-fault 101c\n01 exc 13 101c\n01 exc irq 101c\n\
+        01 exc fiq 101c\n01 exc 16 101c\n";
+    assert_eq!(rt; sink.written(), lines.as_slice());
+    Ok(())
+}
+
+#[test]
+fn a_path_ends_where_a_write_fails(rt: HostRuntime) -> Result<(), Fail> {
+    let alloc = rt.alloc();
+    let mut sink = MemSink::new(alloc, vec![in alloc; false, true]?);
+    let id = Id::new(1).ok_or("it is an ID")?;
+    let first = Walked {
+        on: true,
+        ..block(user(0), 0x1000, 2)
+    };
+    assert_eq!(rt; write_walked(id, &first, &mut None, &mut sink), Err(Failed));
+    let line = b"01 on\n";
     assert_eq!(rt; sink.written(), line.as_slice());
     Ok(())
 }
