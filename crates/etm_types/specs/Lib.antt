@@ -5,3 +5,4 @@ pub mod Id
 pub mod Pre
 pub mod Settings
 pub mod Sizes
+pub mod Walked

@@ -11,6 +11,31 @@ pub enum P0 {
     Exc { kind: u8, ret: u64 },
 }
 
+/// An element of a trace: what a packet tells of the execution.
+#[derive(Clone, Copy, Debug, PartialEq, Eq)]
+pub enum Elem {
+    /// Trace info: the trace begins anew here, with so many P0 elements that are not committed.
+    Info { spec: u32 },
+    /// Trace on: tracing begins, or goes on after a gap.
+    On,
+    /// The context of what follows.
+    Ctx(Ctx),
+    /// The address of the next instruction.
+    Addr(u64),
+    /// A P0 element.
+    P0(P0),
+    /// So many P0 elements, the oldest ones, are committed.
+    Commit(u32),
+    /// So many P0 elements, the newest ones, are cancelled.
+    Cancel(u32),
+    /// The newest atom was predicted wrongly: it is the other one.
+    Flip,
+    /// A buffer of the trace unit was full, and trace is missing.
+    Overflow,
+    /// The trace unit threw away what it had not told yet.
+    Discard,
+}
+
 /// What was told just before a P0 element.
 #[derive(Clone, Copy, Debug, PartialEq, Eq)]
 pub struct Pre {

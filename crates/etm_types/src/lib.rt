@@ -1,6 +1,6 @@
 //! The values that the layers of the reader pass on: settings and stream IDs, the contexts of executed
-//! code, the elements of a trace with what was told before them, the values that packets carry, and the
-//! items of a path.
+//! code, the elements of a trace with what was told before them, the values that packets carry, what the
+//! walk of an element shows, the items of a path, and the faults of a reader above the packets.
 //!
 //! Ranges stand where a call asks for them: [`Settings`] and [`Id`] have private fields and exist only
 //! in their range, the other types are open. The terms are those of the ETMv4 architecture (Arm
@@ -14,15 +14,21 @@ mod context;
 mod element;
 mod id;
 mod item;
+mod queue_fault;
 mod settings;
+mod walk_fault;
+mod walked;
 
 pub use address::AddrForm;
 pub use atoms::{AtomRun, FewAtoms};
 pub use context::{Ctx, CtxBits};
-pub use element::{Entry, P0, Pre, Thing};
+pub use element::{Elem, Entry, P0, Pre, Thing};
 pub use id::Id;
 pub use item::Item;
+pub use queue_fault::QueueFault;
 pub use settings::{Settings, SettingsFault};
+pub use walk_fault::WalkFault;
+pub use walked::{ExcMark, Walked};
 
 #[cfg(test)]
 mod tests;

@@ -16,24 +16,19 @@ cases false = inr refl
 pub one_more : (image : Image) (address n : ℕ) → IsPlainRun image address n → class_at image (behind address n) ≡ Some Plain → IsPlainRun image address (n + 1)
 one_more image address n run plain = below_more _ _ run plain
 
-pub behind-next : (address n : ℕ) → (behind address n + 4) % 2 ^ 64 ≡ behind address (n + 1)
-behind-next address n = omega arith
-
-pub behind-zero : (address : ℕ) → address < 2 ^ 64 → behind address 0 ≡ address
-behind-zero address low = omega (arith, low)
-
 -- each multiple of 4 stands so many words behind another one
-pub reached : (from to : ℕ) → from % 4 ≡ 0 → to % 4 ≡ 0 → from < 2 ^ 64 → to < 2 ^ 64 → (n : ℕ) × (n < 2 ^ 62) × (behind from n ≡ to)
-reached from to aligned also low lower =
-    elim (cases (nat_le from to)) [
-      | inl t ↦ let le = leb-true _ _ t in ((to - from) / 4, omega arith, omega arith)
-      | inr f ↦ let lt = leb-false _ _ f in ((to + 2 ^ 64 - from) / 4, omega arith, omega arith)
+reached : (from to : ℕ) → from % 4 ≡ 0 → to % 4 ≡ 0 → to < 2 ^ 64 → (n : ℕ) × (n < 2 ^ 62) × (behind from n ≡ to)
+reached from to aligned also lower =
+    let low : ℕ = from % 2 ^ 64 in
+    elim (cases (nat_le low to)) [
+      | inl t ↦ let le = leb-true _ _ t in ((to - low) / 4, omega arith, omega arith)
+      | inr f ↦ let lt = leb-false _ _ f in ((to + 2 ^ 64 - low) / 4, omega arith, omega arith)
     ]
 
 -- a run of plain words does not go past a gap
-pub run_short : (image : Image) (address n : ℕ) → address % 4 ≡ 0 → address < 2 ^ 64 → HasGap image → IsPlainRun image address n → n < 2 ^ 62
-run_short image address n aligned low gap run =
-    let far = reached address gap.address aligned gap.aligned low gap.within in
+pub run_short : (image : Image) (address n : ℕ) → address % 4 ≡ 0 → HasGap image → IsPlainRun image address n → n < 2 ^ 62
+run_short image address n aligned gap run =
+    let far = reached address gap.address aligned gap.aligned gap.within in
     elim (cases (nat_lt far.0 n)) [
       | inl t ↦
           let plain = run far.0 (ltb-true _ _ t) in
@@ -43,7 +38,7 @@ run_short image address n aligned low gap run =
     ]
 
 -- and so does a run and the plain word behind it
-pub plain_short : (image : Image) (address n place : ℕ) (class : Option Class) → address % 4 ≡ 0 → address < 2 ^ 64 → HasGap image → IsPlainRun image address n → place ≡ behind address n
+pub plain_short : (image : Image) (address n place : ℕ) (class : Option Class) → address % 4 ≡ 0 → HasGap image → IsPlainRun image address n → place ≡ behind address n
     → class ≡ class_at image place → class ≡ Some Plain → n + 1 < 2 ^ 62
-plain_short image address n place class aligned low gap run at there plain =
-    run_short image address (n + 1) aligned low gap (one_more image address n run (ap (class_at image) (sym at) ∙ sym there ∙ plain))
+plain_short image address n place class aligned gap run at there plain =
+    run_short image address (n + 1) aligned gap (one_more image address n run (ap (class_at image) (sym at) ∙ sym there ∙ plain))
