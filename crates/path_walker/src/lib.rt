@@ -14,3 +14,6 @@ mod walker;
 
 pub use laws::{an_entry_has_one_walk, things_have_one_walk};
 pub use walker::Walker;
+
+#[cfg(test)]
+mod tests;
