@@ -1,15 +1,15 @@
 -- Which class an instruction word has (Arm DDI 0487, "Branches, Exception Generating and System instructions", the
 -- encoding tables in their order).
-use Rattle.std.specs.Prelude.{ℕ, true, false, List, [], ◌∷◌, ◌++◌, bit_and, ◌==◌, if◌then◌else◌}
-use Rattle.a64_branches.specs.Offsets.{imm14, imm19, imm26}
+use Rattle.std.specs.Prelude.{⊤, ℕ, true, false, List, [], ◌∷◌, ◌++◌, bit_and, ◌==◌, if◌then◌else◌}
+use Rattle.a64_branches.specs.Offsets.{IsWhole, imm14, imm19, imm26}
 use Rattle.a64_branches.specs.declared.class.Class.{Class}
 use Rattle.a64_branches.specs.declared.class.Class.TheVariants.{Plain, Jump, Cond, Isb, Ind, Eret, Odd}
 
 -- the words whose bits under the mask are those of the value, and their class
 pub record Row : Type 0 where
-  mask : ℕ
-  value : ℕ
-  class : ℕ → Class
+  pub mask : ℕ
+  pub value : ℕ
+  pub class : ℕ → Class
 
 abbrev pub row : ℕ → ℕ → (ℕ → Class) → Row
 row mask value class = record { mask = mask; value = value; class = class }
@@ -73,3 +73,9 @@ class_by (r ∷ others) word = if bit_and word r.mask == r.value then r.class wo
 
 unfoldable pub class_of : ℕ → Class
 class_of word = class_by rows word
+
+-- where the class has an offset, it is one of whole instructions
+abbrev pub HasWholeOffset : Class → Type 0
+HasWholeOffset (Jump offset link) = IsWhole offset
+HasWholeOffset (Cond offset) = IsWhole offset
+HasWholeOffset _ = ⊤

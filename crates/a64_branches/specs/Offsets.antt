@@ -1,5 +1,5 @@
 -- The offsets of branches (Arm DDI 0487, "Branches, Exception Generating and System instructions"), and where they lead.
-use Rattle.std.specs.Prelude.{ℕ, ◌+◌, ◌-◌, ◌/◌, ◌%◌, ◌^◌, ℤ, pos, ◌+ℤ◌, ◌-ℤ◌, ◌*ℤ◌, nat_lt, unsigned_abs, if◌then◌else◌}
+use Rattle.std.specs.Prelude.{◌≡◌, ℕ, ◌+◌, ◌-◌, ◌/◌, ◌%◌, ◌^◌, ℤ, pos, ◌+ℤ◌, ◌-ℤ◌, ◌*ℤ◌, nat_lt, unsigned_abs, if◌then◌else◌}
 use Rattle.std.specs.Int.{int_rem_euclid}
 
 -- the number in bits high to low of a word
@@ -13,6 +13,10 @@ signed size number = if nat_lt number (2 ^ (size - 1)) then pos number else pos 
 -- An immediate counts instructions of 4 bytes. An offset counts bytes.
 abbrev pub bytes : ℤ → ℤ
 bytes instructions = instructions *ℤ pos 4
+
+-- an offset of whole instructions
+abbrev pub IsWhole : ℤ → Type 0
+IsWhole offset = (instructions : ℤ) × (offset ≡ bytes instructions)
 
 abbrev pub imm26 : ℕ → ℤ
 imm26 word = bytes (signed 26 (field 25 0 word))

@@ -1,6 +1,6 @@
 //! The class of an instruction word.
 ghost use Rattle.std.specs.Prelude.{◌≡◌};
-ghost use Rattle.a64_branches.specs.Classes.{class_of};
+ghost use Rattle.a64_branches.specs.Classes.{HasWholeOffset, class_of};
 
 use crate::encoding::{
     ANY_BRANCH_TO_REGISTER, BRANCH, BRANCH_CONDITIONALLY, BRANCH_CONSISTENT, BRANCH_TO_REGISTER,
@@ -31,7 +31,8 @@ pub enum Class {
 /// The class of an instruction word: that of the first encoding which it has, or `Plain` without one.
 #[tactic(auto, unfolding(crate::specs::Classes::class_of))]
 pub fn class_of(word: u32) -> Class
-    ensures { result ≡ class_of word }
+    ensures value { result ≡ class_of word }
+    ensures whole { HasWholeOffset result }
 {
     if BRANCH_CONDITIONALLY.fits(word) {
         Class::Cond { off: imm19(word) }

@@ -1,6 +1,6 @@
 //! The offsets of branches, and where they lead.
-ghost use Rattle.std.specs.Prelude.{◌≡◌, ◌<◌, ◌*◌, nat_lt, pos, ◌-ℤ◌, if◌then◌else◌};
-ghost use Rattle.a64_branches.specs.Offsets.{imm14, imm19, imm26, target};
+ghost use Rattle.std.specs.Prelude.{◌≡◌, ◌<◌, ◌*◌, ◌%◌, nat_lt, pos, ◌-ℤ◌, if◌then◌else◌};
+ghost use Rattle.a64_branches.specs.Offsets.{IsWhole, imm14, imm19, imm26, target};
 
 /// The bytes of an instruction, which an immediate counts.
 const INSTRUCTION: i64 = 4;
@@ -40,7 +40,8 @@ fn signed(number: u32, top: u32) -> i64
 
 /// The address `off` bytes from `addr`, modulo 2^64.
 pub fn target(addr: u64, off: i64) -> u64
-    ensures { result ≡ target addr off }
+    ensures value { result ≡ target addr off }
+    ensures aligned { addr % 4 ≡ 0 → IsWhole off → result % 4 ≡ 0 }
 {
     addr.wrapping_add_signed(off)
 }

@@ -1,3 +1,5 @@
 pub mod Lines
 pub mod Spelled
 pub mod Read
+pub mod Runs
+pub mod Gap

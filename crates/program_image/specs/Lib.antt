@@ -3,3 +3,4 @@ pub mod ImageText
 pub mod Spelling
 pub mod Words
 pub mod Answers
+pub mod Blocks

@@ -6,11 +6,13 @@
 //! line ends with LF.
 #![tactic(auto)]
 
+mod block;
 mod fault;
 mod image;
 mod laws;
 mod text;
 
+pub use block::{Block, BlockEnd};
 pub use fault::{ImageFault, ImageWhy};
 pub use image::Image;
 pub use laws::reads_what_is_spelled;

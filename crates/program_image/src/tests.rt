@@ -1,4 +1,5 @@
-use crate::{Image, ImageFault, ImageWhy};
+use crate::{Block, BlockEnd, Image, ImageFault, ImageWhy};
+use a64_branches::Class;
 use std::alloc::Global;
 use std::test::Fail;
 use trace_io::{MemSource, SafeSource};
@@ -86,5 +87,28 @@ fn a_failed_read_is_no_text(rt: HostRuntime) -> Result<(), Fail> {
 fn a_refusal_tells_its_line(rt: HostRuntime) -> Result<(), Fail> {
     let text = format!(in rt.alloc(); "{LATER}")?;
     assert_eq!(rt; text.as_str(), "image line 0: later");
+    Ok(())
+}
+
+#[test]
+fn a_block_ends_where_a_trace_tells(rt: HostRuntime) -> Result<(), Fail> {
+    let alloc = rt.alloc();
+    let image = read(alloc, "@1000\n1f2003d5 40000054 1f2003d5 10000054\n")?;
+    let cond = BlockEnd::P0 {
+        addr: 0x1004,
+        class: Class::Cond { off: 8 },
+    };
+    let blocks = [
+        (0x1000, 1, cond),
+        (0x1004, 0, cond),
+        (0x1008, 1, BlockEnd::Odd(0x100c)),
+        (0x1010, 0, BlockEnd::NoCode(0x1010)),
+    ];
+    for (pc, plain, end) in blocks {
+        assert_eq!(rt; image.block(pc), Block { plain, end });
+    }
+    let last = read(alloc, "@fffffffffffffff8\n1f2003d5 1f2003d5\n")?;
+    let end = BlockEnd::NoCode(0);
+    assert_eq!(rt; last.block(0xffff_ffff_ffff_fff8), Block { plain: 2, end });
     Ok(())
 }

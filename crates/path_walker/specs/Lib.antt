@@ -1,0 +1,5 @@
+pub mod Steps
+pub mod Start
+pub mod State
+pub mod Walk
+pub mod Things

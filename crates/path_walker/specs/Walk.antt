@@ -1,0 +1,110 @@
+-- The walk of one entry over an image: what it shows and the state after it, or the fault with which it stops.
+use Rattle.std.specs.Prelude.{◌≡◌, ◌≢◌, ◌⊎◌, ℕ, ◌+◌, ◌<◌, Bool, false, List, Option, Some, None, is_none, Result, Ok, Err, ⊤}
+use Rattle.std.specs.Option.{unwrap_or}
+use Rattle.a64_branches.specs.declared.class.Class.{Class}
+use Rattle.a64_branches.specs.declared.class.Class.TheVariants.{Plain, Odd}
+use Rattle.program_image.specs.Blocks.{class_at, behind, IsPlainRun}
+use Rattle.program_image.specs.declared.image.Image.{Image}
+use Rattle.etm_types.specs.declared.element.P0.{P0}
+use Rattle.etm_types.specs.declared.element.P0.TheVariants.{Atom, Exc}
+use Rattle.etm_types.specs.declared.element.Entry.{Entry}
+use Rattle.etm_types.specs.declared.walked.Walked.{Walked}
+use Rattle.etm_types.specs.declared.walked.ExcMark.{ExcMark}
+use Rattle.etm_types.specs.declared.walk_fault.WalkFault.{WalkFault}
+use Rattle.etm_types.specs.declared.walk_fault.WalkFault.TheVariants as fault
+use Rattle.path_walker.specs.declared.pc.Pc.{Pc}
+use Rattle.path_walker.specs.declared.pc.Pc.TheVariants.{Awaited, Lost}
+use Rattle.path_walker.specs.State.{State, IsAligned}
+use Rattle.path_walker.specs.Start.{pc_before, context_of, mismatch_of, start_of}
+use Rattle.path_walker.specs.Steps.{next_of, stack_after}
+
+-- ---- an atom: plain words and the P0 instruction behind them
+
+-- so many instructions are executed from an address on, and the last one goes on at pc
+pub record GoesOn (image : Image) (address : ℕ) (stack : List ℕ) (taken : Bool) (count : ℕ) (pc : Pc) (after : List ℕ) : Type 0 where
+  pub plain : ℕ
+  pub class : Class
+  pub run : IsPlainRun image address plain
+  pub there : class_at image (behind address plain) ≡ Some class
+  pub next : next_of class (behind address plain) taken ≡ Some pc
+  pub counted : count ≡ plain + 1
+  pub kept : after ≡ stack_after class (behind address plain) stack
+
+-- no instruction that fits the atom stands at an address
+abbrev pub Refuses : Option Class → ℕ → Bool → WalkFault → Type 0
+Refuses None address taken f = f ≡ fault.NoCode address
+Refuses (Some Plain) address taken f = ⊥
+Refuses (Some Odd) address taken f = f ≡ fault.Odd address
+Refuses (Some class) address taken f = (next_of class address taken ≡ None) × (f ≡ fault.BadAtom address)
+
+-- ---- an exception: plain words up to the one that it returns to
+
+-- the n words from an address on are plain, and none of them stands at the return address
+abbrev pub IsRunBefore : Image → ℕ → ℕ → ℕ → Type 0
+IsRunBefore image ret address n = (k : ℕ) → k < n → (behind address k ≢ ret) × (class_at image (behind address k) ≡ Some Plain)
+
+-- no plain word stands at an address, which is not yet the return address
+abbrev pub Misses : Option Class → ℕ → ℕ → WalkFault → Type 0
+Misses None address ret f = f ≡ fault.NoCode address
+Misses (Some Plain) address ret f = ⊥
+Misses (Some Odd) address ret f = f ≡ fault.Odd address
+Misses (Some class) address ret f = f ≡ fault.ReturnMissed address ret
+
+-- ---- a P0 element
+
+-- From an address that is known or not, with these return addresses, so many instructions are shown, and the walk goes on at pc
+-- with others. Behind an exception the address is awaited, and is not taken off the return stack.
+abbrev pub Leads : Image → Option ℕ → List ℕ → P0 → ℕ → Pc → List ℕ → Type 0
+Leads image None stack (Atom taken) count pc after = (count ≡ 0) × (pc ≡ Lost) × (after ≡ stack)
+Leads image None stack (Exc kind ret) count pc after = (count ≡ 0) × (pc ≡ Awaited false) × (after ≡ stack)
+Leads image (Some address) stack (Atom taken) count pc after = GoesOn image address stack taken count pc after
+Leads image (Some address) stack (Exc kind ret) count pc after =
+    IsRunBefore image ret address count × (behind address count ≡ ret) × (pc ≡ Awaited false) × (after ≡ stack)
+
+-- the walk from there stops
+abbrev pub Halts : Image → Option ℕ → P0 → WalkFault → Type 0
+Halts image None p0 f = ⊥
+Halts image (Some address) (Atom taken) f =
+    (n : ℕ) × IsPlainRun image address n × Refuses (class_at image (behind address n)) (behind address n) taken f
+Halts image (Some address) (Exc kind ret) f =
+    (n : ℕ) × IsRunBefore image ret address n × (behind address n ≢ ret) × Misses (class_at image (behind address n)) (behind address n) ret f
+
+-- ---- an entry
+
+abbrev pub mark_of : P0 → Option ExcMark
+mark_of (Atom taken) = None
+mark_of (Exc kind ret) = Some (record { kind = kind; ret = ret })
+
+-- the entry is walked
+pub record Shows (image : Image) (s : State) (entry : Entry) (walked : Walked) (after : State) : Type 0 where
+  pub agrees : mismatch_of (pc_before s entry.pre) entry.pre.addr ≡ None
+  pub leads : Leads image (start_of s entry.pre).at (start_of s entry.pre).stack entry.p0 walked.count after.pc after.stack
+  pub on : walked.on ≡ entry.pre.on
+  pub unknown : walked.unknown ≡ is_none (start_of s entry.pre).at
+  pub start : walked.start ≡ unwrap_or (start_of s entry.pre).at 0
+  pub ctx : walked.ctx ≡ context_of s entry.pre
+  pub kept : after.ctx ≡ context_of s entry.pre
+  pub exc : walked.exc ≡ mark_of entry.p0
+
+-- the entry stops
+abbrev pub Stops : Image → State → Entry → WalkFault → Type 0
+Stops image s entry f =
+    (mismatch_of (pc_before s entry.pre) entry.pre.addr ≡ Some f)
+    ⊎ ((mismatch_of (pc_before s entry.pre) entry.pre.addr ≡ None) × Halts image (start_of s entry.pre).at entry.p0 f)
+
+-- the walk of an entry: it shows something and goes on from a state, or it stops with a fault
+abbrev pub IsWalk : Image → State → Entry → Result (Walked × State) WalkFault → Type 0
+IsWalk image s entry (Ok w) = Shows image s entry w.0 w.1
+IsWalk image s entry (Err f) = Stops image s entry f
+
+-- the addresses in an entry are those of instructions
+abbrev pub ReturnIsAligned : P0 → Type 0
+ReturnIsAligned (Atom taken) = ⊤
+ReturnIsAligned (Exc kind ret) = IsAligned ret
+
+abbrev pub ToldIsAligned : Option ℕ → Type 0
+ToldIsAligned None = ⊤
+ToldIsAligned (Some address) = IsAligned address
+
+abbrev pub HasAlignedAddresses : Entry → Type 0
+HasAlignedAddresses entry = ToldIsAligned entry.pre.addr × ReturnIsAligned entry.p0

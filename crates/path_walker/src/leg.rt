@@ -1,0 +1,147 @@
+//! What is executed for a P0 element from an address on, and where it leads.
+ghost use Rattle.std.specs.Prelude.{◌≡◌, ℕ, ◌%◌, false, List, IfOk, IfSome, Some, None};
+ghost use Rattle.a64_branches.specs.Classes.{HasWholeOffset};
+ghost use Rattle.program_image.specs.Blocks.{behind, class_at, IsBlock};
+ghost use Rattle.etm_types.specs.declared.element.P0.TheVariants as p0;
+ghost use Rattle.etm_types.specs.declared.walk_fault.WalkFault.{WalkFault};
+ghost use Rattle.path_walker.specs.declared.pc.Pc.TheVariants.{Awaited};
+ghost use Rattle.path_walker.specs.State.{IsAligned, IsPc};
+ghost use Rattle.path_walker.specs.Steps.{next_of, stack_after, linked};
+ghost use Rattle.path_walker.specs.Walk.{Leads, Halts, ToldIsAligned, ReturnIsAligned};
+
+use crate::pc::Pc;
+use a64_branches::{Class, target};
+use etm_types::{P0, WalkFault};
+use program_image::{BlockEnd, Image};
+use return_stack::ReturnStack;
+
+/// The size of an instruction, in bytes.
+const WORD_BYTES: u64 = 4;
+
+/// What is executed for a P0 element, and where it leads.
+#[derive(Clone, Copy, Debug, PartialEq, Eq)]
+pub struct Leg {
+    /// How many instructions are shown.
+    pub count: u64,
+    pub next: Pc,
+    /// The address that is put on the return stack, where one is.
+    pub link: Option<u64>,
+}
+
+impl Leg {
+    /// So many plain words, and an exception behind them.
+    fn to_exception(count: u64) -> Leg
+        ensures { result ≡ record { count = count; next = Awaited false; link = None } }
+    {
+        Leg {
+            count,
+            next: Pc::Awaited { pops: false },
+            link: None,
+        }
+    }
+
+    /// Puts the return address on a stack, where there is one.
+    pub fn push_link(&self, stack: &mut ReturnStack)
+        requires { stack.old.depth ≡ 15 }
+        ensures addresses { stack.new.addresses ≡ linked self.now.link stack.old.addresses }
+        ensures depth { stack.new.depth ≡ stack.old.depth }
+    {
+        if let Some(addr) = self.link {
+            stack.push(addr);
+        }
+    }
+}
+
+/// Where the instruction at an address goes on by an atom: none where the atom cannot tell of it.
+fn next_of(class: Class, addr: u64, taken: bool) -> Option<Pc>
+    requires address { addr % 4 ≡ 0 }
+    requires whole { HasWholeOffset class }
+    ensures value { result ≡ next_of class addr taken }
+    ensures aligned { IfSome result IsPc }
+{
+    match (class, taken) {
+        (Class::Jump { off, .. } | Class::Cond { off }, true) => Some(Pc::Known(target(addr, off))),
+        (Class::Isb, true) | (Class::Cond { .. }, false) => {
+            Some(Pc::Known(addr.wrapping_add(WORD_BYTES)))
+        }
+        (Class::Ind { link }, true) => Some(Pc::Awaited { pops: !link }),
+        (Class::Eret, true) => Some(Pc::Awaited { pops: false }),
+        _ => None,
+    }
+}
+
+/// The return address of the instruction at an address, where it has one.
+fn link_of(class: Class, addr: u64) -> Option<u64>
+    requires { addr % 4 ≡ 0 }
+    ensures value { (stack : List ℕ) → linked result stack ≡ stack_after class addr stack }
+    ensures aligned { IfSome result IsAligned }
+{
+    match class {
+        Class::Jump { link: true, .. } | Class::Ind { link: true } => {
+            Some(addr.wrapping_add(WORD_BYTES))
+        }
+        _ => None,
+    }
+}
+
+/// The plain words from an address on and the P0 instruction behind them, of which an atom tells.
+fn leg_of_atom(image: &Image, pc: u64, taken: bool) -> Result<Leg, WalkFault>
+    requires { pc % 4 ≡ 0 }
+    ensures leads { IfOk result (λ leg. (stack : List ℕ) → Leads image.now (Some pc) stack (p0.Atom taken) leg.count leg.next (linked leg.link stack)) }
+    ensures halts { (fault : WalkFault) → result ≡ Err fault → Halts image.now (Some pc) (p0.Atom taken) fault }
+    ensures aligned { IfOk result (λ leg. IsPc leg.next × ToldIsAligned leg.link) }
+{
+    let block = image.block(pc);
+    match block.end {
+        BlockEnd::NoCode(addr) => Err(WalkFault::NoCode(addr)),
+        BlockEnd::Odd(addr) => Err(WalkFault::Odd(addr)),
+        BlockEnd::P0 { addr, class } => match next_of(class, addr, taken) {
+            None => Err(WalkFault::BadAtom(addr)),
+            Some(next) => Ok(Leg {
+                count: block.plain + 1,
+                next,
+                link: link_of(class, addr),
+            }),
+        },
+    }
+}
+
+/// The plain words from an address on, up to the one at the return address of an exception.
+fn leg_of_exception(image: &Image, pc: u64, kind: u8, ret: u64) -> Result<Leg, WalkFault>
+    requires start { pc % 4 ≡ 0 }
+    requires ret { ret % 4 ≡ 0 }
+    ensures leads { IfOk result (λ leg. (stack : List ℕ) → Leads image.now (Some pc) stack (p0.Exc kind ret) leg.count leg.next (linked leg.link stack)) }
+    ensures halts { (fault : WalkFault) → result ≡ Err fault → Halts image.now (Some pc) (p0.Exc kind ret) fault }
+    ensures aligned { IfOk result (λ leg. IsPc leg.next × ToldIsAligned leg.link) }
+{
+    let words = ret.wrapping_sub(pc) / WORD_BYTES;
+    let block = image.block(pc);
+    if words <= block.plain {
+        return Ok(Leg::to_exception(words));
+    }
+    Err(match block.end {
+        BlockEnd::NoCode(addr) => WalkFault::NoCode(addr),
+        BlockEnd::Odd(addr) => WalkFault::Odd(addr),
+        BlockEnd::P0 { addr, .. } => WalkFault::ReturnMissed { addr, ret },
+    })
+}
+
+/// What is executed for a P0 element, from an address on that is known or not, and where it leads.
+pub fn leg_of(image: &Image, at: Option<u64>, p0: P0) -> Result<Leg, WalkFault>
+    requires start { ToldIsAligned at }
+    requires ret { ReturnIsAligned p0 }
+    ensures leads { IfOk result (λ leg. (stack : List ℕ) → Leads image.now at stack p0 leg.count leg.next (linked leg.link stack)) }
+    ensures halts { (fault : WalkFault) → result ≡ Err fault → Halts image.now at p0 fault }
+    ensures aligned { IfOk result (λ leg. IsPc leg.next × ToldIsAligned leg.link) }
+{
+    match (at, p0) {
+        (Some(pc), P0::Atom(taken)) => leg_of_atom(image, pc, taken),
+        (Some(pc), P0::Exc { kind, ret }) => leg_of_exception(image, pc, kind, ret),
+        (None, P0::Atom(_)) => Ok(Leg {
+            count: 0,
+            next: Pc::Lost,
+            link: None,
+        }),
+        (None, P0::Exc { .. }) => Ok(Leg::to_exception(0)),
+    }
+}

@@ -1,0 +1,19 @@
+//! From the P0 elements of a trace to the instructions that were executed: the walk over a program's image
+//! (Arm IHI 0064, "Return stack"; Arm DDI 0487, the branches of A64).
+//!
+//! A [`Walker`] takes one entry after the other, each a P0 element with what was told before it, and answers
+//! the instructions up to it. An address that a trace leaves out follows from the instruction before, or is
+//! the newest of the return addresses that calls left behind.
+#![tactic(auto)]
+
+mod laws;
+mod leg;
+mod pc;
+mod start;
+mod walker;
+
+pub use laws::{an_entry_has_one_walk, things_have_one_walk};
+pub use walker::Walker;
+
+#[cfg(test)]
+mod tests;

@@ -1,0 +1,130 @@
+//! The walk of one entry after the other.
+ghost use Rattle.std.specs.Prelude.{◌≡◌, IfOk, IsOk, IsErr};
+ghost use Rattle.etm_types.specs.declared.walk_fault.WalkFault.{WalkFault};
+
+use crate::leg::{Leg, leg_of};
+use crate::pc::Pc;
+use crate::start::{StackUse, Start, told, untold};
+use etm_types::{Ctx, Entry, ExcMark, P0, Pre, WalkFault, Walked};
+use program_image::Image;
+use return_stack::ReturnStack;
+use std::alloc::{AllocError, Global};
+use std::marker::Model;
+
+/// How many return addresses are kept.
+const DEPTH: usize = 15;
+
+/// The walk over an image, between two entries. Contracts see it as what is known of the next
+/// instruction's address, the return addresses, and the context.
+#[derive(Drop, Debug)]
+pub struct Walker {
+    pc: Pc,
+    stack: ReturnStack,
+    ctx: Ctx,
+}
+
+impl Model for Walker {
+    ghost use Rattle.std.specs.Prelude.{◌≡◌};
+    ghost use Rattle.path_walker.specs.State.{State, IsState};
+
+    ghost Value = { State };
+
+    ghost view = { λ w. record { pc = w.pc; stack = w.stack.addresses; ctx = w.ctx } };
+
+    ghost invariant = { λ w. IsState (record { pc = w.pc; stack = w.stack.addresses; ctx = w.ctx }) × (w.stack.depth ≡ 15) };
+}
+
+impl Walker {
+    ghost use Rattle.path_walker.specs.State.{IsState, IsPc, first_state};
+    ghost use Rattle.path_walker.specs.Start.{context_of, mismatch_of, pc_before, start_of, used};
+    ghost use Rattle.path_walker.specs.Steps.{linked};
+    ghost use Rattle.path_walker.specs.Walk.{HasAlignedAddresses, Shows, Stops, ToldIsAligned, mark_of};
+
+    /// A walk that begins at no known address. This is the one call that takes memory, and the error
+    /// means want of it.
+    pub fn new(alloc: Global) -> Result<Walker, AllocError>
+        ensures first { IfOk result (λ walker. walker ≡ first_state) }
+        ensures state { IfOk result IsState }
+    {
+        let stack = ReturnStack::new(alloc, DEPTH)?;
+        Ok(Walker {
+            pc: Pc::Lost,
+            stack,
+            ctx: Ctx {
+                el: 0,
+                ns: false,
+                vmid: 0,
+                cid: 0,
+            },
+        })
+    }
+
+    /// Walks one entry: what it shows, or why it cannot be walked. A fault leaves the walk as it was.
+    ///
+    /// The addresses in the entry are multiples of 4.
+    pub fn walk(&mut self, image: &Image, entry: &Entry) -> Result<Walked, WalkFault>
+        requires { HasAlignedAddresses entry.now }
+        ensures shows { IfOk result (λ walked. Shows image.now self.old entry.now walked self.new) }
+        ensures stops { (fault : WalkFault) → result ≡ Err fault → Stops image.now self.old entry.now fault }
+        ensures unchanged { IsErr result → self.new ≡ self.old }
+        ensures state { IsState self.new }
+    {
+        let start = self.start(&entry.pre)?;
+        let leg = leg_of(image, start.at, entry.p0)?;
+        let ctx = entry.pre.ctx.unwrap_or(self.ctx);
+        self.go_on(start.stack, &leg, ctx);
+        Ok(Walked {
+            on: entry.pre.on,
+            unknown: start.at.is_none(),
+            ctx,
+            start: start.at.unwrap_or(0),
+            count: leg.count,
+            exc: mark_of(entry.p0),
+        })
+    }
+
+    /// Where an entry begins.
+    fn start(&self, pre: &Pre) -> Result<Start, WalkFault>
+        requires { ToldIsAligned pre.now.addr }
+        ensures at { IfOk result (λ start. start.at ≡ (start_of self.now pre.now).at) }
+        ensures stack { IfOk result (λ start. used start.stack self.now.stack ≡ (start_of self.now pre.now).stack) }
+        ensures agrees { IsOk result → mismatch_of (pc_before self.now pre.now) pre.now.addr ≡ None }
+        ensures differs { (fault : WalkFault) → result ≡ Err fault → mismatch_of (pc_before self.now pre.now) pre.now.addr ≡ Some fault }
+        ensures aligned { IfOk result (λ start. ToldIsAligned start.at) }
+    {
+        let pc = if pre.on || pre.lost {
+            Pc::Lost
+        } else {
+            self.pc
+        };
+        match pre.addr {
+            Some(given) => told(pc, given, pre.flush),
+            None => Ok(untold(pc, &self.stack, pre.flush)),
+        }
+    }
+
+    /// Goes on behind a leg.
+    fn go_on(&mut self, stack: StackUse, leg: &Leg, ctx: Ctx)
+        requires next { IsPc leg.now.next }
+        requires link { ToldIsAligned leg.now.link }
+        ensures value { self.new ≡ record { pc = leg.now.next; stack = linked leg.now.link (used stack self.old.stack); ctx = ctx } }
+        ensures state { IsState self.new }
+    {
+        stack.apply(&mut self.stack);
+        leg.push_link(&mut self.stack);
+        self.pc = leg.next;
+        self.ctx = ctx;
+    }
+}
+
+ghost use Rattle.path_walker.specs.Walk.{mark_of};
+
+/// The exception that a P0 element tells of.
+fn mark_of(p0: P0) -> Option<ExcMark>
+    ensures { result ≡ mark_of p0 }
+{
+    match p0 {
+        P0::Atom(_) => None,
+        P0::Exc { kind, ret } => Some(ExcMark { kind, ret }),
+    }
+}
