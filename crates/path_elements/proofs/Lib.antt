@@ -1,0 +1,2 @@
+pub mod AtomElems
+pub mod Grows

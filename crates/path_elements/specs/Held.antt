@@ -1,0 +1,40 @@
+-- The values of elements, and what the elements of one packet and a maker of elements hold.
+use Rattle.std.specs.Prelude.{◌≤◌, ◌≡◌, ◌<◌, ◌%◌, ◌++◌, List, [], ◌∷◌, All, IfSome, length, ⊤}
+use Rattle.etm_types.specs.declared.element.Elem.{Elem}
+use Rattle.etm_types.specs.declared.element.Elem.TheVariants as elem
+use Rattle.etm_types.specs.declared.element.P0.TheVariants as p0
+use Rattle.address_history.specs.Forms.{IsHistory}
+use Rattle.etm_types.specs.declared.atoms.AtomRun.{AtomRun}
+use Rattle.etm_types.specs.Atoms.{atoms_in}
+use Rattle.path_elements.specs.declared.elems.Rest.{Rest}
+use Rattle.path_elements.specs.declared.elems.Rest.TheVariants as rest
+use Rattle.path_elements.specs.Elements.{Told, atoms}
+
+-- an address of A64 code, and an exception of a type that there is
+abbrev pub IsElem : Elem → Type 0
+IsElem (elem.Addr addr) = addr % 4 ≡ 0
+IsElem (elem.Ctx ctx) = ctx.el ≤ 3
+IsElem (elem.P0 (p0.Exc kind ret)) = (kind < 32) × (ret % 4 ≡ 0)
+IsElem e = ⊤
+
+-- at most 24 elements
+pub record AreElems (elements : List Elem) : Type 0 where
+  pub most : length elements ≤ 24
+  pub each : All IsElem elements
+
+-- three addresses of A64 code, a level of at most 3, and no exception of a type that there is not, nor before the first trace info
+pub record IsTold (told : Told) : Type 0 where
+  pub history : IsHistory told.history
+  pub addresses : All (λ a. a % 4 ≡ 0) told.history
+  pub level : told.context.el ≤ 3
+  pub exception : IfSome told.awaiting (λ kind. kind < 32)
+
+-- what stands behind the atoms of a packet
+abbrev pub rest_in : Rest → List Elem
+rest_in rest.Nothing = []
+rest_in (rest.One e) = e ∷ []
+rest_in (rest.Two e f) = e ∷ f ∷ []
+
+-- the elements of a packet: its atoms first
+abbrev pub held : AtomRun → Rest → List Elem
+held run rest = atoms (atoms_in run) ++ rest_in rest

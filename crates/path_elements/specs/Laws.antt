@@ -1,0 +1,28 @@
+-- How the elements of a list of packets come of those of each packet.
+use Rattle.std.specs.Prelude.{◌≡◌, ℕ, if◌then◌else◌, List, [], ◌∷◌, ◌++◌, Some, None}
+use Rattle.packet_grammar.specs.declared.packet.Packet.{Packet}
+use Rattle.path_elements.specs.Elements.{Told, Gained, untold, all_elements, elements_of, told_after, is_misplaced, placed}
+
+-- no packet, no element
+abbrev pub NoneAtFirst : Type 0
+NoneAtFirst = all_elements untold [] ≡ record { elements = []; awaited = None; told = untold }
+
+-- what one packet more adds to what was gained
+abbrev pub with_packet : Gained → ℕ → Packet → Gained
+with_packet gained at packet =
+    if is_misplaced gained.told packet then record gained { awaited = Some at }
+    else record gained { elements = gained.elements ++ placed at (elements_of gained.told packet); told = told_after gained.told packet }
+
+-- behind packets that all may come where they do, one more adds its elements, or may not come
+abbrev pub EachPacketAdds : Type 0
+EachPacketAdds =
+    (told : Told) (packets : List (ℕ × Packet)) (at : ℕ) (packet : Packet)
+    → (all_elements told packets).awaited ≡ None
+    → all_elements told (packets ++ (at, packet) ∷ []) ≡ with_packet (all_elements told packets) at packet
+
+-- behind a packet that may not come where it does, no packet counts
+abbrev pub NoneBehind : Type 0
+NoneBehind =
+    (told : Told) (packets more : List (ℕ × Packet)) (at : ℕ)
+    → (all_elements told packets).awaited ≡ Some at
+    → all_elements told (packets ++ more) ≡ all_elements told packets

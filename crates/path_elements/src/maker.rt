@@ -1,0 +1,220 @@
+//! From packets to elements, one packet after the other.
+ghost use Rattle.std.specs.Prelude.{◌≡◌, ◌≤◌, ◌<◌, ◌∷◌, ◌++◌, [], false, true, Some, None, IfOk, IfSome, OnErr, if◌then◌else◌};
+ghost use Rattle.etm_types.specs.Settings.{Sizes};
+ghost use Rattle.packet_grammar.specs.Ranges.{IsPacket};
+ghost use Rattle.path_elements.specs.Elements.{untold, elements_of, told_after, is_misplaced, may_come_behind, tells};
+ghost use Rattle.path_elements.specs.Held.{AreElems, IsTold};
+
+use crate::Elems;
+use address_history::History;
+use etm_types::{AddrForm, Ctx, CtxBits, Elem, FewAtoms, P0};
+use packet_grammar::Packet;
+use std::marker::Model;
+
+/// The context of a trace before one is told: EL0 in Secure state.
+const FIRST_CONTEXT: Ctx = Ctx {
+    el: 0,
+    ns: false,
+    vmid: 0,
+    cid: 0,
+};
+
+/// A packet that may not come between an exception packet and the address packet that belongs to it.
+#[derive(Clone, Copy, Debug, PartialEq, Eq)]
+pub struct Awaited;
+
+/// Makes elements of packets. Contracts see the record of what the packets have told so far.
+#[derive(Clone, Copy, Debug, PartialEq, Eq)]
+pub struct ElemMaker {
+    history: History,
+    context: Ctx,
+    informed: bool,
+    awaiting: Option<u8>,
+}
+
+impl Model for ElemMaker {
+    ghost use Rattle.path_elements.specs.Elements.{Told};
+    ghost use Rattle.path_elements.specs.Held.{IsTold};
+
+    ghost Value = { Told };
+
+    ghost view = { λ m. record { history = m.history; context = m.context; informed = m.informed; awaiting = m.awaiting } };
+
+    ghost invariant = { λ m. IsTold (record { history = m.history; context = m.context; informed = m.informed; awaiting = m.awaiting }) };
+
+    ghost inverse = { λ told. record { history = told.history; context = told.context; informed = told.informed; awaiting = told.awaiting } };
+}
+
+impl ElemMaker {
+    ghost use Rattle.etm_types.specs.CtxBits.{context_told};
+    ghost use Rattle.etm_types.specs.declared.element.Elem.TheVariants as elem;
+    ghost use Rattle.address_history.specs.Forms.{HasEntry, address_told};
+    ghost use Rattle.path_elements.specs.Elements.{after_address, elements_in, told_by, with_address};
+    ghost use Rattle.packet_grammar.specs.declared.packet.Packet.TheVariants as packet;
+    ghost use Rattle.path_elements.specs.Held.{IsElem};
+
+    /// A maker that has taken no packet.
+    pub fn new() -> ElemMaker
+        ensures { result ≡ untold }
+    {
+        ElemMaker {
+            history: History::reset(),
+            context: FIRST_CONTEXT,
+            informed: false,
+            awaiting: None,
+        }
+    }
+
+    /// Takes the next packet, and gives its elements. Where the packet may not come there, nothing
+    /// changes.
+    pub fn take(&mut self, packet: &Packet) -> Result<Elems, Awaited>
+        requires { (s : Sizes) × IsPacket s packet.now }
+        ensures ok { IfOk result (λ elems. (is_misplaced self.old packet.now ≡ false)
+            × (elems ≡ elements_of self.old packet.now) × (self.new ≡ told_after self.old packet.now)) }
+        ensures awaited { OnErr result ((is_misplaced self.old packet.now ≡ true) × (self.new ≡ self.old)) }
+        ensures within { IfOk result (λ elems. AreElems elems) }
+    {
+        if !self.tells(packet) {
+            return Ok(Elems::none());
+        }
+        if self.awaiting.is_some() && !may_come_behind(packet) {
+            return Err(Awaited);
+        }
+        Ok(self.tell(packet))
+    }
+
+    /// Whether a packet counts: before the first trace info no other one does.
+    fn tells(&self, packet: &Packet) -> bool
+        ensures { result ≡ tells self.now packet.now }
+    {
+        self.informed || matches!(packet, Packet::Info { .. })
+    }
+
+    /// Takes what a packet tells, and gives its elements.
+    fn tell(&mut self, packet: &Packet) -> Elems
+        requires { (s : Sizes) × IsPacket s packet.now }
+        ensures elements { result ≡ elements_in self.old packet.now }
+        ensures told { self.new ≡ told_by self.old packet.now }
+    {
+        match *packet {
+            Packet::Atoms(ref run) => Elems::of_run(run),
+            Packet::Async | Packet::Ignore | Packet::Event(_) | Packet::Time { .. } => {
+                Elems::none()
+            }
+            Packet::Info { spec, .. } => self.begin(spec.unwrap_or(0)),
+            Packet::On => Elems::one(Elem::On),
+            Packet::Exc { kind } => self.await_address(kind),
+            Packet::Overflow => self.lose(Elem::Overflow),
+            Packet::Discard => self.lose(Elem::Discard),
+            Packet::Commit(n) => Elems::one(Elem::Commit(n)),
+            Packet::Cancel { n, flip: false } => Elems::one(Elem::Cancel(n)),
+            Packet::Cancel { n, flip: true } => Elems::two(Elem::Cancel(n), Elem::Flip),
+            Packet::Mispredict(ref few) => Elems::flipped(few),
+            Packet::Cancel2(ref few) => Elems::cancelled(few, 1),
+            Packet::Cancel3 { e, n } => Elems::cancelled(&one_if(e), u32::from(n)),
+            Packet::CtxSame => Elems::one(Elem::Ctx(self.context)),
+            Packet::CtxInfo(ref bits) => Elems::one(self.tell_context(bits)),
+            Packet::Addr { ref form, ref ctx } => self.tell_place(form, ctx),
+        }
+    }
+
+    /// The trace begins anew, with so many elements that are not committed.
+    fn begin(&mut self, spec: u32) -> Elems
+        ensures told { self.new ≡ record untold { informed = true; awaiting = self.old.awaiting } }
+        ensures element { result ≡ elem.Info spec ∷ [] }
+    {
+        self.history = History::reset();
+        self.context = FIRST_CONTEXT;
+        self.informed = true;
+        Elems::one(Elem::Info { spec })
+    }
+
+    /// An exception of a type was taken. Its address is still to come.
+    fn await_address(&mut self, kind: u8) -> Elems
+        requires { kind < 32 }
+        ensures told { self.new ≡ record (self.old) { awaiting = Some kind } }
+        ensures none { result ≡ [] }
+    {
+        self.awaiting = Some(kind);
+        Elems::none()
+    }
+
+    /// Trace is missing, as an element says: the address of an exception does not come.
+    fn lose(&mut self, gap: Elem) -> Elems
+        requires { IsElem gap }
+        ensures told { self.new ≡ record (self.old) { awaiting = None } }
+        ensures element { result ≡ gap ∷ [] }
+    {
+        self.awaiting = None;
+        Elems::one(gap)
+    }
+
+    /// Takes an address, and the context that comes with it before it.
+    fn tell_place(&mut self, form: &AddrForm, ctx: &Option<CtxBits>) -> Elems
+        requires form { HasEntry form.now }
+        requires ctx { IfSome ctx.now (λ bits. bits.el ≤ 3) }
+        ensures told { self.new ≡ told_by self.old (packet.Addr form.now ctx.now) }
+        ensures elements { result ≡ elements_in self.old (packet.Addr form.now ctx.now) }
+    {
+        match *ctx {
+            None => Elems::one(self.tell_address(form)),
+            Some(ref bits) => {
+                let context = self.tell_context(bits);
+                Elems::two(context, self.tell_address(form))
+            }
+        }
+    }
+
+    /// Takes the context that is told.
+    fn tell_context(&mut self, bits: &CtxBits) -> Elem
+        requires { bits.now.el ≤ 3 }
+        ensures told { self.new ≡ record (self.old) { context = context_told bits.now self.old.context } }
+        ensures element { result ≡ elem.Ctx (context_told bits.now self.old.context) }
+    {
+        self.context = bits.apply(&self.context);
+        Elem::Ctx(self.context)
+    }
+
+    /// Takes the address that is told. An exception that awaits it is told by it.
+    fn tell_address(&mut self, form: &AddrForm) -> Elem
+        requires { HasEntry form.now }
+        ensures told { self.new ≡ after_address self.old form.now }
+        ensures element { result ≡ with_address self.old.awaiting (address_told self.old.history form.now) }
+        ensures within { IsElem result }
+    {
+        let addr = self.history.apply(form);
+        self.history.push(addr);
+        match self.awaiting.take() {
+            None => Elem::Addr(addr),
+            Some(kind) => Elem::P0(P0::Exc { kind, ret: addr }),
+        }
+    }
+}
+
+/// One atom E, or none.
+fn one_if(e: bool) -> FewAtoms
+    ensures { result ≡ record { count = (if e then 1 else 0); first = e } }
+{
+    FewAtoms {
+        count: u8::from(e),
+        first: e,
+    }
+}
+
+/// Whether a packet may come between an exception packet and its address packet, or is that one.
+fn may_come_behind(packet: &Packet) -> bool
+    ensures { result ≡ may_come_behind packet.now }
+{
+    matches!(
+        packet,
+        Packet::Async
+            | Packet::Discard
+            | Packet::Overflow
+            | Packet::Ignore
+            | Packet::Event(_)
+            | Packet::Time { .. }
+            | Packet::CtxSame
+            | Packet::CtxInfo(_)
+            | Packet::Addr { .. }
+    )
+}
