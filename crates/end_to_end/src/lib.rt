@@ -2,4 +2,6 @@
 #![tactic(auto)]
 
 #[cfg(test)]
+mod packets;
+#[cfg(test)]
 mod tests;

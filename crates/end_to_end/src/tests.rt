@@ -12,7 +12,7 @@ const LOOP_IMAGE: &[u8] = b"@1000\n1f2003d5 40000054 1f2003d5 fdffff17\n";
 /// BL to 2010, which is not read yet.
 const CALL_IMAGE: &[u8] = b"@2000\n04000094\n";
 
-const SYNC: &[u8] = &[0, 0, 0, 0, 0, 0, 0, 0, 0, 0, 0, 0x80];
+pub const SYNC: &[u8] = &[0, 0, 0, 0, 0, 0, 0, 0, 0, 0, 0, 0x80];
 
 /// Trace info, trace on, and the address 1000 with EL1 in Non-secure state.
 const HEAD: &[u8] = &[
@@ -28,7 +28,7 @@ const CALL_HEAD: &[u8] = &[
 const FIRST_LINES: &[u8] = b"01 on\n01 ctx el1 ns 0 0\n01 1000\n01 1004\n";
 
 /// The parts, one behind the other.
-fn joined(alloc: Global, parts: &[&[u8]]) -> Result<Vec<u8>, AllocError> {
+pub fn joined(alloc: Global, parts: &[&[u8]]) -> Result<Vec<u8>, AllocError> {
     let mut all = Vec::new(alloc);
     for part in parts {
         all.extend_from_slice(part)?;
@@ -37,7 +37,7 @@ fn joined(alloc: Global, parts: &[&[u8]]) -> Result<Vec<u8>, AllocError> {
 }
 
 /// The words of the command.
-fn words(alloc: Global, texts: &[&str]) -> Result<Vec<String>, AllocError> {
+pub fn words(alloc: Global, texts: &[&str]) -> Result<Vec<String>, AllocError> {
     let mut words = Vec::new(alloc);
     for text in texts {
         words.push(String::from_str(alloc, text)?)?;
