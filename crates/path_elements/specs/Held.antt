@@ -24,7 +24,7 @@ pub record AreElems (elements : List Elem) : Type 0 where
   pub most : length elements ≤ 24
   pub each : All IsElem elements
 
--- three addresses of A64 code, a level of at most 3, and no exception of a type that there is not, nor before the first trace info
+-- three addresses of A64 code, a level of at most 3, and where an exception awaits its address, a type that there is
 pub record IsTold (told : Told) : Type 0 where
   pub history : IsHistory told.history
   pub addresses : All (λ a. a % 4 ≡ 0) told.history
@@ -41,8 +41,8 @@ rest_in (rest.Two e f) = e ∷ f ∷ []
 abbrev pub held : AtomRun → Rest → List Elem
 held run rest = atoms (atoms_in run) ++ rest_in rest
 
--- What the elements of a packet build on is in its range: at most 24 atoms, the index of an address that was told, a level of at
--- most 3, and a type of exception that there is. Each packet that bytes spell is so.
+-- What the elements of a packet build on is in its range: at most 24 atoms, the index of an address that was told, a level
+-- of at most 3, and a type of exception that there is. Each packet that bytes spell is so.
 abbrev pub CanBeTaken : Packet → Type 0
 CanBeTaken (packet.Exc kind) = kind < 32
 CanBeTaken (packet.Mispredict few) = few.count ≤ 2
