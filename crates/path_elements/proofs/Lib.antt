@@ -1,2 +1,3 @@
 pub mod AtomElems
 pub mod Grows
+pub mod Taken

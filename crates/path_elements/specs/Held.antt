@@ -3,7 +3,9 @@ use Rattle.std.specs.Prelude.{◌≤◌, ◌≡◌, ◌<◌, ◌%◌, ◌++◌, 
 use Rattle.etm_types.specs.declared.element.Elem.{Elem}
 use Rattle.etm_types.specs.declared.element.Elem.TheVariants as elem
 use Rattle.etm_types.specs.declared.element.P0.TheVariants as p0
-use Rattle.address_history.specs.Forms.{IsHistory}
+use Rattle.address_history.specs.Forms.{IsHistory, HasEntry}
+use Rattle.packet_grammar.specs.declared.packet.Packet.{Packet}
+use Rattle.packet_grammar.specs.declared.packet.Packet.TheVariants as packet
 use Rattle.etm_types.specs.declared.atoms.AtomRun.{AtomRun}
 use Rattle.etm_types.specs.Atoms.{atoms_in}
 use Rattle.path_elements.specs.declared.elems.Rest.{Rest}
@@ -22,7 +24,7 @@ pub record AreElems (elements : List Elem) : Type 0 where
   pub most : length elements ≤ 24
   pub each : All IsElem elements
 
--- three addresses of A64 code, a level of at most 3, and no exception of a type that there is not, nor before the first trace info
+-- three addresses of A64 code, a level of at most 3, and where an exception awaits its address, a type that there is
 pub record IsTold (told : Told) : Type 0 where
   pub history : IsHistory told.history
   pub addresses : All (λ a. a % 4 ≡ 0) told.history
@@ -38,3 +40,14 @@ rest_in (rest.Two e f) = e ∷ f ∷ []
 -- the elements of a packet: its atoms first
 abbrev pub held : AtomRun → Rest → List Elem
 held run rest = atoms (atoms_in run) ++ rest_in rest
+
+-- What the elements of a packet build on is in its range: at most 24 atoms, the index of an address that was told, a level
+-- of at most 3, and a type of exception that there is. Each packet that bytes spell is so.
+abbrev pub CanBeTaken : Packet → Type 0
+CanBeTaken (packet.Exc kind) = kind < 32
+CanBeTaken (packet.Mispredict few) = few.count ≤ 2
+CanBeTaken (packet.Cancel2 few) = few.count ≤ 2
+CanBeTaken (packet.CtxInfo ctx) = ctx.el ≤ 3
+CanBeTaken (packet.Addr form ctx) = HasEntry form × IfSome ctx (λ told. told.el ≤ 3)
+CanBeTaken (packet.Atoms run) = run.count ≤ 24
+CanBeTaken p = ⊤

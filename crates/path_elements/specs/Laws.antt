@@ -1,6 +1,10 @@
 -- How the elements of a list of packets come of those of each packet.
-use Rattle.std.specs.Prelude.{◌≡◌, ℕ, if◌then◌else◌, List, [], ◌∷◌, ◌++◌, Some, None}
+use Rattle.std.specs.Prelude.{◌≡◌, ◌<◌, All, ℕ, if◌then◌else◌, List, [], ◌∷◌, ◌++◌, Some, None}
+use Rattle.etm_types.specs.Settings.{Sizes}
+use Rattle.packet_grammar.specs.Ranges.{IsPacket}
+use Rattle.packet_grammar.specs.Spelling.{SpellsPacket}
 use Rattle.packet_grammar.specs.declared.packet.Packet.{Packet}
+use Rattle.path_elements.specs.Held.{CanBeTaken}
 use Rattle.path_elements.specs.Elements.{Told, Gained, untold, all_elements, elements_of, told_after, is_misplaced, placed}
 
 -- no packet, no element
@@ -26,3 +30,11 @@ NoneBehind =
     (told : Told) (packets more : List (ℕ × Packet)) (at : ℕ)
     → (all_elements told packets).awaited ≡ Some at
     → all_elements told (packets ++ more) ≡ all_elements told packets
+
+-- the values of a packet that are in their ranges are such that its elements can be told
+abbrev pub PacketsInRange : Type 0
+PacketsInRange = (s : Sizes) (packet : Packet) → IsPacket s packet → CanBeTaken packet
+
+-- and so those of a packet that bytes spell, under whatever sizes
+abbrev pub PacketsSpelled : Type 0
+PacketsSpelled = (s : Sizes) (packet : Packet) (bytes : List ℕ) → All (λ b. b < 256) bytes → SpellsPacket s packet bytes → CanBeTaken packet

@@ -1,5 +1,7 @@
 //! What the elements of a list of packets are.
-ghost use Rattle.path_elements.specs.Laws.{EachPacketAdds, NoneBehind, NoneAtFirst};
+ghost use Rattle.path_elements.specs.Laws.{EachPacketAdds, NoneAtFirst, NoneBehind, PacketsInRange, PacketsSpelled};
+
+use packet_grammar::spelled_values_are_in_range;
 
 /// The elements of packets come packet by packet: from what was told by the packets before, a packet adds
 /// its own elements, or is the first that may not come where it does, and nothing behind that one counts.
@@ -8,3 +10,11 @@ pub fn elements_come_one_by_one()
     ensures adds { EachPacketAdds }
     ensures none_behind { NoneBehind }
 {}
+
+/// A maker of elements can take every packet that a stream has, under whatever settings.
+pub fn spelled_packets_can_be_taken()
+    ensures in_range { PacketsInRange }
+    ensures spelled { PacketsSpelled }
+{
+    spelled_values_are_in_range();
+}

@@ -1,9 +1,7 @@
 //! From packets to elements, one packet after the other.
 ghost use Rattle.std.specs.Prelude.{◌≡◌, ◌≤◌, ◌<◌, ◌∷◌, ◌++◌, [], false, true, Some, None, IfOk, IfSome, OnErr, if◌then◌else◌};
-ghost use Rattle.etm_types.specs.Settings.{Sizes};
-ghost use Rattle.packet_grammar.specs.Ranges.{IsPacket};
 ghost use Rattle.path_elements.specs.Elements.{untold, elements_of, told_after, is_misplaced, may_come_behind, tells};
-ghost use Rattle.path_elements.specs.Held.{AreElems, IsTold};
+ghost use Rattle.path_elements.specs.Held.{AreElems, CanBeTaken, IsTold};
 
 use crate::Elems;
 use address_history::History;
@@ -68,7 +66,7 @@ impl ElemMaker {
     /// Takes the next packet, and gives its elements. Where the packet may not come there, nothing
     /// changes.
     pub fn take(&mut self, packet: &Packet) -> Result<Elems, Awaited>
-        requires { (s : Sizes) × IsPacket s packet.now }
+        requires { CanBeTaken packet.now }
         ensures ok { IfOk result (λ elems. (is_misplaced self.old packet.now ≡ false)
             × (elems ≡ elements_of self.old packet.now) × (self.new ≡ told_after self.old packet.now)) }
         ensures awaited { OnErr result ((is_misplaced self.old packet.now ≡ true) × (self.new ≡ self.old)) }
@@ -92,7 +90,7 @@ impl ElemMaker {
 
     /// Takes what a packet tells, and gives its elements.
     fn tell(&mut self, packet: &Packet) -> Elems
-        requires { (s : Sizes) × IsPacket s packet.now }
+        requires { CanBeTaken packet.now }
         ensures elements { result ≡ elements_in self.old packet.now }
         ensures told { self.new ≡ told_by self.old packet.now }
     {

@@ -1,21 +1,54 @@
-//! The packets of two hand-made streams, with their elements worked out by hand.
+//! The packets of hand-made streams, with their elements worked out by hand.
+ghost use Rattle.std.specs.Prelude.{◌≤◌};
+ghost use Rattle.path_elements.specs.Held.{CanBeTaken};
+
 use super::*;
 use etm_types::{AddrForm, AtomRun, Ctx, CtxBits, Elem, FewAtoms, P0};
 use packet_grammar::Packet;
 use std::process::Abort;
 use std::test::Fail;
 
-const INFO: Packet = Packet::Info {
-    info: Some(0),
-    key: None,
-    spec: None,
-    cyct: None,
+const TAKEN: Elem = Elem::P0(P0::Atom(true));
+
+const NOT_TAKEN: Elem = Elem::P0(P0::Atom(false));
+
+const NO_SPEC: Elem = Elem::Info { spec: 0 };
+
+const SECURE: Ctx = Ctx {
+    el: 0,
+    ns: false,
+    vmid: 0,
+    cid: 0,
 };
 
-const E: Packet = Packet::Atoms(AtomRun { count: 1, bits: 1 });
+const PROGRAM: Ctx = Ctx { ns: true, ..SECURE };
 
-/// The packet of an address in the 64-bit form, with a context.
-fn start(addr: u64, el: u8, ns: bool) -> Packet {
+const HANDLER: Ctx = Ctx { el: 1, ..PROGRAM };
+
+/// Trace info with a speculation depth, or without one.
+fn info(spec: Option<u32>) -> Packet
+    ensures { CanBeTaken result }
+{
+    Packet::Info {
+        info: Some(0),
+        key: None,
+        spec,
+        cyct: None,
+    }
+}
+
+/// One atom E.
+fn taken() -> Packet
+    ensures { CanBeTaken result }
+{
+    Packet::Atoms(AtomRun { count: 1, bits: 1 })
+}
+
+/// An address in the 64-bit form, with its context.
+fn start(addr: u64, el: u8, ns: bool) -> Packet
+    requires { el ≤ 3 }
+    ensures { CanBeTaken result }
+{
     Packet::Addr {
         form: AddrForm::Long64(addr),
         ctx: Some(CtxBits {
@@ -33,7 +66,9 @@ fn gives(
     maker: &mut ElemMaker,
     packet: &Packet,
     wanted: &[Elem],
-) -> Result<(), Fail> {
+) -> Result<(), Fail>
+    requires { CanBeTaken packet.now }
+{
     let elems = maker.take(packet).ok().ok_or("the packet may come here")?;
     assert_eq!(rt; elems.len(), wanted.len(), "after {packet:?}");
     for (i, elem) in wanted.iter().enumerate() {
@@ -43,59 +78,48 @@ fn gives(
     Ok(())
 }
 
+/// A packet may not come, and changes nothing.
+fn refuses(rt: &impl Abort, maker: &mut ElemMaker, packet: &Packet)
+    requires { CanBeTaken packet.now }
+{
+    let before = *maker;
+    assert_eq!(rt; maker.take(packet).err(), Some(Awaited), "after {packet:?}");
+    assert_eq!(rt; *maker, before);
+}
+
 #[test]
-fn a_stream_of_a_flip_behind_a_sync(rt: HostRuntime) -> Result<(), Fail> {
+fn a_flip_behind_a_sync(rt: HostRuntime) -> Result<(), Fail> {
     let mut maker = ElemMaker::new();
-    let secure = Ctx {
-        el: 0,
-        ns: false,
-        vmid: 0,
-        cid: 0,
-    };
-    let spec_1 = Packet::Info {
-        info: Some(0),
-        key: None,
-        spec: Some(1),
-        cyct: None,
-    };
     let none = FewAtoms {
         count: 0,
         first: false,
     };
-    for (packet, wanted) in [
-        (Packet::Async, &[] as &[Elem]),
-        (INFO, &[Elem::Info { spec: 0 }]),
-        (Packet::On, &[Elem::On]),
-        (
-            start(0x1000, 0, false),
-            &[Elem::Ctx(secure), Elem::Addr(0x1000)],
-        ),
-        (E, &[Elem::P0(P0::Atom(true))]),
-        (Packet::Async, &[]),
-        (spec_1, &[Elem::Info { spec: 1 }]),
-        (
-            start(0x100c, 0, false),
-            &[Elem::Ctx(secure), Elem::Addr(0x100c)],
-        ),
-        (Packet::Mispredict(none), &[Elem::Flip]),
-        (E, &[Elem::P0(P0::Atom(true))]),
-        (Packet::Commit(2), &[Elem::Commit(2)]),
-    ] {
-        gives(&rt, &mut maker, &packet, wanted)?;
-    }
-    Ok(())
+    gives(&rt, &mut maker, &Packet::Async, &[])?;
+    gives(&rt, &mut maker, &info(None), &[NO_SPEC])?;
+    gives(&rt, &mut maker, &Packet::On, &[Elem::On])?;
+    gives(
+        &rt,
+        &mut maker,
+        &start(0x1000, 0, false),
+        &[Elem::Ctx(SECURE), Elem::Addr(0x1000)],
+    )?;
+    gives(&rt, &mut maker, &taken(), &[TAKEN])?;
+    gives(&rt, &mut maker, &Packet::Async, &[])?;
+    gives(&rt, &mut maker, &info(Some(1)), &[Elem::Info { spec: 1 }])?;
+    gives(
+        &rt,
+        &mut maker,
+        &start(0x100c, 0, false),
+        &[Elem::Ctx(SECURE), Elem::Addr(0x100c)],
+    )?;
+    gives(&rt, &mut maker, &Packet::Mispredict(none), &[Elem::Flip])?;
+    gives(&rt, &mut maker, &taken(), &[TAKEN])?;
+    gives(&rt, &mut maker, &Packet::Commit(2), &[Elem::Commit(2)])
 }
 
 #[test]
-fn a_stream_of_an_exception(rt: HostRuntime) -> Result<(), Fail> {
+fn an_exception_and_its_return(rt: HostRuntime) -> Result<(), Fail> {
     let mut maker = ElemMaker::new();
-    let program = Ctx {
-        el: 0,
-        ns: true,
-        vmid: 0,
-        cid: 0,
-    };
-    let handler = Ctx { el: 1, ..program };
     let short = Packet::Addr {
         form: AddrForm::Short1(4),
         ctx: None,
@@ -104,85 +128,73 @@ fn a_stream_of_an_exception(rt: HostRuntime) -> Result<(), Fail> {
         kind: 14,
         ret: 0x1004,
     };
-    for (packet, wanted) in [
-        (Packet::On, &[] as &[Elem]),
-        (INFO, &[Elem::Info { spec: 0 }]),
-        (Packet::On, &[Elem::On]),
-        (
-            start(0x1000, 0, true),
-            &[Elem::Ctx(program), Elem::Addr(0x1000)],
-        ),
-        (Packet::Exc { kind: 14 }, &[]),
-        (short, &[Elem::P0(irq)]),
-        (
-            start(0x8000, 1, true),
-            &[Elem::Ctx(handler), Elem::Addr(0x8000)],
-        ),
-        (E, &[Elem::P0(P0::Atom(true))]),
-        (
-            start(0x1004, 0, true),
-            &[Elem::Ctx(program), Elem::Addr(0x1004)],
-        ),
-        (E, &[Elem::P0(P0::Atom(true))]),
-    ] {
-        gives(&rt, &mut maker, &packet, wanted)?;
-    }
+    gives(&rt, &mut maker, &Packet::On, &[])?;
+    gives(&rt, &mut maker, &info(None), &[NO_SPEC])?;
+    gives(
+        &rt,
+        &mut maker,
+        &start(0x1000, 0, true),
+        &[Elem::Ctx(PROGRAM), Elem::Addr(0x1000)],
+    )?;
+    gives(&rt, &mut maker, &Packet::Exc { kind: 14 }, &[])?;
+    gives(&rt, &mut maker, &short, &[Elem::P0(irq)])?;
+    gives(
+        &rt,
+        &mut maker,
+        &start(0x8000, 1, true),
+        &[Elem::Ctx(HANDLER), Elem::Addr(0x8000)],
+    )?;
+    gives(&rt, &mut maker, &taken(), &[TAKEN])?;
+    gives(&rt, &mut maker, &Packet::CtxSame, &[Elem::Ctx(HANDLER)])?;
     elements_come_one_by_one();
+    spelled_packets_can_be_taken();
     Ok(())
 }
 
 #[test]
 fn an_exception_awaits_its_address(rt: HostRuntime) -> Result<(), Fail> {
     let mut maker = ElemMaker::new();
-    gives(&rt, &mut maker, &INFO, &[Elem::Info { spec: 0 }])?;
+    gives(&rt, &mut maker, &info(None), &[NO_SPEC])?;
     gives(&rt, &mut maker, &Packet::Exc { kind: 1 }, &[])?;
-    let before = maker;
-    for packet in [
-        INFO,
-        E,
-        Packet::On,
-        Packet::Commit(1),
-        Packet::Exc { kind: 1 },
-    ] {
-        assert_eq!(rt;
-            maker.take(&packet).err(),
-            Some(Awaited),
-            "after {packet:?}"
-        );
-        assert_eq!(rt; maker, before);
-    }
+    refuses(&rt, &mut maker, &info(None));
+    refuses(&rt, &mut maker, &taken());
+    refuses(&rt, &mut maker, &Packet::Exc { kind: 1 });
     gives(&rt, &mut maker, &Packet::Ignore, &[])?;
     gives(&rt, &mut maker, &Packet::Overflow, &[Elem::Overflow])?;
-    gives(&rt, &mut maker, &E, &[Elem::P0(P0::Atom(true))])
+    gives(&rt, &mut maker, &taken(), &[TAKEN])
 }
 
 #[test]
 fn atoms_come_first_and_the_oldest_of_them(rt: HostRuntime) -> Result<(), Fail> {
     let mut maker = ElemMaker::new();
-    gives(&rt, &mut maker, &INFO, &[Elem::Info { spec: 0 }])?;
-    let e = Elem::P0(P0::Atom(true));
-    let n = Elem::P0(P0::Atom(false));
     let two = FewAtoms {
         count: 2,
         first: true,
     };
-    let run = Packet::Atoms(AtomRun {
+    let run = AtomRun {
         count: 4,
         bits: 0b1110,
-    });
-    for (packet, wanted) in [
-        (run, &[n, e, e, e] as &[Elem]),
-        (
-            Packet::Cancel { n: 3, flip: true },
-            &[Elem::Cancel(3), Elem::Flip],
-        ),
-        (Packet::Cancel2(two), &[e, e, Elem::Cancel(1), Elem::Flip]),
-        (
-            Packet::Cancel3 { e: true, n: 2 },
-            &[e, Elem::Cancel(2), Elem::Flip],
-        ),
-    ] {
-        gives(&rt, &mut maker, &packet, wanted)?;
-    }
-    Ok(())
+    };
+    let cancel = Packet::Cancel { n: 3, flip: true };
+    let joined = Packet::Cancel3 { e: true, n: 2 };
+    gives(&rt, &mut maker, &info(None), &[NO_SPEC])?;
+    gives(
+        &rt,
+        &mut maker,
+        &Packet::Atoms(run),
+        &[NOT_TAKEN, TAKEN, TAKEN, TAKEN],
+    )?;
+    gives(&rt, &mut maker, &cancel, &[Elem::Cancel(3), Elem::Flip])?;
+    gives(
+        &rt,
+        &mut maker,
+        &Packet::Cancel2(two),
+        &[TAKEN, TAKEN, Elem::Cancel(1), Elem::Flip],
+    )?;
+    gives(
+        &rt,
+        &mut maker,
+        &joined,
+        &[TAKEN, Elem::Cancel(2), Elem::Flip],
+    )
 }
