@@ -5,7 +5,7 @@ use Rattle.etm_types.specs.Atoms.{IsFewAtoms}
 use Rattle.etm_types.specs.declared.address.AddrForm.{AddrForm}
 use Rattle.etm_types.specs.declared.address.AddrForm.TheVariants.{Match, Short1, Short2, Long32, Long64}
 use Rattle.etm_types.specs.declared.atoms.FewAtoms.{FewAtoms}
-use Rattle.packet_grammar.specs.Laws.{ValuesFit}
+use Rattle.packet_grammar.proofs.InRange.{values_fit}
 use Rattle.packet_grammar.specs.declared.packet.Packet.TheVariants as packet
 use Rattle.address_history.specs.Forms.{HasEntry}
 use Rattle.path_elements.specs.Laws.{PacketsInRange, PacketsSpelled}
@@ -44,5 +44,5 @@ in_range s (packet.Addr form None) is = (entry form is.0, tt)
 in_range s (packet.Addr form (Some ctx)) is = (entry form is.0, is.1.el)
 in_range s (packet.Atoms run) is = is.most
 
-pub spelled : ValuesFit → PacketsSpelled
-spelled fit s p bytes small spells = in_range s p (fit s p bytes small spells)
+pub spelled : PacketsSpelled
+spelled s p bytes small spells = in_range s p (values_fit s p bytes small spells)

@@ -1,8 +1,6 @@
 //! What the elements of a list of packets are.
 ghost use Rattle.path_elements.specs.Laws.{EachPacketAdds, NoneAtFirst, NoneBehind, PacketsInRange, PacketsSpelled};
 
-use packet_grammar::spelled_values_are_in_range;
-
 /// The elements of packets come packet by packet: from what was told by the packets before, a packet adds
 /// its own elements, or is the first that may not come where it does, and nothing behind that one counts.
 pub fn elements_come_one_by_one()
@@ -15,6 +13,4 @@ pub fn elements_come_one_by_one()
 pub fn spelled_packets_can_be_taken()
     ensures in_range { PacketsInRange }
     ensures spelled { PacketsSpelled }
-{
-    spelled_values_are_in_range();
-}
+{}

@@ -5,4 +5,4 @@ pub returns-clause-in_range : goal.returns-clause-in_range
 returns-clause-in_range c = in_range
 
 pub returns-clause-spelled : goal.returns-clause-spelled
-returns-clause-spelled c = spelled c.spelled_values_are_in_range.ensures
+returns-clause-spelled c = spelled
