@@ -9,19 +9,15 @@ use trace_io::{MemSink, MemSource, NoSource, SafeSource};
 /// NOP at 1000; B.EQ to 100c; NOP; B to 1000.
 const LOOP_IMAGE: &[u8] = b"@1000\n1f2003d5 40000054 1f2003d5 fdffff17\n";
 
-/// BL to 2010, which is not read yet.
-const CALL_IMAGE: &[u8] = b"@2000\n04000094\n";
+/// The same, and NOP and ERET at 8000.
+const HANDLER_IMAGE: &[u8] =
+    b"@1000\n1f2003d5 40000054 1f2003d5 fdffff17\n@8000\n1f2003d5 e0039fd6\n";
 
 pub const SYNC: &[u8] = &[0, 0, 0, 0, 0, 0, 0, 0, 0, 0, 0, 0x80];
 
 /// Trace info, trace on, and the address 1000 with EL1 in Non-secure state.
 const HEAD: &[u8] = &[
     0x01, 0x01, 0x00, 0x04, 0x85, 0x00, 0x08, 0, 0, 0, 0, 0, 0, 0x31,
-];
-
-/// Trace info, trace on, and the address 2000 with EL0 in Secure state.
-const CALL_HEAD: &[u8] = &[
-    0x01, 0x01, 0x00, 0x04, 0x85, 0x00, 0x10, 0, 0, 0, 0, 0, 0, 0x10,
 ];
 
 /// What is printed of `SYNC`, `HEAD` and the atom E.
@@ -98,55 +94,125 @@ fn a_stream_that_is_cut_or_has_no_sync_is_no_fault(rt: HostRuntime) -> Result<()
 }
 
 #[test]
-fn a_fault_is_told_at_its_packet(rt: HostRuntime) -> Result<(), Fail> {
-    let unread = [SYNC, &[0xc0]];
+fn an_exception_and_its_return_are_printed(rt: HostRuntime) -> Result<(), Fail> {
+    let input: &[&[u8]] = &[
+        SYNC,
+        &[0x01, 0x01, 0x00, 0x04],
+        &[0x85, 0x00, 0x08, 0, 0, 0, 0, 0, 0, 0x30],
+        &[0x06, 0x1d, 0x95, 0x01],
+        &[0x82, 0x00, 0x40, 0x00, 0x00, 0x31, 0xf7],
+        &[0x82, 0x01, 0x08, 0x00, 0x00, 0x30, 0xf7],
+    ];
+    let output: &[&[u8]] = &[
+        b"01 on\n01 ctx el0 ns 0 0\n01 1000\n01 exc irq 1004\n",
+        b"01 ctx el1 ns 0 0\n01 8000\n01 8004\n",
+        b"01 ctx el0 ns 0 0\n01 1004\n01 end\n",
+    ];
+    assert_eq!(rt;
+        answer(&rt, rt.alloc(), HANDLER_IMAGE, input, output)?,
+        Status::Done
+    );
+    Ok(())
+}
+
+#[test]
+fn a_fault_of_the_path_is_told_at_its_packet(rt: HostRuntime) -> Result<(), Fail> {
+    for (bytes, lines, last) in [
+        (
+            &[0xf7, 0xf6][..],
+            FIRST_LINES,
+            &b"01 fault 27 bad-atom 100c\n"[..],
+        ),
+        (
+            &[0xf7, 0x95, 0x00, 0xf7],
+            FIRST_LINES,
+            b"01 fault 29 address-mismatch 100c 1000\n",
+        ),
+        (
+            &[0x9a, 0x00, 0x48, 0x00, 0x00, 0xf7],
+            b"",
+            b"01 fault 31 no-code 9000\n",
+        ),
+        (
+            &[0x06, 0x1d, 0x95, 0x02],
+            b"",
+            b"01 fault 28 return-missed 1004 1008\n",
+        ),
+        (&[0x06, 0x1d, 0xf7], b"", b"01 fault 28 address-awaited\n"),
+    ] {
+        let input = [SYNC, HEAD, bytes];
+        let output = [lines, last];
+        assert_eq!(rt;
+            answer(&rt, rt.alloc(), LOOP_IMAGE, &input, &output)?,
+            Status::Faulted
+        );
+    }
+    Ok(())
+}
+
+#[test]
+fn nothing_is_held_that_could_be_asked_for(rt: HostRuntime) -> Result<(), Fail> {
+    for (bytes, last) in [
+        (&[0x2d, 0x01][..], &b"01 fault 27 commit-overrun 1 0\n"[..]),
+        (&[0x2e, 0x01], b"01 fault 27 cancel-overrun 1 0\n"),
+        (&[0x30], b"01 fault 27 no-atom 0\n"),
+    ] {
+        let input = [SYNC, HEAD, &[0xf7], bytes];
+        let output = [FIRST_LINES, last];
+        assert_eq!(rt;
+            answer(&rt, rt.alloc(), LOOP_IMAGE, &input, &output)?,
+            Status::Faulted
+        );
+    }
+    let deep: &[&[u8]] = &[SYNC, &[0x01, 0x04, 0x01]];
     assert_eq!(rt;
         answer(
             &rt,
             rt.alloc(),
             LOOP_IMAGE,
-            &unread,
-            &[b"01 fault 12 later\n"]
+            deep,
+            &[b"01 fault 12 spec-too-deep 1 0\n"]
         )?,
-        Status::Faulted
-    );
-    let call = [SYNC, CALL_HEAD, &[0xf7]];
-    assert_eq!(rt;
-        answer(
-            &rt,
-            rt.alloc(),
-            CALL_IMAGE,
-            &call,
-            &[b"01 fault 26 later\n"]
-        )?,
-        Status::Faulted
-    );
-    let not_taken = [SYNC, HEAD, &[0xf7, 0xf6]];
-    let output = [FIRST_LINES, b"01 fault 27 bad-atom 100c\n"];
-    assert_eq!(rt;
-        answer(&rt, rt.alloc(), LOOP_IMAGE, &not_taken, &output)?,
         Status::Faulted
     );
     Ok(())
 }
 
 #[test]
-fn an_image_that_is_bad_is_told(rt: HostRuntime) -> Result<(), Fail> {
-    let bad = Status::ImageBad {
-        line: 0,
-        why: ImageWhy::Later,
-    };
-    let input = [SYNC, HEAD];
-    assert_eq!(rt;
-        answer(
-            &rt,
-            rt.alloc(),
+fn an_image_that_is_bad_is_told_by_its_first_line(rt: HostRuntime) -> Result<(), Fail> {
+    for (image, line, why, told) in [
+        (
+            &b"@1000\n1f2003d5\n@1002\n"[..],
+            3,
+            ImageWhy::Unaligned,
+            &b"image line 3: unaligned\n"[..],
+        ),
+        (
+            b"@1000\n1f2003d5 1f2003d5\n@1004\n1f2003d5\n",
+            4,
+            ImageWhy::Overlap,
+            b"image line 4: overlap\n",
+        ),
+        (
+            b"@fffffffffffffffc\n1f2003d5 1f2003d5\n",
+            2,
+            ImageWhy::Wraps,
+            b"image line 2: wraps\n",
+        ),
+        (
             b"1f2003d5\n",
-            &input,
-            &[b"image line 0: later\n"]
-        )?,
-        bad
-    );
+            1,
+            ImageWhy::Syntax,
+            b"image line 1: syntax\n",
+        ),
+    ] {
+        assert_eq!(rt;
+            answer(&rt, rt.alloc(), image, &[], &[told])?,
+            Status::ImageBad { line, why }
+        );
+    }
+    let last_word = b"@fffffffffffffffc\n1f2003d5\n";
+    assert_eq!(rt; answer(&rt, rt.alloc(), last_word, &[], &[])?, Status::Done);
     Ok(())
 }
 

@@ -1,5 +1,13 @@
-pub mod Lines
+pub mod Lists
+pub mod Cuts
+pub mod Utf8
+pub mod Digits
+pub mod TooLong
+pub mod Told
+pub mod Placed
+pub mod Lookup
 pub mod Spelled
-pub mod Read
+pub mod WordLaws
+pub mod Gaps
+pub mod First
 pub mod Runs
-pub mod Gap

@@ -1,235 +1,304 @@
--- A text that spells a part is read to it.
-use Rattle.std.proofs.Common.{◌≡◌, ℕ, zero, suc, ◌+◌, ◌-◌, ◌*◌, ◌/◌, ◌%◌, ◌^◌, ◌<◌, ◌≤◌, List, [], ◌∷◌, ◌++◌, length, length-append, take, drop, Bool, true, false, ◌&&◌, not, Option, Some, None, Result, Ok, Err, nat_le, refl, sym, ap, ◌∙◌, append_assoc, arith, codes, cond}
-use Rattle.std.specs.Prelude.{slice_index, All}
-use Rattle.std.specs.List.{list_all, concat, flat_map, prefix_len, position}
-use Rattle.std.specs.Option.{option_map}
-use Rattle.std.specs.Result.{is_ok, result_ok}
-use Rattle.std.proofs.lemmas.Bool.{and_parts, false≢true, ne_eqb, eq-eqb, leb-true, le-leb, le-ltb, lt-ltb}
-use Rattle.std.proofs.lemmas.Option.{none-some, same_Some}
-use Rattle.std.proofs.Math.Seq.{drop-append-add, take-append_seam}
+-- The text that spells parts is read to them.
+use Rattle.std.proofs.Common.{◌≡◌, ℕ, zero, suc, ◌+◌, ◌-◌, ◌*◌, ◌/◌, ◌%◌, ◌^◌, ◌<◌, ◌≤◌, List, [], ◌∷◌, ◌++◌, length, length-append, take, Bool, true, false, ◌&&◌, Option, Some, None, Result, Ok, nat_lt, nat_le, refl, sym, ap, ◌∙◌, arith, get_or, inl, inr, append-nil, codes}
+use Rattle.std.specs.Prelude.{◌==◌, ◌||◌, All, fold, filter, slice_index}
+use Rattle.std.specs.Int.{byte_at, bytes_high_first}
+use Rattle.std.specs.Option.{ok_or, option_map, option_and_then}
+use Rattle.std.specs.Result.{result_ok}
+use Rattle.std.specs.Str.{IsAscii, is_utf8}
+use Rattle.std.specs.Str.Lines.{lines, lines_of_parts, strip_carriage_return}
+use Rattle.std.proofs.lemmas.Bool.{and_parts, eq-eqb, ne_eqb, leb-true, le-leb, le-ltb, lt-leb, lt-ltb, or_cases}
 use Rattle.std.proofs.lemmas.List.Elements.{All-cons, All-get_or, All-head, All-nil, All-tail, All-weaker}
+use Rattle.std.proofs.lemmas.List.Folds.{list_any_none}
+use Rattle.std.proofs.lemmas.List.Splits.{slice_split_at, slice_split_none}
 use Rattle.std.proofs.lemmas.List.Sums.{AllPass-from_list_all}
-use Rattle.hex.specs.Hex.{IsBytes, encode_with, encode_lower, lower_digits, decode_sized, is_hex_digit}
+use Rattle.std.proofs.lemmas.Str.{IsUtf8-from_ascii, is_utf8-from_IsUtf8}
+use Rattle.hex.specs.Hex.{IsBytes, decode_sized, encode_lower, encode_with, lower_digits}
 use Rattle.hex.specs.declared.error.FromHexError.{FromHexError}
-use Rattle.hex.proofs.HexLemmas.{decode_sized-encode_lower, IsOk-decode_sized}
-use Rattle.byteorder.specs.Endian.{big_number, little_bytes, little_number}
-use Rattle.byteorder.specs.Numbers.{little_number-reads_back, length-bytes_low_first}
-use Rattle.std.specs.Int.{byte_at, bytes_low_first}
-use Rattle.program_image.specs.Part.{Part, IsPart, most_words}
-use Rattle.program_image.specs.ImageText.{◌>>=◌, address_of, checked, ends_word, first_line, image_of, is_line_end, is_lower_digit, most_text, number_of, padded, spelled_word, words_of}
-use Rattle.program_image.specs.Spelling.{HaveWords, Spells, image_text, line_text, word_text}
+use Rattle.hex.proofs.HexLemmas.{decode_of-encode_lower, decode_sized-encode_lower, length-encode_with}
+use Rattle.byteorder.specs.Endian.{big_bytes, big_number}
+use Rattle.byteorder.specs.Numbers.{big_number-reads_back, length-bytes_high_first}
+use Rattle.program_image.specs.Part.{InOrder, IsImage, IsPart, Part, end_of, most_bytes, most_parts, total}
+use Rattle.program_image.specs.Line.{bytes_of, is_blank, number_of, padded, words_in}
+use Rattle.program_image.specs.ImageText.{◌>>=◌, add_bytes, add_line, add_lines, add_words, growth_fault, has_between, image_of, most_text, placed, sorted, unless}
+use Rattle.program_image.specs.Spelling.{address_line, bytes_line, text_of}
+use Rattle.program_image.specs.declared.fault.ImageWhy.{ImageWhy}
+use Rattle.program_image.specs.declared.fault.ImageWhy.TheVariants.{Syntax}
+use Rattle.program_image.proofs.Cuts.{before_parts, kept}
+use Rattle.program_image.proofs.Told.{IsByte}
 
--- ---- a word
+-- ---- the characters
 
--- each place of the table of lower case digits has one
-lower_at : (d : ℕ) → d < 16 → is_lower_digit (slice_index lower_digits d) ≡ true
-lower_at d small = All-get_or (λ c. is_lower_digit c ≡ true) lower_digits d 0 small (AllPass-from_list_all is_lower_digit lower_digits refl)
+abbrev is_digit : ℕ → Bool
+is_digit c = (nat_le 48 c && nat_le c 57) || (nat_le 97 c && nat_le c 102)
 
--- the text of bytes has lower case digits
-lower_text : (bytes : List ℕ) → IsBytes bytes → list_all is_lower_digit (encode_lower bytes) ≡ true
+abbrev IsDigit : ℕ → Type 0
+IsDigit c = is_digit c ≡ true
+
+-- a character of a word: none of LF, CR, tab and space, and ASCII
+abbrev IsOfWord : ℕ → Type 0
+IsOfWord c = (33 ≤ c) × (c < 128)
+
+digit_of_word : (c : ℕ) → IsDigit c → IsOfWord c
+digit_of_word c digit =
+    elim (or_cases (nat_le 48 c && nat_le c 57) (nat_le 97 c && nat_le c 102) digit) [
+      | inl low ↦ let p = and_parts (nat_le 48 c) (nat_le c 57) low in let a = leb-true 48 c p.0 in let b = leb-true c 57 p.1 in (omega arith, omega arith)
+      | inr high ↦ let p = and_parts (nat_le 97 c) (nat_le c 102) high in let a = leb-true 97 c p.0 in let b = leb-true c 102 p.1 in (omega arith, omega arith)
+    ]
+
+digit_is_no : (c mark : ℕ) → IsDigit c → is_digit mark ≡ false → (c == mark) ≡ false
+digit_is_no c mark digit other = ne_eqb c mark (λ e. let same : true ≡ false = sym digit ∙ ap is_digit e ∙ other in cc)
+
+-- the digits of bytes
+digit_at : (d : ℕ) → d < 16 → IsDigit (slice_index lower_digits d)
+digit_at d small = All-get_or IsDigit lower_digits d 0 small (AllPass-from_list_all is_digit lower_digits refl)
+
+digits_of : (bytes : List ℕ) → All IsByte bytes → All IsDigit (encode_lower bytes)
 unfolding encode_with
-lower_text [] fits = refl
-lower_text (b ∷ rest) fits =
-    let byte : b < 256 = fits 0 in
-    let high = lower_at (b / 16) (omega arith) in
-    let low = lower_at (b % 16) (omega arith) in
-    let more = lower_text rest (λ k. fits (suc k)) in
-    rw (high, low, more) refl
+digits_of [] fit = All-nil IsDigit
+digits_of (b ∷ rest) fit =
+    let byte : b < 256 = All-head IsByte b rest fit in
+    let high = digit_at (b / 16) (omega arith) in
+    let low = digit_at (b % 16) (omega arith) in
+    let t = encode_lower rest in
+    All-cons IsDigit (slice_index lower_digits (b / 16)) (slice_index lower_digits (b % 16) ∷ t) high
+    (All-cons IsDigit (slice_index lower_digits (b % 16)) t low (digits_of rest (All-tail IsByte b rest fit)))
 
--- the bytes of a number are bytes
+pub is_bytes : (xs : List ℕ) → All IsByte xs → IsBytes xs
+is_bytes [] fit = λ k. omega arith
+is_bytes (x ∷ xs) fit = λ k. cons x xs (All-head IsByte x xs fit) (is_bytes xs (All-tail IsByte x xs fit)) k
+  where
+    cons : (x : ℕ) (xs : List ℕ) → x < 256 → IsBytes xs → IsBytes (x ∷ xs)
+    cons x xs here more zero = here
+    cons x xs here more (suc k) = more k
+
+-- ---- lines of one word
+
+ascii : (line : List ℕ) → All IsOfWord line → IsAscii line
+ascii [] all = λ i. omega arith
+ascii (c ∷ line) all = λ i. cons c line (All-head IsOfWord c line all).1 (ascii line (All-tail IsOfWord c line all)) i
+  where
+    cons : (c : ℕ) (line : List ℕ) → c < 128 → IsAscii line → IsAscii (c ∷ line)
+    cons c line here more zero = here
+    cons c line here more (suc k) = more k
+
+word_utf8 : (line : List ℕ) → All IsOfWord line → is_utf8 line ≡ true
+word_utf8 line all = is_utf8-from_IsUtf8 line (IsUtf8-from_ascii line (ascii line all))
+
+abbrev is_end : ℕ → Bool
+is_end byte = byte == 10
+
+not_end : (c : ℕ) → IsOfWord c → is_end c ≡ false
+not_end c of = ne_eqb c 10 (λ e. omega (arith, of.0, e))
+
+not_blank : (c : ℕ) → IsOfWord c → is_blank c ≡ false
+not_blank c of =
+    let space = ne_eqb c 32 (λ e. omega (arith, of.0, e)) in
+    let tab = ne_eqb c 9 (λ e. omega (arith, of.0, e)) in
+    rw (space, tab) refl
+
+last_or_zero : (line : List ℕ) → All IsOfWord line → slice_index line (length line - 1) ≡ 13 → ⊥
+last_or_zero [] all e = cc
+last_or_zero (c ∷ line) all e =
+    let last = all (length (c ∷ line) - 1) 0 (omega arith) in
+    omega (arith, last.0, e)
+
+no_return : (line : List ℕ) → All IsOfWord line → strip_carriage_return line ≡ line
+no_return line all = let test = ne_eqb (slice_index line (length line - 1)) 13 (last_or_zero line all) in rw test refl
+
+-- the first line of a text
+line_first : (line rest : List ℕ) → All IsOfWord line → lines (line ++ 10 ∷ rest) ≡ line ∷ lines rest
+line_first line rest all =
+    let cut = slice_split_at is_end line 10 rest (All-weaker IsOfWord (λ c. is_end c ≡ false) not_end line all) refl in
+    ap lines_of_parts cut ∙ before_parts line is_end rest ∙ ap (λ (l : List ℕ). l ∷ lines rest) (no_return line all)
+
+one_word : (line : List ℕ) → All IsOfWord line → 0 < length line → words_in line ≡ line ∷ []
+one_word line all some =
+    ap (filter (λ word. nat_lt 0 (length word))) (slice_split_none is_blank line (All-weaker IsOfWord (λ c. is_blank c ≡ false) not_blank line all))
+    ∙ kept line [] some
+
+line_of_word : (parts : List Part) (line : List ℕ) → All IsOfWord line → 0 < length line → add_line parts line ≡ add_words parts (line ∷ [])
+line_of_word parts line all some =
+    let utf8 = word_utf8 line all in
+    rw utf8 (ap (add_words parts) (one_word line all some))
+
+-- ---- the line of an address
+
 byte_fits : (k n : ℕ) → byte_at k n < 256
 byte_fits zero n = omega arith
 byte_fits (suc k) n = omega arith
 
-bytes_fit : (j k n i : ℕ) → slice_index (bytes_low_first j k n) i < 256
-bytes_fit j zero n i = omega arith
-bytes_fit j (suc k) n zero = byte_fits j n
-bytes_fit j (suc k) n (suc i) = bytes_fit (suc j) k n i
+bytes_fit : (k n : ℕ) → All IsByte (bytes_high_first k n)
+bytes_fit zero n = All-nil IsByte
+bytes_fit (suc k) n = All-cons IsByte (byte_at k n) (bytes_high_first k n) (byte_fits k n) (bytes_fit k n)
 
--- digits that decode are a word
-spelled_as : (text bytes : List ℕ) → list_all is_lower_digit text ≡ true → decode_sized text 4 ≡ Ok bytes → spelled_word text ≡ Some (little_number 4 bytes)
-spelled_as text bytes lower decoded =
-    ap (λ (b : Bool). cond b (option_map (little_number 4) (result_ok (decode_sized text 4))) None) lower
-    ∙ ap (λ (r : Result (List ℕ) FromHexError). option_map (little_number 4) (result_ok r)) decoded
+number_spelled : (digits bytes : List ℕ) → length digits ≡ 16 → decode_sized digits 8 ≡ Ok bytes → number_of digits ≡ Some (big_number 8 bytes)
+number_spelled digits bytes len decoded =
+    let least = le-leb 1 (length digits) (omega (arith, len)) in
+    let most = le-leb (length digits) 16 (omega (arith, len)) in
+    let none : 16 - length digits ≡ 0 = omega (arith, len) in
+    let whole : padded digits ≡ digits = ap (λ (n : ℕ). take n (codes "0000000000000000") ++ digits) none in
+    rw (least, most) (ap (λ (ds : List ℕ). option_map (big_number 8) (result_ok (decode_sized ds 8))) whole ∙ ap (λ (r : Result (List ℕ) FromHexError). option_map (big_number 8) (result_ok r)) decoded)
 
--- the text of a word is read to it
-spelled_back : (word : ℕ) → word < 2 ^ 32 → spelled_word (word_text word) ≡ Some word
-spelled_back word fits =
-    let bytes = little_bytes 4 word in
-    let lower = lower_text bytes (bytes_fit 0 4 word) in
-    let decoded = decode_sized-encode_lower bytes 4 (length-bytes_low_first 0 4 word) (bytes_fit 0 4 word) in
-    let number : little_number 4 bytes ≡ word = little_number-reads_back 4 word [] fits in
-    spelled_as (word_text word) bytes lower decoded ∙ ap Some number
+number_back : (start : ℕ) → start < 2 ^ 64 → number_of (encode_lower (big_bytes 8 start)) ≡ Some start
+number_back start fits =
+    let bytes = big_bytes 8 start in
+    let len = length-bytes_high_first 8 start in
+    let digits = length-encode_with lower_digits bytes in
+    let decoded = decode_sized-encode_lower bytes 8 len (is_bytes bytes (bytes_fit 8 start)) in
+    let number : big_number 8 bytes ≡ start = ap (big_number 8) (sym (append-nil bytes)) ∙ big_number-reads_back 8 start [] fits in
+    number_spelled (encode_lower bytes) bytes (omega (arith, len, digits)) decoded ∙ ap Some number
 
--- ---- lines
+address_chars : (part : Part) → All IsOfWord (address_line part)
+address_chars part =
+    let digits = digits_of (big_bytes 8 part.start) (bytes_fit 8 part.start) in
+    All-cons IsOfWord 64 (encode_lower (big_bytes 8 part.start)) (omega arith, omega arith) (All-weaker IsDigit IsOfWord digit_of_word (encode_lower (big_bytes 8 part.start)) digits)
 
--- a word before further text
-word_before : (word end : ℕ) (rest : List ℕ) → word < 2 ^ 32 → ends_word end rest ≡ true
-    → words_of (word_text word ++ end ∷ rest) ≡ option_map (λ words. word ∷ words) (words_of rest)
-unfolding words_of encode_with
-word_before word end rest fits ends =
-    ap (λ (b : Bool). cond b (spelled_word (word_text word) >>= λ w. option_map (λ words. w ∷ words) (words_of rest)) None) ends
-    ∙ ap (λ (o : Option ℕ). o >>= λ w. option_map (λ words. w ∷ words) (words_of rest)) (spelled_back word fits)
+abbrev begun : Part → Part
+begun part = record { start = part.start; bytes = [] }
 
--- words before further words
-before : List ℕ → Option (List ℕ) → Option (List ℕ)
-before front more = option_map (λ words. front ++ words) more
-
--- a front of a list, and what follows it, have what each element has
-all_front : (P : ℕ → Type 0) (xs ys : List ℕ) → All P (xs ++ ys) → All P xs
-all_front P [] ys all = All-nil P
-all_front P (x ∷ xs) ys all = All-cons P x xs (All-head P x (xs ++ ys) all) (all_front P xs ys (All-tail P x (xs ++ ys) all))
-
-all_rest : (P : ℕ → Type 0) (xs ys : List ℕ) → All P (xs ++ ys) → All P ys
-all_rest P [] ys all = all
-all_rest P (x ∷ xs) ys all = all_rest P xs ys (All-tail P x (xs ++ ys) all)
-
--- a word of 32 bits
-abbrev pub Fits : ℕ → Type 0
-Fits word = word < 2 ^ 32
-
--- a line with a word
-abbrev pub HasWord : List ℕ → Type 0
-HasWord line = 0 < length line
-
--- a byte within a line
-abbrev Within : ℕ → Type 0
-Within byte = is_line_end byte ≡ false
-
--- a word before words before further ones
-word_and_more : (word : ℕ) (front : List ℕ) (more : Option (List ℕ)) → option_map (λ words. word ∷ words) (before front more) ≡ before (word ∷ front) more
-unfolding before
-word_and_more word front None = refl
-word_and_more word front (Some more) = refl
-
--- the text of a line is not empty
-some_text : (line rest : List ℕ) → 0 < length (line_text line ++ rest)
-unfolding encode_with
-some_text [] rest = omega arith
-some_text (word ∷ []) rest = omega arith
-some_text (word ∷ next ∷ words) rest = omega arith
-
--- a line before further lines
-line_before : (line rest : List ℕ) → 0 < length line → All Fits line → words_of (line_text line ++ rest) ≡ before line (words_of rest)
-unfolding before
-line_before [] rest some fit = absurd (omega arith)
-line_before (word ∷ []) rest some fit =
-    ap words_of (append_assoc (word_text word) (10 ∷ []) rest) ∙ word_before word 10 rest (All-head Fits word [] fit) refl
-line_before (word ∷ next ∷ words) rest some fit =
-    let line = next ∷ words in
-    let after = line_text line ++ rest in
-    ap words_of (append_assoc (word_text word) (32 ∷ line_text line) rest)
-    ∙ word_before word 32 after (All-head Fits word line fit) (lt-ltb 0 (length after) (some_text line rest))
-    ∙ ap (option_map (λ (words : List ℕ). word ∷ words)) (line_before (next ∷ words) rest (omega arith) (All-tail Fits word line fit))
-    ∙ word_and_more word line (words_of rest)
-
--- lines are read to their words
-lines_read : (lines : List (List ℕ)) → HaveWords lines → All Fits (concat lines) → words_of (flat_map line_text lines) ≡ Some (concat lines)
-unfolding words_of before
-lines_read [] some fit = refl
-lines_read (line ∷ lines) some fit =
-    line_before line (flat_map line_text lines) (All-head HasWord line lines some) (all_front Fits line (concat lines) fit)
-    ∙ ap (before line) (lines_read lines (All-tail HasWord line lines some) (all_rest Fits line (concat lines) fit))
-
--- the text of a line takes nine bytes a word
-length_line : (line : List ℕ) → 0 < length line → length (line_text line) ≡ 9 * length line
-unfolding encode_with
-length_line [] some = absurd (omega arith)
-length_line (word ∷ []) some = omega arith
-length_line (word ∷ next ∷ words) some = let more = length_line (next ∷ words) (omega arith) in omega arith
-
-length_lines : (lines : List (List ℕ)) → HaveWords lines → length (flat_map line_text lines) ≡ 9 * length (concat lines)
-length_lines [] some = refl
-length_lines (line ∷ lines) some =
-    let here = length_line line (All-head HasWord line lines some) in
-    let more = length_lines lines (All-tail HasWord line lines some) in
-    omega (arith, here, more, length-append line (concat lines), length-append (line_text line) (flat_map line_text lines))
-
--- ---- the first line
-
--- a line ends at its first line end
-line_length : (line rest : List ℕ) → All Within line → prefix_len (λ byte. not (is_line_end byte)) (line ++ 10 ∷ rest) ≡ length line
-line_length [] rest plain = refl
-line_length (byte ∷ line) rest plain =
-    let here : is_line_end byte ≡ false = All-head Within byte line plain in
-    let more = line_length line rest (All-tail Within byte line plain) in
-    rw (here, more) (omega arith)
-
-first_line_found : (line rest : List ℕ) → All Within line → first_line (line ++ 10 ∷ rest) ≡ Some (line, rest)
-first_line_found line rest plain =
-    let text = line ++ 10 ∷ rest in
-    let len = line_length line rest plain in
-    let within = lt-ltb (length line) (length text) (omega (arith, length-append line (10 ∷ rest))) in
-    let found : position is_line_end text ≡ Some (length line) = rw (len, within) refl in
-    let parts : ℕ → List ℕ × List ℕ = λ end. (take end text, drop (end + 1) text) in
-    let front : take (length line) text ≡ line = take-append_seam line (10 ∷ rest) in
-    let after : drop (length line + 1) text ≡ rest = drop-append-add line (10 ∷ rest) 1 in
-    ap (option_map parts) found ∙ rw (front, after) refl
-
--- ---- the address
-
--- a digit is within a line
-digit_within : (byte : ℕ) → is_hex_digit byte ≡ true → is_line_end byte ≡ false
-digit_within byte digit = ne_eqb byte 10 (λ e. false≢true (ap is_hex_digit (sym e) ∙ digit))
-
--- what a value that was tested and decoded rests on
-pub record Decoded {A B E : Type 0} (test : Bool) (f : A → B) (r : Result A E) (value : B) : Type 0 where
-  pub from : A
-  pub passes : test ≡ true
-  pub decodes : r ≡ Ok from
-  pub same : f from ≡ value
-
-pub decoded : {A B E : Type 0} (test : Bool) (f : A → B) (r : Result A E) (value : B) → cond test (option_map f (result_ok r)) None ≡ Some value
-    → Decoded test f r value
-decoded true f (Ok from) value e = record { from = from; passes = refl; decodes = refl; same = same_Some (f from) value e }
-decoded true f (Err fault) value e = absurd (none-some value e)
-decoded false f r value e = absurd (none-some value e)
-
--- the digits of a number are at most sixteen, and each is within a line
-number_parts : (digits : List ℕ) (number : ℕ) → number_of digits ≡ Some number → (length digits ≤ 16) × All Within digits
-number_parts digits number e =
-    let parts = decoded (nat_le 1 (length digits) && nat_le (length digits) 16) (big_number 8) (decode_sized (padded digits) 8) number e in
-    let few = leb-true (length digits) 16 (and_parts _ _ parts.passes).1 in
-    let all = ((IsOk-decode_sized (padded digits) 8).0 (ap is_ok parts.decodes)).1 in
-    let zeros = take (16 - length digits) (codes "0000000000000000") in
-    (few, All-weaker (λ byte. is_hex_digit byte ≡ true) Within digit_within digits (all_rest (λ byte. is_hex_digit byte ≡ true) zeros digits all))
-
--- ---- the image
-
--- a part passes the test
-part_passes : (part : Part) → IsPart part → checked part ≡ Some part
-part_passes part is =
+begins : (parts : List Part) (part : Part) → IsPart part → length parts < most_parts → add_line parts (address_line part) ≡ Ok (begun part ∷ parts)
+begins parts part is room =
+    let fits : part.start < 2 ^ 64 = omega (arith, is.within, is.some) in
+    let number = number_back part.start fits in
     let aligned = eq-eqb (part.start % 4) 0 is.aligned in
-    let within = le-leb (part.start + 4 * length part.words) (2 ^ 64) is.within in
-    let few = le-leb (length part.words) most_words is.few in
-    rw (aligned, within, few) refl
+    let few = lt-leb most_parts (length parts) room in
+    line_of_word parts (address_line part) (address_chars part) (omega arith)
+    ∙ rw (number, aligned, few) refl
 
--- a text whose lines are read is an image
-image_as : (text line rest words : List ℕ) (start : ℕ) → length text ≤ most_text → first_line text ≡ Some (line, rest) → address_of line ≡ Some start
-    → words_of rest ≡ Some words → IsPart (record { start = start; words = words }) → image_of text ≡ Some (record { start = start; words = words })
+-- ---- the line of the bytes
+
+bytes_chars : (part : Part) → IsPart part → All IsDigit (bytes_line part)
+bytes_chars part is = digits_of part.bytes is.bytes
+
+bytes_back : (part : Part) → IsPart part → bytes_of (bytes_line part ∷ []) ≡ Some part.bytes
+bytes_back part is =
+    let decoded = decode_of-encode_lower part.bytes (is_bytes part.bytes is.bytes) in
+    ap (λ (r : Result (List ℕ) FromHexError). option_and_then (λ front. option_map (λ bytes. front ++ bytes) (Some [])) (result_ok r)) decoded
+    ∙ ap Some (append-nil part.bytes)
+
+abbrev EndsBefore : Part → Part → Type 0
+EndsBefore part other = end_of other ≤ part.start
+
+apart_from : (part other : Part) → end_of other ≤ part.start → has_between (end_of (begun part)) (end_of (begun part) + length part.bytes) other ≡ false
+apart_from part other before = le-ltb _ _ (omega (arith, before))
+
+no_fault : (others : List Part) (part : Part) → IsPart part → All (EndsBefore part) others → total others + length part.bytes ≤ most_bytes
+    → growth_fault others (begun part) (length part.bytes) ≡ None
+no_fault others part is before small =
+    let count = length part.bytes in
+    let whole = eq-eqb (count % 4) 0 is.whole in
+    let within = le-ltb (2 ^ 64) (end_of (begun part) + count) (omega (arith, is.within)) in
+    let none = list_any_none (has_between (end_of (begun part)) (end_of (begun part) + count)) others (All-weaker (EndsBefore part) (λ other. has_between (end_of (begun part)) (end_of (begun part) + count) other ≡ false) (apart_from part) others before) in
+    let few = le-ltb most_bytes (total (begun part ∷ others) + count) (omega (arith, small)) in
+    rw (whole, within, none, few) refl
+
+first_digit : (byte : ℕ) (bytes : List ℕ) → All IsByte (byte ∷ bytes) → IsDigit (slice_index (encode_lower (byte ∷ bytes)) 0)
+unfolding encode_with
+first_digit byte bytes fit = let small : byte < 256 = All-head IsByte byte bytes fit in digit_at (byte / 16) (omega arith)
+
+first_of : (bytes : List ℕ) → 0 < length bytes → All IsByte bytes → IsDigit (slice_index (encode_lower bytes) 0)
+first_of [] some fit = absurd (omega arith)
+first_of (byte ∷ bytes) some fit = first_digit byte bytes fit
+
+-- a word of digits is no comment and no address
+words_of_bytes : (parts : List Part) (word bytes : List ℕ) → IsDigit (slice_index word 0) → bytes_of (word ∷ []) ≡ Some bytes → add_words parts (word ∷ []) ≡ add_bytes parts bytes
+words_of_bytes parts word bytes first read =
+    let comment = digit_is_no (slice_index word 0) 35 first refl in
+    let address = digit_is_no (slice_index word 0) 64 first refl in
+    rw (comment, address) (ap (λ (o : Option (List ℕ)). ok_or o Syntax >>= add_bytes parts) read)
+
+grows : (others : List Part) (part : Part) → IsPart part → All (EndsBefore part) others → total others + length part.bytes ≤ most_bytes
+    → add_line (begun part ∷ others) (bytes_line part) ≡ Ok (part ∷ others)
+grows others part is before small =
+    let digits = length-encode_with lower_digits part.bytes in
+    line_of_word (begun part ∷ others) (bytes_line part) (All-weaker IsDigit IsOfWord digit_of_word (bytes_line part) (bytes_chars part is)) (omega (arith, digits, is.some))
+    ∙ words_of_bytes (begun part ∷ others) (bytes_line part) part.bytes (first_of part.bytes is.some is.bytes) (bytes_back part is)
+    ∙ ap (λ (fault : Option ImageWhy). unless fault (part ∷ others)) (no_fault others part is before small)
+
+-- ---- the lines of parts
+
+-- parts last first, before those that were told
+told_onto : List Part → List Part → List Part
+told_onto [] told = told
+told_onto (part ∷ parts) told = told_onto parts (part ∷ told)
+
+-- parts that may follow those that were told
+record Follow (told parts : List Part) : Type 0 where
+  each : All IsPart parts
+  order : InOrder parts
+  behind : All (λ part. All (EndsBefore part) told) parts
+  few : length told + length parts ≤ most_parts
+  small : total told + total parts ≤ most_bytes
+
+abbrev Behind : List Part → Part → Type 0
+Behind told part = All (EndsBefore part) told
+
+follow_next : (told parts : List Part) (part : Part) → Follow told (part ∷ parts) → Follow (part ∷ told) parts
+follow_next told parts part f = record {
+  each = All-tail IsPart part parts f.each;
+  order = f.order.1;
+  behind = λ k d h. All-cons (EndsBefore (get_or parts k d)) part told (f.order.0 k d h) (All-tail (Behind told) part parts f.behind k d h);
+  few = omega (arith, f.few);
+  small = omega (arith, f.small);
+}
+
+two_lines : (number : ℕ) (parts mid next : List Part) (line line' : List ℕ) (more : List (List ℕ)) → add_line parts line ≡ Ok mid → add_line mid line' ≡ Ok next
+    → add_lines number parts (line ∷ line' ∷ more) ≡ add_lines (number + 1 + 1) next more
+two_lines number parts mid next line line' more one two = rw one (rw two refl)
+
+lines_told : (number : ℕ) (told parts : List Part) → Follow told parts → add_lines number told (lines (text_of parts)) ≡ Ok (told_onto parts told)
+unfolding told_onto
+lines_told number told [] f = refl
+lines_told number told (part ∷ parts) f =
+    let is = All-head IsPart part parts f.each in
+    let digits = All-weaker IsDigit IsOfWord digit_of_word (bytes_line part) (bytes_chars part is) in
+    let one = begins told part is (omega (arith, f.few)) in
+    let two = grows told part is (All-head (Behind told) part parts f.behind) (omega (arith, f.small)) in
+    let cut = line_first (address_line part) (bytes_line part ++ 10 ∷ text_of parts) (address_chars part) ∙ ap (λ (ls : List (List ℕ)). address_line part ∷ ls) (line_first (bytes_line part) (text_of parts) digits) in
+    ap (add_lines number told) cut
+    ∙ two_lines number told (begun part ∷ told) (part ∷ told) (address_line part) (bytes_line part) (lines (text_of parts)) one two
+    ∙ lines_told (number + 1 + 1) (part ∷ told) parts (follow_next told parts part f)
+
+-- ---- by their addresses again
+
+put_first : (part : Part) (parts : List Part) → 0 < length part.bytes → All (λ next. end_of part ≤ next.start) parts → placed parts part ≡ part ∷ parts
+put_first part [] some before = let not_empty = ne_eqb (length part.bytes) 0 (λ e. omega (arith, e, some)) in rw not_empty refl
+put_first part (next ∷ parts) some before =
+    let not_empty = ne_eqb (length part.bytes) 0 (λ e. omega (arith, e, some)) in
+    let first = before 0 next (omega arith) in
+    let behind = lt-ltb part.start next.start (omega (arith, first, some)) in
+    rw (not_empty, behind) refl
+
+placed_again : (parts told : List Part) → All IsPart parts → InOrder parts → fold placed [] (told_onto parts told) ≡ fold placed parts told
+unfolding told_onto
+placed_again [] told each order = refl
+placed_again (part ∷ parts) told each order =
+    placed_again parts (part ∷ told) (All-tail IsPart part parts each) order.1
+    ∙ ap (λ (ps : List Part). fold placed ps told) (put_first part parts (All-head IsPart part parts each).some order.0)
+
+-- ---- the text
+
+length_text : (parts : List Part) → length (text_of parts) ≡ 19 * length parts + 2 * total parts
+length_text [] = refl
+length_text (part ∷ parts) =
+    let more = length_text parts in
+    let address = length-encode_with lower_digits (big_bytes 8 part.start) in
+    let eight = length-bytes_high_first 8 part.start in
+    let digits = length-encode_with lower_digits part.bytes in
+    let one = length-append (address_line part) (10 ∷ (bytes_line part ++ 10 ∷ text_of parts)) in
+    let two = length-append (bytes_line part) (10 ∷ text_of parts) in
+    omega arith
+
+-- the text that spells an image is read to it
+pub image_spelled : (image : List Part) → IsImage image → image_of (text_of image) ≡ Ok image
 unfolding image_of
-image_as text line rest words start few first address read is =
-    let short = le-ltb most_text (length text) few in
-    rw (short, first, address, read) (part_passes (record { start = start; words = words }) is)
-
--- the text of digits and lines is read to their part
-text_read : (digits : List ℕ) (start : ℕ) (lines : List (List ℕ)) → number_of digits ≡ Some start → HaveWords lines
-    → IsPart (record { start = start; words = concat lines }) → image_of (image_text digits lines) ≡ Some (record { start = start; words = concat lines })
-text_read digits start lines number some is =
-    let parts = number_parts digits start number in
-    let len = length_lines lines some in
-    let rest = flat_map line_text lines in
-    image_as (image_text digits lines) (64 ∷ digits) rest (concat lines) start
-    (omega (arith, parts.0, len, is.few, length-append (64 ∷ digits) (10 ∷ rest)))
-    (first_line_found (64 ∷ digits) rest (All-cons Within 64 digits refl parts.1))
-    number
-    (lines_read lines some is.fits)
-    is
-
--- a text that spells a part is read to it
-pub image_read : (text : List ℕ) (part : Part) → Spells text part → IsPart part → image_of text ≡ Some part
-image_read text part spells is =
-    let is_read : IsPart (record { start = part.start; words = concat spells.lines }) = rw spells.words is in
-    let back : (words : List ℕ) → words ≡ part.words → Some (record { start = part.start; words = words }) ≡ Some part
-    = λ words e. ap (λ (ws : List ℕ). Some (record part { words = ws })) e in
-    ap image_of spells.whole ∙ text_read spells.digits part.start spells.lines spells.start spells.some is_read ∙ back (concat spells.lines) spells.words
+image_spelled image is =
+    let short = le-ltb most_text (length (text_of image)) (omega (arith, length_text image, is.few, is.small)) in
+    let follow : Follow [] image = record {
+      each = is.parts;
+      order = is.order;
+      behind = λ k d h. All-nil (EndsBefore (get_or image k d));
+      few = omega (arith, is.few);
+      small = omega (arith, is.small);
+    } in
+    rw short (ap sorted (lines_told 1 [] image follow) ∙ ap Ok (placed_again image [] is.parts is.order))

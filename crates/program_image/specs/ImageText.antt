@@ -1,76 +1,96 @@
--- The text of a program image, in its first form: a line with `@` and an address, then lines of words.
--- The characters are `@` (64), space (32), the digits `0` to `9` (48 to 57), `a` to `f` (97 to 102), and LF (10), which ends each line.
-use Rattle.std.specs.Prelude.{ℕ, ◌+◌, ◌-◌, ◌*◌, ◌%◌, ◌^◌, ◌==◌, ◌&&◌, ◌||◌, nat_le, nat_lt, Bool, codes, List, [], ◌∷◌, ◌++◌, length, take, drop, Option, Some, None, if◌then◌else◌}
-use Rattle.std.specs.List.{list_all, position}
-use Rattle.std.specs.Option.{option_map, option_and_then}
-use Rattle.std.specs.Result.{result_ok}
-use Rattle.hex.specs.Hex.{decode_sized}
-use Rattle.byteorder.specs.Endian.{big_number, little_number}
-use Rattle.program_image.specs.Part.{Part, most_words}
+-- The text of a program image: lines that begin a part at an address, and lines of its bytes.
+use Rattle.std.specs.Prelude.{ℕ, ◌+◌, ◌%◌, ◌^◌, ◌==◌, nat_le, nat_lt, min, max, not, Bool, List, [], ◌∷◌, ◌++◌, length, drop, fold, Option, Some, None, Result, Ok, Err, slice_index, if◌then◌else◌}
+use Rattle.std.specs.List.{insert, list_any, position_or_len}
+use Rattle.std.specs.Option.{ok_or}
+use Rattle.std.specs.Str.{is_utf8}
+use Rattle.std.specs.Str.Lines.{lines}
+use Rattle.program_image.specs.Part.{Part, end_of, total, most_bytes, most_parts}
+use Rattle.program_image.specs.Line.{bytes_of, number_of, words_in}
+use Rattle.program_image.specs.declared.fault.ImageWhy.{ImageWhy}
+use Rattle.program_image.specs.declared.fault.ImageWhy.TheVariants.{Syntax, Unaligned, Overlap, Wraps, TooLarge, TooLong}
 
--- 8 MiB
+-- 64 MiB
 abbrev pub most_text : ℕ
-most_text = 8388608
+most_text = 67108864
 
 -- the second step, if the first gave a value
 infixl 10 ◌>>=◌
-abbrev pub ◌>>=◌ : {A B : Type 0} → Option A → (A → Option B) → Option B
-o >>= f = option_and_then f o
+abbrev pub ◌>>=◌ : {A B : Type 0} → Result A ImageWhy → (A → Result B ImageWhy) → Result B ImageWhy
+Ok x >>= f = f x
+Err why >>= f = Err why
 
-abbrev pub is_line_end : ℕ → Bool
-is_line_end byte = byte == 10
+-- The parts that were told so far stand last first: bytes belong to the first of them.
 
--- the first line, and what follows its end
-abbrev pub first_line : List ℕ → Option (List ℕ × List ℕ)
-first_line text = option_map (λ end. (take end text, drop (end + 1) text)) (position is_line_end text)
+-- a part that begins at an address
+abbrev pub begin_part : List Part → ℕ → Result (List Part) ImageWhy
+begin_part parts start =
+    if not (start % 4 == 0) then Err Unaligned
+    else if nat_le most_parts (length parts) then Err TooLarge
+    else Ok (record { start = start; bytes = [] } ∷ parts)
 
--- zeros in front of the digits, up to sixteen digits
-abbrev pub padded : List ℕ → List ℕ
-padded digits = take (16 - length digits) (codes "0000000000000000") ++ digits
+-- whether the part has a byte at an address from `from` on and before `to`
+abbrev pub has_between : ℕ → ℕ → Part → Bool
+has_between from to part = nat_lt (max from part.start) (min to (end_of part))
 
--- the number that 1 to 16 hex digits of either case spell, the highest first
-abbrev pub number_of : List ℕ → Option ℕ
-number_of digits =
-    if nat_le 1 (length digits) && nat_le (length digits) 16 then option_map (big_number 8) (result_ok (decode_sized (padded digits) 8)) else None
-
--- the address that the first line gives
-abbrev pub address_of : List ℕ → Option ℕ
-address_of [] = None
-address_of (mark ∷ digits) = if mark == 64 then number_of digits else None
-
-abbrev pub is_lower_digit : ℕ → Bool
-is_lower_digit byte = (nat_le 48 byte && nat_le byte 57) || (nat_le 97 byte && nat_le byte 102)
-
--- the word that eight lower case digits spell: two digits a byte, and of the four bytes the lowest first
-abbrev pub spelled_word : List ℕ → Option ℕ
-spelled_word digits =
-    if list_all is_lower_digit digits then option_map (little_number 4) (result_ok (decode_sized digits 4)) else None
-
--- whether the byte may follow a word: the end of its line, or a space before a further word
-abbrev pub ends_word : ℕ → List ℕ → Bool
-ends_word byte rest = is_line_end byte || ((byte == 32) && nat_lt 0 (length rest))
-
--- the words of whole lines
-unfoldable pub words_of : List ℕ → Option (List ℕ)
-words_of [] = Some []
-words_of (a ∷ b ∷ c ∷ d ∷ e ∷ f ∷ g ∷ h ∷ end ∷ rest) =
-    if ends_word end rest then (spelled_word (a ∷ b ∷ c ∷ d ∷ e ∷ f ∷ g ∷ h ∷ []) >>= λ word. option_map (λ words. word ∷ words) (words_of rest))
+-- why the part can't go on with so many bytes, beside the others
+abbrev pub growth_fault : List Part → Part → ℕ → Option ImageWhy
+growth_fault others part count =
+    if not (count % 4 == 0) then Some Unaligned
+    else if nat_lt (2 ^ 64) (end_of part + count) then Some Wraps
+    else if list_any (has_between (end_of part) (end_of part + count)) others then Some Overlap
+    else if nat_lt most_bytes (total (part ∷ others) + count) then Some TooLarge
     else None
-words_of _ = None
 
--- whether the words stand at multiples of 4 within the addresses of 64 bits, and are not too many
-abbrev pub is_part : Part → Bool
-is_part part = (part.start % 4 == 0) && nat_le (part.start + 4 * length part.words) (2 ^ 64) && nat_le (length part.words) most_words
+-- the value, unless there is a fault
+abbrev pub unless : {A : Type 0} → Option ImageWhy → A → Result A ImageWhy
+unless None value = Ok value
+unless (Some why) value = Err why
 
--- the part, if it is one
-abbrev pub checked : Part → Option Part
-checked part = if is_part part then Some part else None
+-- bytes at the end of the part that was told last
+abbrev pub add_bytes : List Part → List ℕ → Result (List Part) ImageWhy
+add_bytes [] bytes = Err Syntax
+add_bytes (part ∷ others) bytes = unless (growth_fault others part (length bytes)) (record { start = part.start; bytes = part.bytes ++ bytes } ∷ others)
 
--- the part that a text spells
-unfoldable pub image_of : List ℕ → Option Part
-image_of text =
-    if nat_lt most_text (length text) then None
-    else first_line text >>= λ line.
-    address_of line.0 >>= λ start.
-    words_of line.1 >>= λ words.
-    checked (record { start = start; words = words })
+-- the address in the words behind `@`: digits alone
+abbrev pub address_of : List ℕ → List (List ℕ) → Result ℕ ImageWhy
+address_of digits [] = ok_or (number_of digits) Syntax
+address_of digits (word ∷ words) = Err Syntax
+
+-- A line without words, or whose first word begins with `#`, tells nothing. One that begins with `@` begins a part, and any
+-- other has bytes.
+abbrev pub add_words : List Part → List (List ℕ) → Result (List Part) ImageWhy
+add_words parts [] = Ok parts
+add_words parts (word ∷ words) =
+    if slice_index word 0 == 35 then Ok parts
+    else if slice_index word 0 == 64 then (address_of (drop 1 word) words >>= begin_part parts)
+    else (ok_or (bytes_of (word ∷ words)) Syntax >>= add_bytes parts)
+
+abbrev pub add_line : List Part → List ℕ → Result (List Part) ImageWhy
+add_line parts line = if is_utf8 line then add_words parts (words_in line) else Err Syntax
+
+-- the same with the number of the line, and the lines after it
+abbrev pub then_lines : ℕ → Result (List Part) ImageWhy → (List Part → Result (List Part) (ℕ × ImageWhy)) → Result (List Part) (ℕ × ImageWhy)
+then_lines number (Ok parts) more = more parts
+then_lines number (Err why) more = Err (number, why)
+
+-- the parts after lines, which are numbered; or the first line that has a fault, and its fault
+abbrev pub add_lines : ℕ → List Part → List (List ℕ) → Result (List Part) (ℕ × ImageWhy)
+add_lines number parts [] = Ok parts
+add_lines number parts (line ∷ lines) = then_lines number (add_line parts line) (λ next. add_lines (number + 1) next lines)
+
+-- a part put among others that stand by their addresses; one without bytes is left out
+abbrev pub placed : List Part → Part → List Part
+placed sorted part =
+    if length part.bytes == 0 then sorted else insert sorted (position_or_len (λ other. nat_lt part.start other.start) sorted) part
+
+abbrev pub by_address : List Part → List Part
+by_address parts = fold placed [] parts
+
+abbrev pub sorted : Result (List Part) (ℕ × ImageWhy) → Result (List Part) (ℕ × ImageWhy)
+sorted (Ok parts) = Ok (by_address parts)
+sorted (Err fault) = Err fault
+
+-- The image that a text spells: its parts that have bytes, by their addresses. Lines end with LF, the last may lack it, and
+-- a CR just before an LF is no part of its line. They count from 1; line 0 stands for the whole text.
+unfoldable pub image_of : List ℕ → Result (List Part) (ℕ × ImageWhy)
+image_of text = if nat_lt most_text (length text) then Err (0, TooLong) else sorted (add_lines 1 [] (lines text))

@@ -1,6 +1,7 @@
 pub mod Part
+pub mod Line
 pub mod ImageText
+pub mod FirstFault
 pub mod Spelling
-pub mod Words
 pub mod Answers
 pub mod Blocks

@@ -1,56 +1,51 @@
-// The image of a program: words that stand one after another in a core's memory.
-ghost use Rattle.std.specs.Prelude.{◌≡◌, ℕ, ◌+◌, ◌≤◌, length, IfOk, IsErrOf};
+// The image of a program: the parts of a core's memory that hold it.
+ghost use Rattle.std.specs.Prelude.{◌≡◌, ℕ, ◌+◌, ◌≤◌, [], length, nat_le, true, false, IfOk, IsErrOf};
+ghost use Rattle.std.specs.List.Sorted.{IsPartitionPoint, IsPartitionedBy};
+ghost use Rattle.std.specs.Str.Lines.{lines};
 ghost use Rattle.trace_io.specs.Causes.{Rose};
 ghost use Rattle.trace_io.specs.Bytes.{TakesAtMost, TellsAsBefore};
-ghost use Rattle.program_image.specs.Part.{IsPart, word_of};
-ghost use Rattle.program_image.specs.ImageText.{checked, image_of, most_text};
-ghost use Rattle.program_image.specs.Answers.{Answers, TakesImage, TakesNoImage};
+ghost use Rattle.program_image.specs.Part.{IsImage, word_of};
+ghost use Rattle.program_image.specs.ImageText.{add_lines, image_of, most_text};
+ghost use Rattle.program_image.specs.Answers.{AnswersText, TakesImage, TakesNoImage};
 
-use crate::fault::{ImageFault, ImageWhy};
-use crate::text::{LATER, address, first_line, words};
+use crate::draft::Draft;
+use crate::fault::{ImageFault, ImageWhy, LineFault};
+use crate::part::Part;
+use crate::text::next_line;
 use std::alloc::Global;
 use std::marker::Model;
 use trace_io::{ReadAllFault, Source, read_all};
 
-/// The size of an instruction word, in bytes.
-const WORD_BYTES: u64 = 4;
+/// The longest text that is read, in bytes: 64 MiB.
+const MOST_TEXT: usize = 64 << 20;
 
-/// How many addresses there are.
-const ADDRESSES: u128 = 1 << 64;
-
-/// The longest text that is read, in bytes.
-const MOST_TEXT: usize = 8 << 20;
-
-/// The most words that an image has: 1 MiB.
-const MOST_WORDS: usize = 1 << 18;
-
-/// What a core's memory holds of its program: instruction words from one address on.
+/// What a core's memory holds of its program.
 #[derive(Drop)]
 pub struct Image {
-    start: u64,
-    words: Vec<u32>,
+    /// By their addresses.
+    parts: Vec<Part>,
 }
 
 impl Model for Image {
-    ghost use Rattle.program_image.specs.Part.{IsPart, Part};
+    ghost use Rattle.std.specs.Prelude.{List};
+    ghost use Rattle.program_image.specs.Part.{IsImage, Part};
 
-    ghost Value = { Part };
+    ghost Value = { List Part };
 
-    ghost view = { λ image. record { start = image.start; words = image.words.items } };
+    ghost view = { λ image. image.parts.items };
 
-    ghost invariant = { λ image. IsPart (record { start = image.start; words = image.words.items }) };
+    ghost invariant = { λ image. IsImage image.parts.items };
 }
 
 impl Image {
-    /// Reads the text of an image, all that the source has left and at most 8 MiB of it.
+    /// Reads the text of an image, all that the source has left and at most 64 MiB of it.
     ///
-    /// Any other text than the crate's first lines tell, and a longer one, is `Bad` with line 0 and
-    /// `ImageWhy::Later`.
+    /// `Bad` tells the first line that has a fault, and a longer text is `TooLong` at line 0.
     pub fn read<S: Source>(alloc: Global, source: &mut S) -> Result<Image, ImageFault>
         ensures ok { IfOk result (TakesImage (S.left source.old) (S.left source.new)) }
-        ensures part { IfOk result IsPart }
+        ensures parts { IfOk result IsImage }
         ensures bad { (line : ℕ) (why : ImageWhy) → result ≡ Err (ImageFault.Bad line why)
-            → (line ≡ 0) × (why ≡ ImageWhy.Later) × TakesNoImage (S.left source.old) (S.left source.new) }
+            → TakesNoImage (S.left source.old) (S.left source.new) line why }
         ensures read_fault { IsErrOf result ImageFault.ReadFault → Rose (S.faults source.old) (S.faults source.new) }
         ensures tells { TellsAsBefore (S.left source.old) (S.left source.new) }
         ensures later { S.faults source.old ≤ S.faults source.new }
@@ -59,7 +54,12 @@ impl Image {
         let text = match read_all(alloc, source, MOST_TEXT) {
             Ok(text) => text,
             Err(ReadAllFault::Failed) => return Err(ImageFault::ReadFault),
-            Err(ReadAllFault::TooLong) => return Err(LATER),
+            Err(ReadAllFault::TooLong) => {
+                return Err(ImageFault::Bad {
+                    line: 0,
+                    why: ImageWhy::TooLong,
+                });
+            }
             Err(ReadAllFault::Memory) => return Err(ImageFault::Memory),
         };
         parse(alloc, &text)
@@ -68,37 +68,51 @@ impl Image {
     /// The instruction word at an address: none where no word begins there.
     pub fn word_at(&self, addr: u64) -> Option<u32>
         ensures value { result ≡ word_of self.now addr }
-        ensures part { IsPart self.now }
+        ensures parts { IsImage self.now }
     {
-        let offset = addr.checked_sub(self.start)?;
-        if addr % WORD_BYTES != 0 {
-            return None;
-        }
-        self.words.get((offset / WORD_BYTES) as usize).copied()
+        let begun = begun_at(&self.parts, addr);
+        let part = self.parts.get(begun.checked_sub(1)?)?;
+        part.word_at(addr)
     }
+}
+
+/// How many parts begin at an address or before it, of parts that stand by their addresses.
+fn begun_at(parts: &[Part], addr: u64) -> usize
+    requires { IsPartitionedBy (λ part. nat_le part.start addr) parts.now }
+    ensures value { IsPartitionPoint (λ part. nat_le part.start addr ≡ true) (λ part. nat_le part.start addr ≡ false) parts.now result }
+    ensures within { result ≤ length parts.now }
+{
+    parts.partition_point(|part| part.start() <= addr)
 }
 
 /// The image that a text spells.
 #[tactic(auto, unfolding(crate::specs::ImageText::image_of))]
 fn parse(alloc: Global, text: &[u8]) -> Result<Image, ImageFault>
     requires { length text.now ≤ MOST_TEXT }
-    ensures { Answers (λ image. image) result (image_of text.now) }
+    ensures { AnswersText (λ image. image) result (image_of text.now) }
 {
-    let (line, lines) = first_line(text).ok_or(LATER)?;
-    let start = address(line).ok_or(LATER)?;
-    let words = words(alloc, lines)?;
-    checked(start, words).ok_or(LATER)
+    let draft = told(alloc, text)?;
+    let parts = draft.by_address(alloc).map_err(|_| ImageFault::Memory)?;
+    Ok(Image { parts })
 }
 
-/// The image of these words, where they stand at multiples of 4, within the addresses, and are not
-/// too many.
-fn checked(start: u64, words: Vec<u32>) -> Option<Image>
-    ensures { result ≡ checked (record { start = start; words = words.items }) }
+/// The parts that the lines of a text tell.
+fn told(alloc: Global, text: &[u8]) -> Result<Draft, ImageFault>
+    requires { length text.now ≤ MOST_TEXT }
+    ensures { AnswersText (λ draft. draft) result (add_lines 1 [] (lines text.now)) }
 {
-    let end = u128::from(start) + u128::from(WORD_BYTES) * words.len() as u128;
-    if start % WORD_BYTES == 0 && end <= ADDRESSES && words.len() <= MOST_WORDS {
-        Some(Image { start, words })
-    } else {
-        None
+    let mut draft = Draft::new(alloc);
+    let mut rest = text;
+    let mut number = 1;
+    while !rest.is_empty() {
+        let (line, after) = next_line(rest);
+        draft = match draft.with_line(alloc, line) {
+            Ok(next) => next,
+            Err(LineFault::Bad(why)) => return Err(ImageFault::Bad { line: number, why }),
+            Err(LineFault::Memory) => return Err(ImageFault::Memory),
+        };
+        rest = after;
+        number += 1;
     }
+    Ok(draft)
 }

@@ -1,11 +1,35 @@
-// What the definition of an image's text means, as the contract of a function that does nothing.
-ghost use Rattle.std.specs.Prelude.{◌≡◌, ◌↔◌, ℕ, List, Some};
-ghost use Rattle.program_image.specs.Part.{IsPart, Part};
-ghost use Rattle.program_image.specs.ImageText.{image_of};
-ghost use Rattle.program_image.specs.Spelling.{Spells};
+// What the definitions mean, as contracts of functions that do nothing.
+ghost use Rattle.std.specs.Prelude.{◌≡◌, ◌↔◌, ℕ, ◌+◌, ◌%◌, ◌^◌, ◌<◌, ◌≤◌, ◌⊎◌, List, length, Contains, Ok, Err, None, Some};
+ghost use Rattle.program_image.specs.Part.{IsImage, Part, word_in, word_of};
+ghost use Rattle.program_image.specs.ImageText.{image_of, most_text};
+ghost use Rattle.program_image.specs.FirstFault.{IsFirstFault};
+ghost use Rattle.program_image.specs.Spelling.{text_of};
+ghost use Rattle.program_image.specs.declared.fault.ImageWhy.{ImageWhy};
+ghost use Rattle.program_image.specs.declared.fault.ImageWhy.TheVariants.{TooLong};
 
-/// A text is read to a part exactly where it spells it: `@`, digits of its address, and lines of
-/// its words.
+/// What a text spells is the parts of an image, and each image is read from the text that spells it.
 pub fn reads_what_is_spelled()
-    ensures { (text : List ℕ) (part : Part) → (image_of text ≡ Some part) ↔ (Spells text part × IsPart part) }
+    ensures image { (text : List ℕ) (image : List Part) → image_of text ≡ Ok image → IsImage image }
+    ensures spelled { (image : List Part) → IsImage image → image_of (text_of image) ≡ Ok image }
+{}
+
+/// A text that spells no image is too long, or has the fault of its first line that has one.
+pub fn a_fault_is_that_of_the_first_line()
+    ensures { (text : List ℕ) (line : ℕ) (why : ImageWhy) → image_of text ≡ Err (line, why)
+        → ((most_text < length text) × (line ≡ 0) × (why ≡ TooLong)) ⊎ IsFirstFault text line why }
+{}
+
+/// The word at an address is that of the one part that has it, and is a word of 32 bits at a
+/// multiple of 4, within the addresses of 64 bits.
+pub fn words_are_of_their_parts()
+    ensures part { (image : List Part) (addr word : ℕ) → IsImage image
+        → (word_of image addr ≡ Some word) ↔ ((part : Part) × Contains image part × (word_in part addr ≡ Some word)) }
+    ensures fits { (image : List Part) (addr word : ℕ) → IsImage image → word_of image addr ≡ Some word
+        → (word < 2 ^ 32) × (addr % 4 ≡ 0) × (addr + 4 ≤ 2 ^ 64) }
+{}
+
+/// No image has a word at every multiple of 4, so that words which follow one another come to an end.
+pub fn each_image_has_a_gap()
+    ensures { (image : List Part) → IsImage image
+        → (addr : ℕ) × (addr < 2 ^ 64) × (addr % 4 ≡ 0) × (word_of image addr ≡ None) }
 {}

@@ -1,21 +1,31 @@
 //! What a core's memory holds of its program: the text that tells it, and the word at an address.
 //!
-//! The text of an image, in its first form: a line with `@` and an address of 1 to 16 hex digits of
-//! either case, then lines of words parted by one space. A word is four bytes in the order in which
-//! memory holds them, as eight lower case hex digits, so `1f2003d5` is the word `0xd503201f`. Each
-//! line ends with LF.
+//! A text has lines that end with LF, or CR and LF. `@` and an address of 1 to 16 hex digits begin a
+//! part, and the other lines have its bytes in the order in which memory holds them, as words of hex
+//! digits of either case, two digits a byte. So `1f2003d5` is the instruction word `0xd503201f`.
+//! Lines without words, and those that begin with `#`, are passed over.
+//!
+//! The layer above uses these contracts:
+//! - [`Image::read`]: the image that a text spells, or the first line that has a fault, and which.
+//! - [`Image::word_at`]: the instruction word at an address.
+//! - the laws: what a text spells, and what holds of every image.
 #![tactic(auto)]
 
 mod block;
+mod draft;
 mod fault;
 mod image;
 mod laws;
+mod part;
 mod text;
 
 pub use block::{Block, BlockEnd};
 pub use fault::{ImageFault, ImageWhy};
 pub use image::Image;
-pub use laws::reads_what_is_spelled;
+pub use laws::{
+    a_fault_is_that_of_the_first_line, each_image_has_a_gap, reads_what_is_spelled,
+    words_are_of_their_parts,
+};
 
 #[cfg(test)]
 mod tests;

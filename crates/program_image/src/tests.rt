@@ -4,30 +4,33 @@ use std::alloc::Global;
 use std::test::Fail;
 use trace_io::{MemSource, SafeSource};
 
-const LATER: ImageFault = ImageFault::Bad {
-    line: 0,
-    why: ImageWhy::Later,
-};
-
-fn read(alloc: Global, text: &str) -> Result<Image, ImageFault> {
-    let bytes = text
-        .as_bytes()
-        .to_vec(alloc)
-        .map_err(|_| ImageFault::Memory)?;
+fn read(alloc: Global, text: &[u8]) -> Result<Image, ImageFault> {
+    let bytes = text.to_vec(alloc).map_err(|_| ImageFault::Memory)?;
     Image::read(alloc, &mut SafeSource::new(bytes, 7))
+}
+
+/// The text of the refusal, and none where there is an image.
+fn answer(alloc: Global, text: &[u8]) -> Result<String, Fail> {
+    match read(alloc, text) {
+        Ok(_) => Ok(String::new(alloc)),
+        Err(fault) => Ok(format!(in alloc; "{fault}")?),
+    }
 }
 
 #[test]
 fn each_word_stands_at_its_address(rt: HostRuntime) -> Result<(), Fail> {
-    let image = read(rt.alloc(), "@1000\n1f2003d5 40000054 1f2003d5 fdffff17\n")?;
+    let text = b"@2000\n1f2003d5\n@1000\n1f2003d5 40000054\n@2004\nfdffff17\n@0\n";
+    let image = read(rt.alloc(), text)?;
     let words = [
+        (0, None),
         (0x0ffc, None),
         (0x1000, Some(0xd503_201f)),
         (0x1002, None),
         (0x1004, Some(0x5400_0040)),
-        (0x1008, Some(0xd503_201f)),
-        (0x100c, Some(0x17ff_fffd)),
-        (0x1010, None),
+        (0x1008, None),
+        (0x2000, Some(0xd503_201f)),
+        (0x2004, Some(0x17ff_fffd)),
+        (0x2008, None),
     ];
     for (addr, word) in words {
         assert_eq!(rt; image.word_at(addr), word);
@@ -36,41 +39,74 @@ fn each_word_stands_at_its_address(rt: HostRuntime) -> Result<(), Fail> {
 }
 
 #[test]
-fn the_form_is_kept_to_the_letter(rt: HostRuntime) -> Result<(), Fail> {
+fn each_form_of_line_is_read(rt: HostRuntime) -> Result<(), Fail> {
     let alloc = rt.alloc();
-    let accepted = [
-        ("@0\n", 0, None),
+    let texts: [(&[u8], u64); 6] = [
+        (b"@fffffffffffffffc\n1f2003d5\n", 0xffff_ffff_ffff_fffc),
+        (b"@1000\n1f20 03 d5\n", 0x1000),
+        (b"@000000000000aBcC\r\n\r\n1F2003D5\r\n", 0xabcc),
+        (b"\t# the first part\n \t\n  @1000\t\n\t1f2003d5  ", 0x1000),
+        (b"@1000\n@2000\n1f20\t03d5", 0x2000),
+        (b"@1004\n@1000\n1f2003d5\n# 1f2003d5", 0x1000),
+    ];
+    for (text, addr) in texts {
+        assert_eq!(rt; read(alloc, text)?.word_at(addr), Some(0xd503_201f));
+    }
+    assert_eq!(rt; read(alloc, b"# nothing\n")?.word_at(0), None);
+    Ok(())
+}
+
+#[test]
+fn a_fault_tells_its_line(rt: HostRuntime) -> Result<(), Fail> {
+    let alloc = rt.alloc();
+    let texts: [(&[u8], &str); 14] = [
+        (b"@1000\n1f2003d5\n@1002\n", "image line 3: unaligned"),
         (
-            "@00000000000aBcD0\n1f2003d5\n1f2003d5 40000054\n",
-            0xabcd8,
-            Some(0x5400_0040),
+            b"@1000\n1f2003d5 1f2003d5\n@1004\n1f2003d5\n",
+            "image line 4: overlap",
         ),
         (
-            "@fffffffffffffffc\n1f2003d5\n",
-            0xffff_ffff_ffff_fffc,
-            Some(0xd503_201f),
+            b"@fffffffffffffffc\n1f2003d5 1f2003d5\n",
+            "image line 2: wraps",
         ),
+        (b"@1000 1f2003d5\n", "image line 1: syntax"),
+        (b"1f2003d5\n", "image line 1: syntax"),
+        (b"@1000\n1f2 0 03d5\n", "image line 2: syntax"),
+        (b"@1000\n1f20\n", "image line 2: unaligned"),
+        (b"@00000000000001000\n", "image line 1: syntax"),
+        (b"@\n", "image line 1: syntax"),
+        (
+            b"@fffffffffffffffc\n1f2003d5\n@fffffffffffffff8\n1f2003d5 1f2003d5 1f2003d5\n",
+            "image line 4: wraps",
+        ),
+        (
+            b"@fffffffffffffffc\n1f2003d5\n1f2003d5\n",
+            "image line 3: wraps",
+        ),
+        (b"# \xc0\x80\n@0\n", "image line 1: syntax"),
+        (
+            b"@1000\n1f2003d5\n@ffc\n1f2003d5\n1f2003d5\n",
+            "image line 5: overlap",
+        ),
+        (b"@1000\n1f2003d5\r", "image line 2: syntax"),
     ];
-    for (text, addr, word) in accepted {
-        assert_eq!(rt; read(alloc, text)?.word_at(addr), word);
+    for (text, told) in texts {
+        assert_eq!(rt; answer(alloc, text)?.as_str(), told);
     }
-    let refused = [
-        "",
-        "1000\n1f2003d5\n",
-        "@\n",
-        "@1000",
-        "@1000\n1f2003d5",
-        "@1000\n1F2003D5\n",
-        "@1000\n1f2003d5  40000054\n",
-        "@1000\n1f2003d5 \n",
-        "@1000\n\n",
-        "@1002\n1f2003d5\n",
-        "@00000000000001000\n1f2003d5\n",
-        "@fffffffffffffffc\n1f2003d5 40000054\n",
-    ];
-    for text in refused {
-        assert!(rt; matches!(read(alloc, text), Err(fault) if fault == LATER));
-    }
+    Ok(())
+}
+
+#[test]
+fn parts_without_bytes_are_counted(rt: HostRuntime) -> Result<(), Fail> {
+    let alloc = rt.alloc();
+    let mut text = b"@0\n".repeat(alloc, 64)?;
+    assert!(rt; read(alloc, &text).is_ok());
+    text.extend_from_slice(b"@0\n")?;
+    let too_large = ImageFault::Bad {
+        line: 65,
+        why: ImageWhy::TooLarge,
+    };
+    assert!(rt; matches!(read(alloc, &text), Err(fault) if fault == too_large));
     Ok(())
 }
 
@@ -84,16 +120,9 @@ fn a_failed_read_is_no_text(rt: HostRuntime) -> Result<(), Fail> {
 }
 
 #[test]
-fn a_refusal_tells_its_line(rt: HostRuntime) -> Result<(), Fail> {
-    let text = format!(in rt.alloc(); "{LATER}")?;
-    assert_eq!(rt; text.as_str(), "image line 0: later");
-    Ok(())
-}
-
-#[test]
 fn a_block_ends_where_a_trace_tells(rt: HostRuntime) -> Result<(), Fail> {
     let alloc = rt.alloc();
-    let image = read(alloc, "@1000\n1f2003d5 40000054 1f2003d5 10000054\n")?;
+    let image = read(alloc, b"@1000\n1f2003d5 40000054 1f2003d5 10000054\n")?;
     let cond = BlockEnd::P0 {
         addr: 0x1004,
         class: Class::Cond { off: 8 },
@@ -107,7 +136,7 @@ fn a_block_ends_where_a_trace_tells(rt: HostRuntime) -> Result<(), Fail> {
     for (pc, plain, end) in blocks {
         assert_eq!(rt; image.block(pc), Block { plain, end });
     }
-    let last = read(alloc, "@fffffffffffffff8\n1f2003d5 1f2003d5\n")?;
+    let last = read(alloc, b"@fffffffffffffff8\n1f2003d5 1f2003d5\n")?;
     let end = BlockEnd::NoCode(0);
     assert_eq!(rt; last.block(0xffff_ffff_ffff_fff8), Block { plain: 2, end });
     Ok(())

@@ -1,49 +1,97 @@
-// The text of a program image, read from the left.
-ghost use Rattle.std.specs.Prelude.{◌≡◌, ◌≤◌, length, option_map, position};
-ghost use Rattle.std.specs.List.{list_all};
-ghost use Rattle.program_image.specs.ImageText.{address_of, ends_word, first_line, is_line_end, is_lower_digit, number_of, spelled_word, words_of};
-ghost use Rattle.program_image.specs.Words.{first_word};
+// The lines of a text, the words of a line, and the digits of a word.
+ghost use Rattle.std.specs.Prelude.{◌≡◌, ◌<◌, ◌≤◌, ◌∷◌, ◌++◌, [], length, IfSome, MatchOption, option_map, not, position, ◌==◌};
+ghost use Rattle.std.specs.List.{position_or_len};
+ghost use Rattle.std.specs.Option.{ok_or};
+ghost use Rattle.std.specs.Result.{result_ok};
+ghost use Rattle.std.specs.Str.{is_utf8};
+ghost use Rattle.std.specs.Str.Lines.{lines, strip_carriage_return};
+ghost use Rattle.hex.specs.Hex.{decode_of};
+ghost use Rattle.program_image.specs.Line.{bytes_of, is_blank, number_of, words_in};
 ghost use Rattle.program_image.specs.Answers.{Answers};
 
-use crate::fault::{ImageFault, ImageWhy};
-use byteorder::{BigEndian, ByteOrder, LittleEndian};
+use crate::fault::{ImageWhy, LineFault};
+use byteorder::{BigEndian, ByteOrder};
 use std::alloc::Global;
-
-/// What a text outside the first form is refused with.
-pub const LATER: ImageFault = ImageFault::Bad {
-    line: 0,
-    why: ImageWhy::Later,
-};
-
-const ADDRESS_MARK: u8 = b'@';
 
 const ADDRESS_DIGITS: usize = 16;
 
-const WORD_DIGITS: usize = 8;
+/// A line that is of no form.
+pub const SYNTAX: LineFault = LineFault::Bad(ImageWhy::Syntax);
 
-fn is_line_end(byte: u8) -> bool
-    ensures { result ≡ is_line_end byte }
+fn is_blank(byte: u8) -> bool
+    ensures { result ≡ is_blank byte }
 {
-    byte == b'\n'
+    byte == b' ' || byte == b'\t'
+}
+
+/// The line without a CR at its end.
+fn without_return(line: &[u8]) -> &[u8]
+    ensures { result.now ≡ strip_carriage_return line.now }
+{
+    match line {
+        [front @ .., b'\r'] => front,
+        _ => line,
+    }
 }
 
 /// Where the first line ends.
 fn line_end(text: &[u8]) -> Option<usize>
-    ensures { result ≡ position is_line_end text.now }
+    ensures { result ≡ position (λ byte. byte == 10) text.now }
 {
-    text.iter().position(|byte| is_line_end(*byte))
+    text.iter().position(|byte| *byte == b'\n')
 }
 
-/// The first line, and what follows its end.
-pub fn first_line(text: &[u8]) -> Option<(&[u8], &[u8])>
-    ensures { option_map (λ line. (line.0.now, line.1.now)) result ≡ first_line text.now }
+/// The first line of a text that is not empty, without its end, and the text behind that.
+pub fn next_line(text: &[u8]) -> (&[u8], &[u8])
+    requires { 0 < length text.now }
+    ensures lines { lines text.now ≡ result.0.now ∷ lines result.1.now }
+    ensures shorter { length result.1.now < length text.now }
 {
-    let end = line_end(text)?;
-    Some((&text[..end], &text[end + 1..]))
+    match line_end(text) {
+        Some(end) => (without_return(&text[..end]), &text[end + 1..]),
+        None => (text, &[]),
+    }
 }
 
-/// The number that 1 to 16 hex digits of either case spell.
-fn number(digits: &[u8]) -> Option<u64>
+/// Whether the line is UTF-8.
+pub fn is_utf8(line: &[u8]) -> bool
+    ensures { result ≡ is_utf8 line.now }
+{
+    str::from_utf8(line).is_ok()
+}
+
+/// Where the first word of a line begins.
+fn word_start(line: &[u8]) -> Option<usize>
+    ensures { result ≡ position (λ byte. not (is_blank byte)) line.now }
+{
+    line.iter().position(|byte| !is_blank(*byte))
+}
+
+fn first_blank(line: &[u8]) -> Option<usize>
+    ensures { result ≡ position is_blank line.now }
+{
+    line.iter().position(|byte| is_blank(*byte))
+}
+
+/// Where the word at the front of a line ends.
+fn word_end(line: &[u8]) -> usize
+    ensures value { result ≡ position_or_len is_blank line.now }
+    ensures within { result ≤ length line.now }
+{
+    first_blank(line).unwrap_or(line.len())
+}
+
+/// The first word of a line, and the line behind it.
+pub fn next_word(line: &[u8]) -> Option<(&[u8], &[u8])>
+    ensures words { MatchOption result (words_in line.now ≡ []) (λ found. words_in line.now ≡ found.0.now ∷ words_in found.1.now) }
+    ensures shorter { IfSome result (λ found. length found.1.now < length line.now) }
+{
+    let line = &line[word_start(line)?..];
+    Some(line.split_at(word_end(line)))
+}
+
+/// The number that 1 to 16 hex digits spell.
+pub fn number(digits: &[u8]) -> Option<u64>
     ensures { result ≡ number_of digits.now }
 {
     if digits.is_empty() || digits.len() > ADDRESS_DIGITS {
@@ -56,69 +104,27 @@ fn number(digits: &[u8]) -> Option<u64>
     Some(BigEndian::read_u64(&bytes))
 }
 
-/// The address that the first line of an image gives.
-pub fn address(line: &[u8]) -> Option<u64>
-    ensures { result ≡ address_of line.now }
+/// The bytes with those behind them that hex digits spell.
+fn with_digits(mut bytes: Vec<u8>, digits: &[u8]) -> Result<Vec<u8>, LineFault>
+    ensures { Answers (λ v. v.items) result (ok_or (option_map (λ more. bytes.items ++ more) (result_ok (decode_of digits.now))) ImageWhy.Syntax) }
 {
-    match line {
-        [ADDRESS_MARK, digits @ ..] => number(digits),
-        _ => None,
-    }
+    let from = bytes.len();
+    bytes
+        .resize(from + digits.len() / 2, 0)
+        .map_err(|_| LineFault::Memory)?;
+    hex::decode_to_slice(digits, &mut bytes[from..]).map_err(|_| SYNTAX)?;
+    Ok(bytes)
 }
 
-fn is_lower_digit(byte: u8) -> bool
-    ensures { result ≡ is_lower_digit byte }
+/// The bytes that the words of a line spell.
+pub fn line_bytes(alloc: Global, line: &[u8]) -> Result<Vec<u8>, LineFault>
+    ensures { Answers (λ v. v.items) result (ok_or (bytes_of (words_in line.now)) ImageWhy.Syntax) }
 {
-    matches!(byte, b'0'..=b'9' | b'a'..=b'f')
-}
-
-fn all_lower_digits(digits: &[u8]) -> bool
-    ensures { result ≡ list_all is_lower_digit digits.now }
-{
-    digits.iter().all(|digit| is_lower_digit(*digit))
-}
-
-/// The word that eight lower case hex digits spell, its lowest byte first.
-fn word(digits: &[u8]) -> Option<u32>
-    ensures { result ≡ spelled_word digits.now }
-{
-    if !all_lower_digits(digits) {
-        return None;
-    }
-    let mut bytes = [0; size_of::<u32>()];
-    hex::decode_to_slice(digits, &mut bytes).ok()?;
-    Some(LittleEndian::read_u32(&bytes))
-}
-
-/// The word at the front of the lines, and what follows the space or the line's end behind it.
-fn first_word(lines: &[u8]) -> Option<(u32, &[u8])>
-    ensures { option_map (λ first. (first.0, first.1.now)) result ≡ first_word lines.now }
-{
-    if lines.len() <= WORD_DIGITS {
-        return None;
-    }
-    let (digits, end) = lines.split_at(WORD_DIGITS);
-    let rest = &end[1..];
-    if is_line_end(end[0]) || end[0] == b' ' && !rest.is_empty() {
-        Some((word(digits)?, rest))
-    } else {
-        None
-    }
-}
-
-/// The words of whole lines.
-#[tactic(auto, using(crate::proofs::Lines::no_words), unfolding(crate::specs::ImageText::words_of))]
-pub fn words(alloc: Global, lines: &[u8]) -> Result<Vec<u32>, ImageFault>
-    ensures { Answers (λ words. words.items) result (words_of lines.now) }
-{
-    let mut words = Vec::new(alloc);
-    let mut rest = lines;
-    while !rest.is_empty() {
-        let Some((word, after)) = first_word(rest) else {
-            return Err(LATER);
-        };
-        words.push(word).map_err(|_| ImageFault::Memory)?;
+    let mut bytes = Vec::new(alloc);
+    let mut rest = line;
+    while let Some((word, after)) = next_word(rest) {
+        bytes = with_digits(bytes, word)?;
         rest = after;
     }
-    Ok(words)
+    Ok(bytes)
 }

@@ -1,13 +1,12 @@
 -- Answers whose text was not written whole, and answers of a call from those of its parts.
-use Rattle.std.proofs.Common.{◌≡◌, ℕ, ◌≤◌, Bool, true, false, List, [], length, Option, Some, None, Result, Ok, Err, refl, ap, subst, ◌∙◌, inl, inr, arith}
+use Rattle.std.proofs.Common.{◌≡◌, ℕ, ◌≤◌, Bool, true, false, List, [], length, Option, Some, None, Result, Ok, Err, refl, sym, ap, subst, ◌∙◌, inl, inr, arith}
 use Rattle.std.specs.Io.KnownBytes.{Keeps}
 use Rattle.program_image.specs.declared.fault.ImageWhy.{ImageWhy}
-use Rattle.program_image.specs.declared.fault.ImageWhy.TheVariants.{Later}
 use Rattle.trace_io.specs.Causes.{Rose, HasCause}
 use Rattle.trace_io.specs.Bytes.{TellsAsBefore, AppendsFront, AppendsShorter}
 use Rattle.trace_io.proofs.Known.{front_of_shorter, front_of_all, front_kept}
 use Rattle.trace_cmd.specs.Words.{Command, Path, Packets, meaning, image_of, asks_packets}
-use Rattle.program_image.specs.Part.{Part}
+use Rattle.program_image.specs.declared.image.Image.{Image}
 use Rattle.program_image.specs.Answers.{TakesImage, TakesNoImage}
 use Rattle.trace_io.specs.Bytes.{TakesAll}
 use Rattle.trace_io.specs.declared.traits.Failed.{Failed}
@@ -15,7 +14,7 @@ use Rattle.trace_cmd.specs.declared.status.Status.{Status}
 use Rattle.trace_cmd.specs.declared.status.Status.TheVariants as status
 use Rattle.path_text.specs.Writing.{Writes}
 use Rattle.trace_cmd.specs.Answers.{usage_line, image_line, PrintsFront, most_input, IsPathCall, IsPacketsCall, IsUnread, IsAnswer, IsInputAnswer, PathShown, PacketsShown, AnswersSo}
-use Rattle.trace_cmd.proofs.Wrote.{wrote_nothing, writes_all, answers_err}
+use Rattle.path_text.proofs.Wrote.{wrote_nothing, writes_all, answers_ok, answers_err}
 
 -- what is shown of the input could not be written
 pub input_fails : (Shown : List ℕ → List ℕ → Bool → Type 0) (input input' old new : Option (List ℕ)) (f g : ℕ) (e d : Failed) (bytes text : List ℕ) (faulty : Bool) → TakesAll input input' bytes
@@ -24,6 +23,19 @@ input_fails Shown input input' old new f g e d bytes text true all few shown w =
     record { status = status.Faulted; text = text; answer = (bytes, all, few, shown); writes = answers_err old new f g e d text w; same = tt }
 input_fails Shown input input' old new f g e d bytes text false all few shown w =
     record { status = status.Done; text = text; answer = (bytes, all, few, shown); writes = answers_err old new f g e d text w; same = tt }
+
+-- what is shown of the input was written
+pub input_faulted : (Shown : List ℕ → List ℕ → Bool → Type 0) (input input' old new : Option (List ℕ)) (f g : ℕ) (told faulty : Bool) (bytes text : List ℕ) → TakesAll input input' bytes
+    → length bytes ≤ most_input → Shown bytes text faulty → Writes {T = Bool} {E = Failed} old new f g (Ok told) text → told ≡ faulty → told ≡ true
+    → AnswersSo (IsInputAnswer Shown input input') {E = Failed} old new f g (Ok status.Faulted)
+input_faulted Shown input input' old new f g told faulty bytes text all few shown w same t =
+    record { status = status.Faulted; text = text; answer = (bytes, all, few, subst (λ b. Shown bytes text b) (sym same ∙ t) shown); writes = answers_ok old new f g told status.Faulted text w; same = refl }
+
+pub input_done : (Shown : List ℕ → List ℕ → Bool → Type 0) (input input' old new : Option (List ℕ)) (f g : ℕ) (told faulty : Bool) (bytes text : List ℕ) → TakesAll input input' bytes
+    → length bytes ≤ most_input → Shown bytes text faulty → Writes {T = Bool} {E = Failed} old new f g (Ok told) text → told ≡ faulty → told ≡ false
+    → AnswersSo (IsInputAnswer Shown input input') {E = Failed} old new f g (Ok status.Done)
+input_done Shown input input' old new f g told faulty bytes text all few shown w same t =
+    record { status = status.Done; text = text; answer = (bytes, all, few, subst (λ b. Shown bytes text b) (sym same ∙ t) shown); writes = answers_ok old new f g told status.Done text w; same = refl }
 
 -- the input could not be read
 unread_is : (Shown : List ℕ → List ℕ → Bool → Type 0) (input input' : Option (List ℕ)) (s : Status) → IsUnread input input' s → IsInputAnswer Shown input input' s []
@@ -40,23 +52,23 @@ pub unread_without_image : (input input' : Option (List ℕ)) (s : Status) → I
 unread_without_image input input' s is line why e = let same : s ≡ status.ImageBad line why = cc in subst (IsUnread input input') same is
 
 -- an answer by the input is one of the call, where the image was read
-pub of_path : (words : List (List ℕ)) (part : Part) (image image' input input' : Option (List ℕ)) (s : Status) (text : List ℕ) → IsPathCall words → TakesImage image image' part
-    → IsInputAnswer (PathShown part) input input' s text → IsAnswer words image image' input input' s text
-of_path words part image image' input input' status.Done text call read (bytes, all, few, shown) =
-    inl (record { call = call; part = part; bytes = bytes; image_read = read; input_read = all; few = few; shown = shown })
-of_path words part image image' input input' status.Faulted text call read (bytes, all, few, shown) =
-    inl (record { call = call; part = part; bytes = bytes; image_read = read; input_read = all; few = few; shown = shown })
-of_path words part image image' input input' status.InputTooLong text call read (many, none) = (record { first = inl (call, (part, read)); many = many }, none)
-of_path words part image image' input input' status.ReadFault text call read is = (inl call, is.1)
-of_path words part image image' input input' status.NoMemory text call read is = (inl call, is.1)
-of_path words part image image' input input' status.Usage text call read is = absurd is.0
-of_path words part image image' input input' (status.ImageBad line why) text call read is = absurd is.0
-of_path words part image image' input input' status.WriteFault text call read is = absurd is.0
+pub of_path : (words : List (List ℕ)) (parts : Image) (image image' input input' : Option (List ℕ)) (s : Status) (text : List ℕ) → IsPathCall words → TakesImage image image' parts
+    → IsInputAnswer (PathShown parts) input input' s text → IsAnswer words image image' input input' s text
+of_path words parts image image' input input' status.Done text call read (bytes, all, few, shown) =
+    inl (record { call = call; parts = parts; bytes = bytes; image_read = read; input_read = all; few = few; shown = shown })
+of_path words parts image image' input input' status.Faulted text call read (bytes, all, few, shown) =
+    inl (record { call = call; parts = parts; bytes = bytes; image_read = read; input_read = all; few = few; shown = shown })
+of_path words parts image image' input input' status.InputTooLong text call read (many, none) = (record { first = inl (call, (parts, read)); many = many }, none)
+of_path words parts image image' input input' status.ReadFault text call read is = (inl call, is.1)
+of_path words parts image image' input input' status.NoMemory text call read is = (inl call, is.1)
+of_path words parts image image' input input' status.Usage text call read is = absurd is.0
+of_path words parts image image' input input' (status.ImageBad line why) text call read is = absurd is.0
+of_path words parts image image' input input' status.WriteFault text call read is = absurd is.0
 
-pub so_of_path : (words : List (List ℕ)) (part : Part) (image image' input input' old new : Option (List ℕ)) (f g : ℕ) (r : Result Status Failed) → IsPathCall words → TakesImage image image' part
-    → AnswersSo (IsInputAnswer (PathShown part) input input') {E = Failed} old new f g r → AnswersSo (IsAnswer words image image' input input') {E = Failed} old new f g r
-so_of_path words part image image' input input' old new f g r call read a =
-    record { status = a.status; text = a.text; answer = of_path words part image image' input input' a.status a.text call read a.answer; writes = a.writes; same = a.same }
+pub so_of_path : (words : List (List ℕ)) (parts : Image) (image image' input input' old new : Option (List ℕ)) (f g : ℕ) (r : Result Status Failed) → IsPathCall words → TakesImage image image' parts
+    → AnswersSo (IsInputAnswer (PathShown parts) input input') {E = Failed} old new f g r → AnswersSo (IsAnswer words image image' input input') {E = Failed} old new f g r
+so_of_path words parts image image' input input' old new f g r call read a =
+    record { status = a.status; text = a.text; answer = of_path words parts image image' input input' a.status a.text call read a.answer; writes = a.writes; same = a.same }
 
 -- and where the packets are asked for
 of_packets : (words : List (List ℕ)) (image image' input input' : Option (List ℕ)) (s : Status) (text : List ℕ) → IsPacketsCall words
@@ -118,14 +130,14 @@ usage_fails words image image' input input' old new f g e none shorter tells cau
 
 -- the line of an image that is bad could not be written
 pub image_fails : (words : List (List ℕ)) (image image' input input' old new : Option (List ℕ)) (f g : ℕ) (e d : Failed) (line line' : ℕ) (why why' : ImageWhy) → line' ≡ line → why' ≡ why
-    → IsPathCall words → (line ≡ 0) × (why ≡ Later) × TakesNoImage image image' → Writes {T = Unit {0}} old new f g (Err e) (image_line line' why')
+    → IsPathCall words → TakesNoImage image image' line why → Writes {T = Unit {0}} old new f g (Err e) (image_line line' why')
     → AnswersSo (IsAnswer words image image' input input') {E = Failed} old new f g (Err d)
 image_fails words image image' input input' old new f g e d line line' why why' same_line same_why call bad w =
     let text = ap (λ n. image_line n why') same_line ∙ ap (image_line line) same_why in
     record {
       status = status.ImageBad line why;
       text = image_line line why;
-      answer = record { call = call; refused = bad.2; line_is = bad.0; why_is = bad.1; printed = refl };
+      answer = record { call = call; refused = bad; printed = refl };
       writes = subst (λ t. Writes {T = Status} old new f g (Err d) t) text (answers_err old new f g e d (image_line line' why') w);
       same = tt;
     }

@@ -23,7 +23,7 @@ use Rattle.trace_io.specs.declared.traits.Failed.{Failed}
 use Rattle.trace_cmd.specs.PacketList.{packet_lines, end_of, is_faulty, list_text, IsPacketList}
 use Rattle.std.proofs.lemmas.Bool.{eqb-true}
 use Rattle.trace_cmd.proofs.Tests.{cases}
-use Rattle.trace_cmd.proofs.Wrote.{Wrote, wrote_nothing, wrote_more, writes_all, fails_after}
+use Rattle.path_text.proofs.Wrote.{Wrote, wrote_nothing, wrote_more, writes_all, fails_after}
 
 -- ---- how a stream ends
 

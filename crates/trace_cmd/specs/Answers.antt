@@ -4,10 +4,10 @@ use Rattle.std.specs.Prelude.{◌≡◌, ◌⊎◌, ℕ, ◌+◌, ◌^◌, ◌�
 use Rattle.std.specs.Io.KnownBytes.{Appends}
 use Rattle.trace_io.specs.Bytes.{TakesAll, TakesCount, AppendsFront}
 use Rattle.trace_io.specs.Causes.{Rose}
-use Rattle.program_image.specs.Part.{Part}
+use Rattle.program_image.specs.declared.image.Image.{Image}
 use Rattle.program_image.specs.Answers.{TakesImage, TakesNoImage}
 use Rattle.program_image.specs.declared.fault.ImageWhy.{ImageWhy}
-use Rattle.program_image.specs.declared.fault.ImageWhy.TheVariants.{Later}
+use Rattle.program_image.specs.declared.fault.ImageWhy.TheVariants.{Syntax, Unaligned, Overlap, Wraps, TooLarge, TooLong}
 use Rattle.trace_cmd.specs.declared.status.Status.{Status}
 use Rattle.trace_cmd.specs.declared.status.Status.TheVariants as status
 use Rattle.trace_cmd.specs.Words.{Path, Packets, meaning}
@@ -32,7 +32,12 @@ abbrev pub usage_line : List ℕ
 usage_line = codes "usage: etm path|packets|trace|retired|selftest" ++ 10 ∷ []
 
 abbrev pub why_text : ImageWhy → List ℕ
-why_text Later = codes "later"
+why_text Syntax = codes "syntax"
+why_text Unaligned = codes "unaligned"
+why_text Overlap = codes "overlap"
+why_text Wraps = codes "wraps"
+why_text TooLarge = codes "too-large"
+why_text TooLong = codes "too-long"
 
 abbrev pub image_line : ℕ → ImageWhy → List ℕ
 image_line line why = codes "image line " ++ decimal line ++ codes ": " ++ why_text why ++ 10 ∷ []
@@ -69,23 +74,21 @@ pub record IsUsage (words : List (List ℕ)) (text : List ℕ) : Type 0 where
   pub meaningless : meaning words ≡ None
   pub printed : text ≡ usage_line
 
--- ImageBad: the image's text, read to its end or past the most that is read, has a fault
+-- ImageBad: the image's text, read to its end or past the most that is read, has this fault first
 pub record IsImageBad (words : List (List ℕ)) (image image' : Option (List ℕ)) (line : ℕ) (why : ImageWhy) (text : List ℕ) : Type 0 where
   pub call : IsPathCall words
-  pub refused : TakesNoImage image image'
-  pub line_is : line ≡ 0
-  pub why_is : why ≡ Later
+  pub refused : TakesNoImage image image' line why
   pub printed : text ≡ image_line line why
 
 -- image and input were read to their ends, and the text is the path of the input as one stream without frames
 pub record IsPathOfInput (words : List (List ℕ)) (image image' input input' : Option (List ℕ)) (faulty : Bool) (text : List ℕ) : Type 0 where
   pub call : IsPathCall words
-  pub part : Part
+  pub parts : Image
   pub bytes : List ℕ
-  pub image_read : TakesImage image image' part
+  pub image_read : TakesImage image image' parts
   pub input_read : TakesAll input input' bytes
   pub few : length bytes ≤ most_input
-  pub shown : IsPathText part raw_id bytes text faulty
+  pub shown : IsPathText parts raw_sizes raw_id bytes text faulty
 
 -- the input was read to its end, and the text is the packets of the input as one stream without frames
 pub record IsPacketsOfInput (words : List (List ℕ)) (input input' : Option (List ℕ)) (faulty : Bool) (text : List ℕ) : Type 0 where
@@ -102,7 +105,7 @@ IsOutput words image image' input input' faulty text =
 
 -- what a command reads before the input: path its image, and packets nothing
 abbrev pub ReadsFirst : List (List ℕ) → Option (List ℕ) → Option (List ℕ) → Type 0
-ReadsFirst words image image' = (IsPathCall words × ((part : Part) × TakesImage image image' part)) ⊎ IsPacketsCall words
+ReadsFirst words image image' = (IsPathCall words × ((parts : Image) × TakesImage image image' parts)) ⊎ IsPacketsCall words
 
 -- InputTooLong: one byte more than the most was read
 pub record IsTooLong (words : List (List ℕ)) (image image' input input' : Option (List ℕ)) : Type 0 where
@@ -151,8 +154,8 @@ IsInputAnswer Shown input input' status.Faulted text = (bytes : List ℕ) × Tak
 IsInputAnswer Shown input input' status text = IsUnread input input' status × (text ≡ [])
 
 -- what the path of the input is over an image, and what its packets are
-abbrev pub PathShown : Part → List ℕ → List ℕ → Bool → Type 0
-PathShown part bytes text faulty = IsPathText part raw_id bytes text faulty
+abbrev pub PathShown : Image → List ℕ → List ℕ → Bool → Type 0
+PathShown image bytes text faulty = IsPathText image raw_sizes raw_id bytes text faulty
 
 abbrev pub PacketsShown : List ℕ → List ℕ → Bool → Type 0
 PacketsShown bytes text faulty = IsPacketList raw_sizes raw_id bytes text faulty

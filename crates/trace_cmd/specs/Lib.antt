@@ -1,12 +1,8 @@
 pub mod Words
-pub mod Packets
-pub mod Reading
-pub mod Elements
-pub mod Pending
-pub mod Walk
-pub mod Walking
-pub mod Lines
-pub mod Steps
 pub mod PacketList
+pub mod Resolving
+pub mod Pending
+pub mod Trail
 pub mod Path
 pub mod Answers
+pub mod Shown

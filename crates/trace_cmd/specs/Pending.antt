@@ -1,28 +1,44 @@
--- What one packet changes of what was told, where nothing is speculated.
-use Rattle.std.specs.Prelude.{Bool, true, if◌then◌else◌, Option, Some, None}
-use Rattle.etm_types.specs.declared.element.Pre.{Pre}
+-- What one element changes, where nothing is speculated.
+use Rattle.std.specs.Prelude.{ℕ, ◌==◌, true, false, if◌then◌else◌, Option, Some, None, Result, Ok, Err}
 use Rattle.etm_types.specs.Pre.{nothing_told, trace_missing}
-use Rattle.trace_cmd.specs.declared.packets.Packet.{Packet}
-use Rattle.trace_cmd.specs.declared.packets.Packet.TheVariants as packet
-use Rattle.trace_cmd.specs.declared.elements.Pending.{Pending}
-use Rattle.trace_cmd.specs.Elements.{untold, told_after, context_told}
+use Rattle.etm_types.specs.declared.element.Elem.{Elem}
+use Rattle.etm_types.specs.declared.element.Elem.TheVariants as elem
+use Rattle.etm_types.specs.declared.element.Pre.{Pre}
+use Rattle.etm_types.specs.declared.element.Thing.{Thing}
+use Rattle.etm_types.specs.declared.element.Thing.TheVariants.{Seen, Gap, Stop}
+use Rattle.etm_types.specs.declared.queue_fault.QueueFault.{QueueFault}
+use Rattle.etm_types.specs.declared.queue_fault.QueueFault.TheVariants.{CommitOverrun, CancelOverrun, NoAtomToFlip, SpecTooDeep}
+use Rattle.trace_cmd.specs.declared.pending.Pending.{Pending}
 
+-- before the first element
 abbrev pub at_first : Pending
-at_first = record { told = untold; pre = trace_missing }
+at_first = record { pre = trace_missing; informed = false }
 
--- what was told before the next atom, after one packet more
-abbrev pub pre_after : Pending → Packet → Pre
-pre_after p packet.Async = p.pre
-pre_after p packet.Info = record (p.pre) { flush = true }
-pre_after p packet.On = if p.told.informed then record (p.pre) { on = true; addr = None } else p.pre
-pre_after p (packet.Atom taken) = if p.told.informed then nothing_told else p.pre
-pre_after p (packet.Address address el ns) =
-    if p.told.informed then record (p.pre) { ctx = Some (context_told p.told el ns); addr = Some address } else p.pre
+-- what is told then, and what is committed
+abbrev pub Taken : Type 0
+Taken = Result (Pending × Option Thing) QueueFault
 
-abbrev pub pending_after : Pending → Packet → Pending
-pending_after p packet = record { told = told_after p.told packet; pre = pre_after p packet }
+abbrev pub tells : Pending → Pre → Taken
+tells p pre = Ok (record p { pre = pre }, None)
 
--- the atom of a packet, with what was told before it
-abbrev pub atom_in : Pending → Packet → Option (Pre × Bool)
-atom_in p (packet.Atom taken) = if p.told.informed then Some (p.pre, taken) else None
-atom_in p _ = None
+abbrev pub commits : Pending → Thing → Pre → Taken
+commits p thing pre = Ok (record p { pre = pre }, Some thing)
+
+abbrev pub informs : Pending → ℕ → Taken
+informs p spec =
+    if p.informed then tells p (record (p.pre) { flush = true })
+    else if spec == 0 then Ok (record { pre = record (p.pre) { flush = true }; informed = true }, None)
+    else Err (SpecTooDeep spec 0)
+
+-- the same as `resolve` says of a list of things that were committed
+unfoldable pub taken : Pending → Elem → Taken
+taken p (elem.Info spec) = informs p spec
+taken p elem.On = tells p (record (p.pre) { on = true; addr = None })
+taken p (elem.Ctx ctx) = tells p (record (p.pre) { ctx = Some ctx })
+taken p (elem.Addr addr) = tells p (record (p.pre) { addr = Some addr })
+taken p (elem.P0 p0) = commits p (Seen (record { pre = p.pre; p0 = p0 })) nothing_told
+taken p (elem.Commit n) = if n == 0 then Ok (p, None) else Err (CommitOverrun n 0)
+taken p (elem.Cancel n) = if n == 0 then Ok (p, None) else Err (CancelOverrun n 0)
+taken p elem.Flip = Err (NoAtomToFlip 0)
+taken p elem.Overflow = commits p Gap trace_missing
+taken p elem.Discard = commits p Stop trace_missing

@@ -1,7 +1,6 @@
 //! The top call: words, image and input, in this order, and what is written.
 ghost use Rattle.std.specs.Prelude.{◌≡◌, ◌⊎◌, ℕ, ◌≤◌, List, Option, true, false, map, None, Ok, IsTrue, string_bytes};
 ghost use Rattle.std.specs.Io.KnownBytes.{Keeps};
-ghost use Rattle.program_image.specs.Part.{IsPart};
 ghost use Rattle.trace_io.specs.Bytes.{TellsAsBefore};
 ghost use Rattle.trace_io.specs.Causes.{Rose};
 ghost use Rattle.trace_cmd.specs.Words.{meaning, image_of};
@@ -27,10 +26,22 @@ fn write_image_bad<K: Sink>(line: u64, why: ImageWhy, out: &mut K) -> Result<(),
     text.text(b"image line ");
     text.decimal(line);
     text.text(b": ");
-    match why {
-        ImageWhy::Later => text.text(b"later"),
-    }
+    text.text(why_text(why));
     text.write(out)
+}
+
+/// What is printed of a fault of an image.
+fn why_text(why: ImageWhy) -> &'static [u8]
+    ensures { result.now ≡ why_text why }
+{
+    match why {
+        ImageWhy::Syntax => b"syntax",
+        ImageWhy::Unaligned => b"unaligned",
+        ImageWhy::Overlap => b"overlap",
+        ImageWhy::Wraps => b"wraps",
+        ImageWhy::TooLarge => b"too-large",
+        ImageWhy::TooLong => b"too-long",
+    }
 }
 
 /// Reads the image, and answers by it and the input.

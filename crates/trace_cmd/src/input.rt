@@ -1,6 +1,6 @@
 //! The answers that hang on the input: it is read whole, and then its path or its packets are written.
 ghost use Rattle.std.specs.Prelude.{◌≡◌, ℕ, ◌≤◌, Ok, Err, length, IfOk};
-ghost use Rattle.program_image.specs.Part.{IsPart};
+ghost use Rattle.program_image.specs.Part.{IsImage};
 ghost use Rattle.trace_io.specs.Bytes.{TakesAll, TellsAsBefore};
 ghost use Rattle.trace_io.specs.Causes.{Rose};
 ghost use Rattle.trace_cmd.specs.Answers.{raw_id, raw_sizes, most_input, IsUnread, IsInputAnswer, AnswersSo, PathShown, PacketsShown};
@@ -9,6 +9,7 @@ use crate::packet_list::write_packet_list;
 use crate::path::write_path;
 use crate::status::Status;
 use etm_types::{Id, Settings};
+use path_walker::Walker;
 use program_image::{Image, ImageWhy};
 use std::alloc::Global;
 use trace_io::{Failed, ReadAllFault, Sink, Source, read_all};
@@ -52,25 +53,28 @@ fn read_input<J: Source>(alloc: Global, input: &mut J) -> Result<Vec<u8>, Status
     }
 }
 
-/// Reads the input, and writes its path.
+/// Reads the input, and writes its path. The walk takes its memory before anything is read.
 pub fn answer_path<J: Source, K: Sink>(
     alloc: Global,
     image: &Image,
     input: &mut J,
     out: &mut K,
 ) -> Result<Status, Failed>
-    requires { IsPart image.now }
+    requires { IsImage image.now }
     ensures answer { AnswersSo (IsInputAnswer (PathShown image.now) (J.left input.old) (J.left input.new))
         (K.written out.old) (K.written out.new) (K.faults out.old) (K.faults out.new) result }
     ensures read_fault { result ≡ Ok Status.ReadFault → Rose (J.faults input.old) (J.faults input.new) }
     ensures tells { TellsAsBefore (J.left input.old) (J.left input.new) }
     ensures later { J.faults input.old ≤ J.faults input.new }
 {
+    let Ok(walker) = Walker::new(alloc) else {
+        return Ok(Status::NoMemory);
+    };
     let bytes = match read_input(alloc, input) {
         Ok(bytes) => bytes,
         Err(status) => return Ok(status),
     };
-    if write_path(raw_id(), image, &bytes, out)? {
+    if write_path(raw_id(), &raw_settings(), image, walker, &bytes, out)? {
         Ok(Status::Faulted)
     } else {
         Ok(Status::Done)

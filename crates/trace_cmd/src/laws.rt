@@ -1,17 +1,18 @@
 //! What the definitions of a path and of a packet list are as a whole.
 ghost use Rattle.std.specs.Prelude.{◌≡◌, ◌<◌, ℕ, List, Bool, All};
 ghost use Rattle.etm_types.specs.Settings.{Sizes, AreSettings};
-ghost use Rattle.program_image.specs.Part.{IsPart, Part};
+ghost use Rattle.program_image.specs.Part.{IsImage};
+ghost use Rattle.program_image.specs.declared.image.Image.{Image};
 ghost use Rattle.trace_cmd.specs.PacketList.{IsPacketList};
 ghost use Rattle.trace_cmd.specs.Path.{IsPathText};
 
-/// Over an image, an input has one path and no other: one text that is printed of it, and one answer to
-/// whether it ends with a fault.
+/// Over an image and under given sizes, an input has one path and no other: one text that is printed of
+/// it, and one answer to whether it ends with a fault.
 pub fn an_input_has_one_path()
-    ensures one { (image : Part) (id : ℕ) (bytes text other : List ℕ) (faulty also : Bool)
-        → IsPathText image id bytes text faulty → IsPathText image id bytes other also → (text ≡ other) × (faulty ≡ also) }
-    ensures some { (image : Part) (id : ℕ) (bytes : List ℕ) → IsPart image
-        → (text : List ℕ) × (faulty : Bool) × IsPathText image id bytes text faulty }
+    ensures one { (image : Image) (s : Sizes) → AreSettings s → (id : ℕ) (bytes text other : List ℕ) (faulty also : Bool)
+        → IsPathText image s id bytes text faulty → IsPathText image s id bytes other also → (text ≡ other) × (faulty ≡ also) }
+    ensures some { (image : Image) (s : Sizes) → IsImage image → AreSettings s → (id : ℕ) (bytes : List ℕ) → All (λ b. b < 256) bytes
+        → (text : List ℕ) × (faulty : Bool) × IsPathText image s id bytes text faulty }
 {}
 
 /// Under given sizes, an input has one packet list and no other.

@@ -1,24 +1,18 @@
 //! The commands of `etm`: words, image and input in, bytes out.
 //!
 //! `run` carries the promise of the whole program. Where it answers `Done` or `Faulted`, what it wrote is
-//! what `specs/Path.antt` says of the image and the input; each other answer has its cause. The program
-//! calls it with files, and tests call it with memory.
-//!
-//! The packets, the elements, the walk and the lines of a path are private parts of this crate today, with
-//! their definitions in `specs/`; each will be a crate of its own.
+//! what `specs/Path.antt` or `specs/PacketList.antt` says of the image and the input; each other answer
+//! has its cause. The program calls it with files, and tests call it with memory.
 #![tactic(auto)]
 
 mod command;
-mod elements;
-mod fault;
 mod input;
 mod laws;
-mod lines;
 mod packet_list;
-mod packets;
 mod path;
+mod pending;
 mod status;
-mod walk;
+mod trail;
 mod words;
 
 pub use command::run;

@@ -65,7 +65,7 @@ fn write_packets<K: Sink>(
 }
 
 /// How the stream ends whose bytes the reader took, where it met no fault.
-fn end_without_fault(reader: &PacketReader) -> End
+pub fn end_without_fault(reader: &PacketReader) -> End
     requires { AreSettings reader.now.settings }
     ensures { (bytes : List ℕ) (packets : List (ℕ × Packet)) (ending : Ending) → StandsAt reader.now bytes
         → IsStream reader.now.settings bytes packets ending → fault_of ending ≡ None → result ≡ end_of ending }

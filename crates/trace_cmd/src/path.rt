@@ -1,168 +1,115 @@
-//! The path of one stream that is not framed: packets are read, their entries walked, and what the walk
-//! shows is written, one packet after the other.
-ghost use Rattle.std.specs.Prelude.{◌≡◌, ℕ, ◌+◌, ◌^◌, ◌<◌, ◌≤◌, List, Bool, length, suc, MatchResult, IfOk, None};
+//! The path of one stream that is not framed, where nothing is speculated: what each packet shows, and then
+//! the line of how the stream ends.
+ghost use Rattle.std.specs.Prelude.{◌≡◌, ℕ, ◌^◌, ◌≤◌, List, [], Bool, length, None, Ok, IfOk};
+ghost use Rattle.etm_types.specs.Settings.{AreSettings};
+ghost use Rattle.packet_grammar.specs.declared.packet.Packet.{Packet};
+ghost use Rattle.packet_reader.specs.Stands.{StandsAt};
+ghost use Rattle.path_elements.specs.Elements.{untold};
+ghost use Rattle.path_elements.specs.Held.{CanBeTaken};
 ghost use Rattle.path_text.specs.Writing.{Writes};
-ghost use Rattle.trace_cmd.specs.Lines.{lines_of, shown_after_all};
-ghost use Rattle.trace_cmd.specs.Steps.{fresh, packet_taken, step_of, items_shown, path_from, shown_lines};
-ghost use Rattle.trace_cmd.specs.Path.{is_fault, IsPathText};
-ghost use Rattle.program_image.specs.Part.{IsPart};
+ghost use Rattle.path_text.specs.declared.end.End.{End};
+ghost use Rattle.path_walker.specs.State.{first_state};
+ghost use Rattle.program_image.specs.Part.{IsImage};
+ghost use Rattle.trace_cmd.specs.Path.{IsPathText};
+ghost use Rattle.trace_cmd.specs.Pending.{at_first};
+ghost use Rattle.trace_cmd.specs.Shown.{EndsAs, PathShows, StepShows};
+ghost use Rattle.trace_cmd.specs.Trail.{IsPlace};
 
-use crate::elements::Pending;
-use crate::fault::{End, Fault};
-use crate::lines::{shown_after, write_end, write_walked};
-use crate::packets::{Packet, Stop, first_packet, first_sync};
-use crate::walk::{Walked, Walker};
-use etm_types::{Ctx, Id};
+use crate::packet_list::end_without_fault;
+use crate::trail::Trail;
+use etm_types::{Id, Settings};
+use packet_grammar::Fault;
+use packet_reader::{PacketReader, Step};
+use path_text::{End, write_end};
+use path_walker::Walker;
 use program_image::Image;
 use trace_io::{Failed, Sink};
 
-/// What is kept between packets.
-#[derive(Clone, Copy, Debug, PartialEq, Eq)]
-struct Reader {
-    pending: Pending,
-    walker: Walker,
-}
-
-/// Before the first packet.
-fn fresh() -> Reader
-    ensures { result ≡ fresh }
-{
-    Reader {
-        pending: Pending::at_first(),
-        walker: Walker::start(),
-    }
-}
-
-/// Takes a packet that begins at an offset: what is kept then and what the walk of its entry shows, or
-/// the fault with which the stream ends.
-#[tactic(auto, unfolding(crate::specs::Steps::packet_taken))]
-fn take_packet(
-    reader: &Reader,
+/// Takes what a byte brought, and writes what it shows. A fault is told with its offset.
+fn take_step<K: Sink>(
+    trail: &mut Trail,
     image: &Image,
-    at: u64,
-    packet: &Packet,
-) -> Result<(Reader, Option<Walked>), End>
-    ensures { result ≡ packet_taken image.now reader.now at packet.now }
-{
-    let mut pending = reader.pending;
-    let walker = reader.walker;
-    match pending.take(packet) {
-        None => Ok((Reader { pending, walker }, None)),
-        Some((pre, taken)) => match walker.walk(image, &pre, taken) {
-            Ok((walked, walker)) => Ok((Reader { pending, walker }, Some(walked))),
-            Err(fault) => Err(End::Fault { at, fault }),
-        },
-    }
-}
-
-/// Takes the packet at the front of the bytes from an offset on: what is kept then, what is shown and
-/// the bytes behind the packet, or how the stream ends.
-#[tactic(auto, unfolding(crate::specs::Steps::step_of))]
-fn step<'a>(
-    reader: &Reader,
-    image: &Image,
-    at: u64,
-    bytes: &'a [u8],
-) -> Result<(Reader, Option<Walked>, &'a [u8]), End>
-    ensures value { MatchResult result
-        (λ s. step_of image.now reader.now at bytes.entry.now ≡ Ok (s.0, s.1, s.2.now))
-        (λ end. step_of image.now reader.now at bytes.entry.now ≡ Err end) }
-    ensures shorter { IfOk result (λ s. length s.2.now < length bytes.entry.now) }
-{
-    if bytes.is_empty() {
-        return Err(End::Clean);
-    }
-    match first_packet(bytes) {
-        Ok((packet, rest)) => match take_packet(reader, image, at, &packet) {
-            Ok((reader, walked)) => Ok((reader, walked, rest)),
-            Err(end) => Err(end),
-        },
-        Err(Stop::More) => Err(End::Cut(bytes.len() as u64)),
-        Err(Stop::Unknown) => Err(End::Fault {
-            at,
-            fault: Fault::Later,
-        }),
-    }
-}
-
-/// Whether a stream ends with a fault.
-fn is_fault(end: &End) -> bool
-    ensures { result ≡ is_fault end.now }
-{
-    matches!(end, End::Fault { .. })
-}
-
-/// Writes what a walk shows, where there was one, and gives the context that was printed last.
-fn show<K: Sink>(
     id: Id,
-    shown: Option<Ctx>,
-    walked: &Option<Walked>,
+    step: &Step,
     sink: &mut K,
-) -> Result<Option<Ctx>, Failed>
-    ensures lines { Writes (K.written sink.old) (K.written sink.new) (K.faults sink.old) (K.faults sink.new) result (lines_of id shown (items_shown walked.now)) }
-    ensures shown { IfOk result (λ last. last ≡ shown_after_all shown (items_shown walked.now)) }
+) -> Result<Option<(u64, Fault)>, Failed>
+    requires image { IsImage image.now }
+    requires packet { (at : ℕ) (packet : Packet) → step.now ≡ Step.Whole at packet → CanBeTaken packet }
+    requires place { IsPlace (trail.old.pending, trail.old.walker) }
+    ensures place { IsPlace (trail.new.pending, trail.new.walker) }
+    ensures shows { StepShows image.now id step.now trail.old trail.new (K.written sink.old) (K.written sink.new) (K.faults sink.old) (K.faults sink.new) result }
 {
-    match walked {
-        None => Ok(shown),
-        Some(walked) => {
-            write_walked(id, &shown, walked, sink)?;
-            Ok(shown_after(shown, walked))
-        }
+    match step {
+        Step::Whole { at, packet } => trail.take_packet(image, id, *at, packet, sink),
+        Step::Bad { at, fault } => Ok(Some((*at, Fault::Packet(*fault)))),
+        Step::Skipped => Ok(None),
+        Step::More => Ok(None),
+        Step::Stopped => Ok(None),
     }
 }
 
-/// Writes the path of the bytes from an offset on, where a packet begins, and says whether it ends with
-/// a fault.
-fn write_packets<K: Sink>(
+/// Writes what the packets show as the reader comes to their ends, up to the first fault.
+fn write_shown<K: Sink>(
     id: Id,
     image: &Image,
-    at: u64,
+    trail: &mut Trail,
+    reader: &mut PacketReader,
     bytes: &[u8],
     sink: &mut K,
-) -> Result<bool, Failed>
-    requires { at + length bytes.now < 2 ^ 62 }
-    ensures lines { Writes (K.written sink.old) (K.written sink.new) (K.faults sink.old) (K.faults sink.new) result
-        (shown_lines id None (path_from (suc (length bytes.now)) image.now fresh at bytes.now)) }
-    ensures fault { IfOk result (λ faulted. faulted ≡ is_fault (path_from (suc (length bytes.now)) image.now fresh at bytes.now).last) }
+) -> Result<Option<(u64, Fault)>, Failed>
+    requires settings { AreSettings reader.old.settings }
+    requires image { IsImage image.now }
+    requires trail { trail.old ≡ record { elements = untold; pending = at_first; walker = first_state; shown = None } }
+    requires fresh { StandsAt reader.old [] }
+    requires few { length bytes.now ≤ 2 ^ 30 }
+    ensures settings { reader.new.settings ≡ reader.old.settings }
+    ensures stands { result ≡ Ok None → StandsAt reader.new bytes.now }
+    ensures path { PathShows image.now reader.old.settings id bytes.now (K.written sink.old) (K.written sink.new) (K.faults sink.old) (K.faults sink.new) result }
 {
-    let mut reader = fresh();
-    let mut shown = None;
-    let mut rest = bytes;
-    loop {
-        let offset = at + (bytes.len() - rest.len()) as u64;
-        match step(&reader, image, offset, rest) {
-            Ok((next, walked, behind)) => {
-                shown = show(id, shown, &walked, sink)?;
-                reader = next;
-                rest = behind;
-            }
-            Err(end) => {
-                write_end(id, &end, sink)?;
-                return Ok(is_fault(&end));
-            }
+    for byte in bytes {
+        let fault = take_step(trail, image, id, &reader.take(*byte), sink)?;
+        if fault.is_some() {
+            return Ok(fault);
         }
+    }
+    Ok(None)
+}
+
+/// How the path ends of the bytes that the reader took, where this fault was met, or none.
+fn end_at(reader: &PacketReader, fault: Option<(u64, Fault)>) -> End
+    requires { AreSettings reader.now.settings }
+    ensures { (bytes : List ℕ) (last : End) → (fault ≡ None → StandsAt reader.now bytes) → EndsAs reader.now.settings bytes last fault → result ≡ last }
+{
+    match fault {
+        Some((at, fault)) => End::Fault { at, fault },
+        None => end_without_fault(reader),
     }
 }
 
-/// Writes the path of a stream's bytes, and says whether it ends with a fault.
+/// Writes the path of a stream's bytes and how it ends, and says whether it ends with a fault. Nothing is
+/// written of a stream without bytes. The walk has not begun.
 pub fn write_path<K: Sink>(
     id: Id,
+    settings: &Settings,
     image: &Image,
+    walker: Walker,
     bytes: &[u8],
     sink: &mut K,
 ) -> Result<bool, Failed>
+    requires settings { AreSettings settings.now }
+    requires image { IsImage image.now }
+    requires walker { walker ≡ first_state }
     requires few { length bytes.now ≤ 2 ^ 30 }
-    requires part { IsPart image.now }
-    ensures { (text : List ℕ) × (faulty : Bool) × IsPathText image.now id bytes.now text faulty
+    ensures { (text : List ℕ) × (faulty : Bool) × IsPathText image.now settings.now id bytes.now text faulty
         × Writes (K.written sink.old) (K.written sink.new) (K.faults sink.old) (K.faults sink.new) result text
         × IfOk result (λ told. told ≡ faulty) }
 {
-    match first_sync(bytes) {
-        Some(at) => write_packets(id, image, at as u64, &bytes[at..], sink),
-        None if bytes.is_empty() => Ok(false),
-        None => {
-            write_end(id, &End::NoSync, sink)?;
-            Ok(false)
-        }
+    if bytes.is_empty() {
+        return Ok(false);
     }
+    let mut reader = PacketReader::new(settings);
+    let mut trail = Trail::new(walker);
+    let fault = write_shown(id, image, &mut trail, &mut reader, bytes, sink)?;
+    write_end(id, &end_at(&reader, fault), sink)?;
+    Ok(fault.is_some())
 }

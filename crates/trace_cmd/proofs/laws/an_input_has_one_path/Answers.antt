@@ -1,4 +1,4 @@
-use Rattle.trace_cmd.proofs.OnePath.{one_text, some_text}
+use Rattle.trace_cmd.proofs.PathTexts.{one_text, some_text}
 use Rattle.trace_cmd.proofs.laws.an_input_has_one_path.Goals as goal
 
 pub returns-clause-one : goal.returns-clause-one

@@ -5,7 +5,7 @@ use Rattle.packet_grammar.specs.Parsed.{IsStream}
 use Rattle.path_text.specs.declared.end.End.{End}
 use Rattle.path_text.specs.EndLines.{end_line}
 use Rattle.trace_cmd.specs.PacketList.{packet_lines, end_of, is_faulty}
-use Rattle.trace_cmd.proofs.Wrote.{wrote_nothing, wrote_by, writes_all, fails_first, last_fails, all_written}
+use Rattle.path_text.proofs.Wrote.{wrote_nothing, wrote_by, writes_all, fails_first, last_fails, all_written}
 use Rattle.trace_cmd.proofs.PacketLists.{list_of_nothing, list_of_some, faulty_where}
 use Rattle.trace_cmd.proofs.packet_list.write_packet_list.Goals as goal
 

@@ -14,7 +14,7 @@ use Rattle.packet_reader.specs.declared.step.Step.TheVariants.{Whole}
 use Rattle.path_text.specs.Writing.{Writes}
 use Rattle.trace_io.specs.declared.traits.Failed.{Failed}
 use Rattle.trace_cmd.specs.PacketList.{packet_lines}
-use Rattle.trace_cmd.proofs.Wrote.{wrote_by}
+use Rattle.path_text.proofs.Wrote.{wrote_by}
 use Rattle.trace_cmd.proofs.PacketLists.{Listed, listed_first, listed_more, listed_fails, has_text}
 use Rattle.trace_cmd.proofs.packet_list.write_packets.Goals as goal
 

@@ -1,48 +1,70 @@
-use Rattle.std.proofs.Common.{[], refl, ◌-◌, length, suc, drop, take, false, None, sym, ◌∙◌}
-use Rattle.std.proofs.lemmas.List.{take_rest}
+use Rattle.std.proofs.Common.{ℕ, [], ◌++◌, false, Option, None, Ok, sym, ap, subst, ◌∙◌, refl}
 use Rattle.std.proofs.lemmas.Result.{err_from_is_err_and}
-use Rattle.trace_cmd.specs.declared.fault.End.TheVariants.{NoSync}
-use Rattle.trace_cmd.specs.Lines.{end_line}
-use Rattle.trace_cmd.specs.Steps.{fresh, path_from, shown_lines}
-use Rattle.trace_cmd.specs.Path.{is_fault}
-use Rattle.trace_cmd.proofs.Wrote.{wrote_nothing, writes_all, answers_ok, answers_err}
-use Rattle.trace_cmd.proofs.PathTexts.{text_from_sync, text_without_sync, text_of_nothing, some_bytes}
+use Rattle.etm_types.specs.Settings.{Sizes}
+use Rattle.packet_grammar.specs.declared.stream_fault.Fault.{Fault}
+use Rattle.path_text.specs.EndLines.{end_line}
+use Rattle.path_text.specs.PathLines.{lines_of}
+use Rattle.path_text.specs.declared.end.End.{End}
+use Rattle.path_text.proofs.Wrote.{wrote_nothing, wrote_by, writes_all, fails_first, last_fails, all_written}
+use Rattle.trace_cmd.specs.Path.{IsPath, is_fault}
+use Rattle.trace_cmd.specs.Shown.{Answer, EndsAs}
+use Rattle.trace_cmd.proofs.PathTexts.{text_of_nothing, text_of_some, faulty_where}
 use Rattle.trace_cmd.proofs.path.write_path.Goals as goal
 
-pub returns-in-Some : goal.returns-in-Some
-returns-in-Some g c =
-    let bytes = c.args.bytes.now in let at = c.in-Some.at in let found = c.in-Some.ensures in
-    let from = take (length bytes - at) (drop at bytes) in
-    let shown = path_from (suc (length from)) c.args.image.now fresh at from in (
-      shown_lines c.args.id None shown,
-      is_fault shown.last,
-      text_from_sync c.args.image.now c.args.id bytes from at c.requires.part found.0 found.1 found.2 (take_rest bytes at),
-      c.write_packets.ensures.lines,
-      c.write_packets.ensures.fault,
-    )
+abbrev answered : Option (ℕ × Fault) → Answer
+answered met = Ok met
 
-pub returns-in-None : goal.returns-in-None
-returns-in-None g c =
-    ([], false, text_of_nothing c.args.image.now c.args.id c.args.bytes.now (sym c.is_empty.ensures ∙ c.if-is_empty.true) c.in-None.ensures, writes_all _ _ _ _ false [] (wrote_nothing _ _), refl)
+pub returns-then-is_empty : goal.returns-then-is_empty
+returns-then-is_empty g c = (
+  [],
+  false,
+  text_of_nothing c.args.image.now c.args.settings.now c.args.id c.args.bytes.now (sym c.is_empty.ensures ∙ c.if-is_empty.true),
+  writes_all _ _ _ _ false [] (wrote_nothing _ _),
+  refl,
+)
 
-pub returns-in_err-write_end-in-None-2 : goal.returns-in_err-write_end-in-None-2
-returns-in_err-write_end-in-None-2 g c =
+pub returns-in_err-fault : goal.returns-in_err-fault
+returns-in_err-fault g c =
+    let image = c.args.image.now in let s = c.args.settings.now in let id = c.args.id in let bytes = c.args.bytes.now in
     let p = err_from_is_err_and c.from_residual.result c.from_residual.ensures.1 in
-    let some = some_bytes c.args.bytes.now (sym c.is_empty.ensures ∙ c.if-is_empty.false) in
+    let shown = c.in_err-fault.ensures.path in let lines = lines_of id None shown.items in
+    let path = subst (λ (t : Sizes). IsPath image t bytes shown.items shown.last) c.new-reader.ensures.settings shown.path in
     rw p.1 (
-      end_line c.args.id NoSync,
-      false,
-      text_without_sync c.args.image.now c.args.id c.args.bytes.now some c.in-None-2.ensures,
-      answers_err _ _ _ _ c.in_err-write_end-in-None-2.field-0.0 p.0 (end_line c.args.id NoSync) c.in_err-write_end-in-None-2.ensures,
+      lines ++ end_line id shown.last,
+      is_fault shown.last,
+      text_of_some image s id bytes shown.items shown.last (sym c.is_empty.ensures ∙ c.if-is_empty.false) path,
+      fails_first _ _ _ _ c.in_err-fault.field-0.0 p.0 lines (end_line id shown.last) _ refl shown.writes,
       tt,
     )
 
-pub returns-in_ok-write_end-in-None-2 : goal.returns-in_ok-write_end-in-None-2
-returns-in_ok-write_end-in-None-2 g c =
-    let some = some_bytes c.args.bytes.now (sym c.is_empty.ensures ∙ c.if-is_empty.false) in (
-      end_line c.args.id NoSync,
-      false,
-      text_without_sync c.args.image.now c.args.id c.args.bytes.now some c.in-None-2.ensures,
-      answers_ok _ _ _ _ c.in_ok-write_end-in-None-2.field-0 false (end_line c.args.id NoSync) c.in_ok-write_end-in-None-2.ensures,
-      refl,
+pub returns-in_err-write_end : goal.returns-in_err-write_end
+returns-in_err-write_end g c =
+    let image = c.args.image.now in let s = c.args.settings.now in let id = c.args.id in let bytes = c.args.bytes.now in
+    let p = err_from_is_err_and c.from_residual-in_err-write_end.result c.from_residual-in_err-write_end.ensures.1 in
+    let shown = c.in_ok-fault.ensures.path in let lines = lines_of id None shown.items in
+    let path = subst (λ (t : Sizes). IsPath image t bytes shown.items shown.last) c.new-reader.ensures.settings shown.path in
+    let last = c.end_at.ensures bytes shown.last (λ none. c.in_ok-fault.ensures.stands (ap answered none))
+    (subst (λ (t : Sizes). EndsAs t bytes shown.last c.in_ok-fault.fault) (sym c.in_ok-fault.ensures.settings) shown.ends) in
+    rw p.1 (
+      lines ++ end_line id shown.last,
+      is_fault shown.last,
+      text_of_some image s id bytes shown.items shown.last (sym c.is_empty.ensures ∙ c.if-is_empty.false) path,
+      last_fails _ _ _ _ _ _ c.in_err-write_end.field-0.0 p.0 lines (end_line id c.end_at.result) _ (ap (λ (e : End). lines ++ end_line id e) last)
+          (wrote_by _ _ _ _ c.in_ok-fault.fault lines shown.writes) c.in_err-write_end.ensures,
+      tt,
+    )
+
+pub returns : goal.returns
+returns g c =
+    let image = c.args.image.now in let s = c.args.settings.now in let id = c.args.id in let bytes = c.args.bytes.now in
+    let shown = c.in_ok-fault.ensures.path in let lines = lines_of id None shown.items in
+    let path = subst (λ (t : Sizes). IsPath image t bytes shown.items shown.last) c.new-reader.ensures.settings shown.path in
+    let last = c.end_at.ensures bytes shown.last (λ none. c.in_ok-fault.ensures.stands (ap answered none))
+    (subst (λ (t : Sizes). EndsAs t bytes shown.last c.in_ok-fault.fault) (sym c.in_ok-fault.ensures.settings) shown.ends) in (
+      lines ++ end_line id shown.last,
+      is_fault shown.last,
+      text_of_some image s id bytes shown.items shown.last (sym c.is_empty.ensures ∙ c.if-is_empty.false) path,
+      all_written _ _ _ _ _ _ c.in_ok-write_end.field-0 c.is_some.result lines (end_line id c.end_at.result) _ (ap (λ (e : End). lines ++ end_line id e) last)
+          (wrote_by _ _ _ _ c.in_ok-fault.fault lines shown.writes) c.in_ok-write_end.ensures,
+      c.is_some.ensures ∙ faulty_where c.new-reader.result.settings bytes shown.last c.in_ok-fault.fault shown.ends,
     )

@@ -1,0 +1,29 @@
+-- A line of an image's text: its words, and what they tell.
+-- The characters are tab (9), space (32), `#` (35), `@` (64), and the hex digits of either case.
+use Rattle.std.specs.Prelude.{ℕ, ◌-◌, ◌==◌, ◌&&◌, ◌||◌, nat_le, nat_lt, Bool, codes, List, [], ◌∷◌, ◌++◌, length, take, Option, Some, None, filter, if◌then◌else◌}
+use Rattle.std.specs.List.{slice_split}
+use Rattle.std.specs.Option.{option_map, option_and_then}
+use Rattle.std.specs.Result.{result_ok}
+use Rattle.hex.specs.Hex.{decode_of, decode_sized}
+use Rattle.byteorder.specs.Endian.{big_number}
+
+abbrev pub is_blank : ℕ → Bool
+is_blank byte = (byte == 32) || (byte == 9)
+
+-- the words of a line, parted by spaces or tabs
+abbrev pub words_in : List ℕ → List (List ℕ)
+words_in line = filter (λ word. nat_lt 0 (length word)) (slice_split is_blank line)
+
+-- zeros in front of the digits, up to sixteen digits
+abbrev pub padded : List ℕ → List ℕ
+padded digits = take (16 - length digits) (codes "0000000000000000") ++ digits
+
+-- the number that 1 to 16 hex digits spell, the highest first
+abbrev pub number_of : List ℕ → Option ℕ
+number_of digits =
+    if nat_le 1 (length digits) && nat_le (length digits) 16 then option_map (big_number 8) (result_ok (decode_sized (padded digits) 8)) else None
+
+-- the bytes that words of an even number of hex digits spell, two digits a byte
+abbrev pub bytes_of : List (List ℕ) → Option (List ℕ)
+bytes_of [] = Some []
+bytes_of (word ∷ words) = option_and_then (λ front. option_map (λ bytes. front ++ bytes) (bytes_of words)) (result_ok (decode_of word))
