@@ -28,7 +28,7 @@ LONGEST_LINE = 48
 DEPTH, VMID_BYTES, CID_BYTES = 0, 1, 4
 
 HEAD = """\
-# Made by tests/packet_cases.py, which says what the lines of a block are; tests/run_packet_cases.py runs them.
+# Made by tests/packet_cases.py, which says what the lines of a block are; tests/run_stored_cases.py runs them.
 """
 
 

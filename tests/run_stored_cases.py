@@ -1,0 +1,75 @@
+#!/usr/bin/env python3
+"""Runs stored cases on a program, a process for each.
+
+Usage: run_stored_cases.py PROGRAM CASES
+
+CASES is a file that tests/packet_cases.py or tests/path_cases.py made, where the form is told. Prints the number of cases. Where some fail, it
+ends with 1, and standard error has how many, and for the first few the name and what differs.
+"""
+import collections
+import concurrent.futures
+import difflib
+import pathlib
+import subprocess
+import sys
+import tempfile
+
+SHOWN = 3
+AT_ONCE = 4  # processes; more than one, since most of the time is spent waiting for the system
+
+Case = collections.namedtuple("Case", "name words image given status lines")
+
+
+def case_of(block):
+    found = collections.defaultdict(list)
+    lines = []
+    for line in block.splitlines():
+        if line.startswith("  "):
+            lines.append(line[2:])
+        elif not line.startswith("#"):
+            key, _, value = line.partition(" ")
+            found[key].append(value)
+    [name], [words], [status] = found["case"], found["words"], found["status"]
+    image = "".join(line + "\n" for line in found["image"])
+    return Case(name, words.split(), image, bytes.fromhex("".join(found["input"])), int(status), lines)
+
+
+def cases_of(text):
+    return [case_of(block) for block in text.split("\n\n") if "\ncase " in "\n" + block]
+
+
+def difference(program, case, room):
+    """What differs, in one line, or None. Input and image are put into files of the folder `room`."""
+    given, image = room / case.name, room / f"{case.name}.image"
+    given.write_bytes(case.given)
+    image.write_text(case.image)
+    words = [str(image) if word == "IMAGE" else word for word in case.words]
+    with open(given, "rb") as stdin:
+        done = subprocess.run([program, *words], stdin=stdin, capture_output=True)
+    wanted = "".join(line + "\n" for line in case.lines)
+    printed = done.stdout.decode(errors="backslashreplace")
+    if done.returncode != case.status:
+        return f"status {done.returncode}, not {case.status}"
+    if done.stderr:
+        return "it wrote to standard error"
+    if printed != wanted:
+        lines = difflib.unified_diff(wanted.splitlines(True), printed.splitlines(True), n=0)
+        return "wrong output: " + " ".join(line.rstrip("\n") for line in list(lines)[3:7])
+    return None
+
+
+def main(words):
+    if len(words) != 2:
+        sys.exit(__doc__)
+    program, cases = words[0], cases_of(pathlib.Path(words[1]).read_text())
+    with tempfile.TemporaryDirectory() as room, concurrent.futures.ThreadPoolExecutor(AT_ONCE) as pool:
+        differences = list(pool.map(lambda case: difference(program, case, pathlib.Path(room)), cases))
+    failed = [f"{case.name} ({differs})" for case, differs in zip(cases, differences) if differs is not None]
+    if failed or not cases:
+        print(f"{len(failed)} of {len(cases)}: " + "; ".join(failed[:SHOWN]), file=sys.stderr)
+        sys.exit(1)
+    print(len(cases))
+
+
+if __name__ == "__main__":
+    main(sys.argv[1:])
