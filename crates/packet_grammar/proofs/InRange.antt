@@ -133,9 +133,6 @@ few_fits h = few_cases (h % 4 == 0) (h % 4 == 1) (h % 4 == 2)
 small_rest : (bytes : List ℕ) (h : ℕ) (rest : List ℕ) → bytes ≡ h ∷ rest → Small bytes → Small rest
 small_rest bytes h rest e small = small_tail h rest (subst Small e small)
 
-four_times : (n : ℕ) → 4 * n % 4 ≡ 0
-four_times n = omega arith
-
 short_next : (form : AddrForm) (a : ℕ) (bytes : List ℕ) (test : Bool) → nat_lt a 128 ≡ test → a < 256 → Small bytes
     → Where test (Known (Ok (Short1 (a * 4)))) (Byte (λ b. Known (Ok (Short2 ((a - 128) * 4 + b * 2 ^ 9))))) (Ok form) bytes → IsAddrForm form
 short_next form a [] true low fits small is =

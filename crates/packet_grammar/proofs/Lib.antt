@@ -9,5 +9,8 @@ pub mod Inverse
 pub mod AllLaws
 pub mod Streams
 pub mod Examples
+pub mod PacketExamples
+pub mod FaultExamples
+pub mod StreamExamples
 pub mod Fitting
 pub mod InRange

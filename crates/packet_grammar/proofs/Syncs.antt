@@ -99,11 +99,6 @@ broken_sync zero (suc count) last most early late = absurd (omega (arith, most))
 broken_sync (suc room) zero last most early late = let off = off_from last 0 (last == 0) refl (early (omega arith)) in rw off refl
 broken_sync (suc room) (suc count) last most early late = broken_sync room count last (omega (arith, most)) (λ lt. early (omega (arith, lt))) (λ e. late (omega (arith, e)))
 
-sync_back : (room : ℕ) (outcome : Outcome Packet) (bytes : List ℕ) → SyncIs room outcome bytes → Sync room outcome bytes
-sync_back room (Ok Async) bytes is = subst (λ t. Sync room (Ok Async) t) (sym is) (whole_sync room)
-sync_back room (Err BrokenSync) bytes is = subst (λ t. Sync room (Err BrokenSync) t) (sym is.whole) (broken_sync room is.zeros is.last is.most is.early is.late)
-sync_back room outcome bytes is = absurd is
-
 -- the first byte behind 00 is another 00
 again_zero : (b : ℕ) (bytes : List ℕ) (outcome : Outcome Packet) → b ≡ 0 → SyncIs 9 outcome bytes → AfterZero outcome (b ∷ bytes)
 again_zero b bytes (Ok Async) none is = λ i. none i ∷ is i
