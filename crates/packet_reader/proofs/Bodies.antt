@@ -233,14 +233,8 @@ meets_context s form =
     (λ info. meets_where (bit 4 info) (Fields s info) (Known (Err (Aarch32Context info))) K (vmid_tree s form info) (known (Err (Aarch32Context info)))
     (meets_fields s info K) (meets_err (Aarch32Context info) K))
 
-abbrev long_part : ℕ → Part (List ℕ)
-long_part high = Bytes (2 + high)
-
 abbrev low_tree : ℕ → (ℕ → Tree) → Tree
 low_tree high more = byte (λ a. byte (λ b. bytes_tree high 0 0 (λ value. more (a % 128 * 4 + b % 128 * 2 ^ 9 + value * 2 ^ 16))))
-
-first_pair : (a b c d : ℕ) (xs ys : List ℕ) → a ∷ b ∷ xs ≡ c ∷ d ∷ ys → (a ≡ c) × (b ≡ d) × (xs ≡ ys)
-first_pair a b c d xs ys e = (cc, cc, cc)
 
 address_to : (high : ℕ) (more : ℕ → Tree) (outcome : Outcome Packet) (bytes : List ℕ) → Leads (low_tree high more) outcome bytes
     → Then (Bytes (suc (suc high))) (λ given. Leads (more (address_of given))) outcome bytes

@@ -7,4 +7,5 @@ pub mod Stream
 pub mod Steps
 pub mod Hunt
 pub mod Adds
+pub mod OneAnswer
 pub mod Asked

@@ -2,8 +2,9 @@
 //!
 //! [`PacketReader`] keeps what the bytes of the begun packet told so far, and not the bytes: each byte is
 //! looked at once. The layer above uses the contract of [`PacketReader::take`]: from a list of bytes the
-//! reader comes to stand at that list and the byte, and answers what the parse of the stream gains. What
-//! the answers are as a whole is the contract of [`the_answers_are_the_parse`].
+//! reader comes to stand at that list and the byte, and answers what the parse of the stream gains. That
+//! each answer comes exactly there is the contract of [`each_byte_has_its_answer`], and what the answers
+//! are as a whole that of [`the_answers_are_the_parse`].
 #![tactic(auto)]
 
 mod advance;
@@ -15,7 +16,7 @@ mod reader;
 mod state;
 mod step;
 
-pub use laws::the_answers_are_the_parse;
+pub use laws::{each_byte_has_its_answer, the_answers_are_the_parse};
 pub use reader::PacketReader;
 pub use step::Step;
 
