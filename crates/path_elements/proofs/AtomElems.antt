@@ -10,10 +10,6 @@ use Rattle.etm_types.specs.Atoms.{low_bits}
 use Rattle.path_elements.specs.Elements.{atoms}
 use Rattle.path_elements.specs.Held.{IsElem}
 
-pub atoms_count : (n bits : ℕ) → length (atoms (low_bits n bits)) ≡ n
-atoms_count zero bits = refl
-atoms_count (suc n) bits = ap suc (atoms_count n (bits / 2))
-
 pub count_all : (n bits : ℕ) (rest : List Elem) → length (atoms (low_bits n bits) ++ rest) ≡ n + length rest
 count_all zero bits rest = omega arith
 count_all (suc n) bits rest = let upper : length (atoms (low_bits n (bits / 2)) ++ rest) ≡ n + length rest = count_all n (bits / 2) rest in omega (arith, upper)

@@ -1,3 +1,4 @@
 pub mod AtomElems
 pub mod Grows
 pub mod Taken
+pub mod Examples

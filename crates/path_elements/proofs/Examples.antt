@@ -1,0 +1,104 @@
+-- Lists of packets with their elements, worked out by hand from the standard's descriptions.
+use Rattle.std.proofs.Common.{◌≡◌, [], ◌∷◌, true, false, Some, None, refl}
+use Rattle.etm_types.specs.declared.context.Ctx.{Ctx}
+use Rattle.etm_types.specs.declared.context.CtxBits.{CtxBits}
+use Rattle.etm_types.specs.declared.address.AddrForm.TheVariants.{Match, Short1, Short2, Long32, Long64}
+use Rattle.etm_types.specs.declared.element.Elem.TheVariants as elem
+use Rattle.etm_types.specs.declared.element.P0.TheVariants as p0
+use Rattle.packet_grammar.specs.declared.packet.Packet.{Packet}
+use Rattle.packet_grammar.specs.declared.packet.Packet.TheVariants as packet
+use Rattle.path_elements.specs.Elements.{Told, untold, all_elements}
+
+abbrev secure : Ctx
+secure = record { el = 0; ns = false; vmid = 0; cid = 0 }
+
+abbrev no_field : CtxBits
+no_field = record { el = 0; ns = false; vmid = None; cid = None }
+
+abbrev info : Packet
+info = packet.Info (Some 0) None None None
+
+-- after a trace info
+abbrev begun : Told
+begun = record { history = 0 ∷ 0 ∷ 0 ∷ []; context = secure; informed = true; awaiting = None }
+
+-- Before the first trace info nothing is told, and no exception awaits an address. From there on each packet has its
+-- elements, with its offset, and an A-sync has none. A trace info forgets the addresses.
+pub a_trace_with_two_syncs :
+    all_elements untold ((0, packet.Async) ∷ (12, packet.On) ∷ (13, packet.Exc 1) ∷ (15, info) ∷ (18, packet.On)
+    ∷ (19, packet.Addr (Long64 0x1000) (Some no_field)) ∷ (29, packet.Atoms (record { count = 1; bits = 1 })) ∷ (30, packet.Async)
+    ∷ (42, packet.Info (Some 0) None (Some 1) None) ∷ (46, packet.Addr (Long64 0x100c) (Some no_field))
+    ∷ (56, packet.Mispredict (record { count = 0; first = false })) ∷ (57, packet.Commit 2) ∷ [])
+    ≡ record {
+      elements = (15, elem.Info 0) ∷ (18, elem.On) ∷ (19, elem.Ctx secure) ∷ (19, elem.Addr 0x1000) ∷ (29, elem.P0 (p0.Atom true))
+          ∷ (42, elem.Info 1) ∷ (46, elem.Ctx secure) ∷ (46, elem.Addr 0x100c) ∷ (56, elem.Flip) ∷ (57, elem.Commit 2) ∷ [];
+      awaited = None;
+      told = record begun { history = 0x100c ∷ 0 ∷ 0 ∷ [] };
+    }
+a_trace_with_two_syncs = refl
+
+-- What a context leaves out is as it was told last, and an element has the whole of it.
+pub contexts_are_kept :
+    all_elements untold ((0, info) ∷ (3, packet.CtxInfo (record { el = 1; ns = true; vmid = Some 5; cid = None }))
+    ∷ (6, packet.CtxInfo (record { el = 2; ns = false; vmid = None; cid = Some 7 })) ∷ (12, packet.Cancel 1 false) ∷ (14, packet.CtxSame) ∷ [])
+    ≡ record {
+      elements = (0, elem.Info 0) ∷ (3, elem.Ctx (record { el = 1; ns = true; vmid = 5; cid = 0 }))
+          ∷ (6, elem.Ctx (record { el = 2; ns = false; vmid = 5; cid = 7 })) ∷ (12, elem.Cancel 1)
+          ∷ (14, elem.Ctx (record { el = 2; ns = false; vmid = 5; cid = 7 })) ∷ [];
+      awaited = None;
+      told = record begun { context = record { el = 2; ns = false; vmid = 5; cid = 7 } };
+    }
+contexts_are_kept = refl
+
+-- Each form takes the upper bits of the address told last, and an address is put first whatever its form.
+pub addresses_are_pushed :
+    all_elements begun ((0, packet.Addr (Long64 0x1122334455667788) None) ∷ (9, packet.Addr (Short1 0x10) None)
+    ∷ (11, packet.Addr (Short2 0x1fffc) None) ∷ (14, packet.Addr (Long32 0x90000000) None) ∷ (19, packet.Addr (Match 2) None)
+    ∷ (20, packet.Addr (Match 2) None) ∷ [])
+    ≡ record {
+      elements = (0, elem.Addr 0x1122334455667788) ∷ (9, elem.Addr 0x1122334455667610) ∷ (11, elem.Addr 0x112233445567fffc)
+          ∷ (14, elem.Addr 0x1122334490000000) ∷ (19, elem.Addr 0x1122334455667610) ∷ (20, elem.Addr 0x112233445567fffc) ∷ [];
+      awaited = None;
+      told = record begun { history = 0x112233445567fffc ∷ 0x1122334455667610 ∷ 0x1122334490000000 ∷ [] };
+    }
+addresses_are_pushed = refl
+
+-- The address behind an exception is the one that it returns to, and is put first like any other. A context may stand
+-- between them.
+pub an_exception_has_its_address :
+    all_elements begun ((0, packet.Exc 14) ∷ (2, packet.Event 1) ∷ (3, packet.CtxSame) ∷ (4, packet.Addr (Long32 0x1004) None) ∷ (9, packet.Addr (Match 0) None) ∷ [])
+    ≡ record {
+      elements = (3, elem.Ctx secure) ∷ (4, elem.P0 (p0.Exc 14 0x1004)) ∷ (9, elem.Addr 0x1004) ∷ [];
+      awaited = None;
+      told = record begun { history = 0x1004 ∷ 0x1004 ∷ 0 ∷ [] };
+    }
+an_exception_has_its_address = refl
+
+-- An overflow and a discard drop it, and keep addresses and context.
+pub an_exception_is_dropped :
+    all_elements begun ((0, packet.Exc 3) ∷ (2, packet.Overflow) ∷ (4, packet.Commit 1) ∷ (6, packet.Exc 4) ∷ (8, packet.Discard) ∷ (10, packet.On) ∷ [])
+    ≡ record {
+      elements = (2, elem.Overflow) ∷ (4, elem.Commit 1) ∷ (8, elem.Discard) ∷ (10, elem.On) ∷ [];
+      awaited = None;
+      told = begun;
+    }
+an_exception_is_dropped = refl
+
+-- Any other packet before its address ends the elements there.
+pub a_packet_comes_too_early :
+    all_elements begun ((0, packet.On) ∷ (1, packet.Exc 3) ∷ (3, packet.Ignore) ∷ (4, packet.Commit 1) ∷ (6, packet.Overflow) ∷ [])
+    ≡ record { elements = (0, elem.On) ∷ []; awaited = Some 4; told = record begun { awaiting = Some 3 } }
+a_packet_comes_too_early = refl
+
+-- Atoms come first, the oldest of them before the others; then what is cancelled; then the wrong prediction.
+pub elements_come_in_order :
+    all_elements begun ((0, packet.Atoms (record { count = 3; bits = 1 })) ∷ (1, packet.Cancel 2 true) ∷ (3, packet.Mispredict (record { count = 1; first = false }))
+    ∷ (4, packet.Cancel2 (record { count = 2; first = true })) ∷ (5, packet.Cancel3 true 5) ∷ (6, packet.Cancel3 false 2) ∷ [])
+    ≡ record {
+      elements = (0, elem.P0 (p0.Atom true)) ∷ (0, elem.P0 (p0.Atom false)) ∷ (0, elem.P0 (p0.Atom false)) ∷ (1, elem.Cancel 2) ∷ (1, elem.Flip)
+          ∷ (3, elem.P0 (p0.Atom false)) ∷ (3, elem.Flip) ∷ (4, elem.P0 (p0.Atom true)) ∷ (4, elem.P0 (p0.Atom true)) ∷ (4, elem.Cancel 1) ∷ (4, elem.Flip)
+          ∷ (5, elem.P0 (p0.Atom true)) ∷ (5, elem.Cancel 5) ∷ (5, elem.Flip) ∷ (6, elem.Cancel 2) ∷ (6, elem.Flip) ∷ [];
+      awaited = None;
+      told = begun;
+    }
+elements_come_in_order = refl
