@@ -5,3 +5,4 @@ pub mod OneWalk
 pub mod SomeWalk
 pub mod After
 pub mod OneTrail
+pub mod Examples

@@ -171,7 +171,7 @@ fn a_return_pops_what_a_call_pushed(rt: HostRuntime) -> Result<(), Fail> {
 }
 
 #[test]
-fn a_fault_leaves_the_walk_as_it_was(rt: HostRuntime) -> Result<(), Fail> {
+fn a_fault_leaves_an_unknown_place_as_it_was(rt: HostRuntime) -> Result<(), Fail> {
     let image = read(rt.alloc(), LOOP)?;
     let mut walker = Walker::new(rt.alloc())?;
     let nothing = Pre::nothing_told();
@@ -197,6 +197,14 @@ fn a_fault_leaves_the_walk_as_it_was(rt: HostRuntime) -> Result<(), Fail> {
         walk(&rt, &mut walker, &image, nothing, TAKEN),
         Ok(unknown(EL0))
     );
+    Ok(())
+}
+
+#[test]
+fn a_fault_leaves_a_known_place_as_it_was(rt: HostRuntime) -> Result<(), Fail> {
+    let image = read(rt.alloc(), LOOP)?;
+    let mut walker = Walker::new(rt.alloc())?;
+    let nothing = Pre::nothing_told();
     let pre = begin(0x1000, EL0);
     assert_eq!(rt;
         walk(&rt, &mut walker, &image, pre, TAKEN),

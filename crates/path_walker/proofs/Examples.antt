@@ -1,0 +1,248 @@
+-- Walks that were worked out by hand: what is shown and where the walk goes on, or with which fault it stops.
+use Rattle.std.proofs.Common.{◌≡◌, ◌≢◌, ℕ, zero, suc, ◌+◌, Bool, true, false, List, [], ◌∷◌, ◌++◌, Option, Some, None, is_none, Err, refl, inl, inr, arith}
+use Rattle.std.specs.Prelude.{pos, take}
+use Rattle.std.specs.Option.{unwrap_or}
+use Rattle.a64_branches.specs.Classes.{class_of}
+use Rattle.a64_branches.specs.declared.class.Class.{Class}
+use Rattle.a64_branches.specs.declared.class.Class.TheVariants.{Plain, Jump, Cond, Ind, Eret}
+use Rattle.program_image.specs.Blocks.{behind, class_at, IsPlainRun}
+use Rattle.program_image.specs.declared.image.Image.{Image}
+use Rattle.etm_types.specs.Pre.{nothing_told, trace_missing}
+use Rattle.etm_types.specs.declared.context.Ctx.{Ctx}
+use Rattle.etm_types.specs.declared.element.P0.TheVariants.{Atom, Exc}
+use Rattle.etm_types.specs.declared.element.Pre.{Pre}
+use Rattle.etm_types.specs.declared.element.Entry.{Entry}
+use Rattle.etm_types.specs.declared.element.Thing.TheVariants.{Seen, Unseen, Gap, Stop}
+use Rattle.etm_types.specs.declared.item.Item.{Item}
+use Rattle.etm_types.specs.declared.item.Item.TheVariants as item
+use Rattle.etm_types.specs.declared.walked.Walked.{Walked}
+use Rattle.etm_types.specs.declared.walked.ExcMark.{ExcMark}
+use Rattle.etm_types.specs.declared.walk_fault.WalkFault.TheVariants as fault
+use Rattle.path_walker.specs.declared.pc.Pc.{Pc}
+use Rattle.path_walker.specs.declared.pc.Pc.TheVariants.{Known, Awaited, Lost}
+use Rattle.path_walker.specs.State.{State, first_state}
+use Rattle.path_walker.specs.Start.{context_of, mismatch_of, pc_before, start_of}
+use Rattle.path_walker.specs.Steps.{next_of, stack_after}
+use Rattle.path_walker.specs.Walk.{GoesOn, IsRunBefore, Leads, Shows, Stops, mark_of}
+use Rattle.path_walker.specs.Things.{Walks}
+
+-- ---- words, and what is told of them
+
+abbrev nop : List ℕ → List ℕ
+nop words = 0x1f ∷ 0x20 ∷ 0x03 ∷ 0xd5 ∷ words
+
+abbrev ret : List ℕ → List ℕ
+ret words = 0xc0 ∷ 0x03 ∷ 0x5f ∷ 0xd6 ∷ words
+
+-- 1000: NOP; B.EQ to 100c; NOP; B to 1000. 8000: NOP; ERET
+abbrev code : Image
+code =
+    record { start = 0x1000; bytes = nop (0x40 ∷ 0x00 ∷ 0x00 ∷ 0x54 ∷ nop (0xfd ∷ 0xff ∷ 0xff ∷ 0x17 ∷ [])) }
+    ∷ record { start = 0x8000; bytes = nop (0xe0 ∷ 0x03 ∷ 0x9f ∷ 0xd6 ∷ []) }
+    ∷ []
+
+-- 3000: BL to 3010; B to itself; NOP; NOP; BL to 3018; RET; RET. 5000: BC.EQ. 6000: BLR X1
+abbrev calls : Image
+calls =
+    record { start = 0x3000; bytes = 0x04 ∷ 0x00 ∷ 0x00 ∷ 0x94 ∷ 0x00 ∷ 0x00 ∷ 0x00 ∷ 0x14 ∷ nop (nop (0x02 ∷ 0x00 ∷ 0x00 ∷ 0x94 ∷ ret (ret []))) }
+    ∷ record { start = 0x5000; bytes = 0x10 ∷ 0x00 ∷ 0x00 ∷ 0x54 ∷ [] }
+    ∷ record { start = 0x6000; bytes = 0x20 ∷ 0x00 ∷ 0x3f ∷ 0xd6 ∷ [] }
+    ∷ []
+
+abbrev user : Ctx
+user = record { el = 0; ns = true; vmid = 0; cid = 0 }
+
+abbrev kernel : Ctx
+kernel = record { el = 1; ns = true; vmid = 0; cid = 0 }
+
+-- trace begins at an address, in a context
+abbrev begin : ℕ → Ctx → Pre
+begin address ctx = record { flush = true; on = true; lost = true; ctx = Some ctx; addr = Some address }
+
+abbrev told : Option Ctx → ℕ → Pre
+told ctx address = record { flush = false; on = false; lost = false; ctx = ctx; addr = Some address }
+
+abbrev atom : Pre → Bool → Entry
+atom pre taken = record { pre = pre; p0 = Atom taken }
+
+-- an interrupt
+abbrev irq : Pre → ℕ → Entry
+irq pre address = record { pre = pre; p0 = Exc 14 address }
+
+abbrev at : Pc → List ℕ → Ctx → State
+at pc stack ctx = record { pc = pc; stack = stack; ctx = ctx }
+
+-- so many instructions from an address on
+abbrev ran : Bool → Ctx → ℕ → ℕ → Walked
+ran on ctx start count = record { on = on; unknown = false; ctx = ctx; start = start; count = count; exc = None }
+
+-- the same, begun by a trace on, and an interrupt behind them
+abbrev ran_to : Ctx → ℕ → ℕ → ℕ → Walked
+ran_to ctx start count address = record { on = true; unknown = false; ctx = ctx; start = start; count = count; exc = Some (record { kind = 14; ret = address }) }
+
+abbrev unknown : Ctx → Option ExcMark → Walked
+unknown ctx exc = record { on = false; unknown = true; ctx = ctx; start = 0; count = 0; exc = exc }
+
+-- ---- how it is shown
+
+none_plain : (image : Image) (address : ℕ) → IsPlainRun image address 0
+none_plain image address k below = absurd (omega (arith, below))
+
+one_plain : (image : Image) (address : ℕ) → class_at image (behind address 0) ≡ Some Plain → IsPlainRun image address 1
+one_plain image address plain zero below = plain
+one_plain image address plain (suc k) below = absurd (omega (arith, below))
+
+none_before : (image : Image) (ret address : ℕ) → IsRunBefore image ret address 0
+none_before image ret address k below = absurd (omega (arith, below))
+
+one_before : (image : Image) (ret address : ℕ) → behind address 0 ≢ ret → class_at image (behind address 0) ≡ Some Plain → IsRunBefore image ret address 1
+one_before image ret address differs plain zero below = (differs, plain)
+one_before image ret address differs plain (suc k) below = absurd (omega (arith, below))
+
+-- a P0 instruction behind so many plain ones
+goes : (image : Image) (address : ℕ) (stack : List ℕ) (taken : Bool) (plain : ℕ) (class : Class) (pc : Pc) → IsPlainRun image address plain → class_at image (behind address plain) ≡ Some class
+    → next_of class (behind address plain) taken ≡ Some pc → GoesOn image address stack taken (plain + 1) pc (stack_after class (behind address plain) stack)
+goes image address stack taken plain class pc run there next = record { plain = plain; class = class; run = run; there = there; next = next; counted = refl; kept = refl }
+
+-- what an entry shows that leads somewhere
+shows : (image : Image) (s : State) (entry : Entry) (count : ℕ) (pc : Pc) (stack : List ℕ) → mismatch_of (pc_before s entry.pre) entry.pre.addr ≡ None
+    → Leads image (start_of s entry.pre).at (start_of s entry.pre).stack entry.p0 count pc stack
+    → Shows image s entry (record { on = entry.pre.on; unknown = is_none (start_of s entry.pre).at; ctx = context_of s entry.pre; start = unwrap_or (start_of s entry.pre).at 0; count = count; exc = mark_of entry.p0 }) (at pc stack (context_of s entry.pre))
+shows image s entry count pc stack agrees leads = record { agrees = agrees; leads = leads; on = refl; unknown = refl; start = refl; ctx = refl; kept = refl; exc = refl }
+
+-- ---- addresses
+
+-- Trace begins at 1000, and an E atom tells that B.EQ branches.
+begins : Shows code first_state (atom (begin 0x1000 kernel) true) (ran true kernel 0x1000 2) (at (Known 0x100c) [] kernel)
+unfolding class_of
+begins = shows code _ _ 2 (Known 0x100c) [] refl (goes code 0x1000 [] true 1 (Cond (pos 8)) (Known 0x100c) (one_plain code 0x1000 refl) refl refl)
+
+-- There 100c comes next, and not 1000. It has B, of which an N atom tells nothing.
+elsewhere : Stops code (at (Known 0x100c) [] kernel) (atom (told None 0x1000) true) (fault.AddressMismatch 0x100c 0x1000)
+elsewhere = inl refl
+
+not_b : Stops code (at (Known 0x100c) [] user) (atom nothing_told false) (fault.BadAtom 0x100c)
+unfolding class_of
+not_b = inr (refl, (0, none_plain code 0x100c, (refl, refl)))
+
+-- Nothing stands at 9000, and BC.EQ is not read.
+nowhere : Stops code first_state (atom (begin 0x9000 kernel) true) (fault.NoCode 0x9000)
+nowhere = inr (refl, (0, none_plain code 0x9000, refl))
+
+not_read : Stops calls first_state (atom (begin 0x5000 kernel) true) (fault.Odd 0x5000)
+unfolding class_of
+not_read = inr (refl, (0, none_plain calls 0x5000, refl))
+
+-- ---- exceptions
+
+-- B.EQ stands before the return address 1008.
+missed : Stops code first_state (irq (begin 0x1000 kernel) 0x1008) (fault.ReturnMissed 0x1004 0x1008)
+unfolding class_of
+missed = inr (refl, (1, one_before code 0x1008 0x1000 (λ e. absurd (omega (arith, e))) refl, (λ e. absurd (omega (arith, e))), refl))
+
+-- Where the return address comes at once nothing is shown, and no word is asked for.
+at_once : Shows code first_state (irq (begin 0x9000 kernel) 0x9000) (ran_to kernel 0x9000 0 0x9000) (at (Awaited false) [] kernel)
+at_once = shows code _ _ 0 (Awaited false) [] refl (none_before code 0x9000 0x9000, refl, refl, refl)
+
+-- ---- return addresses
+
+-- BL puts the address behind it on the return stack. RET takes the newest off, unless an address is told.
+called : Shows calls (at (Known 0x3010) (0x3004 ∷ []) user) (atom nothing_told true) (ran false user 0x3010 1) (at (Known 0x3018) (0x3014 ∷ 0x3004 ∷ []) user)
+unfolding class_of
+called =
+    shows calls _ _ 1 (Known 0x3018) (0x3014 ∷ 0x3004 ∷ []) refl (goes calls 0x3010 (0x3004 ∷ []) true 0 (Jump (pos 8) true) (Known 0x3018) (none_plain calls 0x3010) refl refl)
+
+returned : Shows calls (at (Awaited true) (0x3014 ∷ 0x3004 ∷ []) user) (atom nothing_told true) (ran false user 0x3014 1) (at (Awaited true) (0x3004 ∷ []) user)
+unfolding class_of
+returned =
+    shows calls _ _ 1 (Awaited true) (0x3004 ∷ []) refl (goes calls 0x3014 (0x3004 ∷ []) true 0 (Ind false) (Awaited true) (none_plain calls 0x3014) refl refl)
+
+return_told : Shows calls (at (Awaited true) (0x3004 ∷ []) user) (atom (told None 0x3004) true) (ran false user 0x3004 1) (at (Known 0x3004) (0x3004 ∷ []) user)
+unfolding class_of
+return_told =
+    shows calls _ _ 1 (Known 0x3004) (0x3004 ∷ []) refl (goes calls 0x3004 (0x3004 ∷ []) true 0 (Jump (pos 0) false) (Known 0x3004) (none_plain calls 0x3004) refl refl)
+
+-- After BLR no address is taken off: the place is lost, and the return stack with it.
+linked : Shows calls (at (Known 0x6000) [] user) (atom nothing_told true) (ran false user 0x6000 1) (at (Awaited false) (0x6004 ∷ []) user)
+unfolding class_of
+linked = shows calls _ _ 1 (Awaited false) (0x6004 ∷ []) refl (goes calls 0x6000 [] true 0 (Ind true) (Awaited false) (none_plain calls 0x6000) refl refl)
+
+not_popped : Shows calls (at (Awaited false) (0x6004 ∷ []) user) (atom nothing_told true) (unknown user None) (at Lost [] user)
+not_popped = shows calls _ _ 0 Lost [] refl (refl, refl, refl)
+
+-- Of fifteen return addresses the oldest falls out.
+fifteen : List ℕ
+fifteen = 0 ∷ 4 ∷ 8 ∷ 12 ∷ 16 ∷ 20 ∷ 24 ∷ 28 ∷ 32 ∷ 36 ∷ 40 ∷ 44 ∷ 48 ∷ 52 ∷ 56 ∷ []
+
+sixteenth : Shows calls (at (Known 0x3000) fifteen user) (atom nothing_told true) (ran false user 0x3000 1) (at (Known 0x3010) (0x3004 ∷ take 14 fifteen) user)
+unfolding class_of fifteen
+sixteenth =
+    shows calls _ _ 1 (Known 0x3010) (0x3004 ∷ take 14 fifteen) refl (goes calls 0x3000 fifteen true 0 (Jump (pos 16) true) (Known 0x3010) (none_plain calls 0x3000) refl refl)
+
+-- Trace info empties the return stack. So does missing trace, unless an address is told.
+flushed : Shows calls (at (Awaited true) (0x3004 ∷ []) user) (atom (record { flush = true; on = false; lost = false; ctx = None; addr = None }) true) (unknown user None) (at Lost [] user)
+flushed = shows calls _ _ 0 Lost [] refl (refl, refl, refl)
+
+lost : Shows code (at (Known 0x1000) (0x3004 ∷ []) user) (irq trace_missing 0x1000) (unknown user (Some (record { kind = 14; ret = 0x1000 }))) (at (Awaited false) [] user)
+lost = shows code _ _ 0 (Awaited false) [] refl (refl, refl, refl)
+
+found : Shows code (at (Known 0x100c) (0x3004 ∷ []) user) (atom (record { flush = false; on = false; lost = true; ctx = None; addr = Some 0x1000 }) false) (ran false user 0x1000 2)
+    (at (Known 0x1008) (0x3004 ∷ []) user)
+unfolding class_of
+found =
+    shows code _ _ 2 (Known 0x1008) (0x3004 ∷ []) refl (goes code 0x1000 (0x3004 ∷ []) false 1 (Cond (pos 8)) (Known 0x1008) (one_plain code 0x1000 refl) refl refl)
+
+-- ---- a whole trace: an interrupt at 1004 is handled at 8000, ERET comes back, and then an atom tells nothing of B
+
+interrupt : Shows code first_state (irq (begin 0x1000 user) 0x1004) (ran_to user 0x1000 1 0x1004) (at (Awaited false) [] user)
+unfolding class_of
+interrupt = shows code _ _ 1 (Awaited false) [] refl (one_before code 0x1004 0x1000 (λ e. absurd (omega (arith, e))) refl, refl, refl, refl)
+
+handled : Shows code (at (Awaited false) [] user) (atom (told (Some kernel) 0x8000) true) (ran false kernel 0x8000 2) (at (Awaited false) [] kernel)
+unfolding class_of
+handled = shows code _ _ 2 (Awaited false) [] refl (goes code 0x8000 [] true 1 Eret (Awaited false) (one_plain code 0x8000 refl) refl refl)
+
+back : Shows code (at (Awaited false) [] kernel) (atom (told (Some user) 0x1004) true) (ran false user 0x1004 1) (at (Known 0x100c) [] user)
+unfolding class_of
+back = shows code _ _ 1 (Known 0x100c) [] refl (goes code 0x1004 [] true 0 (Cond (pos 8)) (Known 0x100c) (none_plain code 0x1004) refl refl)
+
+abbrev before : List Item
+before = item.On ∷ item.Instr 0x1000 user ∷ item.Exc 14 0x1004 ∷ []
+
+abbrev handler : List Item
+handler = item.Instr 0x8000 kernel ∷ item.Instr 0x8004 kernel ∷ []
+
+abbrev after : List Item
+after = item.Instr 0x1004 user ∷ []
+
+interrupted : Walks code first_state (Seen (irq (begin 0x1000 user) 0x1004)
+    ∷ Gap
+    ∷ Seen (atom (told (Some kernel) 0x8000) true)
+    ∷ Unseen
+    ∷ Seen (atom (told (Some user) 0x1004) true)
+    ∷ Seen (atom nothing_told false)
+    ∷ Stop
+    ∷ []) (before ++ item.Gap ∷ handler ++ after) (Err (fault.BadAtom 0x100c))
+interrupted =
+    inl (
+      before,
+      item.Gap ∷ handler ++ after,
+      at (Awaited false) [] user,
+      (_, interrupt, refl),
+      inl (
+        item.Gap ∷ [],
+        handler ++ after,
+        at (Awaited false) [] user,
+        (refl, refl),
+        inl (
+          handler,
+          after,
+          at (Awaited false) [] kernel,
+          (_, handled, refl),
+          inl ([], after, at (Awaited false) [] kernel, (refl, refl), inl (after, [], at (Known 0x100c) [] user, (_, back, refl), inr (fault.BadAtom 0x100c, not_b, refl, refl), refl), refl),
+          refl,
+        ),
+        refl,
+      ),
+      refl,
+    )
