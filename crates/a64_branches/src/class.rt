@@ -24,7 +24,7 @@ pub enum Class {
     Ind { link: bool },
     /// ERET.
     Eret,
-    /// A branch that is not read: of a later extension, or not allocated.
+    /// A branch that is not read: DRPS, one of a later extension, or one that is not allocated.
     Odd,
 }
 

@@ -76,11 +76,6 @@ none_at atoms i none not_here byte n front =
           absurd (not_here n (rw byte_is front))
     ]
 
--- a byte whose run is at the front tells it
-pub run_here : (atoms : List Bool) (byte : ℕ) (run : AtomRun) → Spells byte (atoms_in run)
-    → (run.count ≤ length atoms) × (take run.count atoms ≡ atoms_in run) → SpellsFront atoms byte run.count
-run_here atoms byte run spells begins = (begins.0, rw begins.1 spells)
-
 -- a byte whose run is not at the front tells no front
 pub run_elsewhere : (atoms : List Bool) (byte : ℕ) (run : AtomRun) → Spells byte (atoms_in run)
     → ((run.count ≤ length atoms) × (take run.count atoms ≡ atoms_in run) → ⊥) → (n : ℕ) → SpellsFront atoms byte n → ⊥

@@ -1,6 +1,6 @@
 //! Faults of the walk of a P0 element over the program's image.
 
-/// Why a walk does not go on. Each address is that of the instruction at which it stops.
+/// Why a walk does not go on. An address alone is that of the instruction at which it stops.
 #[derive(Clone, Copy, Debug, PartialEq, Eq)]
 pub enum WalkFault {
     /// The trace tells another address than the walk led to.
