@@ -11,7 +11,7 @@ use Rattle.trace_io.specs.Bytes.{AppendsShorter}
 use Rattle.formatter_frames.specs.declared.symbol.Symbol.{Symbol}
 use Rattle.formatter_frames.specs.declared.symbol.Symbol.TheVariants.{Data}
 use Rattle.formatter_frames.specs.Symbols.{told, symbols_of, id_after}
-use Rattle.formatter_frames.specs.Frame.{frame_of, bytes_of, bits_of}
+use Rattle.formatter_frames.specs.Frame.{frame_of}
 use Rattle.formatter_frames.specs.Pieces.{whole_pieces, left_over}
 use Rattle.formatter_frames.specs.Framed.{frames_of, whole_frames, begun, filling, filled}
 use Rattle.formatter_frames.specs.Writer.{Begun, StandsAt}
@@ -94,10 +94,6 @@ shorter_second old mid new xs ys all some = record {
 pub stands : {T E : Type 0} (result : Result T E) (writer : Begun) (pairs : List (ℕ × ℕ)) → OnOk result (writer.symbols ≡ begun pairs) → writer.current ≡ id_after None (symbols_of None pairs) → writer.failed ≡ is_err result → OnOk result (StandsAt writer pairs)
 stands (Ok _) writer pairs symbols current fails = record { symbols = symbols; current = current; not_failed = fails }
 stands (Err _) writer pairs symbols current fails = tt
-
--- a frame has bytes
-pub some_frame : (xs : List Symbol) → frame_of xs ≡ [] → ⊥
-some_frame xs none = absurd (omega (arith, length-append (bytes_of xs) (bits_of xs ∷ []), ap length none))
 
 -- a list that did not grow got nothing
 pub no_growth : (xs ys : List ℕ) → xs ++ ys ≡ xs → ys ≡ []

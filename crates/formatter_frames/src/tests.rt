@@ -3,20 +3,27 @@ use super::*;
 use etm_types::Id;
 use std::alloc::Global;
 use std::test::Fail;
-use trace_io::MemSink;
+use trace_io::{Failed, MemSink};
+
+/// Writes the frames of these bytes, each of which has its ID.
+fn write_frames(pairs: &[(Id, u8)], sink: &mut MemSink) -> Result<(), Failed> {
+    let mut writer = FrameWriter::new();
+    for (id, byte) in pairs {
+        writer.push(*id, *byte, sink)?;
+    }
+    writer.finish(sink)
+}
 
 /// The frames of these pairs of ID and byte.
 fn frames_of(alloc: Global, pairs: &[(u8, u8)]) -> Result<Vec<u8>, Fail> {
-    let mut sink = MemSink::new(alloc, Vec::new(alloc));
-    let mut writer = FrameWriter::new();
+    let mut bytes = Vec::new(alloc);
     for (id, byte) in pairs {
-        let id = Id::new(*id).ok_or("it is an ID")?;
-        writer
-            .push(id, *byte, &mut sink)
-            .ok()
-            .ok_or("a write failed")?;
+        bytes.push((Id::new(*id).ok_or("it is an ID")?, *byte))?;
     }
-    writer.finish(&mut sink).ok().ok_or("a write failed")?;
+    let mut sink = MemSink::new(alloc, Vec::new(alloc));
+    write_frames(&bytes, &mut sink)
+        .ok()
+        .ok_or("a write failed")?;
     Ok(sink.written().to_vec(alloc)?)
 }
 
@@ -116,5 +123,15 @@ fn a_stream_comes_back_from_its_frames(rt: HostRuntime) -> Result<(), Fail> {
     assert_eq!(rt; written.get(16..), Some(frames[1].as_slice()));
     let back = pairs_of(alloc, &frames)?;
     assert_eq!(rt; back.as_slice(), pairs.as_slice());
+    Ok(())
+}
+
+#[test]
+fn a_frame_is_one_write(rt: HostRuntime) -> Result<(), Fail> {
+    let alloc = rt.alloc();
+    let id = Id::new(1).ok_or("it is an ID")?;
+    let mut sink = MemSink::new(alloc, vec![in alloc; false, true]?);
+    assert_eq!(rt; write_frames(&[(id, 0xaa); 15], &mut sink), Err(Failed));
+    assert_eq!(rt; sink.written().len(), FRAME_BYTES);
     Ok(())
 }

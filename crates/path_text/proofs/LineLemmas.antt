@@ -1,5 +1,5 @@
 -- Lines of several items.
-use Rattle.std.proofs.Common.{◌≡◌, ℕ, zero, suc, ◌+◌, ◌-◌, ◌%◌, ◌^◌, ◌<◌, Bool, true, false, List, [], ◌∷◌, ◌++◌, Option, Some, None, refl, sym, ap, ◌∙◌, arith, append_assoc, append-nil}
+use Rattle.std.proofs.Common.{◌≡◌, ℕ, zero, suc, ◌+◌, ◌-◌, ◌%◌, ◌^◌, ◌<◌, Bool, true, false, List, [], ◌∷◌, ◌++◌, Option, Some, None, refl, sym, ap, ◌∙◌, arith, append_assoc}
 use Rattle.std.specs.Prelude.{if◌then◌else◌}
 use Rattle.std.proofs.lemmas.Bool.{eq-eqb}
 use Rattle.etm_types.specs.Walked.{instructions, exception, items_of}
@@ -9,7 +9,7 @@ use Rattle.etm_types.specs.declared.item.Item.TheVariants.{On}
 use Rattle.etm_types.specs.declared.walked.ExcMark.{ExcMark}
 use Rattle.etm_types.specs.declared.walked.Walked.{Walked}
 use Rattle.path_text.specs.Lines.{line_of, hex}
-use Rattle.path_text.specs.PathLines.{exception_text, instruction_lines, lines_of, item_lines, context_line, same_context, same_security, shown_after, shown_after_all, on_line, block_items}
+use Rattle.path_text.specs.PathLines.{instruction_lines, lines_of, item_lines, context_line, same_context, same_security, shown_after, shown_after_all, on_line, block_items}
 
 pub instruction_lines-next : (id address left : ℕ) → 0 < left → instruction_lines id address left ≡ line_of id (hex address) ++ instruction_lines id ((address + 4) % 2 ^ 64) (left - 1)
 instruction_lines-next id address zero some = absurd (omega arith)
@@ -59,9 +59,6 @@ shown_after_all-run shown ctx address (suc zero) some = refl
 shown_after_all-run shown ctx address (suc (suc n)) some = shown_after_all-run (Some ctx) ctx ((address + 4) % 2 ^ 64) (suc n) (omega arith)
 
 -- ---- exceptions, whose line no context changes
-
-pub lines_of-mark : (id : ℕ) (mark : ExcMark) → line_of id (exception_text mark.kind mark.ret) ≡ lines_of id None (exception (Some mark))
-lines_of-mark id mark = sym (append-nil (line_of id (exception_text mark.kind mark.ret)))
 
 lines_of-exception : (id : ℕ) (shown : Option Ctx) (exc : Option ExcMark) → lines_of id None (exception exc) ≡ lines_of id shown (exception exc)
 lines_of-exception id shown None = refl

@@ -153,6 +153,17 @@ fn each_other_packet_has_its_line(rt: HostRuntime) -> Result<(), Fail> {
     show(&mut sink, 50, &Packet::Commit(u32::MAX))?;
     show(&mut sink, 56, &Packet::Cancel { n: 1, flip: false })?;
     show(&mut sink, 58, &Packet::Cancel { n: 3, flip: true })?;
+    let lines =
+        b"01 12 discard\n01 14 overflow\n01 16 ignore\n01 17 info 0 4294967295 1 128\n01 31 event 15\n\
+        01 36 time 64 18374686479671623680\n01 46 exc 14\n01 50 commit 4294967295\n01 56 cancel 1\n\
+        01 58 cancel 3 mispredict\n";
+    assert_eq!(rt; sink.written(), lines.as_slice());
+    Ok(())
+}
+
+#[test]
+fn packets_of_atoms_and_contexts_have_their_lines(rt: HostRuntime) -> Result<(), Fail> {
+    let mut sink = MemSink::new(rt.alloc(), Vec::new(rt.alloc()));
     show(&mut sink, 63, &Packet::Mispredict(N))?;
     show(&mut sink, 65, &Packet::Cancel2(E))?;
     show(&mut sink, 66, &Packet::Cancel2(EE))?;
@@ -171,10 +182,8 @@ fn each_other_packet_has_its_line(rt: HostRuntime) -> Result<(), Fail> {
     let bits = 0x7f_ffff;
     show(&mut sink, 82, &Packet::Atoms(AtomRun { count: 24, bits }))?;
     let lines =
-        b"01 12 discard\n01 14 overflow\n01 16 ignore\n01 17 info 0 4294967295 1 128\n01 31 event 15\n\
-        01 36 time 64 18374686479671623680\n01 46 exc 14\n01 50 commit 4294967295\n01 56 cancel 1\n\
-        01 58 cancel 3 mispredict\n01 63 mispredict N\n01 65 cancel2 E\n01 66 cancel2 EE\n01 68 cancel3 - 2\n\
-        01 69 cancel3 E 3\n01 71 ctx same\n01 74 ctx el3 ns ff 12345678\n01 81 atoms NEEE\n\
+        b"01 63 mispredict N\n01 65 cancel2 E\n01 66 cancel2 EE\n01 68 cancel3 - 2\n01 69 cancel3 E 3\n\
+        01 71 ctx same\n01 74 ctx el3 ns ff 12345678\n01 81 atoms NEEE\n\
         01 82 atoms EEEEEEEEEEEEEEEEEEEEEEEN\n";
     assert_eq!(rt; sink.written(), lines.as_slice());
     Ok(())
@@ -205,7 +214,7 @@ fn the_ends_of_a_stream_have_their_lines(rt: HostRuntime) -> Result<(), Fail> {
     let mut sink = MemSink::new(rt.alloc(), Vec::new(rt.alloc()));
     show_end(&mut sink, 111, &End::NoSync)?;
     show_end(&mut sink, 16, &End::Cut(2))?;
-    let (at, known, given) = (29, 0x100c, 0x1000);
+    let at = 29;
     for fault in [
         Fault::Packet(PacketFault::Refused(RefusedKind::Q, 0xa0)),
         Fault::Packet(PacketFault::Refused(RefusedKind::CycleCount, 0x0e)),
@@ -214,6 +223,22 @@ fn the_ends_of_a_stream_have_their_lines(rt: HostRuntime) -> Result<(), Fail> {
         Fault::Packet(PacketFault::BrokenSync),
         Fault::Packet(PacketFault::InfoMode(5)),
         Fault::Packet(PacketFault::NumberTooLong),
+    ] {
+        show_end(&mut sink, 1, &End::Fault { at, fault })?;
+    }
+    let lines =
+        b"6f nosync\n10 cut 2\n01 fault 29 refused q a0\n01 fault 29 refused cycle-count 0e\n\
+        01 fault 29 refused conditional 43\n01 fault 29 reserved b0\n01 fault 29 broken-sync\n\
+        01 fault 29 info-mode 5\n01 fault 29 number-too-long\n";
+    assert_eq!(rt; sink.written(), lines.as_slice());
+    Ok(())
+}
+
+#[test]
+fn faults_of_elements_have_their_lines(rt: HostRuntime) -> Result<(), Fail> {
+    let mut sink = MemSink::new(rt.alloc(), Vec::new(rt.alloc()));
+    let (at, known, given) = (29, 0x100c, 0x1000);
+    for fault in [
         Fault::AddressAwaited,
         Fault::Queue(QueueFault::CommitOverrun { asked: 5, held: 3 }),
         Fault::Queue(QueueFault::CancelOverrun { asked: 1, held: 0 }),
@@ -233,11 +258,8 @@ fn the_ends_of_a_stream_have_their_lines(rt: HostRuntime) -> Result<(), Fail> {
         show_end(&mut sink, 1, &End::Fault { at, fault })?;
     }
     let lines =
-        b"6f nosync\n10 cut 2\n01 fault 29 refused q a0\n01 fault 29 refused cycle-count 0e\n\
-        01 fault 29 refused conditional 43\n01 fault 29 reserved b0\n01 fault 29 broken-sync\n\
-        01 fault 29 info-mode 5\n01 fault 29 number-too-long\n01 fault 29 address-awaited\n\
-        01 fault 29 commit-overrun 5 3\n01 fault 29 cancel-overrun 1 0\n01 fault 29 no-atom 0\n\
-        01 fault 29 spec-too-deep 17 16\n01 fault 29 bad-atom 100c\n\
+        b"01 fault 29 address-awaited\n01 fault 29 commit-overrun 5 3\n01 fault 29 cancel-overrun 1 0\n\
+        01 fault 29 no-atom 0\n01 fault 29 spec-too-deep 17 16\n01 fault 29 bad-atom 100c\n\
         01 fault 29 address-mismatch 100c 1000\n01 fault 29 no-code 9000\n\
         01 fault 29 return-missed 1004 1008\n";
     assert_eq!(rt; sink.written(), lines.as_slice());

@@ -1,11 +1,11 @@
 -- Lemmas on bytes that a source gives and a sink takes, for this crate and for its callers.
-use Rattle.std.proofs.Common.{◌≡◌, ℕ, ◌+◌, ◌-◌, ◌<◌, ◌≤◌, List, [], ◌++◌, length, take, drop, refl, sym, ap, ◌∙◌, subst, append_assoc, append-nil, add-zero, arith, length-append}
+use Rattle.std.proofs.Common.{◌≡◌, ℕ, ◌+◌, ◌-◌, ◌<◌, ◌≤◌, List, [], ◌++◌, length, take, drop, sym, ap, ◌∙◌, subst, append_assoc, append-nil, add-zero, arith, length-append}
 use Rattle.std.proofs.lemmas.List.{take-append-drop, drop-drop, take_rest}
 use Rattle.std.proofs.Math.Seq.{take-add}
-use Rattle.std.proofs.KnownBytes.{Appends-trans, Appends-kept, Appends-nil, Consumes-trans}
+use Rattle.std.proofs.KnownBytes.{Appends-trans, Appends-kept, Consumes-trans}
 use Rattle.std.specs.Io.KnownBytes.{Appends, Consumes, Keeps}
 use Rattle.std.specs.declared.option.Option.{Option}
-use Rattle.trace_io.specs.Bytes.{TellsAsBefore, AppendsFront, AppendsShorter, TakesAtMost}
+use Rattle.trace_io.specs.Bytes.{AppendsFront, AppendsShorter, TakesAtMost}
 
 -- ---- for callers: a sink over several calls
 
@@ -36,10 +36,6 @@ front_of_shorter a c xs p = record { front = p.front; rest = p.rest; whole = p.w
 pub front_of_all : (a c : Option (List ℕ)) (xs : List ℕ) → Appends a c xs → AppendsFront a c xs
 front_of_all a c xs p = record { front = xs; rest = []; whole = sym (append-nil xs); appended = p }
 
--- so is none of them
-pub front_of_none : (a c : Option (List ℕ)) (xs : List ℕ) → Keeps a c → AppendsFront a c xs
-front_of_none a c xs p = record { front = []; rest = xs; whole = refl; appended = Appends-kept a a c [] (Appends-nil a) p }
-
 pub front_kept : (a b c : Option (List ℕ)) (xs : List ℕ) → AppendsFront a b xs → Keeps b c → AppendsFront a c xs
 front_kept a b c xs p q =
     record {
@@ -48,9 +44,6 @@ front_kept a b c xs p q =
       whole = p.whole;
       appended = Appends-kept a b c p.front p.appended q;
     }
-
-pub tells_trans : (a b c : Option (List ℕ)) → TellsAsBefore a b → TellsAsBefore b c → TellsAsBefore a c
-tells_trans a b c p q = q ∙ p
 
 -- ---- for the proofs of this crate
 
