@@ -1,4 +1,3 @@
-pub mod Tests
 pub mod Runs
 pub mod Shown
 pub mod Paths

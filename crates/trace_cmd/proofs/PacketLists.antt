@@ -1,6 +1,7 @@
 -- How far the packet list of a stream has come, and how it ends.
-use Rattle.std.proofs.Common.{◌≡◌, ℕ, zero, suc, ◌+◌, ◌<◌, ◌==◌, Bool, true, false, List, [], ◌∷◌, ◌++◌, length, drop, Option, None, Ok, Err, refl, sym, ap, subst, ◌∙◌, inl, inr, arith, append_assoc}
+use Rattle.std.proofs.Common.{◌≡◌, ℕ, zero, suc, ◌+◌, ◌<◌, ◌==◌, Bool, true, false, List, [], ◌∷◌, ◌++◌, length, drop, get_or, Option, Some, None, Ok, Err, refl, sym, ap, subst, ◌∙◌, inl, inr, arith, append_assoc}
 use Rattle.std.specs.Prelude.{All, is_some, if◌then◌else◌}
+use Rattle.std.proofs.lemmas.List.Elements.{All-from_get_or}
 use Rattle.etm_types.specs.Settings.{Sizes, AreSettings}
 use Rattle.packet_grammar.specs.declared.packet.Packet.{Packet}
 use Rattle.packet_grammar.specs.declared.packet.Packet.TheVariants.{Mispredict, Cancel2, Atoms}
@@ -12,7 +13,7 @@ use Rattle.packet_reader.specs.declared.step.Step.{Step}
 use Rattle.packet_reader.specs.declared.step.Step.TheVariants.{Whole}
 use Rattle.packet_reader.specs.Stands.{Gains, rest_of}
 use Rattle.packet_reader.specs.Answered.{told, fault_after, fault_of}
-use Rattle.packet_reader.proofs.Stream.{stream_on}
+use Rattle.packet_reader.proofs.Stream.{stream_on, fault_stays}
 use Rattle.packet_reader.proofs.Adds.{Told, gains_more, nothing_is_a_stream, nothing_told}
 use Rattle.path_text.specs.declared.end.End.{End}
 use Rattle.path_text.specs.declared.end.End.TheVariants.{Clean, Cut}
@@ -22,7 +23,7 @@ use Rattle.path_text.specs.Writing.{Writes}
 use Rattle.trace_io.specs.declared.traits.Failed.{Failed}
 use Rattle.trace_cmd.specs.PacketList.{packet_lines, end_of, is_faulty, list_text, IsPacketList}
 use Rattle.std.proofs.lemmas.Bool.{eqb-true}
-use Rattle.trace_cmd.proofs.Tests.{cases}
+use Rattle.path_walker.proofs.Search.{cases}
 use Rattle.path_text.proofs.Wrote.{Wrote, wrote_nothing, wrote_more, writes_all, fails_after}
 
 -- ---- how a stream ends
@@ -65,6 +66,10 @@ end_by_rest s are bytes packets others ending other n at found is also e none =
     ap by_rest (e ∙ ap rest_of (sym same.1)) ∙ end_behind_sync s bytes packets ending at found is none
 
 -- ---- how far the list has come
+
+-- bytes of a slice
+pub small_bytes : (bytes : List ℕ) → ((i : ℕ) → get_or bytes i 0 < 256) → All (λ b. b < 256) bytes
+small_bytes bytes each = All-from_get_or (λ (b : ℕ). b < 256) bytes 0 (λ i lt. each i)
 
 pub has_text : (s : Sizes) (packet : Packet) → IsPacket s packet → HasText packet
 has_text s (Mispredict few) is = is
@@ -113,10 +118,30 @@ module _ (s : Sizes) (are : AreSettings s) (id : ℕ) (old mid new : Option (Lis
         fails_after old mid new f g h e d (packet_lines id is.packets) (packet_line id at packet) (packet_lines id later.packets) (packet_lines id all) lines is.wrote writes,
       )
 
--- all bytes are taken
-pub listed_all : (s : Sizes) (id : ℕ) (old new : Option (List ℕ)) (f g : ℕ) (bytes : List ℕ) (last : Option (ℕ × PacketFault)) → Listed s id old new f g bytes last
-    → (packets : List (ℕ × Packet)) × (ending : Ending) × IsStream s bytes packets ending × Writes {E = Failed} old new f g (Ok last) (packet_lines id packets) × (fault_of ending ≡ last)
-listed_all s id old new f g bytes last is = (is.packets, is.told.ending, is.told.stream, writes_all old new f g last (packet_lines id is.packets) is.wrote, is.told.fault)
+pub is_none : {T : Type 0} (last : Option T) → is_some last ≡ false → last ≡ None
+is_none None e = refl
+is_none (Some x) e = absurd cc
+
+-- what stands behind a fault changes nothing
+ends_with_fault : (s : Sizes) (front rest : List ℕ) (packets : List (ℕ × Packet)) (ending : Ending) (stop : ℕ × PacketFault) → IsStream s front packets ending
+    → fault_of ending ≡ Some stop → IsStream s (front ++ rest) packets ending
+ends_with_fault s front rest packets no_sync stop is e = absurd cc
+ends_with_fault s front rest packets clean stop is e = absurd cc
+ends_with_fault s front rest packets (cut n) stop is e = absurd cc
+ends_with_fault s front rest packets (fault at f) stop is e = fault_stays s front rest packets at f is
+
+pub listed_to_fault : (s : Sizes) (id : ℕ) (old new : Option (List ℕ)) (before now : ℕ) (front rest : List ℕ) (last : Option (ℕ × PacketFault)) → is_some last ≡ true
+    → Listed s id old new before now front last
+    → (packets : List (ℕ × Packet)) × (ending : Ending) × IsStream s (front ++ rest) packets ending
+    × Writes {T = Option (ℕ × PacketFault)} {E = Failed} old new before now (Ok last) (packet_lines id packets) × (fault_of ending ≡ last)
+listed_to_fault s id old new before now front rest None some is = absurd cc
+listed_to_fault s id old new before now front rest (Some stop) some is = (
+  is.packets,
+  is.told.ending,
+  ends_with_fault s front rest is.packets is.told.ending stop is.told.stream is.told.fault,
+  writes_all old new before now (Some stop) (packet_lines id is.packets) is.wrote,
+  is.told.fault,
+)
 
 -- ---- the list as a whole
 

@@ -1,12 +1,12 @@
 -- How far the path of a stream has come, and how it ends.
-use Rattle.std.proofs.Common.{◌≡◌, ℕ, ◌+◌, ◌<◌, Bool, true, false, if◌then◌else◌, List, [], ◌∷◌, ◌++◌, length, Option, Some, None, Result, Ok, Err, refl, sym, ap, subst, ◌∙◌, inl, inr, arith, append_assoc, append-nil}
+use Rattle.std.proofs.Common.{◌≡◌, ℕ, ◌<◌, Bool, true, false, if◌then◌else◌, List, [], ◌∷◌, ◌++◌, length, Option, Some, None, Ok, Err, refl, sym, ap, subst, ◌∙◌, inl, inr, arith, append_assoc, append-nil}
 use Rattle.std.specs.Prelude.{All, is_some}
 use Rattle.std.proofs.lemmas.List.{take_at, drop_at}
 use Rattle.std.proofs.lemmas.List.Elements.{All-take, All-drop}
 use Rattle.etm_types.specs.Settings.{Sizes, AreSettings}
 use Rattle.etm_types.specs.declared.element.Elem.{Elem}
 use Rattle.etm_types.specs.declared.item.Item.{Item}
-use Rattle.packet_grammar.specs.Parsed.{Ending, no_sync, clean, cut, fault, IsStream}
+use Rattle.packet_grammar.specs.Parsed.{Ending, clean, fault, IsStream}
 use Rattle.packet_grammar.specs.declared.packet.Packet.{Packet}
 use Rattle.packet_grammar.specs.declared.fault.PacketFault.{PacketFault}
 use Rattle.packet_grammar.specs.declared.stream_fault.Fault.{Fault}
@@ -32,12 +32,12 @@ use Rattle.trace_cmd.specs.declared.pending.Pending.{Pending}
 use Rattle.trace_cmd.specs.declared.trail.Trail.{Trail}
 use Rattle.trace_cmd.specs.Path.{IsPathOfElements, IsPath, end_behind}
 use Rattle.trace_cmd.specs.Pending.{at_first}
-use Rattle.trace_cmd.specs.Shown.{Answer, PacketShows, StepShows, PathShows}
+use Rattle.trace_cmd.specs.Shown.{Answer, StepShows, PathShows}
 use Rattle.trace_cmd.specs.Trail.{AreAlignedElems, IsAlignedElem, IsPlace, Outcome, Runs, Shows}
 use Rattle.trace_cmd.proofs.Aligned.{elements_of_packets_aligned}
 use Rattle.trace_cmd.proofs.Paths.{first_place, last_of, runs_to_path}
 use Rattle.trace_cmd.proofs.Runs.{runs_append, runs_keep, runs_more, runs_some}
-use Rattle.trace_cmd.proofs.Tests.{cases}
+use Rattle.path_walker.proofs.Search.{cases}
 use Rattle.trace_io.specs.declared.traits.Failed.{Failed}
 
 -- ---- what packets gain

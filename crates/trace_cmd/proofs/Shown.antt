@@ -111,21 +111,7 @@ pub record ShownSo (image : Image) (id : ℕ) (p : Pending) (w : State) (es : Li
   pub wrote : Wrote old new before now (lines_of id shown items)
   pub context : shown' ≡ shown_after_all shown items
 
-pub shown_first : (image : Image) (id : ℕ) (p : Pending) (w : State) (shown : Option Ctx) (a : Option (List ℕ)) (f : ℕ) → ShownSo image id p w [] (p, w) shown shown a a f f
-shown_first image id p w shown a f = record { items = []; runs = (refl, refl); wrote = wrote_nothing a f; context = refl }
-
 module _ (image : Image) (id : ℕ) (p : Pending) (w : State) (es : List (ℕ × Elem)) (shown : Option Ctx) (old : Option (List ℕ)) (before : ℕ) where
-  pub shown_all : (n : Pending × State) (shown' : Option Ctx) (new : Option (List ℕ)) (now : ℕ) → ShownSo image id p w es n shown shown' old new before now
-      → Shows {F = ℕ × Fault} (Runs image p w es) id n.0 n.1 shown shown' old new before now (Ok None)
-  shown_all n shown' new now so = record {
-    items = so.items;
-    outcome = Ok n;
-    takes = so.runs;
-    writes = writes_all old new before now None (lines_of id shown so.items) so.wrote;
-    tells = refl;
-    context = so.context;
-  }
-
   -- one element more
   module _ (n m : Pending × State) (at : ℕ) (e : Elem) (mid new : Option (List ℕ)) (middle now : ℕ) (shown' last : Option Ctx) (so : ShownSo image id p w es n shown shown' old mid before middle) where
     lines_on : (more : List Item) → lines_of id shown so.items ++ lines_of id shown' more ≡ lines_of id shown (so.items ++ more)

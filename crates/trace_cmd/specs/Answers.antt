@@ -103,9 +103,13 @@ abbrev pub IsOutput : List (List ℕ) → Option (List ℕ) → Option (List ℕ
 IsOutput words image image' input input' faulty text =
     IsPathOfInput words image image' input input' faulty text ⊎ IsPacketsOfInput words input input' faulty text
 
+-- the image was read to its end, and it is good
+abbrev pub ReadsImage : Option (List ℕ) → Option (List ℕ) → Type 0
+ReadsImage image image' = (parts : Image) × TakesImage image image' parts
+
 -- what a command reads before the input: path its image, and packets nothing
 abbrev pub ReadsFirst : List (List ℕ) → Option (List ℕ) → Option (List ℕ) → Type 0
-ReadsFirst words image image' = (IsPathCall words × ((parts : Image) × TakesImage image image' parts)) ⊎ IsPacketsCall words
+ReadsFirst words image image' = (IsPathCall words × ReadsImage image image') ⊎ IsPacketsCall words
 
 -- InputTooLong: one byte more than the most was read
 pub record IsTooLong (words : List (List ℕ)) (image image' input input' : Option (List ℕ)) : Type 0 where

@@ -5,7 +5,7 @@ ghost use Rattle.trace_io.specs.Bytes.{TellsAsBefore};
 ghost use Rattle.trace_io.specs.Causes.{Rose};
 ghost use Rattle.trace_cmd.specs.Words.{meaning, image_of};
 ghost use Rattle.path_text.specs.Writing.{Writes};
-ghost use Rattle.trace_cmd.specs.Answers.{usage_line, image_line, why_text, IsPathCall, IsPacketsCall, IsCall, HasReadFault, IsUsage, IsImageBad, IsOutput, IsTooLong, IsAnswer, AnswersSo, Prints, PrintsFront};
+ghost use Rattle.trace_cmd.specs.Answers.{usage_line, image_line, why_text, IsPathCall, IsPacketsCall, IsCall, HasReadFault, IsUsage, IsImageBad, IsOutput, IsTooLong, ReadsImage, ReadsFirst, IsAnswer, AnswersSo, Prints, PrintsFront};
 
 use crate::input::{answer_packets, answer_path};
 use crate::status::Status;
@@ -56,6 +56,7 @@ fn answer_path_call<I: Source, J: Source, K: Sink>(
         (K.written out.old) (K.written out.new) (K.faults out.old) (K.faults out.new) result }
     ensures read_fault { result ≡ Ok Status.ReadFault
         → Rose (I.faults image.old) (I.faults image.new) ⊎ Rose (J.faults input.old) (J.faults input.new) }
+    ensures order { (input.new ≡ input.old) ⊎ ReadsImage (I.left image.old) (I.left image.new) }
     ensures image_first { (line : ℕ) (why : ImageWhy) → result ≡ Ok (Status.ImageBad line why) → input.new ≡ input.old }
     ensures image_tells { TellsAsBefore (I.left image.old) (I.left image.new) }
     ensures image_later { I.faults image.old ≤ I.faults image.new }
@@ -84,6 +85,7 @@ fn answer_without_image<J: Source, K: Sink>(
     ensures answer { (image image' : Option (List ℕ)) → AnswersSo (IsAnswer (map (λ word. string_bytes word) words.now) image image' (J.left input.old) (J.left input.new))
         (K.written out.old) (K.written out.new) (K.faults out.old) (K.faults out.new) result }
     ensures read_fault { result ≡ Ok Status.ReadFault → IsPacketsCall (map (λ word. string_bytes word) words.now) × Rose (J.faults input.old) (J.faults input.new) }
+    ensures order { (input.new ≡ input.old) ⊎ IsPacketsCall (map (λ word. string_bytes word) words.now) }
     ensures words_first { meaning (map (λ word. string_bytes word) words.now) ≡ None → input.new ≡ input.old }
     ensures no_image { (line : ℕ) (why : ImageWhy) → result ≡ Ok (Status.ImageBad line why) → ⊥ }
     ensures tells { TellsAsBefore (J.left input.old) (J.left input.new) }
@@ -110,6 +112,7 @@ fn answer_words<I: Source, J: Source, K: Sink>(
         (K.written out.old) (K.written out.new) (K.faults out.old) (K.faults out.new) result }
     ensures read_fault { result ≡ Ok Status.ReadFault
         → HasReadFault (map (λ word. string_bytes word) words.now) (I.faults image.old) (I.faults image.new) (J.faults input.old) (J.faults input.new) }
+    ensures order { (input.new ≡ input.old) ⊎ ReadsFirst (map (λ word. string_bytes word) words.now) (I.left image.old) (I.left image.new) }
     ensures words_first { meaning (map (λ word. string_bytes word) words.now) ≡ None → (image.new ≡ image.old) × (input.new ≡ input.old) }
     ensures image_untouched { IsPacketsCall (map (λ word. string_bytes word) words.now) → image.new ≡ image.old }
     ensures image_first { (line : ℕ) (why : ImageWhy) → result ≡ Ok (Status.ImageBad line why) → input.new ≡ input.old }
@@ -171,7 +174,8 @@ pub fn run<I: Source, J: Source, K: Sink>(
         × ((due : Status) × PrintsFront (IsAnswer (map (λ word. string_bytes word) words.now) (I.left image.old) (I.left image.new) (J.left input.old) (J.left input.new) due) (K.written out.old) (K.written out.new)) }
     ensures flushed { (result ≡ Status.WriteFault) ⊎ IsTrue (K.flushed out.new) }
 
-    // What holds on every answer.
+    // What holds on every answer. The input is touched only behind a good image, or for its packets.
+    ensures order { (input.new ≡ input.old) ⊎ ReadsFirst (map (λ word. string_bytes word) words.now) (I.left image.old) (I.left image.new) }
     ensures image_tells { TellsAsBefore (I.left image.old) (I.left image.new) }
     ensures image_later { I.faults image.old ≤ I.faults image.new }
     ensures input_tells { TellsAsBefore (J.left input.old) (J.left input.new) }

@@ -1,5 +1,5 @@
 //! The packets of one stream that is not framed: a line each, and then the line of how it ends.
-ghost use Rattle.std.specs.Prelude.{◌≡◌, ℕ, ◌^◌, ◌≤◌, List, [], Bool, length, None, Err, IfOk};
+ghost use Rattle.std.specs.Prelude.{◌≡◌, ℕ, ◌^◌, ◌≤◌, List, [], Bool, length, None, Ok, Err, IfOk};
 ghost use Rattle.etm_types.specs.Settings.{AreSettings};
 ghost use Rattle.packet_grammar.specs.declared.packet.Packet.{Packet};
 ghost use Rattle.packet_grammar.specs.Parsed.{Ending, IsStream};
@@ -15,33 +15,31 @@ use packet_reader::{PacketReader, Step};
 use path_text::{End, write_end, write_packet_line};
 use trace_io::{Failed, Sink};
 
-/// Writes the line of the packet that a step tells, and gives the last fault that was told, with its
-/// offset.
+/// Writes the line of the packet that a step tells, or gives the fault that it tells, with its offset.
 fn write_step<K: Sink>(
     id: Id,
     step: &Step,
-    fault: Option<(u64, PacketFault)>,
     sink: &mut K,
 ) -> Result<Option<(u64, PacketFault)>, Failed>
     requires { (at : ℕ) (packet : Packet) → step.now ≡ Step.Whole at packet → HasText packet }
     ensures lines { Writes (K.written sink.old) (K.written sink.new) (K.faults sink.old) (K.faults sink.new) result (packet_lines id (told step.now)) }
-    ensures fault { IfOk result (λ last. last ≡ fault_after fault step.now) }
+    ensures fault { IfOk result (λ fault. fault ≡ fault_after None step.now) }
     ensures failed { (e : Failed) → result ≡ Err e → (at : ℕ) × (packet : Packet) × (step.now ≡ Step.Whole at packet) }
 {
     match step {
         Step::Whole { at, packet } => match write_packet_line(id, *at, packet, sink) {
-            Ok(()) => Ok(fault),
+            Ok(()) => Ok(None),
             Err(failed) => Err(failed),
         },
         Step::Bad { at, fault } => Ok(Some((*at, *fault))),
-        Step::Skipped => Ok(fault),
-        Step::More => Ok(fault),
-        Step::Stopped => Ok(fault),
+        Step::Skipped => Ok(None),
+        Step::More => Ok(None),
+        Step::Stopped => Ok(None),
     }
 }
 
-/// Writes the line of each packet as the reader comes to its end, and gives the fault at which the reader
-/// stopped, with its offset.
+/// Writes the line of each packet as the reader comes to its end, up to the first fault, and gives that with
+/// its offset.
 fn write_packets<K: Sink>(
     id: Id,
     reader: &mut PacketReader,
@@ -52,16 +50,18 @@ fn write_packets<K: Sink>(
     requires fresh { StandsAt reader.old [] }
     requires few { length bytes.now ≤ 2 ^ 30 }
     ensures settings { reader.new.settings ≡ reader.old.settings }
-    ensures stands { IfOk result (λ _. StandsAt reader.new bytes.now) }
+    ensures stands { result ≡ Ok None → StandsAt reader.new bytes.now }
     ensures lines { (packets : List (ℕ × Packet)) × (ending : Ending) × IsStream reader.old.settings bytes.now packets ending
         × Writes (K.written sink.old) (K.written sink.new) (K.faults sink.old) (K.faults sink.new) result (packet_lines id packets)
         × IfOk result (λ fault. fault_of ending ≡ fault) }
 {
-    let mut fault = None;
     for byte in bytes {
-        fault = write_step(id, &reader.take(*byte), fault, sink)?;
+        let fault = write_step(id, &reader.take(*byte), sink)?;
+        if fault.is_some() {
+            return Ok(fault);
+        }
     }
-    Ok(fault)
+    Ok(None)
 }
 
 /// How the stream ends whose bytes the reader took, where it met no fault.
@@ -80,10 +80,10 @@ pub fn end_without_fault(reader: &PacketReader) -> End
     }
 }
 
-/// How the stream ends whose bytes the reader took, where it met this fault.
+/// How the stream ends that has this fault, or of which the reader took all bytes and met none.
 fn end_at(reader: &PacketReader, fault: Option<(u64, PacketFault)>) -> End
     requires { AreSettings reader.now.settings }
-    ensures { (bytes : List ℕ) (packets : List (ℕ × Packet)) (ending : Ending) → StandsAt reader.now bytes
+    ensures { (bytes : List ℕ) (packets : List (ℕ × Packet)) (ending : Ending) → (fault ≡ None → StandsAt reader.now bytes)
         → IsStream reader.now.settings bytes packets ending → fault_of ending ≡ fault → result ≡ end_of ending }
 {
     match fault {

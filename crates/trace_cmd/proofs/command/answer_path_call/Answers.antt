@@ -1,4 +1,4 @@
-use Rattle.std.proofs.Common.{Err, ap}
+use Rattle.std.proofs.Common.{Err, ap, inr}
 use Rattle.std.proofs.lemmas.Result.{err_from_is_err_and}
 use Rattle.trace_cmd.proofs.AnswerLemmas.{image_fails, so_of_path}
 use Rattle.trace_cmd.proofs.command.answer_path_call.Goals as goal
@@ -13,3 +13,6 @@ returns-in_err-write_image_bad-in-Err-Bad-clause-answer g c =
 pub returns-in-Ok-clause-answer : goal.returns-in-Ok-clause-answer
 returns-in-Ok-clause-answer g c =
     λ words call. so_of_path words _ _ _ _ _ _ _ _ _ c.answer_path.result call c.in-Ok.ensures.ok c.answer_path.ensures.answer
+
+pub returns-in-Ok-clause-order : goal.returns-in-Ok-clause-order
+returns-in-Ok-clause-order g c = inr (_, c.in-Ok.ensures.ok)

@@ -1,4 +1,4 @@
-use Rattle.std.proofs.Common.{sym, ◌∙◌}
+use Rattle.std.proofs.Common.{sym, ◌∙◌, inr}
 use Rattle.std.specs.Prelude.{map, string_bytes}
 use Rattle.trace_cmd.proofs.AnswerLemmas.{packets_call, no_command, so_of_packets, usage_fails}
 use Rattle.trace_cmd.proofs.command.answer_without_image.Goals as goal
@@ -13,3 +13,6 @@ returns-in-Err-clause-answer g c image image' =
     let words = map (λ word. string_bytes word) c.args.words.now in
     usage_fails words image image' _ _ _ _ _ _ c.in-Err.failed (no_command words c.requires (sym c.asks_packets.ensures ∙ c.if-asks_packets.false)) c.in-Err.ensures.failed c.in-Err.ensures.tells
     c.in-Err.ensures.cause
+
+pub returns-then-asks_packets-clause-order : goal.returns-then-asks_packets-clause-order
+returns-then-asks_packets-clause-order g c = inr (packets_call (map (λ word. string_bytes word) c.args.words.now) (sym c.asks_packets.ensures ∙ c.if-asks_packets.true))

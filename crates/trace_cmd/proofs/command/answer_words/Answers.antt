@@ -1,4 +1,4 @@
-use Rattle.std.proofs.Common.{sym, ◌∙◌}
+use Rattle.std.proofs.Common.{sym, ◌∙◌, inl, inr}
 use Rattle.std.specs.Prelude.{map, string_bytes}
 use Rattle.trace_cmd.proofs.AnswerLemmas.{path_call}
 use Rattle.trace_cmd.proofs.command.answer_words.Goals as goal
@@ -15,3 +15,11 @@ returns-in-Some-clause-words_first g c =
 
 pub returns-in-None-clause-answer : goal.returns-in-None-clause-answer
 returns-in-None-clause-answer g c = c.answer_without_image.ensures.answer (g.I.Source.left c.args.image.now) (g.I.Source.left c.args.image.now)
+
+pub returns-in-Some-clause-order : goal.returns-in-Some-clause-order
+returns-in-Some-clause-order g c =
+    let call = path_call (map (λ word. string_bytes word) c.args.words.now) _ (sym c.in-Some.ensures) in
+    elim c.answer_path_call.ensures.order [ inl same ↦ inl same | inr read ↦ inr (inl (call, read)) ]
+
+pub returns-in-None-clause-order : goal.returns-in-None-clause-order
+returns-in-None-clause-order g c = elim c.answer_without_image.ensures.order [ inl same ↦ inl same | inr call ↦ inr (inr call) ]

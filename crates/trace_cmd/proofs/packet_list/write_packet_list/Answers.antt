@@ -1,4 +1,4 @@
-use Rattle.std.proofs.Common.{[], ◌++◌, false, sym, ap, subst, ◌∙◌, refl}
+use Rattle.std.proofs.Common.{[], ◌++◌, false, Ok, sym, ap, subst, ◌∙◌, refl}
 use Rattle.std.proofs.lemmas.Result.{err_from_is_err_and}
 use Rattle.etm_types.specs.Settings.{Sizes}
 use Rattle.packet_grammar.specs.Parsed.{IsStream}
@@ -33,7 +33,7 @@ returns-in_err-write_end g c =
     let p = err_from_is_err_and c.from_residual-in_err-write_end.result c.from_residual-in_err-write_end.ensures.1 in
     let lines = c.in_ok-fault.ensures.lines in let packets = lines.0 in let ending = lines.1 in
     let stream = subst (λ (t : Sizes). IsStream t bytes packets ending) c.new-reader.ensures.settings lines.2 in
-    let last = c.end_at.ensures bytes packets ending c.in_ok-fault.ensures.stands
+    let last = c.end_at.ensures bytes packets ending (λ none. c.in_ok-fault.ensures.stands (ap Ok none))
     (subst (λ (t : Sizes). IsStream t bytes packets ending) (sym c.in_ok-fault.ensures.settings) lines.2) lines.4 in
     rw p.1 (
       packet_lines id packets ++ end_line id (end_of ending),
@@ -49,7 +49,7 @@ returns g c =
     let s = c.args.settings.now in let id = c.args.id in let bytes = c.args.bytes.now in
     let lines = c.in_ok-fault.ensures.lines in let packets = lines.0 in let ending = lines.1 in
     let stream = subst (λ (t : Sizes). IsStream t bytes packets ending) c.new-reader.ensures.settings lines.2 in
-    let last = c.end_at.ensures bytes packets ending c.in_ok-fault.ensures.stands
+    let last = c.end_at.ensures bytes packets ending (λ none. c.in_ok-fault.ensures.stands (ap Ok none))
     (subst (λ (t : Sizes). IsStream t bytes packets ending) (sym c.in_ok-fault.ensures.settings) lines.2) lines.4 in (
       packet_lines id packets ++ end_line id (end_of ending),
       is_faulty ending,

@@ -1,4 +1,4 @@
-use Rattle.std.proofs.Common.{◌≡◌, take}
+use Rattle.std.proofs.Common.{◌≡◌, take, None}
 use Rattle.packet_reader.specs.Stands.{StandsAt}
 use Rattle.trace_cmd.proofs.PacketLists.{Listed}
 use Rattle.trace_cmd.proofs.packet_list.write_packets.Given as goal
@@ -11,5 +11,5 @@ invariant-loop-byte g l =
       settings : l.reader.settings ≡ l.fn.reader.settings;
       taken : l.reader.taken ≡ l.byte-index;
       stands : StandsAt l.reader front;
-      listed : Listed l.fn.reader.settings l.id (written l.fn.sink) (written l.sink) (faults l.fn.sink) (faults l.sink) front l.fault;
+      listed : Listed l.fn.reader.settings l.id (written l.fn.sink) (written l.sink) (faults l.fn.sink) (faults l.sink) front None;
     }

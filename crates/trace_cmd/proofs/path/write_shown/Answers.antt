@@ -1,7 +1,7 @@
-use Rattle.std.proofs.Common.{◌≡◌, ℕ, ◌+◌, ◌<◌, List, [], ◌∷◌, ◌++◌, take, drop, get_or, None, Ok, Err, sym, ap, subst, ◌∙◌, refl, arith}
+use Rattle.std.proofs.Common.{◌≡◌, ℕ, ◌+◌, ◌<◌, [], ◌∷◌, ◌++◌, take, drop, get_or, None, Ok, Err, sym, ap, subst, ◌∙◌, refl, arith}
 use Rattle.std.specs.Prelude.{All}
 use Rattle.std.proofs.lemmas.List.{take_all, take_more, take-append-drop}
-use Rattle.std.proofs.lemmas.List.Elements.{All-from_get_or, All-take, All-drop}
+use Rattle.std.proofs.lemmas.List.Elements.{All-take, All-drop}
 use Rattle.std.proofs.lemmas.Result.{err_from_is_err_and}
 use Rattle.etm_types.specs.Settings.{Sizes}
 use Rattle.packet_reader.specs.Stands.{StandsAt, Gains}
@@ -9,18 +9,16 @@ use Rattle.path_elements.proofs.Taken.{in_range}
 use Rattle.trace_cmd.specs.Shown.{PathShows}
 use Rattle.trace_cmd.specs.declared.trail.Trail.{Trail}
 use Rattle.trace_cmd.specs.Trail.{IsPlace}
+use Rattle.trace_cmd.proofs.PacketLists.{small_bytes}
 use Rattle.trace_cmd.proofs.PathSteps.{Came, came_first, came_on, came_to_fault, came_to_failure, came_all}
 use Rattle.trace_cmd.proofs.PathTexts.{gap_in}
 use Rattle.trace_cmd.proofs.Paths.{first_place}
 use Rattle.trace_cmd.proofs.path.write_shown.Goals as goal
 
-small : (bytes : List ℕ) → ((i : ℕ) → get_or bytes i 0 < 256) → All (λ b. b < 256) bytes
-small bytes each = All-from_get_or (λ (b : ℕ). b < 256) bytes 0 (λ i lt. each i)
-
 pub take_step-requires-clause-packet : goal.take_step-requires-clause-packet
 take_step-requires-clause-packet g c at packet is =
     let bytes = c.args.bytes.now in let front = take c.loop-byte.byte-index bytes in
-    let within : All (λ b. b < 256) front = All-take (λ (b : ℕ). b < 256) c.loop-byte.byte-index bytes (small bytes (λ i. omega (arith, c.type_inv.bytes i))) in
+    let within : All (λ b. b < 256) front = All-take (λ (b : ℕ). b < 256) c.loop-byte.byte-index bytes (small_bytes bytes (λ i. omega (arith, c.type_inv.bytes i))) in
     in_range c.loop-byte.reader.settings packet (c.take.ensures.values front c.loop-byte.invariant.stands within at packet is)
 
 pub loop-byte-init : goal.loop-byte-init
@@ -43,7 +41,7 @@ returns-in_err-fault-clause-path g c =
     let p = err_from_is_err_and c.from_residual.result c.from_residual.ensures.1 in
     let gain : Gains s front byte c.take.result =
     subst (λ (t : Sizes). Gains t front byte c.take.result) c.loop-byte.invariant.settings (c.take.ensures.gains front c.loop-byte.invariant.stands) in
-    let within : All (λ b. b < 256) rest = All-drop (λ (b : ℕ). b < 256) (n + 1) bytes (small bytes (λ i. omega (arith, c.type_inv.bytes i))) in
+    let within : All (λ b. b < 256) rest = All-drop (λ (b : ℕ). b < 256) (n + 1) bytes (small_bytes bytes (λ i. omega (arith, c.type_inv.bytes i))) in
     let shown = came_to_failure s c.requires.settings image id (written c.args.sink.now) (written c.loop-byte.sink) (written c.take_step.new.sink) (faults c.args.sink.now) (faults c.loop-byte.sink)
     (faults c.take_step.new.sink) front byte c.loop-byte.trail c.take_step.new.trail c.take.result c.in_err-fault.field-0.0 p.0 rest (gap_in image c.requires.image) c.loop-byte.invariant.came gain
     c.in_err-fault.ensures.shows within in
@@ -59,7 +57,7 @@ returns-then-is_some-clause-path g c =
     let all : (front ++ byte ∷ []) ++ rest ≡ bytes = ap (λ t. t ++ rest) (sym more) ∙ take-append-drop (n + 1) bytes in
     let gain : Gains s front byte c.take.result =
     subst (λ (t : Sizes). Gains t front byte c.take.result) c.loop-byte.invariant.settings (c.take.ensures.gains front c.loop-byte.invariant.stands) in
-    let within : All (λ b. b < 256) rest = All-drop (λ (b : ℕ). b < 256) (n + 1) bytes (small bytes (λ i. omega (arith, c.type_inv.bytes i))) in
+    let within : All (λ b. b < 256) rest = All-drop (λ (b : ℕ). b < 256) (n + 1) bytes (small_bytes bytes (λ i. omega (arith, c.type_inv.bytes i))) in
     let shown = came_to_fault s c.requires.settings image id (written c.args.sink.now) (written c.loop-byte.sink) (written c.take_step.new.sink) (faults c.args.sink.now) (faults c.loop-byte.sink)
     (faults c.take_step.new.sink) front byte c.loop-byte.trail c.take_step.new.trail c.take.result c.in_ok-fault.fault rest (sym c.is_some.ensures ∙ c.if-is_some.true) c.loop-byte.invariant.came gain
     c.in_ok-fault.ensures.shows within in
