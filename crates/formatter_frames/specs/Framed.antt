@@ -1,4 +1,5 @@
--- The frames of a list of pairs of ID and byte.
+-- The frames of a list of pairs of ID and byte (Arm CoreSight architecture, IHI 0029, the trace formatter). Where an ID is told,
+-- and how the last frame is filled, is this project's own choice.
 use Rattle.std.specs.Prelude.{ℕ, ◌-◌, ◌<◌, List, [], ◌∷◌, ◌++◌, length, replicate, None, flat_map}
 use Rattle.formatter_frames.specs.declared.symbol.Symbol.{Symbol}
 use Rattle.formatter_frames.specs.declared.symbol.Symbol.TheVariants.{NewId, Data}

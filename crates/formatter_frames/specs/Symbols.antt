@@ -1,4 +1,4 @@
--- What frames carry: new IDs, and data bytes of the ID that holds.
+-- What frames carry: new IDs, and data bytes of the ID that holds (Arm CoreSight architecture, IHI 0029, the trace formatter).
 use Rattle.std.specs.Prelude.{ℕ, List, [], ◌∷◌, ◌++◌, Option, Some, None, if◌then◌else◌, ◌==◌}
 use Rattle.formatter_frames.specs.declared.symbol.Symbol.{Symbol}
 use Rattle.formatter_frames.specs.declared.symbol.Symbol.TheVariants.{NewId, Data}

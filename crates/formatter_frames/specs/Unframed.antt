@@ -1,4 +1,5 @@
--- What the frames of a list of bytes carry. Bytes that are left over, fewer than sixteen, carry nothing.
+-- What the frames of a list of bytes carry (Arm CoreSight architecture, IHI 0029, the trace formatter). Bytes that are left over,
+-- fewer than sixteen, carry nothing.
 use Rattle.std.specs.Prelude.{ℕ, List, Option, None, flat_map}
 use Rattle.formatter_frames.specs.declared.symbol.Symbol.{Symbol}
 use Rattle.formatter_frames.specs.Symbols.{pairs_of, id_after}

@@ -1,4 +1,5 @@
--- Where an entry begins, by what was told before it and by the walk so far.
+-- Where an entry begins, by what was told before it and by the walk so far (Arm IHI 0064, "Descriptions of Trace Elements": the trace
+-- info, trace on, context and address elements). When the return stack is emptied is this project's own choice.
 use Rattle.std.specs.Prelude.{ℕ, Bool, true, false, ◌||◌, ◌==◌, if◌then◌else◌, List, [], ◌∷◌, drop, Option, Some, None}
 use Rattle.std.specs.Option.{unwrap_or}
 use Rattle.etm_types.specs.declared.context.Ctx.{Ctx}

@@ -1,4 +1,5 @@
--- The walk of one entry over an image: what it shows and the state after it, or the fault with which it stops.
+-- The walk of one entry over an image: what it shows and the state after it, or the fault with which it stops (Arm IHI 0064,
+-- "Descriptions of Trace Elements": the atom and exception elements). Which faults there are is this project's own choice.
 use Rattle.std.specs.Prelude.{◌≡◌, ◌≢◌, ◌⊎◌, ℕ, ◌+◌, ◌<◌, Bool, false, List, Option, Some, None, is_none, Result, Ok, Err, ⊤}
 use Rattle.std.specs.Option.{unwrap_or}
 use Rattle.a64_branches.specs.declared.class.Class.{Class}

@@ -1,4 +1,4 @@
--- What one element changes, where nothing is speculated.
+-- What one element changes, where nothing is speculated (Arm IHI 0064, "Descriptions of Trace Elements").
 use Rattle.std.specs.Prelude.{ℕ, ◌==◌, true, false, if◌then◌else◌, Option, Some, None, Result, Ok, Err}
 use Rattle.etm_types.specs.Pre.{nothing_told, trace_missing}
 use Rattle.etm_types.specs.declared.element.Elem.{Elem}
