@@ -3,24 +3,25 @@ use Rattle.std.proofs.Common.{◌≡◌, ℕ, ◌+◌, ◌-◌, ◌<◌, ◌≤�
 use Rattle.std.proofs.lemmas.List.{take-append-drop, drop-drop, take_rest}
 use Rattle.std.proofs.Math.Seq.{take-add}
 use Rattle.std.proofs.KnownBytes.{Appends-trans, Appends-kept, Consumes-trans}
-use Rattle.std.specs.Io.KnownBytes.{Appends, Consumes, Keeps}
+use Rattle.std.specs.Io.KnownBytes.{Appends, Consumes}
 use Rattle.std.specs.declared.option.Option.{Option}
-use Rattle.trace_io.specs.Bytes.{AppendsFront, AppendsShorter, TakesAtMost}
+use Rattle.trace_io.specs.State.{IoState}
+use Rattle.trace_io.specs.Bytes.{AppendsAll, AppendsFront, AppendsShorter, KeepsBytes}
 
 -- ---- for callers: a sink over several calls
 
 -- after all of xs, a front of ys is a front of xs and then ys
-pub front_after : (a b c : Option (List ℕ)) (xs ys : List ℕ) → Appends a b xs → AppendsFront b c ys → AppendsFront a c (xs ++ ys)
+pub front_after : (a b c : IoState) (xs ys : List ℕ) → AppendsAll a b xs → AppendsFront b c ys → AppendsFront a c (xs ++ ys)
 front_after a b c xs ys p q =
     record {
       front = xs ++ q.front;
       rest = q.rest;
       whole = ap (λ l. xs ++ l) q.whole ∙ sym (append_assoc xs q.front q.rest);
-      appended = Appends-trans a b c xs q.front p q.appended;
+      appended = Appends-trans a.bytes b.bytes c.bytes xs q.front p q.appended;
     }
 
 -- a front of xs is a front of all that begins with xs
-pub front_more : (a c : Option (List ℕ)) (xs ys : List ℕ) → AppendsFront a c xs → AppendsFront a c (xs ++ ys)
+pub front_more : (a c : IoState) (xs ys : List ℕ) → AppendsFront a c xs → AppendsFront a c (xs ++ ys)
 front_more a c xs ys p =
     record {
       front = p.front;
@@ -29,20 +30,20 @@ front_more a c xs ys p =
       appended = p.appended;
     }
 
-pub front_of_shorter : (a c : Option (List ℕ)) (xs : List ℕ) → AppendsShorter a c xs → AppendsFront a c xs
+pub front_of_shorter : (a c : IoState) (xs : List ℕ) → AppendsShorter a c xs → AppendsFront a c xs
 front_of_shorter a c xs p = record { front = p.front; rest = p.rest; whole = p.whole; appended = p.appended }
 
 -- all of the bytes is a front of them
-pub front_of_all : (a c : Option (List ℕ)) (xs : List ℕ) → Appends a c xs → AppendsFront a c xs
+pub front_of_all : (a c : IoState) (xs : List ℕ) → AppendsAll a c xs → AppendsFront a c xs
 front_of_all a c xs p = record { front = xs; rest = []; whole = sym (append-nil xs); appended = p }
 
-pub front_kept : (a b c : Option (List ℕ)) (xs : List ℕ) → AppendsFront a b xs → Keeps b c → AppendsFront a c xs
+pub front_kept : (a b c : IoState) (xs : List ℕ) → AppendsFront a b xs → KeepsBytes b c → AppendsFront a c xs
 front_kept a b c xs p q =
     record {
       front = p.front;
       rest = p.rest;
       whole = p.whole;
-      appended = Appends-kept a b c p.front p.appended q;
+      appended = Appends-kept a.bytes b.bytes c.bytes p.front p.appended q;
     }
 
 -- ---- for the proofs of this crate
@@ -62,5 +63,6 @@ pub taken_more : (a b c : Option (List ℕ)) (bytes : List ℕ) (m n : ℕ) → 
 taken_more a b c bytes m n p q = subst (Appends a c) (sym (take-add m n bytes ∙ ap (λ xs. take m bytes ++ take n xs) (sym (take_rest bytes m)))) (Appends-trans a b c _ _ p q)
 
 -- what a source gave in all the reads before and in the last one
-pub taken_within : (a b c : Option (List ℕ)) (xs ys : List ℕ) (most : ℕ) → Consumes a b xs → Consumes b c ys → length xs + length ys ≤ most → TakesAtMost a c most
+pub taken_within : (a b c : Option (List ℕ)) (xs ys : List ℕ) (most : ℕ) → Consumes a b xs → Consumes b c ys → length xs + length ys ≤ most
+    → (bytes : List ℕ) × (length bytes ≤ most) × Consumes a c bytes
 taken_within a b c xs ys most p q few = (xs ++ ys, omega (arith, length-append xs ys), Consumes-trans a b c xs ys p q)

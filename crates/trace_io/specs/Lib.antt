@@ -1,3 +1,4 @@
+pub mod State
 pub mod Causes
 pub mod Bytes
 pub mod Memory

@@ -1,5 +1,6 @@
 -- What contracts see of sources and sinks over memory.
-use Rattle.std.specs.Prelude.{◌≡◌, ℕ, List, Bool, true, min, length, Some, slice_get}
+use Rattle.std.specs.Prelude.{◌≡◌, ℕ, List, Bool, true, min, length, Some, None, slice_get}
+use Rattle.trace_io.specs.State.{IoState}
 
 -- the bytes that are left, and the most that one read gives
 pub record Pieces : Type 0 where
@@ -19,6 +20,20 @@ pub record Writing : Type 0 where
   pub script : List Bool
   pub faults : ℕ
   pub out_of_memory : Bool
+
+-- each as a source or a sink
+abbrev pub pieces_state : Pieces → IoState
+pieces_state s = record { bytes = Some s.left; faults = 0 }
+
+abbrev pub reading_state : Reading → IoState
+reading_state s = record { bytes = Some s.left; faults = s.faults }
+
+abbrev pub writing_state : Writing → IoState
+writing_state s = record { bytes = Some s.taken; faults = s.faults }
+
+-- an object that shows no bytes
+abbrev pub hidden_state : ℕ → IoState
+hidden_state faults = record { bytes = None; faults = faults }
 
 -- the script has the next call fail; past its end no call fails
 abbrev pub NextFails : List Bool → Type 0

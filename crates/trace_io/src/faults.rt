@@ -1,4 +1,4 @@
-// The count of faults that the objects of this crate keep.
+//! The count of faults that the objects of this crate keep.
 ghost use Rattle.std.specs.Prelude.{◌≡◌};
 ghost use Rattle.trace_io.specs.Causes.{one_more};
 

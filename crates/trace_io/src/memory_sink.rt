@@ -1,10 +1,10 @@
-// A sink over memory.
+//! A sink over memory.
 ghost use Rattle.std.specs.Prelude.{◌≡◌, ◌⊎◌, ◌↔◌, ◌-◌, ◌^◌, ◌<◌, ◌≤◌, true, false, [], length, drop, Some, IsTrue, IsOk, IsErr, IfOk, OnOk};
 ghost use Rattle.std.specs.Io.{WritesAtMost};
-ghost use Rattle.std.specs.Io.KnownBytes.{WriteAppends, Keeps};
+ghost use Rattle.std.specs.Io.KnownBytes.{WriteAppends};
 ghost use Rattle.trace_io.specs.Causes.{HasCause, Counts};
-ghost use Rattle.trace_io.specs.Bytes.{TellsAsBefore};
-ghost use Rattle.trace_io.specs.Memory.{NextFails};
+ghost use Rattle.trace_io.specs.Bytes.{KeepsBytes, ShowsAsBefore};
+ghost use Rattle.trace_io.specs.Memory.{NextFails, writing_state};
 
 use crate::faults::counted;
 use crate::script::Script;
@@ -73,9 +73,7 @@ impl MemSink {
 }
 
 impl Sink for MemSink {
-    ghost written = { λ s. Some s.taken };
-
-    ghost faults = { λ s. s.faults };
+    ghost state = { writing_state };
 
     // Nothing is held back.
     ghost flushed = { λ s. true };
@@ -84,8 +82,8 @@ impl Sink for MemSink {
         ensures bound { WritesAtMost result bytes.now }
         ensures progress { 0 < length bytes.now → IfOk result (λ n. 0 < n) }
         ensures bytes { WriteAppends (Some self.old.taken) (Some self.new.taken) result bytes.now }
-        ensures tells { TellsAsBefore (Some self.old.taken) (Some self.new.taken) }
-        ensures cause { HasCause self.old.faults self.new.faults result }
+        ensures shows { ShowsAsBefore (writing_state self.old) (writing_state self.new) }
+        ensures cause { HasCause (writing_state self.old) (writing_state self.new) result }
         ensures most { self.new.faults ≤ 2 ^ 64 - 1 }
         ensures whole { IfOk result (λ n. n ≡ length bytes.now) }
         ensures scripted { NextFails self.old.script → IsErr result }
@@ -94,7 +92,7 @@ impl Sink for MemSink {
         // It becomes true exactly in a write that fails and was not scripted to, and stays true.
         ensures out_of_memory { IsTrue self.new.out_of_memory
             ↔ (IsTrue self.old.out_of_memory ⊎ (IsErr result × (¬ NextFails self.old.script))) }
-        ensures counts { Counts self.old.faults self.new.faults result }
+        ensures counts { Counts (writing_state self.old) (writing_state self.new) result }
         ensures script { self.new.script ≡ drop 1 self.old.script }
     {
         if self.script.next_fails() {
@@ -109,9 +107,9 @@ impl Sink for MemSink {
 
     fn flush(&mut self) -> Result<(), Failed>
         ensures done { OnOk result (IsTrue true) }
-        ensures bytes { Keeps (Some self.old.taken) (Some self.new.taken) }
-        ensures tells { TellsAsBefore (Some self.old.taken) (Some self.new.taken) }
-        ensures cause { HasCause self.old.faults self.new.faults result }
+        ensures bytes { KeepsBytes (writing_state self.old) (writing_state self.new) }
+        ensures shows { ShowsAsBefore (writing_state self.old) (writing_state self.new) }
+        ensures cause { HasCause (writing_state self.old) (writing_state self.new) result }
         ensures most { self.new.faults ≤ 2 ^ 64 - 1 }
         ensures safe { IsOk result }
         ensures unchanged { self.new ≡ self.old }

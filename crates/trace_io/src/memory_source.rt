@@ -1,10 +1,10 @@
-// Sources over bytes in memory.
+//! Sources over bytes in memory.
 ghost use Rattle.std.specs.Prelude.{◌≡◌, ◌↔◌, ◌-◌, ◌^◌, ◌<◌, ◌≤◌, [], length, take, drop, Some, IsOk, IsErr, IfOk, OnErr};
 ghost use Rattle.std.specs.Io.{ReadsAtMost};
 ghost use Rattle.std.specs.Io.KnownBytes.{ReadConsumes};
 ghost use Rattle.trace_io.specs.Causes.{HasCause, Counts};
-ghost use Rattle.trace_io.specs.Bytes.{TellsAsBefore};
-ghost use Rattle.trace_io.specs.Memory.{NextFails, count_given};
+ghost use Rattle.trace_io.specs.Bytes.{ShowsAsBefore};
+ghost use Rattle.trace_io.specs.Memory.{NextFails, count_given, pieces_state, reading_state};
 
 use crate::faults::counted;
 use crate::script::Script;
@@ -45,15 +45,13 @@ impl SafeSource {
 }
 
 impl Source for SafeSource {
-    ghost left = { λ s. Some s.left };
-
-    ghost faults = { λ s. 0 };
+    ghost state = { pieces_state };
 
     fn read(&mut self, buf: &mut [u8]) -> Result<usize, Failed>
         ensures bound { ReadsAtMost result buf.new }
         ensures bytes { ReadConsumes (Some self.old.left) (Some self.new.left) result buf.new }
-        ensures tells { TellsAsBefore (Some self.old.left) (Some self.new.left) }
-        ensures cause { HasCause 0 0 result }
+        ensures shows { ShowsAsBefore (pieces_state self.old) (pieces_state self.new) }
+        ensures cause { HasCause (pieces_state self.old) (pieces_state self.new) result }
         ensures most { 0 ≤ 2 ^ 64 - 1 }
         ensures safe { IsOk result }
         ensures gives { IfOk result
@@ -127,22 +125,20 @@ impl MemSource {
 }
 
 impl Source for MemSource {
-    ghost left = { λ s. Some s.left };
-
-    ghost faults = { λ s. s.faults };
+    ghost state = { reading_state };
 
     fn read(&mut self, buf: &mut [u8]) -> Result<usize, Failed>
         ensures bound { ReadsAtMost result buf.new }
         ensures bytes { ReadConsumes (Some self.old.left) (Some self.new.left) result buf.new }
-        ensures tells { TellsAsBefore (Some self.old.left) (Some self.new.left) }
-        ensures cause { HasCause self.old.faults self.new.faults result }
+        ensures shows { ShowsAsBefore (reading_state self.old) (reading_state self.new) }
+        ensures cause { HasCause (reading_state self.old) (reading_state self.new) result }
         ensures most { self.new.faults ≤ 2 ^ 64 - 1 }
         ensures fails { IsErr result ↔ NextFails self.old.script }
         ensures gives { IfOk result
             (λ n. n ≡ count_given self.old.piece (length buf.old) self.old.left) }
         ensures past { IfOk result (λ n. drop n buf.new ≡ drop n buf.old) }
         ensures untouched { OnErr result (buf.new ≡ buf.old) }
-        ensures counts { Counts self.old.faults self.new.faults result }
+        ensures counts { Counts (reading_state self.old) (reading_state self.new) result }
         ensures script { self.new.script ≡ drop 1 self.old.script }
         ensures piece { self.new.piece ≡ self.old.piece }
     {

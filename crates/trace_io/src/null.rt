@@ -1,15 +1,16 @@
-// A source that always fails, and a sink that keeps nothing.
+//! A source that always fails, and a sink that keeps nothing.
 ghost use Rattle.std.specs.Prelude.{◌≡◌, ◌-◌, ◌^◌, ◌<◌, ◌≤◌, true, length, None, Ok, IsTrue, IsErr, IsOk, IfOk, OnOk};
 ghost use Rattle.std.specs.Io.{ReadsAtMost, WritesAtMost};
-ghost use Rattle.std.specs.Io.KnownBytes.{ReadConsumes, WriteAppends, Keeps};
+ghost use Rattle.std.specs.Io.KnownBytes.{ReadConsumes, WriteAppends};
 ghost use Rattle.trace_io.specs.Causes.{HasCause, one_more};
-ghost use Rattle.trace_io.specs.Bytes.{TellsAsBefore};
+ghost use Rattle.trace_io.specs.Bytes.{KeepsBytes, ShowsAsBefore};
+ghost use Rattle.trace_io.specs.Memory.{hidden_state};
 
 use crate::faults::counted;
 use crate::{Failed, Sink, Source};
 use std::marker::Model;
 
-/// A source that fails every read, as one that could not be opened. Contracts see it as its count
+///! A source that fails every read, as one that could not be opened. Contracts see it as its count
 /// of faults.
 #[derive(Drop)]
 pub struct NoSource {
@@ -27,7 +28,7 @@ impl Model for NoSource {
 }
 
 impl NoSource {
-    /// A source that has not failed yet.
+    ///! A source that has not failed yet.
     pub fn new() -> Self
         ensures { result ≡ 0 }
     {
@@ -36,15 +37,13 @@ impl NoSource {
 }
 
 impl Source for NoSource {
-    ghost left = { λ s. None };
-
-    ghost faults = { λ s. s };
+    ghost state = { hidden_state };
 
     fn read(&mut self, buf: &mut [u8]) -> Result<usize, Failed>
         ensures bound { ReadsAtMost result buf.new }
         ensures bytes { ReadConsumes None None result buf.new }
-        ensures tells { TellsAsBefore None None }
-        ensures cause { HasCause self.old self.new result }
+        ensures shows { ShowsAsBefore (hidden_state self.old) (hidden_state self.new) }
+        ensures cause { HasCause (hidden_state self.old) (hidden_state self.new) result }
         ensures most { self.new ≤ 2 ^ 64 - 1 }
         ensures fails { IsErr result }
         ensures counts { self.new ≡ one_more self.old }
@@ -66,9 +65,7 @@ impl NullSink {
 }
 
 impl Sink for NullSink {
-    ghost written = { λ s. None };
-
-    ghost faults = { λ s. 0 };
+    ghost state = { λ s. hidden_state 0 };
 
     // Nothing is held back.
     ghost flushed = { λ s. true };
@@ -77,8 +74,8 @@ impl Sink for NullSink {
         ensures bound { WritesAtMost result bytes.now }
         ensures progress { 0 < length bytes.now → IfOk result (λ n. 0 < n) }
         ensures bytes { WriteAppends None None result bytes.now }
-        ensures tells { TellsAsBefore None None }
-        ensures cause { HasCause 0 0 result }
+        ensures shows { ShowsAsBefore (hidden_state 0) (hidden_state 0) }
+        ensures cause { HasCause (hidden_state 0) (hidden_state 0) result }
         ensures most { 0 ≤ 2 ^ 64 - 1 }
         ensures whole { result ≡ Ok (length bytes.now) }
     {
@@ -87,9 +84,9 @@ impl Sink for NullSink {
 
     fn flush(&mut self) -> Result<(), Failed>
         ensures done { OnOk result (IsTrue true) }
-        ensures bytes { Keeps None None }
-        ensures tells { TellsAsBefore None None }
-        ensures cause { HasCause 0 0 result }
+        ensures bytes { KeepsBytes (hidden_state 0) (hidden_state 0) }
+        ensures shows { ShowsAsBefore (hidden_state 0) (hidden_state 0) }
+        ensures cause { HasCause (hidden_state 0) (hidden_state 0) result }
         ensures most { 0 ≤ 2 ^ 64 - 1 }
         ensures safe { IsOk result }
     {

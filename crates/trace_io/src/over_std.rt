@@ -1,9 +1,10 @@
-// The edge to std: a source over any reader, and a sink over any writer.
+//! The edge to std: a source over any reader, and a sink over any writer.
 ghost use Rattle.std.specs.Prelude.{◌≡◌, ◌-◌, ◌^◌, ◌<◌, ◌≤◌, true, false, length, None, IsTrue, IfOk, OnOk, OnErr};
 ghost use Rattle.std.specs.Io.{ReadsAtMost, WritesAtMost};
 ghost use Rattle.std.specs.Io.KnownBytes.{ReadConsumes, WriteAppends, Keeps};
 ghost use Rattle.trace_io.specs.Causes.{HasCause, Counts};
-ghost use Rattle.trace_io.specs.Bytes.{TellsAsBefore};
+ghost use Rattle.trace_io.specs.Bytes.{KeepsBytes, ShowsAsBefore};
+ghost use Rattle.trace_io.specs.Memory.{hidden_state};
 
 use crate::faults::counted;
 use crate::{Failed, Sink, Source};
@@ -42,17 +43,15 @@ impl<R: Read> StdSource<R> {
 }
 
 impl<R: Read> Source for StdSource<R> {
-    ghost left = { λ s. None };
-
-    ghost faults = { λ s. s.faults };
+    ghost state = { λ s. hidden_state s.faults };
 
     fn read(&mut self, buf: &mut [u8]) -> Result<usize, Failed>
         ensures bound { ReadsAtMost result buf.new }
         ensures bytes { ReadConsumes None None result buf.new }
-        ensures tells { TellsAsBefore None None }
-        ensures cause { HasCause self.old.faults self.new.faults result }
+        ensures shows { ShowsAsBefore (hidden_state self.old.faults) (hidden_state self.new.faults) }
+        ensures cause { HasCause (hidden_state self.old.faults) (hidden_state self.new.faults) result }
         ensures most { self.new.faults ≤ 2 ^ 64 - 1 }
-        ensures counts { Counts self.old.faults self.new.faults result }
+        ensures counts { Counts (hidden_state self.old.faults) (hidden_state self.new.faults) result }
         ensures inner { ReadConsumes (R.remaining self.old.inner) (R.remaining self.new.inner)
             result buf.new }
     {
@@ -102,9 +101,7 @@ impl<W: Write> StdSink<W> {
 }
 
 impl<W: Write> Sink for StdSink<W> {
-    ghost written = { λ s. None };
-
-    ghost faults = { λ s. s.faults };
+    ghost state = { λ s. hidden_state s.faults };
 
     ghost flushed = { λ s. s.flushed };
 
@@ -112,10 +109,10 @@ impl<W: Write> Sink for StdSink<W> {
         ensures bound { WritesAtMost result bytes.now }
         ensures progress { 0 < length bytes.now → IfOk result (λ n. 0 < n) }
         ensures bytes { WriteAppends None None result bytes.now }
-        ensures tells { TellsAsBefore None None }
-        ensures cause { HasCause self.old.faults self.new.faults result }
+        ensures shows { ShowsAsBefore (hidden_state self.old.faults) (hidden_state self.new.faults) }
+        ensures cause { HasCause (hidden_state self.old.faults) (hidden_state self.new.faults) result }
         ensures most { self.new.faults ≤ 2 ^ 64 - 1 }
-        ensures counts { Counts self.old.faults self.new.faults result }
+        ensures counts { Counts (hidden_state self.old.faults) (hidden_state self.new.faults) result }
         ensures held { self.new.flushed ≡ false }
         ensures inner { WriteAppends (W.contents self.old.inner) (W.contents self.new.inner)
             result bytes.now }
@@ -129,11 +126,11 @@ impl<W: Write> Sink for StdSink<W> {
 
     fn flush(&mut self) -> Result<(), Failed>
         ensures done { OnOk result (IsTrue self.new.flushed) }
-        ensures bytes { Keeps None None }
-        ensures tells { TellsAsBefore None None }
-        ensures cause { HasCause self.old.faults self.new.faults result }
+        ensures bytes { KeepsBytes (hidden_state self.old.faults) (hidden_state self.new.faults) }
+        ensures shows { ShowsAsBefore (hidden_state self.old.faults) (hidden_state self.new.faults) }
+        ensures cause { HasCause (hidden_state self.old.faults) (hidden_state self.new.faults) result }
         ensures most { self.new.faults ≤ 2 ^ 64 - 1 }
-        ensures counts { Counts self.old.faults self.new.faults result }
+        ensures counts { Counts (hidden_state self.old.faults) (hidden_state self.new.faults) result }
         ensures not_done { OnErr result (self.new.flushed ≡ self.old.flushed) }
         ensures inner { Keeps (W.contents self.old.inner) (W.contents self.new.inner) }
     {

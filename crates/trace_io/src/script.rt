@@ -1,4 +1,4 @@
-// Which of the next calls of an object over memory are to fail.
+//! Which of the next calls of an object over memory are to fail.
 ghost use Rattle.std.specs.Prelude.{◌≡◌, ◌↔◌, drop, IsTrue};
 ghost use Rattle.trace_io.specs.Memory.{NextFails};
 

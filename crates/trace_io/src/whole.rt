@@ -1,8 +1,7 @@
-// All of a list of bytes written, and all that a source has left read.
-ghost use Rattle.std.specs.Prelude.{◌≡◌, ◌+◌, ◌^◌, ◌<◌, ◌≤◌, [], vec_len, OnOk, OnErr, IfOk, IsErrOf};
-ghost use Rattle.std.specs.Io.KnownBytes.{Appends};
-ghost use Rattle.trace_io.specs.Causes.{Rose, HasCause};
-ghost use Rattle.trace_io.specs.Bytes.{AppendsShorter, TellsAsBefore, TakesAll, TakesCount, TakesAtMost};
+//! All of a list of bytes written, and all that a source has left read.
+ghost use Rattle.std.specs.Prelude.{◌≡◌, ◌⊎◌, ◌+◌, ◌^◌, ◌<◌, ◌≤◌, [], vec_len, OnOk, OnErr, IfOk, IsErrOf};
+ghost use Rattle.trace_io.specs.Causes.{Rose, KeepsFaults, HasCause};
+ghost use Rattle.trace_io.specs.Bytes.{AppendsAll, AppendsShorter, ShowsAsBefore, TakesAll, TakesCount, TakesAtMost};
 
 use crate::{Failed, Sink, Source};
 use std::alloc::Global;
@@ -11,12 +10,12 @@ use thiserror::Error;
 /// Writes all of `bytes`, in as many writes as the sink wants. Where it fails, the sink has taken a
 /// front of `bytes` that is shorter. No write is made of an empty `bytes`.
 pub fn write_all<K: Sink>(sink: &mut K, bytes: &[u8]) -> Result<(), Failed>
-    ensures ok { OnOk result (Appends (K.written sink.old) (K.written sink.new) bytes.now) }
+    ensures ok { OnOk result (AppendsAll (K.state sink.old) (K.state sink.new) bytes.now) }
     ensures failed { OnErr result
-        (AppendsShorter (K.written sink.old) (K.written sink.new) bytes.now) }
+        (AppendsShorter (K.state sink.old) (K.state sink.new) bytes.now) }
     ensures empty { bytes.now ≡ [] → sink.new ≡ sink.old }
-    ensures tells { TellsAsBefore (K.written sink.old) (K.written sink.new) }
-    ensures cause { HasCause (K.faults sink.old) (K.faults sink.new) result }
+    ensures shows { ShowsAsBefore (K.state sink.old) (K.state sink.new) }
+    ensures cause { HasCause (K.state sink.old) (K.state sink.new) result }
 {
     let mut done = 0;
     while done < bytes.len() {
@@ -47,17 +46,19 @@ pub fn read_all<S: Source>(
     limit: usize,
 ) -> Result<Vec<u8>, ReadAllFault>
     requires { limit < 2 ^ 31 }
-    ensures whole { IfOk result (λ v. TakesAll (S.left source.old) (S.left source.new) v.items) }
+    ensures whole { IfOk result (λ v. TakesAll (S.state source.old) (S.state source.new) v.items) }
     ensures limit { IfOk result (λ v. vec_len v ≤ limit) }
     ensures too_long { IsErrOf result ReadAllFault.TooLong
-        → TakesCount (S.left source.old) (S.left source.new) (limit + 1) }
+        → TakesCount (S.state source.old) (S.state source.new) (limit + 1) }
     ensures few { IsErrOf result ReadAllFault.Failed
-        → TakesAtMost (S.left source.old) (S.left source.new) limit }
-    ensures taken { TakesAtMost (S.left source.old) (S.left source.new) (limit + 1) }
-    ensures tells { TellsAsBefore (S.left source.old) (S.left source.new) }
-    ensures later { S.faults source.old ≤ S.faults source.new }
+        → TakesAtMost (S.state source.old) (S.state source.new) limit }
+    ensures taken { TakesAtMost (S.state source.old) (S.state source.new) (limit + 1) }
+    ensures shows { ShowsAsBefore (S.state source.old) (S.state source.new) }
+    ensures later { (S.state source.old).faults ≤ (S.state source.new).faults }
+    ensures kept { IsErrOf result ReadAllFault.Failed
+        ⊎ KeepsFaults (S.state source.old) (S.state source.new) }
     ensures failed { IsErrOf result ReadAllFault.Failed
-        → Rose (S.faults source.old) (S.faults source.new) }
+        → Rose (S.state source.old) (S.state source.new) }
 {
     let mut all = Vec::new(alloc);
     let mut buf = [0u8; MOST_AT_ONCE];
