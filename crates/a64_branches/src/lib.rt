@@ -10,7 +10,7 @@ mod encoding;
 mod offset;
 
 pub use class::{Class, class_of};
-pub use offset::target;
+pub use offset::{INSTRUCTION_BYTES, target};
 
 #[cfg(test)]
 mod tests;

@@ -2,8 +2,11 @@
 ghost use Rattle.std.specs.Prelude.{◌≡◌, ◌<◌, ◌*◌, ◌%◌, nat_lt, pos, ◌-ℤ◌, if◌then◌else◌};
 ghost use Rattle.a64_branches.specs.Offsets.{IsWhole, imm14, imm19, imm26, target};
 
-/// The bytes of an instruction, which an immediate counts.
-const INSTRUCTION: i64 = 4;
+/// The size of an instruction of A64, in bytes.
+pub const INSTRUCTION_BYTES: u64 = 4;
+
+/// An immediate counts instructions.
+const INSTRUCTION: i64 = INSTRUCTION_BYTES as i64;
 
 /// The offset in imm26, bits 25 to 0 of a word.
 pub fn imm26(word: u32) -> i64

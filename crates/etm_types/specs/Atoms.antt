@@ -12,10 +12,14 @@ low_bits (suc n) bits = (bits % 2 == 1) ∷ low_bits n (bits / 2)
 abbrev pub atoms_in : AtomRun → List Bool
 atoms_in run = low_bits run.count run.bits
 
+-- the most atoms that one packet has
+abbrev pub most_atoms : ℕ
+most_atoms = 24
+
 -- a run of 1 to 24 atoms; the bits from its count on are 0
 pub record IsAtomRun (run : AtomRun) : Type 0 where
   pub some : 1 ≤ run.count
-  pub most : run.count ≤ 24
+  pub most : run.count ≤ most_atoms
   pub bits : run.bits < 2 ^ run.count
 
 -- no atom, E, EE or N

@@ -1,5 +1,6 @@
 pub mod AddrForm
 pub mod Atoms
+pub mod Context
 pub mod CtxBits
 pub mod Id
 pub mod Pre

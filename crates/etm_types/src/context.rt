@@ -13,6 +13,23 @@ pub struct Ctx {
     pub cid: u32,
 }
 
+impl Ctx {
+    ghost use Rattle.std.specs.Prelude.{◌≡◌};
+    ghost use Rattle.etm_types.specs.Context.{initial_context};
+
+    /// The context that holds before a trace has told one: EL0 in Secure state, VMID 0 and context ID 0.
+    pub fn initial() -> Ctx
+        ensures { result ≡ initial_context }
+    {
+        Ctx {
+            el: 0,
+            ns: false,
+            vmid: 0,
+            cid: 0,
+        }
+    }
+}
+
 /// What a context packet tells: the VMID and the context ID only where they are needed.
 #[derive(Clone, Copy, Debug, PartialEq, Eq)]
 pub struct CtxBits {
