@@ -195,7 +195,7 @@ fn add_end(line: &mut Line, end: &End)
 
 /// Writes the line of how a stream ends.
 pub fn write_end<K: Sink>(id: Id, end: &End, sink: &mut K) -> Result<(), Failed>
-    ensures { Writes (K.written sink.old) (K.written sink.new) (K.faults sink.old) (K.faults sink.new) result (end_line id end.now) }
+    ensures { Writes (K.state sink.old) (K.state sink.new) result (end_line id end.now) }
 {
     let mut line = Line::begin(id);
     add_end(&mut line, end);

@@ -179,7 +179,7 @@ impl Line {
     /// Ends the line, and writes it by one call.
     pub fn write<K: Sink>(mut self, sink: &mut K) -> Result<(), Failed>
         requires { length self < 96 }
-        ensures { Writes (K.written sink.old) (K.written sink.new) (K.faults sink.old) (K.faults sink.new) result (self ++ 10 ∷ []) }
+        ensures { Writes (K.state sink.old) (K.state sink.new) result (self ++ 10 ∷ []) }
     {
         self.text(b"\n");
         write_all(sink, &self.bytes[..self.len])

@@ -277,7 +277,7 @@ pub fn write_packet_line<K: Sink>(
     sink: &mut K,
 ) -> Result<(), Failed>
     requires { HasText packet.now }
-    ensures { Writes (K.written sink.old) (K.written sink.new) (K.faults sink.old) (K.faults sink.new) result (packet_line id at packet.now) }
+    ensures { Writes (K.state sink.old) (K.state sink.new) result (packet_line id at packet.now) }
 {
     let mut line = Line::begin(id);
     line.decimal(at);

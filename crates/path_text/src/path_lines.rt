@@ -15,7 +15,7 @@ const STEP: u64 = 4;
 /// Writes the line of one text.
 fn write_text<K: Sink>(id: Id, text: &[u8], sink: &mut K) -> Result<(), Failed>
     requires { length text.now ≤ 8 }
-    ensures { Writes (K.written sink.old) (K.written sink.new) (K.faults sink.old) (K.faults sink.new) result (line_of id text.now) }
+    ensures { Writes (K.state sink.old) (K.state sink.new) result (line_of id text.now) }
 {
     let mut line = Line::begin(id);
     line.text(text);
@@ -24,7 +24,7 @@ fn write_text<K: Sink>(id: Id, text: &[u8], sink: &mut K) -> Result<(), Failed>
 
 /// Writes the line of a context.
 fn write_context<K: Sink>(id: Id, ctx: &Ctx, sink: &mut K) -> Result<(), Failed>
-    ensures { Writes (K.written sink.old) (K.written sink.new) (K.faults sink.old) (K.faults sink.new) result (line_of id (whole_context_text ctx.now)) }
+    ensures { Writes (K.state sink.old) (K.state sink.new) result (line_of id (whole_context_text ctx.now)) }
 {
     let mut line = Line::begin(id);
     line.text(b"ctx el");
@@ -54,7 +54,7 @@ fn write_context_once<K: Sink>(
     shown: &mut Option<Ctx>,
     sink: &mut K,
 ) -> Result<(), Failed>
-    ensures lines { Writes (K.written sink.old) (K.written sink.new) (K.faults sink.old) (K.faults sink.new) result (context_line id shown.old ctx.now) }
+    ensures lines { Writes (K.state sink.old) (K.state sink.new) result (context_line id shown.old ctx.now) }
     ensures shown { IfOk result (λ _. shown.new ≡ Some ctx.now) }
 {
     match shown {
@@ -68,7 +68,7 @@ fn write_context_once<K: Sink>(
 
 /// Writes the line of an instruction.
 fn write_instruction<K: Sink>(id: Id, address: u64, sink: &mut K) -> Result<(), Failed>
-    ensures { Writes (K.written sink.old) (K.written sink.new) (K.faults sink.old) (K.faults sink.new) result (line_of id (hex address)) }
+    ensures { Writes (K.state sink.old) (K.state sink.new) result (line_of id (hex address)) }
 {
     let mut line = Line::begin(id);
     line.hex(address);
@@ -77,7 +77,7 @@ fn write_instruction<K: Sink>(id: Id, address: u64, sink: &mut K) -> Result<(), 
 
 /// Writes the lines of so many instructions, one behind the other.
 fn write_instructions<K: Sink>(id: Id, start: u64, count: u64, sink: &mut K) -> Result<(), Failed>
-    ensures { Writes (K.written sink.old) (K.written sink.new) (K.faults sink.old) (K.faults sink.new) result (instruction_lines id start count) }
+    ensures { Writes (K.state sink.old) (K.state sink.new) result (instruction_lines id start count) }
 {
     let mut address = start;
     for _done in 0..count {
@@ -94,7 +94,7 @@ fn write_run<K: Sink>(
     shown: &mut Option<Ctx>,
     sink: &mut K,
 ) -> Result<(), Failed>
-    ensures lines { Writes (K.written sink.old) (K.written sink.new) (K.faults sink.old) (K.faults sink.new) result (lines_of id shown.old (instructions walked.now.ctx walked.now.start walked.now.count)) }
+    ensures lines { Writes (K.state sink.old) (K.state sink.new) result (lines_of id shown.old (instructions walked.now.ctx walked.now.start walked.now.count)) }
     ensures shown { IfOk result (λ _. shown.new ≡ shown_after_all shown.old (instructions walked.now.ctx walked.now.start walked.now.count)) }
 {
     if walked.count == 0 {
@@ -111,7 +111,7 @@ fn write_block<K: Sink>(
     shown: &mut Option<Ctx>,
     sink: &mut K,
 ) -> Result<(), Failed>
-    ensures lines { Writes (K.written sink.old) (K.written sink.new) (K.faults sink.old) (K.faults sink.new) result (lines_of id shown.old (block_items walked.now)) }
+    ensures lines { Writes (K.state sink.old) (K.state sink.new) result (lines_of id shown.old (block_items walked.now)) }
     ensures shown { IfOk result (λ _. shown.new ≡ shown_after_all shown.old (block_items walked.now)) }
 {
     if walked.unknown {
@@ -123,7 +123,7 @@ fn write_block<K: Sink>(
 
 /// Writes the line of trace on, where it is shown.
 fn write_on<K: Sink>(id: Id, on: bool, sink: &mut K) -> Result<(), Failed>
-    ensures { Writes (K.written sink.old) (K.written sink.new) (K.faults sink.old) (K.faults sink.new) result (on_line id on) }
+    ensures { Writes (K.state sink.old) (K.state sink.new) result (on_line id on) }
 {
     if on {
         write_text(id, b"on", sink)
@@ -157,7 +157,7 @@ fn add_name(line: &mut Line, kind: u8)
 
 /// Writes the line of an exception.
 fn write_mark<K: Sink>(id: Id, mark: &ExcMark, sink: &mut K) -> Result<(), Failed>
-    ensures { Writes (K.written sink.old) (K.written sink.new) (K.faults sink.old) (K.faults sink.new) result (line_of id (exception_text mark.now.kind mark.now.ret)) }
+    ensures { Writes (K.state sink.old) (K.state sink.new) result (line_of id (exception_text mark.now.kind mark.now.ret)) }
 {
     let mut line = Line::begin(id);
     line.text(b"exc ");
@@ -169,7 +169,7 @@ fn write_mark<K: Sink>(id: Id, mark: &ExcMark, sink: &mut K) -> Result<(), Faile
 
 /// Writes the line of an exception, where there is one.
 fn write_exception<K: Sink>(id: Id, exc: &Option<ExcMark>, sink: &mut K) -> Result<(), Failed>
-    ensures { Writes (K.written sink.old) (K.written sink.new) (K.faults sink.old) (K.faults sink.new) result (lines_of id None (exception exc.now)) }
+    ensures { Writes (K.state sink.old) (K.state sink.new) result (lines_of id None (exception exc.now)) }
 {
     match exc {
         Some(mark) => write_mark(id, mark, sink),
@@ -185,7 +185,7 @@ pub fn write_walked<K: Sink>(
     shown: &mut Option<Ctx>,
     sink: &mut K,
 ) -> Result<(), Failed>
-    ensures lines { Writes (K.written sink.old) (K.written sink.new) (K.faults sink.old) (K.faults sink.new) result (lines_of id shown.old (items_of walked.now)) }
+    ensures lines { Writes (K.state sink.old) (K.state sink.new) result (lines_of id shown.old (items_of walked.now)) }
     ensures shown { IfOk result (λ _. shown.new ≡ shown_after_all shown.old (items_of walked.now)) }
 {
     write_on(id, walked.on, sink)?;
@@ -195,14 +195,14 @@ pub fn write_walked<K: Sink>(
 
 /// Writes the line of trace that was lost by an overflow.
 pub fn write_gap<K: Sink>(id: Id, sink: &mut K) -> Result<(), Failed>
-    ensures { Writes (K.written sink.old) (K.written sink.new) (K.faults sink.old) (K.faults sink.new) result (line_of id (codes "gap")) }
+    ensures { Writes (K.state sink.old) (K.state sink.new) result (line_of id (codes "gap")) }
 {
     write_text(id, b"gap", sink)
 }
 
 /// Writes the line of a stop of tracing.
 pub fn write_stop<K: Sink>(id: Id, sink: &mut K) -> Result<(), Failed>
-    ensures { Writes (K.written sink.old) (K.written sink.new) (K.faults sink.old) (K.faults sink.new) result (line_of id (codes "stop")) }
+    ensures { Writes (K.state sink.old) (K.state sink.new) result (line_of id (codes "stop")) }
 {
     write_text(id, b"stop", sink)
 }

@@ -5,6 +5,6 @@ use Rattle.path_text.proofs.path_lines.write_instructions.Given as goal
 
 abbrev pub invariant-loop-done : goal.invariant-loop-done
 invariant-loop-done g l =
-    let written = g.K.Sink.written in let faults = g.K.Sink.faults in
-    (text : List ℕ) × Wrote (written l.fn.sink) (written l.sink) (faults l.fn.sink) (faults l.sink) text
+    let state = g.K.Sink.state in
+    (text : List ℕ) × Wrote (state l.fn.sink) (state l.sink) text
     × (text ++ instruction_lines l.id l.address (l.count - l._done) ≡ instruction_lines l.id l.start l.count)

@@ -9,20 +9,20 @@ pub returns-in_err-write_on-clause-lines : goal.returns-in_err-write_on-clause-l
 returns-in_err-write_on-clause-lines g c =
     let p = err_from_is_err_and c.from_residual.result c.from_residual.ensures.1 in
     let text = lines_of-items c.args.id c.args.shown.now c.args.walked.now in
-    rw p.1 (fails_first _ _ _ _ c.in_err-write_on.field-0.0 p.0 _ _ _ text c.in_err-write_on.ensures)
+    rw p.1 (fails_first _ _ c.in_err-write_on.field-0.0 p.0 _ _ _ text c.in_err-write_on.ensures)
 
 pub returns-in_err-write_block-clause-lines : goal.returns-in_err-write_block-clause-lines
 returns-in_err-write_block-clause-lines g c =
     let p = err_from_is_err_and c.from_residual-in_err-write_block.result c.from_residual-in_err-write_block.ensures.1 in
     let text = lines_of-items c.args.id c.args.shown.now c.args.walked.now in
-    rw p.1 (fails_after _ _ _ _ _ _ c.in_err-write_block.field-0.0 p.0 _ _ _ _ text (wrote_by _ _ _ _ _ _ c.in_ok-write_on.ensures) c.in_err-write_block.ensures.lines)
+    rw p.1 (fails_after _ _ _ c.in_err-write_block.field-0.0 p.0 _ _ _ _ text (wrote_by _ _ _ _ c.in_ok-write_on.ensures) c.in_err-write_block.ensures.lines)
 
 pub returns-clause-lines : goal.returns-clause-lines
 returns-clause-lines g c =
     let id = c.args.id in let shown = c.args.shown.now in let w = c.args.walked.now in
     let text = append_assoc (on_line id w.on) (lines_of id shown (block_items w)) _ ∙ lines_of-items id shown w in
-    let wrote = wrote_more _ _ _ _ _ _ _ _ (wrote_by _ _ _ _ _ _ c.in_ok-write_on.ensures) (wrote_by _ _ _ _ _ _ c.in_ok-write_block.ensures.lines) in
-    then_writes _ _ _ _ _ _ c.write_exception.result _ _ _ text wrote c.write_exception.ensures
+    let wrote = wrote_more _ _ _ _ _ (wrote_by _ _ _ _ c.in_ok-write_on.ensures) (wrote_by _ _ _ _ c.in_ok-write_block.ensures.lines) in
+    then_writes _ _ _ c.write_exception.result _ _ _ text wrote c.write_exception.ensures
 
 pub returns-clause-shown : goal.returns-clause-shown
 returns-clause-shown g c = if_ok c.write_exception.result (c.in_ok-write_block.ensures.shown ∙ shown_after_all-items c.args.shown.now c.args.walked.now)
