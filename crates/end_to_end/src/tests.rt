@@ -139,6 +139,11 @@ fn a_fault_of_the_path_is_told_at_its_packet(rt: HostRuntime) -> Result<(), Fail
             b"01 fault 28 return-missed 1004 1008\n",
         ),
         (&[0x06, 0x1d, 0xf7], b"", b"01 fault 28 address-awaited\n"),
+        // a cancel, a mispredict and the two other cancels
+        (&[0x06, 0x1d, 0x2e, 0x01], b"", b"01 fault 28 address-awaited\n"),
+        (&[0x06, 0x1d, 0x30], b"", b"01 fault 28 address-awaited\n"),
+        (&[0x06, 0x1d, 0x34], b"", b"01 fault 28 address-awaited\n"),
+        (&[0x06, 0x1d, 0x38], b"", b"01 fault 28 address-awaited\n"),
     ] {
         let input = [SYNC, HEAD, bytes];
         let output = [lines, last];
@@ -204,6 +209,25 @@ fn an_image_that_is_bad_is_told_by_its_first_line(rt: HostRuntime) -> Result<(),
             1,
             ImageWhy::Syntax,
             b"image line 1: syntax\n",
+        ),
+        // lines of two reasons: the earlier one of the order is told
+        (
+            b"@1002 1f2003d5\n",
+            1,
+            ImageWhy::Syntax,
+            b"image line 1: syntax\n",
+        ),
+        (
+            b"@fffffffffffffffc\n1f2003d5 1f20\n",
+            2,
+            ImageWhy::Unaligned,
+            b"image line 2: unaligned\n",
+        ),
+        (
+            b"@fffffffffffffffc\n1f2003d5\n@fffffffffffffff8\n1f2003d5 1f2003d5 1f2003d5\n",
+            4,
+            ImageWhy::Wraps,
+            b"image line 4: wraps\n",
         ),
     ] {
         assert_eq!(rt;
