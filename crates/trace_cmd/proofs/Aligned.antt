@@ -1,5 +1,27 @@
 -- The addresses that packets tell are those of instructions.
-use Rattle.std.proofs.Common.{◌≡◌, ℕ, zero, suc, ◌%◌, Bool, true, false, if◌then◌else◌, List, [], ◌∷◌, ◌++◌, take, replicate, Option, Some, None, slice_index, refl, arith}
+use Rattle.std.proofs.Common.{
+  ◌≡◌,
+  ℕ,
+  zero,
+  suc,
+  ◌%◌,
+  Bool,
+  true,
+  false,
+  if◌then◌else◌,
+  List,
+  [],
+  ◌∷◌,
+  ◌++◌,
+  take,
+  replicate,
+  Option,
+  Some,
+  None,
+  slice_index,
+  refl,
+  arith,
+}
 use Rattle.std.specs.Prelude.{All, ⊤}
 use Rattle.std.proofs.lemmas.List.Elements.{All-nil, All-cons, All-append, All-head, All-tail}
 use Rattle.etm_types.specs.declared.address.AddrForm.{AddrForm}
@@ -9,7 +31,23 @@ use Rattle.etm_types.specs.declared.element.Elem.TheVariants as elem
 use Rattle.etm_types.specs.declared.element.P0.TheVariants as p0
 use Rattle.packet_grammar.specs.declared.packet.Packet.{Packet}
 use Rattle.packet_grammar.specs.declared.packet.Packet.TheVariants as packet
-use Rattle.path_elements.specs.Elements.{Told, Gained, untold, atoms, with_address, after_address, elements_in, told_by, tells, elements_of, told_after, is_misplaced, placed, behind, all_elements}
+use Rattle.path_elements.specs.Elements.{
+  Told,
+  Gained,
+  untold,
+  atoms,
+  with_address,
+  after_address,
+  elements_in,
+  told_by,
+  tells,
+  elements_of,
+  told_after,
+  is_misplaced,
+  placed,
+  behind,
+  all_elements,
+}
 use Rattle.trace_cmd.specs.Trail.{IsAlignedElem, AreAlignedElems}
 
 -- ---- the addresses that were told
@@ -124,7 +162,8 @@ placed_aligned at [] are = All-nil IsAlignedThere
 placed_aligned at (e ∷ es) are =
     All-cons IsAlignedThere (at, e) (placed at es) (All-head IsAlignedElem e es are) (placed_aligned at es (All-tail IsAlignedElem e es are))
 
-joined_aligned : (b : Bool) (stop : Gained) (here : List (ℕ × Elem)) (rest : Gained) → AreAlignedElems stop.elements → AreAlignedElems here → AreAlignedElems rest.elements
+joined_aligned : (b : Bool) (stop : Gained) (here : List (ℕ × Elem)) (rest : Gained) → AreAlignedElems stop.elements → AreAlignedElems here
+    → AreAlignedElems rest.elements
     → AreAlignedElems (if b then stop else behind here rest).elements
 joined_aligned true stop here rest is also too = is
 joined_aligned false stop here rest is also too = All-append IsAlignedThere here rest.elements also too

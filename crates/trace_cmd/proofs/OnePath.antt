@@ -1,5 +1,32 @@
 -- The path of elements is their run, so that they have one path and no other.
-use Rattle.std.proofs.Common.{◌≡◌, ◌⊎◌, ℕ, suc, ◌+◌, List, [], ◌∷◌, ◌++◌, take, drop, Some, None, Result, Ok, Err, refl, sym, ap, subst, ◌∙◌, inl, inr, arith, append_assoc, append-nil}
+use Rattle.std.proofs.Common.{
+  ◌≡◌,
+  ◌⊎◌,
+  ℕ,
+  suc,
+  ◌+◌,
+  List,
+  [],
+  ◌∷◌,
+  ◌++◌,
+  take,
+  drop,
+  Some,
+  None,
+  Result,
+  Ok,
+  Err,
+  refl,
+  sym,
+  ap,
+  subst,
+  ◌∙◌,
+  inl,
+  inr,
+  arith,
+  append_assoc,
+  append-nil,
+}
 use Rattle.std.specs.Prelude.{slice_get}
 use Rattle.std.proofs.Math.Seq.{take-suc}
 use Rattle.std.proofs.lemmas.List.{take-append-drop}
@@ -39,7 +66,8 @@ Parts image s xs ys items r =
     ((before : List Item) × (more : List Item) × (v : State) × Walks image s xs before (Ok v) × Walks image v ys more r × (items ≡ before ++ more))
     ⊎ ((f : WalkFault) × Walks image s xs items (Err f))
 
-walks_parts : (image : Image) (s : State) (xs ys : List Thing) (items : List Item) (r : Result State WalkFault) → Walks image s (xs ++ ys) items r → Parts image s xs ys items r
+walks_parts : (image : Image) (s : State) (xs ys : List Thing) (items : List Item) (r : Result State WalkFault) → Walks image s (xs ++ ys) items r
+    → Parts image s xs ys items r
 walks_parts image s [] ys items r p = inl ([], items, s, (refl, refl), p, refl)
 walks_parts image s (t ∷ xs) ys items r (inl p) =
     elim (walks_parts image p.2 xs ys p.1 r p.4) [
@@ -49,7 +77,8 @@ walks_parts image s (t ∷ xs) ys items r (inl p) =
 walks_parts image s (t ∷ xs) ys items r (inr p) = inr (p.0, inr (p.0, p.1, p.2, refl))
 
 -- behind things whose walk is known, the walk goes on from where that stands
-walks_rest : (image : Image) (s v : State) (xs ys : List Thing) (before items : List Item) (r : Result State WalkFault) → Walks image s xs before (Ok v) → Walks image s (xs ++ ys) items r
+walks_rest : (image : Image) (s v : State) (xs ys : List Thing) (before items : List Item) (r : Result State WalkFault) → Walks image s xs before (Ok v)
+    → Walks image s (xs ++ ys) items r
     → (more : List Item) × Walks image v ys more r × (items ≡ before ++ more)
 walks_rest image s v xs ys before items r first all =
     elim (walks_parts image s xs ys items r all) [
@@ -74,7 +103,8 @@ record Commits (image : Image) (es : List (ℕ × Elem)) (p : Pending) (things :
 -- the same of one element, as it is taken, and the others
 abbrev GoesSo : Image → Taken → State → List (ℕ × Elem) → List Item → Outcome → Type 0
 GoesSo image t w es items outcome =
-    (first : List Item) × (rest : List Item) × (next : Pending × State) × TakesSo image t w first (Ok next) × Runs image next.0 next.1 es rest outcome × (items ≡ first ++ rest)
+    (first : List Item) × (rest : List Item) × (next : Pending × State) × TakesSo image t w first (Ok next) × Runs image next.0 next.1 es rest outcome
+    × (items ≡ first ++ rest)
 
 record CommitsSo (image : Image) (t : Taken) (es : List (ℕ × Elem)) (things : List Thing) (r : Resolved) : Type 0 where
   more : List Thing
@@ -97,7 +127,8 @@ same_refusing f g e = cc
 not_refusing : (r : Resolved) (f : QueueFault) → refusing f ≡ resolving r → ⊥
 not_refusing r f e = cc
 
-commits_so : (image : Image) (t : Taken) (es : List (ℕ × Elem)) (things : List Thing) (r : Resolved) → then_resolve (lift things t) (λ next. resolve_all next es) ≡ Ok r
+commits_so : (image : Image) (t : Taken) (es : List (ℕ × Elem)) (things : List Thing) (r : Resolved)
+    → then_resolve (lift things t) (λ next. resolve_all next es) ≡ Ok r
     → ((p : Pending) (front : List Thing) → resolve_all (at p front) es ≡ Ok r → Commits image es p front r) → CommitsSo image t es things r
 commits_so image (Ok (p, None)) es things r e on =
     let rest = on p things e in
@@ -120,7 +151,8 @@ commits_so image (Ok (p, Some t)) es things r e on =
     }
 commits_so image (Err f) es things r e on = absurd (not_refusing r f e)
 
-commits : (image : Image) (es : List (ℕ × Elem)) (p : Pending) (things : List Thing) (r : Resolved) → resolve_all (at p things) es ≡ Ok r → Commits image es p things r
+commits : (image : Image) (es : List (ℕ × Elem)) (p : Pending) (things : List Thing) (r : Resolved) → resolve_all (at p things) es ≡ Ok r
+    → Commits image es p things r
 commits image [] p things r e =
     record {
       more = [];
@@ -129,7 +161,8 @@ commits image [] p things r e =
       runs = λ w after items walks. (walks.0, ap (λ (s : State). ended (p, s)) (same_walking after w walks.1));
     }
 commits image (x ∷ es) p things r e =
-    let all = commits_so image (taken p x.1) es things r (ap (λ s. then_resolve s (λ next. resolve_all next es)) (sym (resolves p things x.1)) ∙ e) (λ q front is. commits image es q front r is) in
+    let all = commits_so image (taken p x.1) es things r (ap (λ s. then_resolve s (λ next. resolve_all next es)) (sym (resolves p things x.1)) ∙ e)
+    (λ q front is. commits image es q front r is) in
     record { more = all.more; told = all.told; is = all.is; runs = λ w after items walks. inr (all.runs w after items walks) }
 
 -- ---- the path of elements is their run
@@ -148,7 +181,8 @@ walks_to_run image es items w =
 abbrev Stopped : Image → Taken → State → List Item → List Item → Fault → Type 0
 Stopped image t w before items f = (more : List Item) × TakesSo image t w more (Err f) × (items ≡ before ++ more)
 
-refused : (image : Image) (t : Taken) (w : State) (things : List Thing) (before : List Item) (f : QueueFault) → lift things t ≡ Err f → Stopped image t w before before (Queue f)
+refused : (image : Image) (t : Taken) (w : State) (things : List Thing) (before : List Item) (f : QueueFault) → lift things t ≡ Err f
+    → Stopped image t w before before (Queue f)
 refused image (Ok (p, None)) w things before f e = absurd (not_refusing (at p things) f (sym e))
 refused image (Ok (p, Some t)) w things before f e = absurd (not_refusing (at p (things ++ t ∷ [])) f (sym e))
 refused image (Err g) w things before f e = ([], (refl, ap (λ (h : QueueFault). Err (Queue h)) (sym (same_refusing g f e))), sym (append-nil before))
@@ -192,7 +226,8 @@ fault_to_run image es items last f =
     let all : (front ++ x ∷ []) ++ rest ≡ es = ap (λ l. l ++ rest) (sym next) ∙ take-append-drop (f.count + 1) es in
     let shown = subst (λ l. Runs image at_first first_state (front ++ x ∷ []) l (Err (f.at, f.fault))) (sym stop.2) fault in (
       (f.at, f.fault),
-      subst (λ l. Runs image at_first first_state l items (Err (f.at, f.fault))) all (runs_more image at_first first_state (front ++ x ∷ []) rest items (f.at, f.fault) shown),
+      subst (λ l. Runs image at_first first_state l items (Err (f.at, f.fault))) all
+          (runs_more image at_first first_state (front ++ x ∷ []) rest items (f.at, f.fault) shown),
       f.ends,
     )
 
@@ -201,7 +236,8 @@ pub path_to_runs : (image : Image) (es : List (ℕ × Elem)) (ending : End) (ite
 path_to_runs image es ending items last (inl p) = let run = walks_to_run image es items p.0 in (Ok run.0, run.2, p.1)
 path_to_runs image es ending items last (inr p) = let run = fault_to_run image es items last p in (Err run.0, run.1, run.2)
 
-pub one_path_of_elements : (image : Image) (es : List (ℕ × Elem)) (ending : End) (items others : List Item) (last other : End) → IsPathOfElements image es ending items last
+pub one_path_of_elements : (image : Image) (es : List (ℕ × Elem)) (ending : End) (items others : List Item) (last other : End)
+    → IsPathOfElements image es ending items last
     → IsPathOfElements image es ending others other → (items ≡ others) × (last ≡ other)
 one_path_of_elements image es ending items others last other p q =
     let a = path_to_runs image es ending items last p in let b = path_to_runs image es ending others other q in

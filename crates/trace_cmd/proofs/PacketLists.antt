@@ -1,5 +1,38 @@
 -- How far the packet list of a stream has come, and how it ends.
-use Rattle.std.proofs.Common.{◌≡◌, ℕ, zero, suc, ◌+◌, ◌<◌, ◌==◌, Bool, true, false, List, [], ◌∷◌, ◌++◌, length, drop, get_or, Option, Some, None, Ok, Err, refl, sym, ap, subst, ◌∙◌, inl, inr, arith, append_assoc}
+use Rattle.trace_io.specs.State.{IoState}
+use Rattle.std.proofs.Common.{
+  ◌≡◌,
+  ℕ,
+  zero,
+  suc,
+  ◌+◌,
+  ◌<◌,
+  ◌==◌,
+  Bool,
+  true,
+  false,
+  List,
+  [],
+  ◌∷◌,
+  ◌++◌,
+  length,
+  drop,
+  get_or,
+  Option,
+  Some,
+  None,
+  Ok,
+  Err,
+  refl,
+  sym,
+  ap,
+  subst,
+  ◌∙◌,
+  inl,
+  inr,
+  arith,
+  append_assoc,
+}
 use Rattle.std.specs.Prelude.{All, is_some, if◌then◌else◌}
 use Rattle.std.proofs.lemmas.List.Elements.{All-from_get_or}
 use Rattle.etm_types.specs.Settings.{Sizes, AreSettings}
@@ -49,7 +82,8 @@ pub end_when_some : (n : ℕ) (last : End) → by_rest n ≡ last → (n ≡ 0 �
 end_when_some zero last e some = absurd (some refl)
 end_when_some (suc n) last e some = sym (by_some (suc n) (omega arith)) ∙ e
 
-end_behind_sync : (s : Sizes) (bytes : List ℕ) (packets : List (ℕ × Packet)) (ending : Ending) → (at : ℕ) → FirstSync at bytes → IsStream s bytes packets ending → fault_of ending ≡ None
+end_behind_sync : (s : Sizes) (bytes : List ℕ) (packets : List (ℕ × Packet)) (ending : Ending) → (at : ℕ) → FirstSync at bytes
+    → IsStream s bytes packets ending → fault_of ending ≡ None
     → by_rest (rest_of ending) ≡ end_of ending
 end_behind_sync s bytes packets no_sync place found (inl (at, first, is)) none = absurd (never_without_sync s at (drop at bytes) packets is)
 end_behind_sync s bytes packets no_sync place found (inr (nowhere, e, f)) none = absurd (nowhere place found.here)
@@ -79,31 +113,34 @@ has_text s packet is = tt
 
 pub packet_lines-append : (id : ℕ) (xs ys : List (ℕ × Packet)) → packet_lines id (xs ++ ys) ≡ packet_lines id xs ++ packet_lines id ys
 packet_lines-append id [] ys = refl
-packet_lines-append id (x ∷ xs) ys = ap (λ t. packet_line id x.0 x.1 ++ t) (packet_lines-append id xs ys) ∙ sym (append_assoc (packet_line id x.0 x.1) (packet_lines id xs) (packet_lines id ys))
+packet_lines-append id (x ∷ xs) ys = ap (λ t. packet_line id x.0 x.1 ++ t) (packet_lines-append id xs ys)
+    ∙ sym (append_assoc (packet_line id x.0 x.1) (packet_lines id xs) (packet_lines id ys))
 
 -- the lines of the packets so far are written
-pub record Listed (s : Sizes) (id : ℕ) (old new : Option (List ℕ)) (before now : ℕ) (front : List ℕ) (last : Option (ℕ × PacketFault)) : Type 0 where
+pub record Listed (s : Sizes) (id : ℕ) (old new : IoState) (front : List ℕ) (last : Option (ℕ × PacketFault)) : Type 0 where
   pub packets : List (ℕ × Packet)
   pub told : Told s front packets last
-  pub wrote : Wrote old new before now (packet_lines id packets)
+  pub wrote : Wrote old new (packet_lines id packets)
 
-pub listed_first : (s : Sizes) (id : ℕ) (a : Option (List ℕ)) (f : ℕ) → Listed s id a a f f [] None
-listed_first s id a f = record { packets = []; told = nothing_told s; wrote = wrote_nothing a f }
+pub listed_first : (s : Sizes) (id : ℕ) (a : IoState) → Listed s id a a [] None
+listed_first s id a = record { packets = []; told = nothing_told s; wrote = wrote_nothing a }
 
-module _ (s : Sizes) (are : AreSettings s) (id : ℕ) (old mid new : Option (List ℕ)) (f g h : ℕ) (front : List ℕ) (byte : ℕ) (last : Option (ℕ × PacketFault)) where
-  pub listed_more : (step : Step) → Listed s id old mid f g front last → Gains s front byte step → Wrote mid new g h (packet_lines id (told step))
-      → Listed s id old new f h (front ++ byte ∷ []) (fault_after last step)
+module _ (s : Sizes) (are : AreSettings s) (id : ℕ) (old mid new : IoState) (front : List ℕ) (byte : ℕ) (last : Option (ℕ × PacketFault)) where
+  pub listed_more : (step : Step) → Listed s id old mid front last → Gains s front byte step → Wrote mid new (packet_lines id (told step))
+      → Listed s id old new (front ++ byte ∷ []) (fault_after last step)
   listed_more step is gains wrote = record {
     packets = is.packets ++ told step;
     told = gains_more s are front byte is.packets last step is.told gains;
-    wrote = subst (Wrote old new f h) (sym (packet_lines-append id is.packets (told step)))
-        (wrote_more old mid new f g h (packet_lines id is.packets) (packet_lines id (told step)) is.wrote wrote);
+    wrote = subst (Wrote old new) (sym (packet_lines-append id is.packets (told step)))
+        (wrote_more old mid new (packet_lines id is.packets) (packet_lines id (told step)) is.wrote wrote);
   }
 
   -- the line of a packet could not be written
-  pub listed_fails : {T U : Type 0} (at : ℕ) (packet : Packet) (e d : Failed) (rest : List ℕ) → Listed s id old mid f g front last → Gains s front byte (Whole at packet)
-      → Writes {T = T} mid new g h (Err e) (packet_line id at packet) → All (λ b. b < 256) rest
-      → (packets : List (ℕ × Packet)) × (ending : Ending) × IsStream s ((front ++ byte ∷ []) ++ rest) packets ending × Writes {T = U} old new f h (Err d) (packet_lines id packets)
+  pub listed_fails : {T U : Type 0} (at : ℕ) (packet : Packet) (e d : Failed) (rest : List ℕ) → Listed s id old mid front last
+      → Gains s front byte (Whole at packet)
+      → Writes {T = T} mid new (Err e) (packet_line id at packet) → All (λ b. b < 256) rest
+      → (packets : List (ℕ × Packet)) × (ending : Ending) × IsStream s ((front ++ byte ∷ []) ++ rest) packets ending
+      × Writes {T = U} old new (Err d) (packet_lines id packets)
   listed_fails {T} {U} at packet e d rest is (others, ending, before, now) writes small =
       let front' = front ++ byte ∷ [] in
       let same = one_stream s are front is.packets others is.told.ending ending is.told.stream before in
@@ -111,11 +148,13 @@ module _ (s : Sizes) (are : AreSettings s) (id : ℕ) (old mid new : Option (Lis
       let all = (others ++ (at, packet) ∷ []) ++ later.packets in
       let lines : packet_lines id is.packets ++ (packet_line id at packet ++ packet_lines id later.packets) ≡ packet_lines id all =
       ap (λ p. packet_lines id p ++ (packet_line id at packet ++ packet_lines id later.packets)) same.0
-      ∙ sym (packet_lines-append id others ((at, packet) ∷ later.packets)) ∙ ap (packet_lines id) (sym (append_assoc others ((at, packet) ∷ []) later.packets)) in (
+      ∙ sym (packet_lines-append id others ((at, packet) ∷ later.packets))
+      ∙ ap (packet_lines id) (sym (append_assoc others ((at, packet) ∷ []) later.packets)) in (
         all,
         later.ending,
         stream_on s front' rest (others ++ (at, packet) ∷ []) later.packets later.ending now later.is,
-        fails_after old mid new f g h e d (packet_lines id is.packets) (packet_line id at packet) (packet_lines id later.packets) (packet_lines id all) lines is.wrote writes,
+        fails_after old mid new e d (packet_lines id is.packets) (packet_line id at packet) (packet_lines id later.packets)
+            (packet_lines id all) lines is.wrote writes,
       )
 
 pub is_none : {T : Type 0} (last : Option T) → is_some last ≡ false → last ≡ None
@@ -130,16 +169,16 @@ ends_with_fault s front rest packets clean stop is e = absurd cc
 ends_with_fault s front rest packets (cut n) stop is e = absurd cc
 ends_with_fault s front rest packets (fault at f) stop is e = fault_stays s front rest packets at f is
 
-pub listed_to_fault : (s : Sizes) (id : ℕ) (old new : Option (List ℕ)) (before now : ℕ) (front rest : List ℕ) (last : Option (ℕ × PacketFault)) → is_some last ≡ true
-    → Listed s id old new before now front last
+pub listed_to_fault : (s : Sizes) (id : ℕ) (old new : IoState) (front rest : List ℕ) (last : Option (ℕ × PacketFault)) → is_some last ≡ true
+    → Listed s id old new front last
     → (packets : List (ℕ × Packet)) × (ending : Ending) × IsStream s (front ++ rest) packets ending
-    × Writes {T = Option (ℕ × PacketFault)} {E = Failed} old new before now (Ok last) (packet_lines id packets) × (fault_of ending ≡ last)
-listed_to_fault s id old new before now front rest None some is = absurd cc
-listed_to_fault s id old new before now front rest (Some stop) some is = (
+    × Writes {T = Option (ℕ × PacketFault)} {E = Failed} old new (Ok last) (packet_lines id packets) × (fault_of ending ≡ last)
+listed_to_fault s id old new front rest None some is = absurd cc
+listed_to_fault s id old new front rest (Some stop) some is = (
   is.packets,
   is.told.ending,
   ends_with_fault s front rest is.packets is.told.ending stop is.told.stream is.told.fault,
-  writes_all old new before now (Some stop) (packet_lines id is.packets) is.wrote,
+  writes_all old new (Some stop) (packet_lines id is.packets) is.wrote,
   is.told.fault,
 )
 
@@ -149,7 +188,8 @@ pub list_of_nothing : (s : Sizes) (id : ℕ) (bytes : List ℕ) → (length byte
 list_of_nothing s id [] empty = record { packets = []; ending = no_sync; stream = nothing_is_a_stream s; printed = refl; fault = refl }
 list_of_nothing s id (b ∷ bytes) empty = absurd (omega (arith, eqb-true (length (b ∷ bytes)) 0 empty))
 
-pub list_of_some : (s : Sizes) (id : ℕ) (bytes : List ℕ) (packets : List (ℕ × Packet)) (ending : Ending) → (length bytes == 0) ≡ false → IsStream s bytes packets ending
+pub list_of_some : (s : Sizes) (id : ℕ) (bytes : List ℕ) (packets : List (ℕ × Packet)) (ending : Ending) → (length bytes == 0) ≡ false
+    → IsStream s bytes packets ending
     → IsPacketList s id bytes (packet_lines id packets ++ end_line id (end_of ending)) (is_faulty ending)
 list_of_some s id bytes packets ending some is = record { packets = packets; ending = ending; stream = is; printed = rw some refl; fault = refl }
 
@@ -159,7 +199,8 @@ faulty_where clean last e = sym (ap is_some e)
 faulty_where (cut n) last e = sym (ap is_some e)
 faulty_where (fault at f) last e = sym (ap is_some e)
 
-pub one_list : (s : Sizes) → AreSettings s → (id : ℕ) (bytes text other : List ℕ) (faulty also : Bool) → IsPacketList s id bytes text faulty → IsPacketList s id bytes other also
+pub one_list : (s : Sizes) → AreSettings s → (id : ℕ) (bytes text other : List ℕ) (faulty also : Bool) → IsPacketList s id bytes text faulty
+    → IsPacketList s id bytes other also
     → (text ≡ other) × (faulty ≡ also)
 one_list s are id bytes text other faulty also is too =
     let same = one_stream s are bytes is.packets too.packets is.ending too.ending is.stream too.stream in (
@@ -167,7 +208,8 @@ one_list s are id bytes text other faulty also is too =
       is.fault ∙ ap is_faulty same.1 ∙ sym too.fault,
     )
 
-pub some_list : (s : Sizes) → AreSettings s → (id : ℕ) (bytes : List ℕ) → All (λ b. b < 256) bytes → (text : List ℕ) × (faulty : Bool) × IsPacketList s id bytes text faulty
+pub some_list : (s : Sizes) → AreSettings s → (id : ℕ) (bytes : List ℕ) → All (λ b. b < 256) bytes → (text : List ℕ) × (faulty : Bool)
+    × IsPacketList s id bytes text faulty
 some_list s are id bytes small =
     let all = each_is_a_stream s are bytes small in (
       list_text id bytes all.packets all.ending,

@@ -37,14 +37,18 @@ abbrev pub path_of : Image → List (ℕ × Packet) → Ending → List Item →
 path_of image packets ending items last =
     IsPathOfElements image (all_elements untold packets).elements (end_behind (all_elements untold packets).awaited ending) items last
 
-one_path : (image : Image) (s : Sizes) → AreSettings s → (bytes : List ℕ) (items others : List Item) (last other : End) → IsPath image s bytes items last → IsPath image s bytes others other
+one_path : (image : Image) (s : Sizes) → AreSettings s → (bytes : List ℕ) (items others : List Item) (last other : End) → IsPath image s bytes items last
+    → IsPath image s bytes others other
     → (items ≡ others) × (last ≡ other)
 one_path image s are bytes items others last other (packets, ending, stream, path) (packets', ending', stream', path') =
     let same = one_stream s are bytes packets packets' ending ending' stream stream' in
-    let here = subst (λ (p : List (ℕ × Packet)). path_of image p ending' items last) same.0 (subst (λ (e : Ending). path_of image packets e items last) same.1 path) in
-    one_path_of_elements image (all_elements untold packets').elements (end_behind (all_elements untold packets').awaited ending') items others last other here path'
+    let here = subst (λ (p : List (ℕ × Packet)). path_of image p ending' items last) same.0
+    (subst (λ (e : Ending). path_of image packets e items last) same.1 path) in
+    one_path_of_elements image (all_elements untold packets').elements (end_behind
+    (all_elements untold packets').awaited ending') items others last other here path'
 
-pub one_text : (image : Image) (s : Sizes) → AreSettings s → (id : ℕ) (bytes text other : List ℕ) (faulty also : Bool) → IsPathText image s id bytes text faulty
+pub one_text : (image : Image) (s : Sizes) → AreSettings s → (id : ℕ) (bytes text other : List ℕ) (faulty also : Bool)
+    → IsPathText image s id bytes text faulty
     → IsPathText image s id bytes other also → (text ≡ other) × (faulty ≡ also)
 one_text image s are id bytes text other faulty also is too =
     let same = one_path image s are bytes is.items too.items is.last too.last is.path too.path in (
@@ -57,7 +61,8 @@ pub some_text : (image : Image) (s : Sizes) → IsImage image → AreSettings s 
 some_text image s is are id bytes small =
     let stream = each_is_a_stream s are bytes small in
     let gained = all_elements untold stream.packets in
-    let path = some_path_of_elements image gained.elements (end_behind gained.awaited stream.ending) (gap_in image is) (elements_of_packets_aligned stream.packets) in (
+    let path = some_path_of_elements image gained.elements (end_behind gained.awaited stream.ending) (gap_in image is)
+    (elements_of_packets_aligned stream.packets) in (
       path_text id bytes path.0 path.1,
       is_fault path.1,
       record { items = path.0; last = path.1; path = (stream.packets, stream.ending, stream.is, path.2); printed = refl; fault = refl },
@@ -75,7 +80,8 @@ text_of_nothing image s id [] empty = record {
 }
 text_of_nothing image s id (b ∷ bytes) empty = absurd (omega (arith, eqb-true (length (b ∷ bytes)) 0 empty))
 
-pub text_of_some : (image : Image) (s : Sizes) (id : ℕ) (bytes : List ℕ) (items : List Item) (last : End) → (length bytes == 0) ≡ false → IsPath image s bytes items last
+pub text_of_some : (image : Image) (s : Sizes) (id : ℕ) (bytes : List ℕ) (items : List Item) (last : End) → (length bytes == 0) ≡ false
+    → IsPath image s bytes items last
     → IsPathText image s id bytes (lines_of id None items ++ end_line id last) (is_fault last)
 text_of_some image s id bytes items last some is = record { items = items; last = last; path = is; printed = rw some refl; fault = refl }
 

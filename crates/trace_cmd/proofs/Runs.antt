@@ -1,5 +1,33 @@
 -- Elements one after the other: what each commits is walked as it comes.
-use Rattle.std.proofs.Common.{◌≡◌, ◌⊎◌, ℕ, Bool, true, false, if◌then◌else◌, List, [], ◌∷◌, ◌++◌, Option, Some, None, Result, Ok, Err, refl, sym, ap, subst, ◌∙◌, inl, inr, arith, append_assoc, append-nil}
+use Rattle.std.proofs.Common.{
+  ◌≡◌,
+  ◌⊎◌,
+  ℕ,
+  Bool,
+  true,
+  false,
+  if◌then◌else◌,
+  List,
+  [],
+  ◌∷◌,
+  ◌++◌,
+  Option,
+  Some,
+  None,
+  Result,
+  Ok,
+  Err,
+  refl,
+  sym,
+  ap,
+  subst,
+  ◌∙◌,
+  inl,
+  inr,
+  arith,
+  append_assoc,
+  append-nil,
+}
 use Rattle.std.specs.Prelude.{◌==◌, ⊤}
 use Rattle.std.proofs.lemmas.List.Elements.{All-cons, All-drop}
 use Rattle.program_image.specs.Blocks.{HasGap}
@@ -61,14 +89,16 @@ resolves p things elem.Overflow = refl
 resolves p things elem.Discard = refl
 
 -- one list of elements behind another
-then_again : (s : Result Resolved QueueFault) (f g h : Resolved → Result Resolved QueueFault) → ((r : Resolved) → h r ≡ then_resolve (f r) g) → then_resolve s h ≡ then_resolve (then_resolve s f) g
+then_again : (s : Result Resolved QueueFault) (f g h : Resolved → Result Resolved QueueFault) → ((r : Resolved) → h r ≡ then_resolve (f r) g)
+    → then_resolve s h ≡ then_resolve (then_resolve s f) g
 then_again (Ok r) f g h same = same r
 then_again (Err fault) f g h same = refl
 
 pub resolve_all-append : (r : Resolved) (xs ys : List (ℕ × Elem)) → resolve_all r (xs ++ ys) ≡ then_resolve (resolve_all r xs) (λ next. resolve_all next ys)
 resolve_all-append r [] ys = refl
 resolve_all-append r (x ∷ xs) ys =
-    then_again (resolve r x.1) (λ next. resolve_all next xs) (λ next. resolve_all next ys) (λ next. resolve_all next (xs ++ ys)) (λ next. resolve_all-append next xs ys)
+    then_again (resolve r x.1) (λ next. resolve_all next xs) (λ next. resolve_all next ys) (λ next. resolve_all next (xs ++ ys))
+    (λ next. resolve_all-append next xs ys)
 
 -- ---- runs
 
@@ -109,7 +139,8 @@ same_walking a b e = cc
 pub runs_append : (image : Image) (p : Pending) (w : State) (xs ys : List (ℕ × Elem)) (items more : List Item) (n : Pending × State) (outcome : Outcome)
     → Runs image p w xs items (Ok n) → Runs image n.0 n.1 ys more outcome → Runs image p w (xs ++ ys) (items ++ more) outcome
 runs_append image p w [] ys items more n outcome r s =
-    subst (λ l. Runs image p w ys (l ++ more) outcome) (sym r.0) (subst (λ (m : Pending × State). Runs image m.0 m.1 ys more outcome) (same_ended n (p, w) r.1) s)
+    subst (λ l. Runs image p w ys (l ++ more) outcome) (sym r.0) (subst (λ (m : Pending × State). Runs image m.0 m.1 ys more outcome)
+    (same_ended n (p, w) r.1) s)
 runs_append image p w (x ∷ xs) ys items more n outcome (inl r) s = absurd (let e = r.2 in cc)
 runs_append image p w (x ∷ xs) ys items more n outcome (inr r) s =
     inr (r.0, r.1 ++ more, r.2, r.3, runs_append image (r.2).0 (r.2).1 xs ys r.1 more n outcome r.4 s, ap (λ l. l ++ more) r.5 ∙ append_assoc r.0 r.1 more)
@@ -133,20 +164,24 @@ runs_fault image p w xs x items more n f r takes = runs_append image p w xs (x �
 
 -- ---- elements have one run
 
-takes_so_one : (image : Image) (t : Taken) (w : State) (items others : List Item) (a b : Step) → TakesSo image t w items a → TakesSo image t w others b → (items ≡ others) × (a ≡ b)
+takes_so_one : (image : Image) (t : Taken) (w : State) (items others : List Item) (a b : Step) → TakesSo image t w items a → TakesSo image t w others b
+    → (items ≡ others) × (a ≡ b)
 takes_so_one image (Ok (p, None)) w items others a b x y = (x.0 ∙ sym y.0, x.1 ∙ sym y.1)
 takes_so_one image (Ok (p, Some t)) w items others a b x y =
     let same = one_trail image w (t ∷ []) items others x.0 y.0 x.1 y.1 in (same.0, x.2 ∙ ap (walked p) same.1 ∙ sym y.2)
 takes_so_one image (Err f) w items others a b x y = (x.0 ∙ sym y.0, x.1 ∙ sym y.1)
 
-pub takes_one : (image : Image) (p : Pending) (w : State) (e : Elem) (items others : List Item) (a b : Step) → Takes image p w e items a → Takes image p w e others b → (items ≡ others) × (a ≡ b)
+pub takes_one : (image : Image) (p : Pending) (w : State) (e : Elem) (items others : List Item) (a b : Step) → Takes image p w e items a
+    → Takes image p w e others b → (items ≡ others) × (a ≡ b)
 takes_one image p w e items others a b x y = takes_so_one image (taken p e) w items others a b x y
 
-pub runs_one : (image : Image) (p : Pending) (w : State) (es : List (ℕ × Elem)) (items others : List Item) (a b : Outcome) → Runs image p w es items a → Runs image p w es others b
+pub runs_one : (image : Image) (p : Pending) (w : State) (es : List (ℕ × Elem)) (items others : List Item) (a b : Outcome) → Runs image p w es items a
+    → Runs image p w es others b
     → (items ≡ others) × (a ≡ b)
 runs_one image p w [] items others a b x y = (x.0 ∙ sym y.0, x.1 ∙ sym y.1)
 runs_one image p w (e ∷ es) items others a b (inl x) (inl y) =
-    let same = takes_one image p w e.1 items others (Err x.0) (Err y.0) x.1 y.1 in (same.0, x.2 ∙ ap (λ f. stopped (e.0, f)) (same_halts x.0 y.0 same.1) ∙ sym y.2)
+    let same = takes_one image p w e.1 items others (Err x.0) (Err y.0) x.1 y.1 in
+    (same.0, x.2 ∙ ap (λ f. stopped (e.0, f)) (same_halts x.0 y.0 same.1) ∙ sym y.2)
 runs_one image p w (e ∷ es) items others a b (inl x) (inr y) =
     absurd (goes_or_halts y.2 x.0 (sym ((takes_one image p w e.1 items y.0 (Err x.0) (Ok y.2) x.1 y.3).1)))
 runs_one image p w (e ∷ es) items others a b (inr x) (inl y) =
@@ -195,7 +230,8 @@ pub taken_parts : (r t : Taken) (next : Pending) (thing part : Option Thing) →
 taken_parts r t next thing part same whole is = sym same ∙ subst (λ (x : Option Thing). r ≡ Ok (next, x)) is whole
 
 -- what is told then, and what is committed
-pub taken_thing : (p next : Pending) (e : Elem) (t : Thing) → ToldIsAligned p.pre.addr → IsAlignedElem e → taken p e ≡ Ok (next, Some t) → ToldIsAligned next.pre.addr × IsAlignedThing t
+pub taken_thing : (p next : Pending) (e : Elem) (t : Thing) → ToldIsAligned p.pre.addr → IsAlignedElem e → taken p e ≡ Ok (next, Some t)
+    → ToldIsAligned next.pre.addr × IsAlignedThing t
 taken_thing p next e t told is same = subst IsAlignedTaken same (taken_aligned p e told is)
 
 pub taken_nothing : (p next : Pending) (e : Elem) → ToldIsAligned p.pre.addr → IsAlignedElem e → taken p e ≡ Ok (next, None) → ToldIsAligned next.pre.addr
@@ -209,40 +245,48 @@ gives_state image s after Unseen items state is g = subst IsState (sym g.1) stat
 gives_state image s after Gap items state is g = subst IsState (sym g.1) state
 gives_state image s after Stop items state is g = subst IsState (sym g.1) state
 
-walk_state : (image : Image) (s after : State) (t : Thing) (items : List Item) → IsState s → IsAlignedThing t → Walks image s (t ∷ []) items (Ok after) → IsState after
+walk_state : (image : Image) (s after : State) (t : Thing) (items : List Item) → IsState s → IsAlignedThing t → Walks image s (t ∷ []) items (Ok after)
+    → IsState after
 walk_state image s after t items state is (inl g) = subst IsState (sym (same_walking after g.2 (g.4).1)) (gives_state image s g.2 t g.0 state is g.3)
 walk_state image s after t items state is (inr f) = absurd (let e = f.3 in cc)
 
-walked_keep : (p : Pending) (n : Pending × State) (r : Result State WalkFault) → goes n ≡ walked p r → ToldIsAligned p.pre.addr → ((s : State) → r ≡ Ok s → IsState s) → IsPlace n
+walked_keep : (p : Pending) (n : Pending × State) (r : Result State WalkFault) → goes n ≡ walked p r → ToldIsAligned p.pre.addr
+    → ((s : State) → r ≡ Ok s → IsState s) → IsPlace n
 walked_keep p n (Ok s) e told state = subst IsPlace (sym (same_goes n (p, s) e)) (record { told = told; state = state s refl })
 walked_keep p n (Err f) e told state = absurd (goes_or_halts n (Walk f) e)
 
-keep_so : (image : Image) (t : Taken) (w : State) (items : List Item) (n : Pending × State) → IsState w → IsAlignedTaken t → TakesSo image t w items (Ok n) → IsPlace n
+keep_so : (image : Image) (t : Taken) (w : State) (items : List Item) (n : Pending × State) → IsState w → IsAlignedTaken t → TakesSo image t w items (Ok n)
+    → IsPlace n
 keep_so image (Ok (p, None)) w items n state is takes = subst IsPlace (sym (same_goes n (p, w) takes.1)) (record { told = is; state = state })
 keep_so image (Ok (p, Some t)) w items n state is takes =
     walked_keep p n takes.0 takes.2 is.0 (λ s e. walk_state image w s t items state is.1 (subst (Walks image w (t ∷ []) items) e takes.1))
 keep_so image (Err f) w items n state is takes = absurd (goes_or_halts n (Queue f) takes.1)
 
-pub takes_keep : (image : Image) (p : Pending) (w : State) (e : Elem) (items : List Item) (n : Pending × State) → IsPlace (p, w) → IsAlignedElem e → Takes image p w e items (Ok n) → IsPlace n
+pub takes_keep : (image : Image) (p : Pending) (w : State) (e : Elem) (items : List Item) (n : Pending × State) → IsPlace (p, w) → IsAlignedElem e
+    → Takes image p w e items (Ok n) → IsPlace n
 takes_keep image p w e items n place is takes = keep_so image (taken p e) w items n place.state (taken_aligned p e place.told is) takes
 
-pub runs_keep : (image : Image) (p : Pending) (w : State) (es : List (ℕ × Elem)) (items : List Item) (n : Pending × State) → IsPlace (p, w) → AreAlignedElems es
+pub runs_keep : (image : Image) (p : Pending) (w : State) (es : List (ℕ × Elem)) (items : List Item) (n : Pending × State) → IsPlace (p, w)
+    → AreAlignedElems es
     → Runs image p w es items (Ok n) → IsPlace n
 runs_keep image p w [] items n place are r = subst IsPlace (sym (same_ended n (p, w) r.1)) place
 runs_keep image p w (e ∷ es) items n place are (inl r) = absurd (let x = r.2 in cc)
 runs_keep image p w (e ∷ es) items n place are (inr r) =
-    runs_keep image (r.2).0 (r.2).1 es r.1 n (takes_keep image p w e.1 r.0 r.2 place (are 0 e (omega arith)) r.3) (All-drop (λ (x : ℕ × Elem). IsAlignedElem x.1) 1 (e ∷ es) are) r.4
+    runs_keep image (r.2).0 (r.2).1 es r.1 n (takes_keep image p w e.1 r.0 r.2 place (are 0 e (omega arith)) r.3)
+    (All-drop (λ (x : ℕ × Elem). IsAlignedElem x.1) 1 (e ∷ es) are) r.4
 
 -- ---- and there is one
 
-some_so : (image : Image) (t : Taken) (w : State) → HasGap image → IsState w → IsAlignedTaken t → (items : List Item) × (outcome : Step) × TakesSo image t w items outcome
+some_so : (image : Image) (t : Taken) (w : State) → HasGap image → IsState w → IsAlignedTaken t → (items : List Item) × (outcome : Step)
+    × TakesSo image t w items outcome
 some_so image (Ok (p, None)) w gap state is = ([], Ok (p, w), (refl, refl))
 some_so image (Ok (p, Some t)) w gap state is =
     let trail = some_trail image w (t ∷ []) gap state (All-cons IsAlignedThing t [] is.1 (λ k d lt. absurd (omega arith))) in
     (trail.0, walked p trail.1, (trail.1, trail.2, refl))
 some_so image (Err f) w gap state is = ([], Err (Queue f), (refl, refl))
 
-pub takes_some : (image : Image) (p : Pending) (w : State) (e : Elem) → HasGap image → IsPlace (p, w) → IsAlignedElem e → (items : List Item) × (outcome : Step) × Takes image p w e items outcome
+pub takes_some : (image : Image) (p : Pending) (w : State) (e : Elem) → HasGap image → IsPlace (p, w) → IsAlignedElem e → (items : List Item)
+    × (outcome : Step) × Takes image p w e items outcome
 takes_some image p w e gap place is = some_so image (taken p e) w gap place.state (taken_aligned p e place.told is)
 
 step_cases : (s : Step) → ((n : Pending × State) × (s ≡ Ok n)) ⊎ ((f : Fault) × (s ≡ Err f))
@@ -257,7 +301,8 @@ runs_some image p w (e ∷ es) gap place are =
     elim (step_cases first.1) [
       | inl n ↦
           let takes = subst (Takes image p w e.1 first.0) n.1 first.2 in
-          let rest = runs_some image (n.0).0 (n.0).1 es gap (takes_keep image p w e.1 first.0 n.0 place (are 0 e (omega arith)) takes) (All-drop (λ (x : ℕ × Elem). IsAlignedElem x.1) 1 (e ∷ es) are) in
+          let rest = runs_some image (n.0).0 (n.0).1 es gap (takes_keep image p w e.1 first.0 n.0 place (are 0 e (omega arith)) takes)
+          (All-drop (λ (x : ℕ × Elem). IsAlignedElem x.1) 1 (e ∷ es) are) in
           (first.0 ++ rest.0, rest.1, inr (first.0, rest.0, n.0, takes, rest.2, refl))
       | inr f ↦ (first.0, Err (e.0, f.0), inl (f.0, subst (Takes image p w e.1 first.0) f.1 first.2, refl))
     ]

@@ -1,9 +1,8 @@
--- What each answer of a call means, and the text that comes with it. `image` and `image'` are what the image's source had
--- left before and after the call, where it tells it, and `input` and `input'` what the input had.
+-- What each answer of a call means, and the text that comes with it.
 use Rattle.std.specs.Prelude.{◌≡◌, ◌⊎◌, ℕ, ◌+◌, ◌^◌, ◌≤◌, Bool, true, false, List, [], ◌∷◌, ◌++◌, length, codes, Option, Some, None, Result, IfOk}
-use Rattle.std.specs.Io.KnownBytes.{Appends}
-use Rattle.trace_io.specs.Bytes.{TakesAll, TakesCount, AppendsFront}
-use Rattle.trace_io.specs.Causes.{Rose}
+use Rattle.trace_io.specs.State.{IoState}
+use Rattle.trace_io.specs.Bytes.{TakesAll, TakesCount, AppendsAll, AppendsFront}
+use Rattle.trace_io.specs.Causes.{KeepsFaults, Rose}
 use Rattle.program_image.specs.declared.image.Image.{Image}
 use Rattle.program_image.specs.Answers.{TakesImage, TakesNoImage}
 use Rattle.program_image.specs.declared.fault.ImageWhy.{ImageWhy}
@@ -46,13 +45,26 @@ image_line line why = codes "image line " ++ decimal line ++ codes ": " ++ why_t
 abbrev pub raw_id : ℕ
 raw_id = 1
 
--- the sizes of contexts that a reader takes where none are told: a VMID of one byte and a context ID of four
+-- the sizes of contexts where no words give others: a VMID of one byte and a context ID of four
 abbrev pub raw_sizes : Sizes
 raw_sizes = record { depth = 0; vmid_bytes = 1; cid_bytes = 4 }
 
 -- the most bytes of input
 abbrev pub most_input : ℕ
 most_input = 2 ^ 30
+
+-- ---- a call
+
+-- the words that a call was given, and what image and input showed before and after it
+pub record Call : Type 0 where
+  pub words : List (List ℕ)
+  pub image : IoState
+  pub image' : IoState
+  pub input : IoState
+  pub input' : IoState
+
+abbrev pub call : List (List ℕ) → IoState → IoState → IoState → IoState → Call
+call words image image' input input' = record { words = words; image = image; image' = image'; input = input; input' = input' }
 
 abbrev pub IsPathCall : List (List ℕ) → Type 0
 IsPathCall words = (image : List ℕ) × (meaning words ≡ Some (Path image))
@@ -63,96 +75,107 @@ IsPacketsCall words = meaning words ≡ Some Packets
 abbrev pub IsCall : List (List ℕ) → Type 0
 IsCall words = IsPathCall words ⊎ IsPacketsCall words
 
--- ReadFault: a source failed that the command reads; the numbers are the counts of faults of image and input, before and
--- after
-abbrev pub HasReadFault : List (List ℕ) → ℕ → ℕ → ℕ → ℕ → Type 0
-HasReadFault words image image' input input' =
-    (IsPathCall words × (Rose image image' ⊎ Rose input input')) ⊎ (IsPacketsCall words × Rose input input')
+-- the image was read to its end, and it is good
+abbrev pub ReadsImage : IoState → IoState → Type 0
+ReadsImage image image' = (parts : Image) × TakesImage image image' parts
+
+-- what a command reads before the input: path its image, and packets nothing
+abbrev pub ReadsFirst : Call → Type 0
+ReadsFirst c = (IsPathCall c.words × ReadsImage c.image c.image') ⊎ IsPacketsCall c.words
+
+-- no read of image or input failed
+abbrev pub NoReadFailed : Call → Type 0
+NoReadFailed c = KeepsFaults c.image c.image' × KeepsFaults c.input c.input'
+
+-- ---- its answers
 
 -- Usage: the words mean nothing
-pub record IsUsage (words : List (List ℕ)) (text : List ℕ) : Type 0 where
-  pub meaningless : meaning words ≡ None
+pub record IsUsage (c : Call) (text : List ℕ) : Type 0 where
+  pub meaningless : meaning c.words ≡ None
   pub printed : text ≡ usage_line
 
 -- ImageBad: the image's text, read to its end or past the most that is read, has this fault first
-pub record IsImageBad (words : List (List ℕ)) (image image' : Option (List ℕ)) (line : ℕ) (why : ImageWhy) (text : List ℕ) : Type 0 where
-  pub call : IsPathCall words
-  pub refused : TakesNoImage image image' line why
+pub record IsImageBad (c : Call) (line : ℕ) (why : ImageWhy) (text : List ℕ) : Type 0 where
+  pub command : IsPathCall c.words
+  pub refused : TakesNoImage c.image c.image' line why
   pub printed : text ≡ image_line line why
 
 -- image and input were read to their ends, and the text is the path of the input as one stream without frames
-pub record IsPathOfInput (words : List (List ℕ)) (image image' input input' : Option (List ℕ)) (faulty : Bool) (text : List ℕ) : Type 0 where
-  pub call : IsPathCall words
+pub record IsPathOfInput (c : Call) (faulty : Bool) (text : List ℕ) : Type 0 where
+  pub command : IsPathCall c.words
   pub parts : Image
   pub bytes : List ℕ
-  pub image_read : TakesImage image image' parts
-  pub input_read : TakesAll input input' bytes
+  pub image_read : TakesImage c.image c.image' parts
+  pub input_read : TakesAll c.input c.input' bytes
   pub few : length bytes ≤ most_input
   pub shown : IsPathText parts raw_sizes raw_id bytes text faulty
 
 -- the input was read to its end, and the text is the packets of the input as one stream without frames
-pub record IsPacketsOfInput (words : List (List ℕ)) (input input' : Option (List ℕ)) (faulty : Bool) (text : List ℕ) : Type 0 where
-  pub call : IsPacketsCall words
+pub record IsPacketsOfInput (c : Call) (faulty : Bool) (text : List ℕ) : Type 0 where
+  pub command : IsPacketsCall c.words
   pub bytes : List ℕ
-  pub input_read : TakesAll input input' bytes
+  pub input_read : TakesAll c.input c.input' bytes
   pub few : length bytes ≤ most_input
   pub shown : IsPacketList raw_sizes raw_id bytes text faulty
 
 -- Done, and Faulted where the stream ends with a fault: the text is what the command prints of the input
-abbrev pub IsOutput : List (List ℕ) → Option (List ℕ) → Option (List ℕ) → Option (List ℕ) → Option (List ℕ) → Bool → List ℕ → Type 0
-IsOutput words image image' input input' faulty text =
-    IsPathOfInput words image image' input input' faulty text ⊎ IsPacketsOfInput words input input' faulty text
-
--- the image was read to its end, and it is good
-abbrev pub ReadsImage : Option (List ℕ) → Option (List ℕ) → Type 0
-ReadsImage image image' = (parts : Image) × TakesImage image image' parts
-
--- what a command reads before the input: path its image, and packets nothing
-abbrev pub ReadsFirst : List (List ℕ) → Option (List ℕ) → Option (List ℕ) → Type 0
-ReadsFirst words image image' = (IsPathCall words × ReadsImage image image') ⊎ IsPacketsCall words
+abbrev pub IsOutput : Call → Bool → List ℕ → Type 0
+IsOutput c faulty text = IsPathOfInput c faulty text ⊎ IsPacketsOfInput c faulty text
 
 -- InputTooLong: one byte more than the most was read
-pub record IsTooLong (words : List (List ℕ)) (image image' input input' : Option (List ℕ)) : Type 0 where
-  pub first : ReadsFirst words image image'
-  pub many : TakesCount input input' (most_input + 1)
+pub record IsTooLong (c : Call) : Type 0 where
+  pub first : ReadsFirst c
+  pub many : TakesCount c.input c.input' (most_input + 1)
 
--- the text is that of this answer
-abbrev pub IsAnswer : List (List ℕ) → Option (List ℕ) → Option (List ℕ) → Option (List ℕ) → Option (List ℕ) → Status → List ℕ → Type 0
-IsAnswer words image image' input input' status.Done text = IsOutput words image image' input input' false text
-IsAnswer words image image' input input' status.Faulted text = IsOutput words image image' input input' true text
-IsAnswer words image image' input input' status.Usage text = IsUsage words text
-IsAnswer words image image' input input' (status.ImageBad line why) text = IsImageBad words image image' line why text
-IsAnswer words image image' input input' status.InputTooLong text = IsTooLong words image image' input input' × (text ≡ [])
-IsAnswer words image image' input input' status.ReadFault text = IsCall words × (text ≡ [])
-IsAnswer words image image' input input' status.NoMemory text = IsCall words × (text ≡ [])
-IsAnswer words image image' input input' status.WriteFault text = ⊥
+-- ReadFault: a read failed of a source that the command reads
+abbrev pub HasReadFault : Call → Type 0
+HasReadFault c = (IsPathCall c.words × (Rose c.image c.image' ⊎ Rose c.input c.input')) ⊎ (IsPacketsCall c.words × Rose c.input c.input')
+
+-- the answer has its cause, and this text comes with it; want of memory has no other cause than a command
+abbrev pub IsAnswer : Call → Status → List ℕ → Type 0
+IsAnswer c status.Done text = IsOutput c false text
+IsAnswer c status.Faulted text = IsOutput c true text
+IsAnswer c status.Usage text = IsUsage c text
+IsAnswer c (status.ImageBad line why) text = IsImageBad c line why text
+IsAnswer c status.InputTooLong text = IsTooLong c × (text ≡ [])
+IsAnswer c status.ReadFault text = HasReadFault c × (text ≡ [])
+IsAnswer c status.NoMemory text = IsCall c.words × (text ≡ [])
+IsAnswer c status.WriteFault text = ⊥
 
 -- a text of this kind was appended
-abbrev pub Prints : (List ℕ → Type 0) → Option (List ℕ) → Option (List ℕ) → Type 0
-Prints kind old new = (text : List ℕ) × kind text × Appends old new text
+abbrev pub Prints : (List ℕ → Type 0) → IoState → IoState → Type 0
+Prints kind old new = (text : List ℕ) × kind text × AppendsAll old new text
 
 -- a front of a text of this kind was appended
-abbrev pub PrintsFront : (List ℕ → Type 0) → Option (List ℕ) → Option (List ℕ) → Type 0
+abbrev pub PrintsFront : (List ℕ → Type 0) → IoState → IoState → Type 0
 PrintsFront kind old new = (text : List ℕ) × kind text × AppendsFront old new text
 
+-- What an answer means, by what the output showed before and after: its text was written, or, where a write or the flush
+-- failed, a front of the text of the answer that was due.
+abbrev pub Answers : Call → IoState → IoState → Status → Type 0
+Answers c old new status.WriteFault = Rose old new × ((due : Status) × PrintsFront (IsAnswer c due) old new)
+Answers c old new status = Prints (IsAnswer c status) old new
+
+-- ---- the parts of the code
+
 -- the answer to a call that is due, with its text, and what of the text was written
-pub record AnswersSo (is : Status → List ℕ → Type 0) {E : Type 0} (old new : Option (List ℕ)) (before now : ℕ) (result : Result Status E) : Type 0 where
+pub record AnswersSo (is : Status → List ℕ → Type 0) {E : Type 0} (old new : IoState) (result : Result Status E) : Type 0 where
   pub status : Status
   pub text : List ℕ
   pub answer : is status text
-  pub writes : Writes old new before now result text
+  pub writes : Writes old new result text
   pub same : IfOk result (λ s. s ≡ status)
 
 -- why the input could not be read
-abbrev pub IsUnread : Option (List ℕ) → Option (List ℕ) → Status → Type 0
+abbrev pub IsUnread : IoState → IoState → Status → Type 0
 IsUnread input input' status.InputTooLong = TakesCount input input' (most_input + 1)
-IsUnread input input' status.ReadFault = Unit {0}
+IsUnread input input' status.ReadFault = Rose input input'
 IsUnread input input' status.NoMemory = Unit {0}
 IsUnread input input' _ = ⊥
 
--- The part of an answer that hangs on the input alone: what is shown of its bytes, and whether they end with a fault, or why
+-- The part of an answer that the input alone decides: what is shown of its bytes, and whether they end with a fault, or why
 -- they could not be read.
-abbrev pub IsInputAnswer : (List ℕ → List ℕ → Bool → Type 0) → Option (List ℕ) → Option (List ℕ) → Status → List ℕ → Type 0
+abbrev pub IsInputAnswer : (List ℕ → List ℕ → Bool → Type 0) → IoState → IoState → Status → List ℕ → Type 0
 IsInputAnswer Shown input input' status.Done text = (bytes : List ℕ) × TakesAll input input' bytes × (length bytes ≤ most_input) × Shown bytes text false
 IsInputAnswer Shown input input' status.Faulted text = (bytes : List ℕ) × TakesAll input input' bytes × (length bytes ≤ most_input) × Shown bytes text true
 IsInputAnswer Shown input input' status text = IsUnread input input' status × (text ≡ [])

@@ -14,7 +14,7 @@ abbrev pub packet_lines : ℕ → List (ℕ × Packet) → List ℕ
 packet_lines id [] = []
 packet_lines id (p ∷ packets) = packet_line id p.0 p.1 ++ packet_lines id packets
 
--- how an ending is told
+-- the end that is printed
 abbrev pub end_of : Ending → End
 end_of no_sync = end.NoSync
 end_of clean = end.Clean

@@ -14,7 +14,7 @@ use Rattle.trace_cmd.specs.declared.pending.Pending.{Pending}
 abbrev pub at_first : Pending
 at_first = record { pre = trace_missing; informed = false }
 
--- what is told then, and what is committed
+-- what the next P0 element has, and what is committed
 abbrev pub Taken : Type 0
 Taken = Result (Pending × Option Thing) QueueFault
 

@@ -10,7 +10,7 @@ use Rattle.etm_types.specs.declared.element.Thing.TheVariants.{Seen, Gap, Stop}
 use Rattle.etm_types.specs.declared.queue_fault.QueueFault.{QueueFault}
 use Rattle.etm_types.specs.declared.queue_fault.QueueFault.TheVariants.{CommitOverrun, CancelOverrun, NoAtomToFlip, SpecTooDeep}
 
--- what elements committed, oldest first, what was told since the last of it, and whether a trace info came
+-- what elements committed, oldest first, what came since the last of it, and whether a trace info came
 pub record Resolved : Type 0 where
   pub things : List Thing
   pub pending : Pre
@@ -23,11 +23,11 @@ unresolved = record { things = []; pending = trace_missing; informed = false }
 abbrev pub with_pending : Resolved → Pre → Result Resolved QueueFault
 with_pending r pre = Ok (record r { pending = pre })
 
--- one thing more, and what is told behind it
+-- one thing more, and what comes after it
 abbrev pub with_thing : Resolved → Thing → Pre → Result Resolved QueueFault
 with_thing r thing pre = Ok (record r { things = r.things ++ thing ∷ []; pending = pre })
 
--- A trace info: return addresses from before it count no more. The first one may tell of P0 elements from before it that are
+-- A trace info: return addresses from before it count no more. The first one may announce P0 elements from before it that are
 -- not committed, and there are none here.
 abbrev pub with_info : Resolved → ℕ → Result Resolved QueueFault
 with_info r spec =

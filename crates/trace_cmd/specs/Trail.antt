@@ -15,11 +15,12 @@ use Rattle.path_text.specs.Writing.{Writes}
 use Rattle.path_walker.specs.State.{State, IsState}
 use Rattle.path_walker.specs.Things.{Walks}
 use Rattle.path_walker.specs.Walk.{ToldIsAligned}
+use Rattle.trace_io.specs.State.{IoState}
 use Rattle.trace_io.specs.declared.traits.Failed.{Failed}
 use Rattle.trace_cmd.specs.declared.pending.Pending.{Pending}
 use Rattle.trace_cmd.specs.Pending.{Taken, taken}
 
--- where elements lead: what is told then and the state of the walk, or the fault that ends it
+-- where elements lead: what the next P0 element has and the state of the walk, or the fault that ends it
 abbrev pub Step : Type 0
 Step = Result (Pending × State) Fault
 
@@ -44,7 +45,8 @@ abbrev pub Runs : Image → Pending → State → List (ℕ × Elem) → List It
 Runs image p w [] items outcome = (items ≡ []) × (outcome ≡ Ok (p, w))
 Runs image p w (e ∷ es) items outcome =
     ((f : Fault) × Takes image p w e.1 items (Err f) × (outcome ≡ Err (e.0, f)))
-    ⊎ ((first : List Item) × (rest : List Item) × (next : Pending × State) × Takes image p w e.1 first (Ok next) × Runs image next.0 next.1 es rest outcome × (items ≡ first ++ rest))
+    ⊎ ((first : List Item) × (rest : List Item) × (next : Pending × State) × Takes image p w e.1 first (Ok next) × Runs image next.0 next.1 es rest outcome
+    × (items ≡ first ++ rest))
 
 abbrev pub IsAlignedElem : Elem → Type 0
 IsAlignedElem (elem.Addr address) = address % 4 ≡ 0
@@ -64,18 +66,19 @@ pub record IsPlace (n : Pending × State) : Type 0 where
 abbrev pub WalksThing : Image → Pending → State → Thing → List Item → Step → Type 0
 WalksThing image p w thing items step = (r : Result State WalkFault) × Walks image w (thing ∷ []) items r × (step ≡ walked p r)
 
--- the fault that was told is the one to which this leads; where none was told, it leads to this place
+-- the fault that was given is the one to which this leads; where none was given, it leads to this place
 abbrev pub Tells : {F : Type 0} → Option F → Pending → State → Result (Pending × State) F → Type 0
 Tells None p w outcome = outcome ≡ Ok (p, w)
 Tells (Some fault) p w outcome = outcome ≡ Err fault
 
--- The lines of the items that are shown were written, or a front of them where a write fails. Else a fault was told, or all goes
+-- The lines of the items that are shown were written, or a front of them where a write fails. Else a fault was given, or all goes
 -- on from a place and the context that was printed last.
-pub record Shows {F : Type 0} (leads : List Item → Result (Pending × State) F → Type 0) (id : ℕ) (p : Pending) (w : State) (shown shown' : Option Ctx) (old new : Option (List ℕ)) (before now : ℕ)
+pub record Shows {F : Type 0} (leads : List Item → Result (Pending × State) F → Type 0) (id : ℕ) (p : Pending) (w : State) (shown shown' : Option Ctx)
+    (old new : IoState)
     (result : Result (Option F) Failed) : Type 0 where
   pub items : List Item
   pub outcome : Result (Pending × State) F
   pub takes : leads items outcome
-  pub writes : Writes old new before now result (lines_of id shown items)
+  pub writes : Writes old new result (lines_of id shown items)
   pub tells : IfOk result (λ fault. Tells fault p w outcome)
   pub context : IfOk result (λ fault. shown' ≡ shown_after_all shown items)

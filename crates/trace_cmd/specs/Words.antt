@@ -1,6 +1,10 @@
 -- What the words of the command line mean.
-use Rattle.std.specs.Prelude.{ℕ, ◌==◌, ◌&&◌, Bool, true, false, not, List, [], ◌∷◌, codes, Option, Some, None, if◌then◌else◌}
+use Rattle.std.specs.Prelude.{ℕ, ◌==◌, ◌&&◌, Bool, true, false, not, List, [], ◌∷◌, codes, Option, Some, None, if◌then◌else◌, String, map, string_bytes}
 use Rattle.std.specs.Str.{bytes_eq}
+
+-- the bytes of each word
+abbrev pub texts : {Z : Type 0} → List (String Z) → List (List ℕ)
+texts words = map (λ word. string_bytes word) words
 
 -- a command that is there today, with its words
 pub data Command : Type 0 where

@@ -1,11 +1,11 @@
 //! The top call: words, image and input, in this order, and what is written.
-ghost use Rattle.std.specs.Prelude.{◌≡◌, ◌⊎◌, ℕ, ◌≤◌, List, Option, true, false, map, None, Ok, IsTrue, string_bytes};
-ghost use Rattle.std.specs.Io.KnownBytes.{Keeps};
-ghost use Rattle.trace_io.specs.Bytes.{TellsAsBefore};
-ghost use Rattle.trace_io.specs.Causes.{Rose};
-ghost use Rattle.trace_cmd.specs.Words.{meaning, image_of};
+ghost use Rattle.std.specs.Prelude.{◌≡◌, ◌⊎◌, ℕ, ◌≤◌, List, None, Ok, IsTrue};
+ghost use Rattle.trace_io.specs.State.{IoState};
+ghost use Rattle.trace_io.specs.Bytes.{ShowsAsBefore};
+ghost use Rattle.trace_io.specs.Causes.{KeepsFaults};
+ghost use Rattle.trace_cmd.specs.Words.{meaning, image_of, texts};
 ghost use Rattle.path_text.specs.Writing.{Writes};
-ghost use Rattle.trace_cmd.specs.Answers.{usage_line, image_line, why_text, IsPathCall, IsPacketsCall, IsCall, HasReadFault, IsUsage, IsImageBad, IsOutput, IsTooLong, ReadsImage, ReadsFirst, IsAnswer, AnswersSo, Prints, PrintsFront};
+ghost use Rattle.trace_cmd.specs.Answers.{usage_line, image_line, why_text, call, IsPathCall, IsPacketsCall, NoReadFailed, ReadsImage, ReadsFirst, IsAnswer, AnswersSo, Answers};
 
 use crate::input::{answer_packets, answer_path};
 use crate::status::Status;
@@ -20,7 +20,7 @@ const USAGE: [u8; 47] = *b"usage: etm path|packets|trace|retired|selftest\n";
 
 /// The line of an image that is bad.
 fn write_image_bad<K: Sink>(line: u64, why: ImageWhy, out: &mut K) -> Result<(), Failed>
-    ensures { Writes (K.written out.old) (K.written out.new) (K.faults out.old) (K.faults out.new) result (image_line line why) }
+    ensures { Writes (K.state out.old) (K.state out.new) result (image_line line why) }
 {
     let mut text = Line::new();
     text.text(b"image line ");
@@ -52,16 +52,15 @@ fn answer_path_call<I: Source, J: Source, K: Sink>(
     out: &mut K,
 ) -> Result<Status, Failed>
     ensures answer { (words : List (List ℕ)) → IsPathCall words
-        → AnswersSo (IsAnswer words (I.left image.old) (I.left image.new) (J.left input.old) (J.left input.new))
-        (K.written out.old) (K.written out.new) (K.faults out.old) (K.faults out.new) result }
-    ensures read_fault { result ≡ Ok Status.ReadFault
-        → Rose (I.faults image.old) (I.faults image.new) ⊎ Rose (J.faults input.old) (J.faults input.new) }
-    ensures order { (input.new ≡ input.old) ⊎ ReadsImage (I.left image.old) (I.left image.new) }
+        → AnswersSo (IsAnswer (call words (I.state image.old) (I.state image.new) (J.state input.old) (J.state input.new))) (K.state out.old) (K.state out.new) result }
+    ensures kept { (result ≡ Ok Status.ReadFault) ⊎ (KeepsFaults (I.state image.old) (I.state image.new) × KeepsFaults (J.state input.old) (J.state input.new)) }
+    ensures order { (input.new ≡ input.old) ⊎ ReadsImage (I.state image.old) (I.state image.new) }
+    ensures image_failed { KeepsFaults (I.state image.old) (I.state image.new) ⊎ (input.new ≡ input.old) }
     ensures image_first { (line : ℕ) (why : ImageWhy) → result ≡ Ok (Status.ImageBad line why) → input.new ≡ input.old }
-    ensures image_tells { TellsAsBefore (I.left image.old) (I.left image.new) }
-    ensures image_later { I.faults image.old ≤ I.faults image.new }
-    ensures input_tells { TellsAsBefore (J.left input.old) (J.left input.new) }
-    ensures input_later { J.faults input.old ≤ J.faults input.new }
+    ensures image_shows { ShowsAsBefore (I.state image.old) (I.state image.new) }
+    ensures image_later { (I.state image.old).faults ≤ (I.state image.new).faults }
+    ensures input_shows { ShowsAsBefore (J.state input.old) (J.state input.new) }
+    ensures input_later { (J.state input.old).faults ≤ (J.state input.new).faults }
 {
     match Image::read(alloc, image) {
         Ok(image) => answer_path(alloc, &image, input, out),
@@ -81,15 +80,14 @@ fn answer_without_image<J: Source, K: Sink>(
     input: &mut J,
     out: &mut K,
 ) -> Result<Status, Failed>
-    requires { image_of (meaning (map (λ word. string_bytes word) words.now)) ≡ None }
-    ensures answer { (image image' : Option (List ℕ)) → AnswersSo (IsAnswer (map (λ word. string_bytes word) words.now) image image' (J.left input.old) (J.left input.new))
-        (K.written out.old) (K.written out.new) (K.faults out.old) (K.faults out.new) result }
-    ensures read_fault { result ≡ Ok Status.ReadFault → IsPacketsCall (map (λ word. string_bytes word) words.now) × Rose (J.faults input.old) (J.faults input.new) }
-    ensures order { (input.new ≡ input.old) ⊎ IsPacketsCall (map (λ word. string_bytes word) words.now) }
-    ensures words_first { meaning (map (λ word. string_bytes word) words.now) ≡ None → input.new ≡ input.old }
+    requires { image_of (meaning (texts words.now)) ≡ None }
+    ensures answer { (image image' : IoState) → AnswersSo (IsAnswer (call (texts words.now) image image' (J.state input.old) (J.state input.new))) (K.state out.old) (K.state out.new) result }
+    ensures kept { (result ≡ Ok Status.ReadFault) ⊎ KeepsFaults (J.state input.old) (J.state input.new) }
+    ensures order { (input.new ≡ input.old) ⊎ IsPacketsCall (texts words.now) }
+    ensures words_first { meaning (texts words.now) ≡ None → input.new ≡ input.old }
     ensures no_image { (line : ℕ) (why : ImageWhy) → result ≡ Ok (Status.ImageBad line why) → ⊥ }
-    ensures tells { TellsAsBefore (J.left input.old) (J.left input.new) }
-    ensures later { J.faults input.old ≤ J.faults input.new }
+    ensures shows { ShowsAsBefore (J.state input.old) (J.state input.new) }
+    ensures later { (J.state input.old).faults ≤ (J.state input.new).faults }
 {
     if asks_packets(words) {
         return answer_packets(alloc, input, out);
@@ -108,18 +106,17 @@ fn answer_words<I: Source, J: Source, K: Sink>(
     input: &mut J,
     out: &mut K,
 ) -> Result<Status, Failed>
-    ensures answer { AnswersSo (IsAnswer (map (λ word. string_bytes word) words.now) (I.left image.old) (I.left image.new) (J.left input.old) (J.left input.new))
-        (K.written out.old) (K.written out.new) (K.faults out.old) (K.faults out.new) result }
-    ensures read_fault { result ≡ Ok Status.ReadFault
-        → HasReadFault (map (λ word. string_bytes word) words.now) (I.faults image.old) (I.faults image.new) (J.faults input.old) (J.faults input.new) }
-    ensures order { (input.new ≡ input.old) ⊎ ReadsFirst (map (λ word. string_bytes word) words.now) (I.left image.old) (I.left image.new) }
-    ensures words_first { meaning (map (λ word. string_bytes word) words.now) ≡ None → (image.new ≡ image.old) × (input.new ≡ input.old) }
-    ensures image_untouched { IsPacketsCall (map (λ word. string_bytes word) words.now) → image.new ≡ image.old }
+    ensures answer { AnswersSo (IsAnswer (call (texts words.now) (I.state image.old) (I.state image.new) (J.state input.old) (J.state input.new))) (K.state out.old) (K.state out.new) result }
+    ensures kept { (result ≡ Ok Status.ReadFault) ⊎ (KeepsFaults (I.state image.old) (I.state image.new) × KeepsFaults (J.state input.old) (J.state input.new)) }
+    ensures order { (input.new ≡ input.old) ⊎ ReadsFirst (call (texts words.now) (I.state image.old) (I.state image.new) (J.state input.old) (J.state input.new)) }
+    ensures words_first { meaning (texts words.now) ≡ None → (image.new ≡ image.old) × (input.new ≡ input.old) }
+    ensures image_untouched { IsPacketsCall (texts words.now) → image.new ≡ image.old }
+    ensures image_failed { KeepsFaults (I.state image.old) (I.state image.new) ⊎ (input.new ≡ input.old) }
     ensures image_first { (line : ℕ) (why : ImageWhy) → result ≡ Ok (Status.ImageBad line why) → input.new ≡ input.old }
-    ensures image_tells { TellsAsBefore (I.left image.old) (I.left image.new) }
-    ensures image_later { I.faults image.old ≤ I.faults image.new }
-    ensures input_tells { TellsAsBefore (J.left input.old) (J.left input.new) }
-    ensures input_later { J.faults input.old ≤ J.faults input.new }
+    ensures image_shows { ShowsAsBefore (I.state image.old) (I.state image.new) }
+    ensures image_later { (I.state image.old).faults ≤ (I.state image.new).faults }
+    ensures input_shows { ShowsAsBefore (J.state input.old) (J.state input.new) }
+    ensures input_later { (J.state input.old).faults ≤ (J.state input.new).faults }
 {
     match image_name(words) {
         Some(_) => answer_path_call(alloc, image, input, out),
@@ -139,49 +136,30 @@ pub fn run<I: Source, J: Source, K: Sink>(
     input: &mut J,
     out: &mut K,
 ) -> Status
-    // The words mean nothing.
-    ensures usage { result ≡ Status.Usage
-        → Prints (IsUsage (map (λ word. string_bytes word) words.now)) (K.written out.old) (K.written out.new) }
-    ensures meaningless { meaning (map (λ word. string_bytes word) words.now) ≡ None → (result ≡ Status.Usage) ⊎ (result ≡ Status.WriteFault) }
-    ensures words_first { meaning (map (λ word. string_bytes word) words.now) ≡ None → (image.new ≡ image.old) × (input.new ≡ input.old) }
-
-    // Packets are told without an image.
-    ensures image_untouched { IsPacketsCall (map (λ word. string_bytes word) words.now) → image.new ≡ image.old }
-
-    // The text of the image is bad.
-    ensures image_bad { (line : ℕ) (why : ImageWhy) → result ≡ Status.ImageBad line why
-        → Prints (IsImageBad (map (λ word. string_bytes word) words.now) (I.left image.old) (I.left image.new) line why) (K.written out.old) (K.written out.new) }
-    ensures image_first { (line : ℕ) (why : ImageWhy) → result ≡ Status.ImageBad line why → input.new ≡ input.old }
-
-    // The path of the input is printed, or its packets, and the answer says whether it ends with a fault.
-    ensures done { result ≡ Status.Done
-        → Prints (IsOutput (map (λ word. string_bytes word) words.now) (I.left image.old) (I.left image.new) (J.left input.old) (J.left input.new) false) (K.written out.old) (K.written out.new) }
-    ensures faulted { result ≡ Status.Faulted
-        → Prints (IsOutput (map (λ word. string_bytes word) words.now) (I.left image.old) (I.left image.new) (J.left input.old) (J.left input.new) true) (K.written out.old) (K.written out.new) }
-
-    // The input could not be told.
-    ensures too_long { result ≡ Status.InputTooLong
-        → IsTooLong (map (λ word. string_bytes word) words.now) (I.left image.old) (I.left image.new) (J.left input.old) (J.left input.new) × Keeps (K.written out.old) (K.written out.new) }
-    ensures read_fault { result ≡ Status.ReadFault
-        → HasReadFault (map (λ word. string_bytes word) words.now) (I.faults image.old) (I.faults image.new) (J.faults input.old) (J.faults input.new)
-        × Keeps (K.written out.old) (K.written out.new) }
-    ensures no_memory { result ≡ Status.NoMemory
-        → IsCall (map (λ word. string_bytes word) words.now) × Keeps (K.written out.old) (K.written out.new) }
-
-    // The text of an answer that was due could not be written.
-    ensures write_fault { result ≡ Status.WriteFault
-        → Rose (K.faults out.old) (K.faults out.new)
-        × ((due : Status) × PrintsFront (IsAnswer (map (λ word. string_bytes word) words.now) (I.left image.old) (I.left image.new) (J.left input.old) (J.left input.new) due) (K.written out.old) (K.written out.new)) }
+    // The answer has its cause, and its text was written; of WriteFault, a front of the text that was due.
+    ensures answer { Answers (call (texts words.now) (I.state image.old) (I.state image.new) (J.state input.old) (J.state input.new)) (K.state out.old) (K.state out.new) result }
+    ensures meaningless { meaning (texts words.now) ≡ None → (result ≡ Status.Usage) ⊎ (result ≡ Status.WriteFault) }
     ensures flushed { (result ≡ Status.WriteFault) ⊎ IsTrue (K.flushed out.new) }
 
-    // What holds on every answer. The input is touched only behind a good image, or for its packets.
-    ensures order { (input.new ≡ input.old) ⊎ ReadsFirst (map (λ word. string_bytes word) words.now) (I.left image.old) (I.left image.new) }
-    ensures image_tells { TellsAsBefore (I.left image.old) (I.left image.new) }
-    ensures image_later { I.faults image.old ≤ I.faults image.new }
-    ensures input_tells { TellsAsBefore (J.left input.old) (J.left input.new) }
-    ensures input_later { J.faults input.old ≤ J.faults input.new }
-    ensures out_tells { TellsAsBefore (K.written out.old) (K.written out.new) }
-    ensures out_later { K.faults out.old ≤ K.faults out.new }
+    // The words come first, then the image, then the input, which is touched only once the image is good, or for its packets.
+    ensures words_first { meaning (texts words.now) ≡ None → (image.new ≡ image.old) × (input.new ≡ input.old) }
+    ensures image_untouched { IsPacketsCall (texts words.now) → image.new ≡ image.old }
+    ensures image_first { (line : ℕ) (why : ImageWhy) → result ≡ Status.ImageBad line why → input.new ≡ input.old }
+    ensures image_failed { KeepsFaults (I.state image.old) (I.state image.new) ⊎ (input.new ≡ input.old) }
+    ensures order { (input.new ≡ input.old) ⊎ ReadsFirst (call (texts words.now) (I.state image.old) (I.state image.new) (J.state input.old) (J.state input.new)) }
+
+    // No call that failed is passed over.
+    ensures reads { (result ≡ Status.ReadFault) ⊎ (result ≡ Status.WriteFault)
+        ⊎ NoReadFailed (call (texts words.now) (I.state image.old) (I.state image.new) (J.state input.old) (J.state input.new)) }
+    ensures writes { (result ≡ Status.WriteFault) ⊎ KeepsFaults (K.state out.old) (K.state out.new) }
+
+    // What holds on every answer, of whatever objects.
+    ensures image_shows { ShowsAsBefore (I.state image.old) (I.state image.new) }
+    ensures image_later { (I.state image.old).faults ≤ (I.state image.new).faults }
+    ensures input_shows { ShowsAsBefore (J.state input.old) (J.state input.new) }
+    ensures input_later { (J.state input.old).faults ≤ (J.state input.new).faults }
+    ensures out_shows { ShowsAsBefore (K.state out.old) (K.state out.new) }
+    ensures out_later { (K.state out.old).faults ≤ (K.state out.new).faults }
 {
     let answer = answer_words(alloc, words, image, input, out);
     match (out.flush(), answer) {

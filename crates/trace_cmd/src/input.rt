@@ -1,8 +1,8 @@
-//! The answers that hang on the input: it is read whole, and then its path or its packets are written.
-ghost use Rattle.std.specs.Prelude.{◌≡◌, ℕ, ◌≤◌, Ok, Err, length, IfOk};
+//! The answers that the input decides: it is read whole, and then its path or its packets are written.
+ghost use Rattle.std.specs.Prelude.{◌≡◌, ℕ, ◌≤◌, Ok, Err, length, IfOk, ◌⊎◌};
 ghost use Rattle.program_image.specs.Part.{IsImage};
-ghost use Rattle.trace_io.specs.Bytes.{TakesAll, TellsAsBefore};
-ghost use Rattle.trace_io.specs.Causes.{Rose};
+ghost use Rattle.trace_io.specs.Bytes.{TakesAll, ShowsAsBefore};
+ghost use Rattle.trace_io.specs.Causes.{KeepsFaults};
 ghost use Rattle.trace_cmd.specs.Answers.{raw_id, raw_sizes, most_input, IsUnread, IsInputAnswer, AnswersSo, PathShown, PacketsShown};
 
 use crate::packet_list::write_packet_list;
@@ -17,10 +17,10 @@ use trace_io::{Failed, ReadAllFault, Sink, Source, read_all};
 /// The most bytes of input.
 const MOST_INPUT: usize = 1 << 30;
 
-/// The size of a VMID in bytes, where none is told.
+/// The size of a VMID in bytes, where no words give another.
 const VMID_BYTES: u8 = 1;
 
-/// The size of a context ID in bytes, where none is told.
+/// The size of a context ID in bytes, where no words give another.
 const CID_BYTES: u8 = 4;
 
 /// The ID under which a stream is printed that is not framed.
@@ -30,7 +30,7 @@ fn raw_id() -> Id
     Id::new(1).unwrap()
 }
 
-/// The settings of a reader of packets, where none are told.
+/// The settings of a reader, where no words give others.
 fn raw_settings() -> Settings
     ensures { result ≡ raw_sizes }
 {
@@ -39,11 +39,11 @@ fn raw_settings() -> Settings
 
 /// Reads the whole input, or says why that can't be done.
 fn read_input<J: Source>(alloc: Global, input: &mut J) -> Result<Vec<u8>, Status>
-    ensures bytes { IfOk result (λ bytes. TakesAll (J.left input.old) (J.left input.new) bytes.items × (length bytes.items ≤ most_input)) }
-    ensures unread { (status : Status) → result ≡ Err status → IsUnread (J.left input.old) (J.left input.new) status }
-    ensures read_fault { result ≡ Err Status.ReadFault → Rose (J.faults input.old) (J.faults input.new) }
-    ensures tells { TellsAsBefore (J.left input.old) (J.left input.new) }
-    ensures later { J.faults input.old ≤ J.faults input.new }
+    ensures bytes { IfOk result (λ bytes. TakesAll (J.state input.old) (J.state input.new) bytes.items × (length bytes.items ≤ most_input)) }
+    ensures unread { (status : Status) → result ≡ Err status → IsUnread (J.state input.old) (J.state input.new) status }
+    ensures kept { (result ≡ Err Status.ReadFault) ⊎ KeepsFaults (J.state input.old) (J.state input.new) }
+    ensures shows { ShowsAsBefore (J.state input.old) (J.state input.new) }
+    ensures later { (J.state input.old).faults ≤ (J.state input.new).faults }
 {
     match read_all(alloc, input, MOST_INPUT) {
         Ok(bytes) => Ok(bytes),
@@ -61,11 +61,11 @@ pub fn answer_path<J: Source, K: Sink>(
     out: &mut K,
 ) -> Result<Status, Failed>
     requires { IsImage image.now }
-    ensures answer { AnswersSo (IsInputAnswer (PathShown image.now) (J.left input.old) (J.left input.new))
-        (K.written out.old) (K.written out.new) (K.faults out.old) (K.faults out.new) result }
-    ensures read_fault { result ≡ Ok Status.ReadFault → Rose (J.faults input.old) (J.faults input.new) }
-    ensures tells { TellsAsBefore (J.left input.old) (J.left input.new) }
-    ensures later { J.faults input.old ≤ J.faults input.new }
+    ensures answer { AnswersSo (IsInputAnswer (PathShown image.now) (J.state input.old) (J.state input.new))
+        (K.state out.old) (K.state out.new) result }
+    ensures kept { (result ≡ Ok Status.ReadFault) ⊎ KeepsFaults (J.state input.old) (J.state input.new) }
+    ensures shows { ShowsAsBefore (J.state input.old) (J.state input.new) }
+    ensures later { (J.state input.old).faults ≤ (J.state input.new).faults }
 {
     let Ok(walker) = Walker::new(alloc) else {
         return Ok(Status::NoMemory);
@@ -87,12 +87,12 @@ pub fn answer_packets<J: Source, K: Sink>(
     input: &mut J,
     out: &mut K,
 ) -> Result<Status, Failed>
-    ensures answer { AnswersSo (IsInputAnswer PacketsShown (J.left input.old) (J.left input.new))
-        (K.written out.old) (K.written out.new) (K.faults out.old) (K.faults out.new) result }
-    ensures read_fault { result ≡ Ok Status.ReadFault → Rose (J.faults input.old) (J.faults input.new) }
+    ensures answer { AnswersSo (IsInputAnswer PacketsShown (J.state input.old) (J.state input.new))
+        (K.state out.old) (K.state out.new) result }
+    ensures kept { (result ≡ Ok Status.ReadFault) ⊎ KeepsFaults (J.state input.old) (J.state input.new) }
     ensures no_image { (line : ℕ) (why : ImageWhy) → result ≡ Ok (Status.ImageBad line why) → ⊥ }
-    ensures tells { TellsAsBefore (J.left input.old) (J.left input.new) }
-    ensures later { J.faults input.old ≤ J.faults input.new }
+    ensures shows { ShowsAsBefore (J.state input.old) (J.state input.new) }
+    ensures later { (J.state input.old).faults ≤ (J.state input.new).faults }
 {
     let bytes = match read_input(alloc, input) {
         Ok(bytes) => bytes,

@@ -15,14 +15,14 @@ use packet_reader::{PacketReader, Step};
 use path_text::{End, write_end, write_packet_line};
 use trace_io::{Failed, Sink};
 
-/// Writes the line of the packet that a step tells, or gives the fault that it tells, with its offset.
+/// Writes the line of the packet that a byte ends, or gives the fault that it shows, with its offset.
 fn write_step<K: Sink>(
     id: Id,
     step: &Step,
     sink: &mut K,
 ) -> Result<Option<(u64, PacketFault)>, Failed>
     requires { (at : ℕ) (packet : Packet) → step.now ≡ Step.Whole at packet → HasText packet }
-    ensures lines { Writes (K.written sink.old) (K.written sink.new) (K.faults sink.old) (K.faults sink.new) result (packet_lines id (told step.now)) }
+    ensures lines { Writes (K.state sink.old) (K.state sink.new) result (packet_lines id (told step.now)) }
     ensures fault { IfOk result (λ fault. fault ≡ fault_after None step.now) }
     ensures failed { (e : Failed) → result ≡ Err e → (at : ℕ) × (packet : Packet) × (step.now ≡ Step.Whole at packet) }
 {
@@ -52,7 +52,7 @@ fn write_packets<K: Sink>(
     ensures settings { reader.new.settings ≡ reader.old.settings }
     ensures stands { result ≡ Ok None → StandsAt reader.new bytes.now }
     ensures lines { (packets : List (ℕ × Packet)) × (ending : Ending) × IsStream reader.old.settings bytes.now packets ending
-        × Writes (K.written sink.old) (K.written sink.new) (K.faults sink.old) (K.faults sink.new) result (packet_lines id packets)
+        × Writes (K.state sink.old) (K.state sink.new) result (packet_lines id packets)
         × IfOk result (λ fault. fault_of ending ≡ fault) }
 {
     for byte in bytes {
@@ -106,8 +106,8 @@ pub fn write_packet_list<K: Sink>(
     requires settings { AreSettings settings.now }
     requires few { length bytes.now ≤ 2 ^ 30 }
     ensures { (text : List ℕ) × (faulty : Bool) × IsPacketList settings.now id bytes.now text faulty
-        × Writes (K.written sink.old) (K.written sink.new) (K.faults sink.old) (K.faults sink.new) result text
-        × IfOk result (λ told. told ≡ faulty) }
+        × Writes (K.state sink.old) (K.state sink.new) result text
+        × IfOk result (λ answer. answer ≡ faulty) }
 {
     if bytes.is_empty() {
         return Ok(false);

@@ -25,7 +25,7 @@ use path_walker::Walker;
 use program_image::Image;
 use trace_io::{Failed, Sink};
 
-/// Takes what a byte brought, and writes what it shows. A fault is told with its offset.
+/// Takes what the reader answered to a byte, and writes what it shows. A fault is given with its offset.
 fn take_step<K: Sink>(
     trail: &mut Trail,
     image: &Image,
@@ -37,7 +37,7 @@ fn take_step<K: Sink>(
     requires packet { (at : ℕ) (packet : Packet) → step.now ≡ Step.Whole at packet → CanBeTaken packet }
     requires place { IsPlace (trail.old.pending, trail.old.walker) }
     ensures place { IsPlace (trail.new.pending, trail.new.walker) }
-    ensures shows { StepShows image.now id step.now trail.old trail.new (K.written sink.old) (K.written sink.new) (K.faults sink.old) (K.faults sink.new) result }
+    ensures shows { StepShows image.now id step.now trail.old trail.new (K.state sink.old) (K.state sink.new) result }
 {
     match step {
         Step::Whole { at, packet } => trail.take_packet(image, id, *at, packet, sink),
@@ -64,7 +64,7 @@ fn write_shown<K: Sink>(
     requires few { length bytes.now ≤ 2 ^ 30 }
     ensures settings { reader.new.settings ≡ reader.old.settings }
     ensures stands { result ≡ Ok None → StandsAt reader.new bytes.now }
-    ensures path { PathShows image.now reader.old.settings id bytes.now (K.written sink.old) (K.written sink.new) (K.faults sink.old) (K.faults sink.new) result }
+    ensures path { PathShows image.now reader.old.settings id bytes.now (K.state sink.old) (K.state sink.new) result }
 {
     for byte in bytes {
         let fault = take_step(trail, image, id, &reader.take(*byte), sink)?;
@@ -101,8 +101,8 @@ pub fn write_path<K: Sink>(
     requires walker { walker ≡ first_state }
     requires few { length bytes.now ≤ 2 ^ 30 }
     ensures { (text : List ℕ) × (faulty : Bool) × IsPathText image.now settings.now id bytes.now text faulty
-        × Writes (K.written sink.old) (K.written sink.new) (K.faults sink.old) (K.faults sink.new) result text
-        × IfOk result (λ told. told ≡ faulty) }
+        × Writes (K.state sink.old) (K.state sink.new) result text
+        × IfOk result (λ answer. answer ≡ faulty) }
 {
     if bytes.is_empty() {
         return Ok(false);

@@ -1,19 +1,19 @@
-//! What was told before the next P0 element (Arm IHI 0064, "Descriptions of Trace Elements"). Nothing is
+//! What stands in the trace before the next P0 element (Arm IHI 0064, "Descriptions of Trace Elements"). Nothing is
 //! speculated, so that each P0 element is committed as it comes, and nothing is held.
 ghost use Rattle.std.specs.Prelude.{◌≡◌, ◌==◌, Ok, Err, None, Some, if◌then◌else◌};
 
 use etm_types::{Elem, Entry, Pre, QueueFault, Thing};
 
-/// What elements told so far.
+/// What the elements so far leave to the next P0 element.
 #[derive(Clone, Copy, Debug, PartialEq, Eq)]
 pub struct Pending {
-    /// What was told since the last thing that was committed.
+    /// What came since the last thing that was committed.
     pub pre: Pre,
     /// Whether a trace info came.
     pub informed: bool,
 }
 
-/// What is told after an element, and the thing that it commits.
+/// What an element leaves, and the thing that it commits.
 type Taken = Result<(Pending, Option<Thing>), QueueFault>;
 
 impl Pending {
@@ -69,7 +69,7 @@ impl Pending {
         Err(fault)
     }
 
-    /// Something is told.
+    /// The next P0 element has this.
     fn tells(&self, pre: Pre) -> Taken
         ensures { result ≡ tells self.now pre }
     {
@@ -77,7 +77,7 @@ impl Pending {
         Ok((Pending { pre, informed }, None))
     }
 
-    /// A thing is committed, and this is told behind it.
+    /// A thing is committed, and the next P0 element has this.
     fn commits(&self, thing: Thing, pre: Pre) -> Taken
         ensures { result ≡ commits self.now thing pre }
     {
@@ -85,7 +85,7 @@ impl Pending {
         Ok((Pending { pre, informed }, Some(thing)))
     }
 
-    /// A trace info. The first one may tell of elements from before it that are not committed.
+    /// A trace info. The first one may announce P0 elements from before it that are not committed.
     fn informs(&self, spec: u32) -> Taken
         ensures { result ≡ informs self.now spec }
     {

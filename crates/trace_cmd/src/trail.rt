@@ -44,7 +44,7 @@ impl Trail {
     }
 
     /// Takes a packet that begins at an offset, and writes what its elements show. Where it may not come
-    /// there, or one of its elements has a fault, that is told with the offset.
+    /// there, or one of its elements has a fault, that is given with the offset.
     pub fn take_packet<K: Sink>(
         &mut self,
         image: &Image,
@@ -61,7 +61,7 @@ impl Trail {
             → (result ≡ Ok (Some (at, Fault.AddressAwaited))) × (sink.new ≡ sink.old) }
         ensures shows { is_misplaced self.old.elements packet.now ≡ false
             → Shows (Runs image.now self.old.pending self.old.walker (placed at (elements_of self.old.elements packet.now))) id
-            self.new.pending self.new.walker self.old.shown self.new.shown (K.written sink.old) (K.written sink.new) (K.faults sink.old) (K.faults sink.new) result }
+            self.new.pending self.new.walker self.old.shown self.new.shown (K.state sink.old) (K.state sink.new) result }
         ensures told { is_misplaced self.old.elements packet.now ≡ false → self.new.elements ≡ told_after self.old.elements packet.now }
     {
         match self.elements.take(packet) {
@@ -85,7 +85,7 @@ impl Trail {
         ensures elements { self.new.elements ≡ self.old.elements }
         ensures place { IsPlace (self.new.pending, self.new.walker) }
         ensures shows { Shows (Runs image.now self.old.pending self.old.walker (placed at elems.now)) id
-            self.new.pending self.new.walker self.old.shown self.new.shown (K.written sink.old) (K.written sink.new) (K.faults sink.old) (K.faults sink.new) result }
+            self.new.pending self.new.walker self.old.shown self.new.shown (K.state sink.old) (K.state sink.new) result }
     {
         for i in 0..elems.len() {
             let Some(elem) = elems.get(i) else {
@@ -99,7 +99,7 @@ impl Trail {
         Ok(None)
     }
 
-    /// Takes an element, and writes what it shows; or tells the fault that it has.
+    /// Takes an element, and writes what it shows; or gives its fault.
     fn take<K: Sink>(
         &mut self,
         image: &Image,
@@ -112,7 +112,7 @@ impl Trail {
         ensures elements { self.new.elements ≡ self.old.elements }
         ensures place { IsPlace (self.new.pending, self.new.walker) }
         ensures shows { Shows (Takes image.now self.old.pending self.old.walker elem.now) id
-            self.new.pending self.new.walker self.old.shown self.new.shown (K.written sink.old) (K.written sink.new) (K.faults sink.old) (K.faults sink.new) result }
+            self.new.pending self.new.walker self.old.shown self.new.shown (K.state sink.old) (K.state sink.new) result }
     {
         match self.pending.taken(elem) {
             Ok((pending, Some(thing))) => {
@@ -127,7 +127,7 @@ impl Trail {
         }
     }
 
-    /// Walks a thing that was committed, and writes what the walk shows; or tells the fault of the walk.
+    /// Walks a thing that was committed, and writes what the walk shows; or gives the fault of the walk.
     fn take_thing<K: Sink>(
         &mut self,
         image: &Image,
@@ -141,7 +141,7 @@ impl Trail {
         ensures pending { self.new.pending ≡ self.old.pending }
         ensures state { IsState self.new.walker }
         ensures shows { Shows (WalksThing image.now self.old.pending self.old.walker thing.now) id
-            self.new.pending self.new.walker self.old.shown self.new.shown (K.written sink.old) (K.written sink.new) (K.faults sink.old) (K.faults sink.new) result }
+            self.new.pending self.new.walker self.old.shown self.new.shown (K.state sink.old) (K.state sink.new) result }
     {
         match thing {
             Thing::Seen(entry) => self.take_entry(image, id, entry, sink),
@@ -157,7 +157,7 @@ impl Trail {
         }
     }
 
-    /// Walks an entry, and writes what the walk shows; or tells the fault of the walk.
+    /// Walks an entry, and writes what the walk shows; or gives the fault of the walk.
     fn take_entry<K: Sink>(
         &mut self,
         image: &Image,
@@ -170,7 +170,7 @@ impl Trail {
         ensures pending { self.new.pending ≡ self.old.pending }
         ensures state { IsState self.new.walker }
         ensures shows { Shows (WalksThing image.now self.old.pending self.old.walker (Thing.Seen entry.now)) id
-            self.new.pending self.new.walker self.old.shown self.new.shown (K.written sink.old) (K.written sink.new) (K.faults sink.old) (K.faults sink.new) result }
+            self.new.pending self.new.walker self.old.shown self.new.shown (K.state sink.old) (K.state sink.new) result }
     {
         match self.walker.walk(image, entry) {
             Ok(walked) => match write_walked(id, &walked, &mut self.shown, sink) {

@@ -1,7 +1,7 @@
 //! The words of the command line.
-ghost use Rattle.std.specs.Prelude.{◌≡◌, map, string_bytes};
+ghost use Rattle.std.specs.Prelude.{◌≡◌};
 ghost use Rattle.std.specs.Option.{option_map};
-ghost use Rattle.trace_cmd.specs.Words.{is_image_word, meaning, image_of, asks_packets};
+ghost use Rattle.trace_cmd.specs.Words.{is_image_word, meaning, image_of, asks_packets, texts};
 
 /// Whether a word may name an image: `-` alone, or a word that does not begin with `-`.
 fn is_image_word(word: &str) -> bool
@@ -16,7 +16,7 @@ fn is_image_word(word: &str) -> bool
 /// The name of the image, where the words have a meaning and their command reads one. It takes no
 /// memory.
 pub fn image_name(words: &[String]) -> Option<&str>
-    ensures { option_map (λ name. name.now) result ≡ image_of (meaning (map (λ word. string_bytes word) words.now)) }
+    ensures { option_map (λ name. name.now) result ≡ image_of (meaning (texts words.now)) }
 {
     let [command, raw, depth, zero, image] = words else {
         return None;
@@ -31,7 +31,7 @@ pub fn image_name(words: &[String]) -> Option<&str>
 
 /// Whether the words ask for the packets of a stream.
 pub fn asks_packets(words: &[String]) -> bool
-    ensures { result ≡ asks_packets (meaning (map (λ word. string_bytes word) words.now)) }
+    ensures { result ≡ asks_packets (meaning (texts words.now)) }
 {
     let [command, raw] = words else {
         return false;

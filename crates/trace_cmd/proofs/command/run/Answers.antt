@@ -1,7 +1,19 @@
-use Rattle.std.specs.Prelude.{map, string_bytes}
-use Rattle.trace_cmd.proofs.AnswerLemmas.{flush_fails}
+use Rattle.std.proofs.Common.{Ok, Err, subst}
+use Rattle.trace_io.specs.declared.traits.Failed.{Failed}
+use Rattle.trace_cmd.specs.Answers.{IsAnswer, AnswersSo, call}
+use Rattle.trace_cmd.specs.Words.{texts}
+use Rattle.trace_cmd.proofs.AnswerLemmas.{all_flushed, flush_fails, write_fails}
 use Rattle.trace_cmd.proofs.command.run.Goals as goal
 
-pub returns-in_default-2-clause-write_fault : goal.returns-in_default-2-clause-write_fault
-returns-in_default-2-clause-write_fault g c =
-    λ e. flush_fails (map (λ word. string_bytes word) c.args.words.now) _ _ _ _ _ _ _ _ _ _ c.answer_words-answer.result c.answer_words-answer.ensures.answer c.in_default.ensures.bytes c.in_default.ensures.cause.failed
+pub returns-in-Ok-Ok-clause-answer : goal.returns-in-Ok-Ok-clause-answer
+returns-in-Ok-Ok-clause-answer g c =
+    all_flushed _ _ _ _ _ (rw c.in-Ok-Ok.is-1 at c.answer_words-answer.ensures.answer) c.in-Ok-Ok.ensures.bytes
+
+pub returns-in_default-clause-answer : goal.returns-in_default-clause-answer
+returns-in_default-clause-answer g c =
+    write_fails _ _ _ _ c.in_default.field-0-1
+    (rw c.in_default.is-1 at c.answer_words-answer.ensures.answer) c.in_default.ensures.bytes c.in_default.ensures.cause.later
+
+pub returns-in_default-2-clause-answer : goal.returns-in_default-2-clause-answer
+returns-in_default-2-clause-answer g c =
+    flush_fails _ _ _ _ c.answer_words-answer.result c.answer_words-answer.ensures.answer c.in_default.ensures.bytes c.in_default.ensures.cause.failed

@@ -7,26 +7,29 @@ use Rattle.trace_cmd.proofs.AnswerLemmas.{input_done, input_faulted, input_fails
 use Rattle.trace_cmd.proofs.input.answer_path.Goals as goal
 
 pub returns-in-Err-clause-answer : goal.returns-in-Err-clause-answer
-returns-in-Err-clause-answer g c = unread (PathShown c.args.image.now) _ _ _ _ c.in-Err.status (c.in-Err.ensures.unread c.in-Err.status refl)
+returns-in-Err-clause-answer g c = unread (PathShown c.args.image.now) _ _ _ c.in-Err.status (c.in-Err.ensures.unread c.in-Err.status refl)
 
 pub returns-in_err-write_path-clause-answer : goal.returns-in_err-write_path-clause-answer
 returns-in_err-write_path-clause-answer g c =
     let p = err_from_is_err_and c.from_residual.result c.from_residual.ensures.1 in
     let w = c.in_err-write_path.ensures in let image = c.args.image.now in
     let shown = subst (λ bytes. IsPathText image raw_sizes raw_id bytes w.0 w.1) c.deref.ensures.value
-    (subst (λ (s : Sizes). IsPathText image s raw_id c.deref.result.now w.0 w.1) c.raw_settings.ensures (subst (λ id. IsPathText image c.raw_settings.result id c.deref.result.now w.0 w.1) c.raw_id.ensures w.2)) in
-    rw p.1 (input_fails (PathShown image) _ _ _ _ _ _ c.in_err-write_path.field-0.0 p.0 c.in-Ok-read_input.bytes.items w.0 w.1 c.in-Ok-read_input.ensures.bytes.0 c.in-Ok-read_input.ensures.bytes.1 shown w.3)
+    (subst (λ (s : Sizes). IsPathText image s raw_id c.deref.result.now w.0 w.1) c.raw_settings.ensures
+    (subst (λ id. IsPathText image c.raw_settings.result id c.deref.result.now w.0 w.1) c.raw_id.ensures w.2)) in
+    rw p.1 (input_fails (PathShown image) _ _ _ _ c.in_err-write_path.field-0.0 p.0 c.in-Ok-read_input.bytes.items w.0 w.1 c.in-Ok-read_input.ensures.bytes.0 c.in-Ok-read_input.ensures.bytes.1 shown w.3)
 
 pub returns-then-branch-clause-answer : goal.returns-then-branch-clause-answer
 returns-then-branch-clause-answer g c =
     let w = c.in_ok-write_path.ensures in let image = c.args.image.now in
     let shown = subst (λ bytes. IsPathText image raw_sizes raw_id bytes w.0 w.1) c.deref.ensures.value
-    (subst (λ (s : Sizes). IsPathText image s raw_id c.deref.result.now w.0 w.1) c.raw_settings.ensures (subst (λ id. IsPathText image c.raw_settings.result id c.deref.result.now w.0 w.1) c.raw_id.ensures w.2)) in
-    input_faulted (PathShown image) _ _ _ _ _ _ c.in_ok-write_path.field-0 w.1 c.in-Ok-read_input.bytes.items w.0 c.in-Ok-read_input.ensures.bytes.0 c.in-Ok-read_input.ensures.bytes.1 shown w.3 w.4 c.if-branch.true
+    (subst (λ (s : Sizes). IsPathText image s raw_id c.deref.result.now w.0 w.1) c.raw_settings.ensures
+    (subst (λ id. IsPathText image c.raw_settings.result id c.deref.result.now w.0 w.1) c.raw_id.ensures w.2)) in
+    input_faulted (PathShown image) _ _ _ _ c.in_ok-write_path.field-0 w.1 c.in-Ok-read_input.bytes.items w.0 c.in-Ok-read_input.ensures.bytes.0 c.in-Ok-read_input.ensures.bytes.1 shown w.3 w.4 c.if-branch.true
 
 pub returns-clause-answer : goal.returns-clause-answer
 returns-clause-answer g c =
     let w = c.in_ok-write_path.ensures in let image = c.args.image.now in
     let shown = subst (λ bytes. IsPathText image raw_sizes raw_id bytes w.0 w.1) c.deref.ensures.value
-    (subst (λ (s : Sizes). IsPathText image s raw_id c.deref.result.now w.0 w.1) c.raw_settings.ensures (subst (λ id. IsPathText image c.raw_settings.result id c.deref.result.now w.0 w.1) c.raw_id.ensures w.2)) in
-    input_done (PathShown image) _ _ _ _ _ _ c.in_ok-write_path.field-0 w.1 c.in-Ok-read_input.bytes.items w.0 c.in-Ok-read_input.ensures.bytes.0 c.in-Ok-read_input.ensures.bytes.1 shown w.3 w.4 c.if-branch.false
+    (subst (λ (s : Sizes). IsPathText image s raw_id c.deref.result.now w.0 w.1) c.raw_settings.ensures
+    (subst (λ id. IsPathText image c.raw_settings.result id c.deref.result.now w.0 w.1) c.raw_id.ensures w.2)) in
+    input_done (PathShown image) _ _ _ _ c.in_ok-write_path.field-0 w.1 c.in-Ok-read_input.bytes.items w.0 c.in-Ok-read_input.ensures.bytes.0 c.in-Ok-read_input.ensures.bytes.1 shown w.3 w.4 c.if-branch.false

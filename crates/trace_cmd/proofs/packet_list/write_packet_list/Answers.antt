@@ -10,8 +10,13 @@ use Rattle.trace_cmd.proofs.PacketLists.{list_of_nothing, list_of_some, faulty_w
 use Rattle.trace_cmd.proofs.packet_list.write_packet_list.Goals as goal
 
 pub returns-then-is_empty : goal.returns-then-is_empty
-returns-then-is_empty g c =
-    ([], false, list_of_nothing c.args.settings.now c.args.id c.args.bytes.now (sym c.is_empty.ensures ∙ c.if-is_empty.true), writes_all _ _ _ _ false [] (wrote_nothing _ _), refl)
+returns-then-is_empty g c = (
+  [],
+  false,
+  list_of_nothing c.args.settings.now c.args.id c.args.bytes.now (sym c.is_empty.ensures ∙ c.if-is_empty.true),
+  writes_all _ _ false [] (wrote_nothing _),
+  refl,
+)
 
 pub returns-in_err-fault : goal.returns-in_err-fault
 returns-in_err-fault g c =
@@ -23,7 +28,7 @@ returns-in_err-fault g c =
       packet_lines id packets ++ end_line id (end_of ending),
       is_faulty ending,
       list_of_some s id bytes packets ending (sym c.is_empty.ensures ∙ c.if-is_empty.false) stream,
-      fails_first _ _ _ _ c.in_err-fault.field-0.0 p.0 (packet_lines id packets) (end_line id (end_of ending)) _ refl lines.3,
+      fails_first _ _ c.in_err-fault.field-0.0 p.0 (packet_lines id packets) (end_line id (end_of ending)) _ refl lines.3,
       tt,
     )
 
@@ -39,8 +44,9 @@ returns-in_err-write_end g c =
       packet_lines id packets ++ end_line id (end_of ending),
       is_faulty ending,
       list_of_some s id bytes packets ending (sym c.is_empty.ensures ∙ c.if-is_empty.false) stream,
-      last_fails _ _ _ _ _ _ c.in_err-write_end.field-0.0 p.0 (packet_lines id packets) (end_line id c.end_at.result) _ (ap (λ (e : End). packet_lines id packets ++ end_line id e) last)
-          (wrote_by _ _ _ _ c.in_ok-fault.fault (packet_lines id packets) lines.3) c.in_err-write_end.ensures,
+      last_fails _ _ _ c.in_err-write_end.field-0.0 p.0 (packet_lines id packets) (end_line id c.end_at.result) _
+          (ap (λ (e : End). packet_lines id packets ++ end_line id e) last)
+          (wrote_by _ _ c.in_ok-fault.fault (packet_lines id packets) lines.3) c.in_err-write_end.ensures,
       tt,
     )
 
@@ -54,7 +60,8 @@ returns g c =
       packet_lines id packets ++ end_line id (end_of ending),
       is_faulty ending,
       list_of_some s id bytes packets ending (sym c.is_empty.ensures ∙ c.if-is_empty.false) stream,
-      all_written _ _ _ _ _ _ c.in_ok-write_end.field-0 c.is_some.result (packet_lines id packets) (end_line id c.end_at.result) _
-          (ap (λ (e : End). packet_lines id packets ++ end_line id e) last) (wrote_by _ _ _ _ c.in_ok-fault.fault (packet_lines id packets) lines.3) c.in_ok-write_end.ensures,
+      all_written _ _ _ c.in_ok-write_end.field-0 c.is_some.result (packet_lines id packets) (end_line id c.end_at.result) _
+          (ap (λ (e : End). packet_lines id packets ++ end_line id e) last)
+          (wrote_by _ _ c.in_ok-fault.fault (packet_lines id packets) lines.3) c.in_ok-write_end.ensures,
       c.is_some.ensures ∙ faulty_where ending c.in_ok-fault.fault lines.4,
     )

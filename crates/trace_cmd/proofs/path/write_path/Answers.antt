@@ -19,7 +19,7 @@ returns-then-is_empty g c = (
   [],
   false,
   text_of_nothing c.args.image.now c.args.settings.now c.args.id c.args.bytes.now (sym c.is_empty.ensures ∙ c.if-is_empty.true),
-  writes_all _ _ _ _ false [] (wrote_nothing _ _),
+  writes_all _ _ false [] (wrote_nothing _),
   refl,
 )
 
@@ -33,7 +33,7 @@ returns-in_err-fault g c =
       lines ++ end_line id shown.last,
       is_fault shown.last,
       text_of_some image s id bytes shown.items shown.last (sym c.is_empty.ensures ∙ c.if-is_empty.false) path,
-      fails_first _ _ _ _ c.in_err-fault.field-0.0 p.0 lines (end_line id shown.last) _ refl shown.writes,
+      fails_first _ _ c.in_err-fault.field-0.0 p.0 lines (end_line id shown.last) _ refl shown.writes,
       tt,
     )
 
@@ -49,8 +49,8 @@ returns-in_err-write_end g c =
       lines ++ end_line id shown.last,
       is_fault shown.last,
       text_of_some image s id bytes shown.items shown.last (sym c.is_empty.ensures ∙ c.if-is_empty.false) path,
-      last_fails _ _ _ _ _ _ c.in_err-write_end.field-0.0 p.0 lines (end_line id c.end_at.result) _ (ap (λ (e : End). lines ++ end_line id e) last)
-          (wrote_by _ _ _ _ c.in_ok-fault.fault lines shown.writes) c.in_err-write_end.ensures,
+      last_fails _ _ _ c.in_err-write_end.field-0.0 p.0 lines (end_line id c.end_at.result) _ (ap (λ (e : End). lines ++ end_line id e) last)
+          (wrote_by _ _ c.in_ok-fault.fault lines shown.writes) c.in_err-write_end.ensures,
       tt,
     )
 
@@ -64,7 +64,7 @@ returns g c =
       lines ++ end_line id shown.last,
       is_fault shown.last,
       text_of_some image s id bytes shown.items shown.last (sym c.is_empty.ensures ∙ c.if-is_empty.false) path,
-      all_written _ _ _ _ _ _ c.in_ok-write_end.field-0 c.is_some.result lines (end_line id c.end_at.result) _ (ap (λ (e : End). lines ++ end_line id e) last)
-          (wrote_by _ _ _ _ c.in_ok-fault.fault lines shown.writes) c.in_ok-write_end.ensures,
+      all_written _ _ _ c.in_ok-write_end.field-0 c.is_some.result lines (end_line id c.end_at.result) _ (ap (λ (e : End). lines ++ end_line id e) last)
+          (wrote_by _ _ c.in_ok-fault.fault lines shown.writes) c.in_ok-write_end.ensures,
       c.is_some.ensures ∙ faulty_where c.new-reader.result.settings bytes shown.last c.in_ok-fault.fault shown.ends,
     )

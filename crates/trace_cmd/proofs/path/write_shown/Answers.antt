@@ -18,7 +18,8 @@ use Rattle.trace_cmd.proofs.path.write_shown.Goals as goal
 pub take_step-requires-clause-packet : goal.take_step-requires-clause-packet
 take_step-requires-clause-packet g c at packet is =
     let bytes = c.args.bytes.now in let front = take c.loop-byte.byte-index bytes in
-    let within : All (λ b. b < 256) front = All-take (λ (b : ℕ). b < 256) c.loop-byte.byte-index bytes (small_bytes bytes (λ i. omega (arith, c.type_inv.bytes i))) in
+    let within : All (λ b. b < 256) front = All-take (λ (b : ℕ). b < 256) c.loop-byte.byte-index bytes
+    (small_bytes bytes (λ i. omega (arith, c.type_inv.bytes i))) in
     in_range c.loop-byte.reader.settings packet (c.take.ensures.values front c.loop-byte.invariant.stands within at packet is)
 
 pub loop-byte-init : goal.loop-byte-init
@@ -27,12 +28,12 @@ loop-byte-init g c = record {
   taken = sym c.requires.fresh.0;
   stands = c.requires.fresh;
   place = subst (λ (t : Trail). IsPlace (t.pending, t.walker)) (sym c.requires.trail) first_place;
-  came = came_first c.args.reader.now.settings c.args.image.now c.args.id _ _ c.args.trail.now c.requires.trail;
+  came = came_first c.args.reader.now.settings c.args.image.now c.args.id _ c.args.trail.now c.requires.trail;
 }
 
 pub returns-in_err-fault-clause-path : goal.returns-in_err-fault-clause-path
 returns-in_err-fault-clause-path g c =
-    let written = g.K.Sink.written in let faults = g.K.Sink.faults in
+    let state = g.K.Sink.state in
     let s = c.args.reader.now.settings in let image = c.args.image.now in let id = c.args.id in
     let bytes = c.args.bytes.now in let n = c.loop-byte.byte-index in let front = take n bytes in let byte = get_or bytes n 0 in
     let more : take (n + 1) bytes ≡ front ++ byte ∷ [] = take_more bytes n 0 c.loop-byte-test.true in
@@ -42,14 +43,15 @@ returns-in_err-fault-clause-path g c =
     let gain : Gains s front byte c.take.result =
     subst (λ (t : Sizes). Gains t front byte c.take.result) c.loop-byte.invariant.settings (c.take.ensures.gains front c.loop-byte.invariant.stands) in
     let within : All (λ b. b < 256) rest = All-drop (λ (b : ℕ). b < 256) (n + 1) bytes (small_bytes bytes (λ i. omega (arith, c.type_inv.bytes i))) in
-    let shown = came_to_failure s c.requires.settings image id (written c.args.sink.now) (written c.loop-byte.sink) (written c.take_step.new.sink) (faults c.args.sink.now) (faults c.loop-byte.sink)
-    (faults c.take_step.new.sink) front byte c.loop-byte.trail c.take_step.new.trail c.take.result c.in_err-fault.field-0.0 p.0 rest (gap_in image c.requires.image) c.loop-byte.invariant.came gain
+    let shown = came_to_failure s c.requires.settings image id (state c.args.sink.now) (state c.loop-byte.sink)
+    (state c.take_step.new.sink) front byte c.loop-byte.trail c.take_step.new.trail c.take.result c.in_err-fault.field-0.0 p.0 rest
+    (gap_in image c.requires.image) c.loop-byte.invariant.came gain
     c.in_err-fault.ensures.shows within in
-    rw p.1 (subst (λ t. PathShows image s id t (written c.args.sink.now) (written c.take_step.new.sink) (faults c.args.sink.now) (faults c.take_step.new.sink) (Err p.0)) all shown)
+    rw p.1 (subst (λ t. PathShows image s id t (state c.args.sink.now) (state c.take_step.new.sink) (Err p.0)) all shown)
 
 pub returns-then-is_some-clause-path : goal.returns-then-is_some-clause-path
 returns-then-is_some-clause-path g c =
-    let written = g.K.Sink.written in let faults = g.K.Sink.faults in
+    let state = g.K.Sink.state in
     let s = c.args.reader.now.settings in let image = c.args.image.now in let id = c.args.id in
     let bytes = c.args.bytes.now in let n = c.loop-byte.byte-index in let front = take n bytes in let byte = get_or bytes n 0 in
     let more : take (n + 1) bytes ≡ front ++ byte ∷ [] = take_more bytes n 0 c.loop-byte-test.true in
@@ -58,14 +60,15 @@ returns-then-is_some-clause-path g c =
     let gain : Gains s front byte c.take.result =
     subst (λ (t : Sizes). Gains t front byte c.take.result) c.loop-byte.invariant.settings (c.take.ensures.gains front c.loop-byte.invariant.stands) in
     let within : All (λ b. b < 256) rest = All-drop (λ (b : ℕ). b < 256) (n + 1) bytes (small_bytes bytes (λ i. omega (arith, c.type_inv.bytes i))) in
-    let shown = came_to_fault s c.requires.settings image id (written c.args.sink.now) (written c.loop-byte.sink) (written c.take_step.new.sink) (faults c.args.sink.now) (faults c.loop-byte.sink)
-    (faults c.take_step.new.sink) front byte c.loop-byte.trail c.take_step.new.trail c.take.result c.in_ok-fault.fault rest (sym c.is_some.ensures ∙ c.if-is_some.true) c.loop-byte.invariant.came gain
+    let shown = came_to_fault s c.requires.settings image id (state c.args.sink.now) (state c.loop-byte.sink)
+    (state c.take_step.new.sink) front byte c.loop-byte.trail c.take_step.new.trail c.take.result c.in_ok-fault.fault rest
+    (sym c.is_some.ensures ∙ c.if-is_some.true) c.loop-byte.invariant.came gain
     c.in_ok-fault.ensures.shows within in
-    subst (λ t. PathShows image s id t (written c.args.sink.now) (written c.take_step.new.sink) (faults c.args.sink.now) (faults c.take_step.new.sink) (Ok c.in_ok-fault.fault)) all shown
+    subst (λ t. PathShows image s id t (state c.args.sink.now) (state c.take_step.new.sink) (Ok c.in_ok-fault.fault)) all shown
 
 pub loop-byte-preserved : goal.loop-byte-preserved
 loop-byte-preserved g c =
-    let written = g.K.Sink.written in let faults = g.K.Sink.faults in
+    let state = g.K.Sink.state in
     let s = c.args.reader.now.settings in let image = c.args.image.now in let id = c.args.id in
     let bytes = c.args.bytes.now in let n = c.loop-byte.byte-index in let front = take n bytes in let byte = get_or bytes n 0 in
     let more : take (n + 1) bytes ≡ front ++ byte ∷ [] = take_more bytes n 0 c.loop-byte-test.true in
@@ -77,17 +80,18 @@ loop-byte-preserved g c =
       taken = c.take.ensures.taken ∙ ap (λ k. k + 1) c.loop-byte.invariant.taken;
       stands = subst (λ t. StandsAt c.take.new.self t) (sym more) stands;
       place = c.in_ok-fault.ensures.place;
-      came = subst (λ t. Came s image id (written c.args.sink.now) (written c.take_step.new.sink) (faults c.args.sink.now) (faults c.take_step.new.sink) t c.take_step.new.trail) (sym more)
-          (came_on s c.requires.settings image id (written c.args.sink.now) (written c.loop-byte.sink) (written c.take_step.new.sink) (faults c.args.sink.now) (faults c.loop-byte.sink)
-          (faults c.take_step.new.sink) front byte c.loop-byte.trail c.take_step.new.trail c.take.result c.in_ok-fault.fault (sym c.is_some.ensures ∙ c.if-is_some.false) c.loop-byte.invariant.came gain
+      came = subst (λ t. Came s image id (state c.args.sink.now) (state c.take_step.new.sink) t c.take_step.new.trail) (sym more)
+          (came_on s c.requires.settings image id (state c.args.sink.now) (state c.loop-byte.sink)
+          (state c.take_step.new.sink) front byte c.loop-byte.trail c.take_step.new.trail c.take.result c.in_ok-fault.fault
+          (sym c.is_some.ensures ∙ c.if-is_some.false) c.loop-byte.invariant.came gain
           c.in_ok-fault.ensures.shows);
     }
 
 pub returns-clause-path : goal.returns-clause-path
 returns-clause-path g c =
-    let written = g.K.Sink.written in let faults = g.K.Sink.faults in
+    let state = g.K.Sink.state in
     let s = c.args.reader.now.settings in let image = c.args.image.now in let id = c.args.id in
     let bytes = c.args.bytes.now in let n = c.loop-byte.byte-index in
     let all : take n bytes ≡ bytes = take_all n bytes (omega (arith, c.loop-byte-test.false)) in
-    subst (λ t. PathShows image s id t (written c.args.sink.now) (written c.loop-byte.sink) (faults c.args.sink.now) (faults c.loop-byte.sink) (Ok None)) all
-    (came_all s image id (written c.args.sink.now) (written c.loop-byte.sink) (faults c.args.sink.now) (faults c.loop-byte.sink) (take n bytes) c.loop-byte.trail c.loop-byte.invariant.came)
+    subst (λ t. PathShows image s id t (state c.args.sink.now) (state c.loop-byte.sink) (Ok None)) all
+    (came_all s image id (state c.args.sink.now) (state c.loop-byte.sink) (take n bytes) c.loop-byte.trail c.loop-byte.invariant.came)

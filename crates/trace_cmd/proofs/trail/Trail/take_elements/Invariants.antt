@@ -6,11 +6,12 @@ use Rattle.trace_cmd.proofs.trail.Trail.take_elements.Given as goal
 
 abbrev pub invariant-loop-i : goal.invariant-loop-i
 invariant-loop-i g l =
-    let written = g.K.Sink.written in let faults = g.K.Sink.faults in
+    let state = g.K.Sink.state in
     record {
       whole : l.i-end ≡ length l.elems;
       elements : l.self.elements ≡ l.fn.self.elements;
       place : IsPlace (l.self.pending, l.self.walker);
-      shown : ShownSo l.image l.id l.fn.self.pending l.fn.self.walker (placed l.at (take l.i l.elems)) (l.self.pending, l.self.walker) l.fn.self.shown l.self.shown
-          (written l.fn.sink) (written l.sink) (faults l.fn.sink) (faults l.sink);
+      shown : ShownSo l.image l.id l.fn.self.pending l.fn.self.walker (placed l.at (take l.i l.elems))
+          (l.self.pending, l.self.walker) l.fn.self.shown l.self.shown
+          (state l.fn.sink) (state l.sink);
     }

@@ -10,17 +10,22 @@ pub returns-in-Ok-write_walked-clause-shows : goal.returns-in-Ok-write_walked-cl
 returns-in-Ok-write_walked-clause-shows g c =
     let image = c.args.image.now in let p = c.args.self.now.pending in let w = c.args.self.now.walker in let thing = Seen c.args.entry.now in
     let items = items_of c.in-Ok.walked in
-    shows_all (WalksThing image p w thing) c.args.id p c.walk.new.self c.args.self.now.shown c.write_walked.new.shown _ _ _ _ c.in-Ok-write_walked.field-0 items
-    (walks_on image p w c.walk.new.self thing items (c.in-Ok.walked, c.in-Ok.ensures.shows, refl)) c.in-Ok-write_walked.ensures.lines c.in-Ok-write_walked.ensures.shown
+    shows_all (WalksThing image p w thing) c.args.id p c.walk.new.self c.args.self.now.shown c.write_walked.new.shown _ _ c.in-Ok-write_walked.field-0 items
+    (walks_on image p w c.walk.new.self thing items (
+      c.in-Ok.walked,
+      c.in-Ok.ensures.shows,
+      refl,
+    )) c.in-Ok-write_walked.ensures.lines c.in-Ok-write_walked.ensures.shown
 
 pub returns-in-Err-write_walked-clause-shows : goal.returns-in-Err-write_walked-clause-shows
 returns-in-Err-write_walked-clause-shows g c =
     let image = c.args.image.now in let p = c.args.self.now.pending in let w = c.args.self.now.walker in let thing = Seen c.args.entry.now in
     let items = items_of c.in-Ok.walked in
-    shows_front (WalksThing image p w thing) c.args.id p c.walk.new.self c.args.self.now.shown c.write_walked.new.shown _ _ _ _ c.in-Err-write_walked.failed c.in-Err-write_walked.failed items _
+    shows_front (WalksThing image p w thing) c.args.id p c.walk.new.self c.args.self.now.shown c.write_walked.new.shown _ _ c.in-Err-write_walked.failed c.in-Err-write_walked.failed items _
     (walks_on image p w c.walk.new.self thing items (c.in-Ok.walked, c.in-Ok.ensures.shows, refl)) c.in-Err-write_walked.ensures.lines
 
 pub returns-in-Err-clause-shows : goal.returns-in-Err-clause-shows
 returns-in-Err-clause-shows g c =
     let image = c.args.image.now in let p = c.args.self.now.pending in let w = c.args.self.now.walker in let thing = Seen c.args.entry.now in
-    shows_fault (WalksThing image p w thing) c.args.id p c.walk.new.self c.args.self.now.shown _ _ (Walk c.in-Err.fault) (walk_stops image p w thing c.in-Err.fault (c.walk.ensures.stops c.in-Err.fault c.in-Err.is))
+    shows_fault (WalksThing image p w thing) c.args.id p c.walk.new.self c.args.self.now.shown _ (Walk c.in-Err.fault)
+    (walk_stops image p w thing c.in-Err.fault (c.walk.ensures.stops c.in-Err.fault c.in-Err.is))
