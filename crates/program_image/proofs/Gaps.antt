@@ -4,16 +4,16 @@ use Rattle.std.specs.Prelude.{All}
 use Rattle.std.proofs.lemmas.Bool.{cases_Bool, ltb-true, ltb-false}
 use Rattle.std.proofs.lemmas.List.Elements.{All-head, All-tail, All-weaker}
 use Rattle.program_image.specs.Part.{InOrder, IsImage, IsPart, Part, end_of, total, word_of}
-use Rattle.program_image.proofs.Lookup.{outside}
+use Rattle.program_image.proofs.WordSearch.{outside}
 
 abbrev From : ℕ → Part → Type 0
 From a part = a ≤ part.start
 
-abbrev Behind : ℕ → Part → Type 0
+abbrev pub Behind : ℕ → Part → Type 0
 Behind a part = a < part.start
 
 -- no word before all parts
-none_before : (parts : List Part) (a : ℕ) → All (Behind a) parts → word_of parts a ≡ None
+pub none_before : (parts : List Part) (a : ℕ) → All (Behind a) parts → word_of parts a ≡ None
 none_before [] a behind = refl
 none_before (part ∷ parts) a behind =
     let here : a < part.start = All-head (Behind a) part parts behind in
@@ -53,7 +53,11 @@ gap_from (part ∷ parts) a aligned each order from =
 abbrev pub IsGap : List Part → ℕ → Type 0
 IsGap image address = (address < 2 ^ 64) × (address % 4 ≡ 0) × (word_of image address ≡ None)
 
-pub gap_of : (image : List Part) → IsImage image → (address : ℕ) × IsGap image address
-gap_of image is =
+-- one no further from address 0 than there are bytes
+pub near_gap : (image : List Part) → IsImage image → (address : ℕ) × (address ≤ total image) × IsGap image address
+near_gap image is =
     let gap = gap_from image 0 refl is.parts is.order (λ k d h. omega arith) in
-    (gap.address, (omega (arith, gap.near, is.small), gap.aligned, gap.none))
+    (gap.address, omega (arith, gap.near), (omega (arith, gap.near, is.small), gap.aligned, gap.none))
+
+pub gap_of : (image : List Part) → IsImage image → (address : ℕ) × IsGap image address
+gap_of image is = let gap = near_gap image is in (gap.0, gap.2)

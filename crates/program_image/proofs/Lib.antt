@@ -5,9 +5,10 @@ pub mod Digits
 pub mod TooLong
 pub mod Told
 pub mod Placed
-pub mod Lookup
+pub mod WordSearch
 pub mod Spelled
 pub mod WordLaws
 pub mod Gaps
 pub mod First
-pub mod Runs
+pub mod PlainRuns
+pub mod Tables

@@ -8,22 +8,22 @@ use Rattle.std.proofs.lemmas.Option.{none-some, same_Some}
 use Rattle.hex.specs.Hex.{IsBytes}
 use Rattle.byteorder.specs.Endian.{little_number}
 use Rattle.program_image.specs.Part.{InOrder, IsImage, IsPart, Part, end_of, word_in, word_of}
-use Rattle.program_image.proofs.Lookup.{outside}
+use Rattle.program_image.proofs.WordSearch.{outside}
 use Rattle.program_image.proofs.Spelled.{is_bytes}
 
 -- ---- the part of a word
 
-record HasWord (part : Part) (a word : ℕ) : Type 0 where
-  aligned : a % 4 ≡ 0
-  from : part.start ≤ a
-  to : a < end_of part
-  is : little_number 4 (slice_range part.bytes (a - part.start) (a - part.start + 4)) ≡ word
+pub record HasWord (part : Part) (a word : ℕ) : Type 0 where
+  pub aligned : a % 4 ≡ 0
+  pub from : part.start ≤ a
+  pub to : a < end_of part
+  pub is : little_number 4 (slice_range part.bytes (a - part.start) (a - part.start + 4)) ≡ word
 
 tested : (test : Bool) (x y : ℕ) → cond test (Some x) None ≡ Some y → (test ≡ true) × (x ≡ y)
 tested true x y e = (refl, same_Some x y e)
 tested false x y e = absurd (none-some y e)
 
-has_word : (part : Part) (a word : ℕ) → word_in part a ≡ Some word → HasWord part a word
+pub has_word : (part : Part) (a word : ℕ) → word_in part a ≡ Some word → HasWord part a word
 has_word part a word e =
     let t = tested ((a % 4 == 0) && (nat_le part.start a && nat_lt a (end_of part))) (little_number 4 (slice_range part.bytes (a - part.start) (a - part.start + 4))) word e in
     let both = and_parts (a % 4 == 0) (nat_le part.start a && nat_lt a (end_of part)) t.0 in

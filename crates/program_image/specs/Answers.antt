@@ -1,6 +1,7 @@
 -- How readers answer for what a text spells, and what a source gave them.
-use Rattle.std.specs.Prelude.{◌≡◌, ◌⊎◌, ℕ, ◌<◌, List, length, Option, Result, Ok, Err, ⊤}
+use Rattle.std.specs.Prelude.{◌≡◌, ◌⊎◌, ℕ, ◌<◌, List, length, Result, Ok, Err, ⊤}
 use Rattle.std.specs.Io.KnownBytes.{Consumes, IsAtEnd}
+use Rattle.trace_io.specs.State.{IoState}
 use Rattle.trace_io.specs.Bytes.{TakesAll}
 use Rattle.program_image.specs.Part.{Part}
 use Rattle.program_image.specs.ImageText.{image_of, most_text}
@@ -24,10 +25,10 @@ AnswersText view (Err image_fault.ReadFault) told = ⊥
 AnswersText view (Err image_fault.Memory) told = ⊤
 
 -- all that was left was taken, and it spells the image
-abbrev pub TakesImage : Option (List ℕ) → Option (List ℕ) → List Part → Type 0
+abbrev pub TakesImage : IoState → IoState → List Part → Type 0
 TakesImage old new image = (text : List ℕ) × TakesAll old new text × (image_of text ≡ Ok image)
 
 -- what was taken has this fault: all that was left, or more than is read
-abbrev pub TakesNoImage : Option (List ℕ) → Option (List ℕ) → ℕ → ImageWhy → Type 0
+abbrev pub TakesNoImage : IoState → IoState → ℕ → ImageWhy → Type 0
 TakesNoImage old new line why =
-    (text : List ℕ) × Consumes old new text × (image_of text ≡ Err (line, why)) × (IsAtEnd new ⊎ (most_text < length text))
+    (text : List ℕ) × Consumes old.bytes new.bytes text × (image_of text ≡ Err (line, why)) × (IsAtEnd new.bytes ⊎ (most_text < length text))

@@ -1,7 +1,9 @@
 pub mod Part
 pub mod Line
+pub mod Faults
 pub mod ImageText
 pub mod FirstFault
 pub mod Spelling
 pub mod Answers
 pub mod Blocks
+pub mod Runs

@@ -1,16 +1,12 @@
-//! Blocks of an image: the instructions from an address on of which a trace does not tell, up to the
-//! next of which it does.
-ghost use Rattle.std.specs.Prelude.{◌≡◌, ◌≢◌, ◌%◌, ◌^◌, ◌<◌, Some};
+//! Blocks of an image: the plain words from an address on, up to the next word that is traced.
+ghost use Rattle.std.specs.Prelude.{◌≡◌, ◌≢◌, ◌%◌, ◌^◌, ◌<◌, Some, None, MatchOption};
 ghost use Rattle.a64_branches.specs.declared.class.Class.TheVariants.{Plain};
-ghost use Rattle.program_image.specs.Blocks.{class_at, EndsAs, HasGap, IsBlock};
+ghost use Rattle.program_image.specs.Blocks.{EndsAs, HasGap, IsBlock, class_at};
+ghost use Rattle.program_image.specs.Runs.{IsRunLength};
 
-use crate::Image;
-use a64_branches::{Class, class_of};
+use a64_branches::Class;
 
-/// The size of an instruction word, in bytes.
-const WORD_BYTES: u64 = 4;
-
-/// The plain words from an address on, and what stands behind them.
+/// The plain words from an address on, and what stands after them.
 #[derive(Clone, Copy, Debug, PartialEq, Eq)]
 pub struct Block {
     /// How many plain words there are.
@@ -18,7 +14,7 @@ pub struct Block {
     pub end: BlockEnd,
 }
 
-/// What stands behind plain words, with its address.
+/// What stands after plain words, with its address.
 #[derive(Clone, Copy, Debug, PartialEq, Eq)]
 pub enum BlockEnd {
     /// A branch, an ISB or an ERET.
@@ -29,39 +25,8 @@ pub enum BlockEnd {
     Odd(u64),
 }
 
-impl Image {
-    /// The plain words from an address on, one behind the other modulo 2^64, and what stands behind them.
-    pub fn block(&self, pc: u64) -> Block
-        requires { pc % 4 ≡ 0 }
-        ensures block { IsBlock self.now pc result }
-        ensures few { result.plain < 2 ^ 62 }
-        ensures gap { HasGap self.now }
-    {
-        let mut plain = 0;
-        let mut addr = pc;
-        let mut class = self.class_at(addr);
-        while let Some(Class::Plain) = class {
-            plain += 1;
-            addr = addr.wrapping_add(WORD_BYTES);
-            class = self.class_at(addr);
-        }
-        Block {
-            plain,
-            end: end_at(class, addr),
-        }
-    }
-
-    /// The class of the word at an address, where one begins there.
-    fn class_at(&self, addr: u64) -> Option<Class>
-        ensures value { result ≡ class_at self.now addr }
-        ensures gap { HasGap self.now }
-    {
-        self.word_at(addr).map(|word| class_of(word))
-    }
-}
-
 /// The end of a block at an address, by the class of the word there.
-fn end_at(class: Option<Class>, addr: u64) -> BlockEnd
+pub fn end_at(class: Option<Class>, addr: u64) -> BlockEnd
     requires not_plain { class ≢ Some Plain }
     ensures { EndsAs class addr result }
 {

@@ -1,4 +1,4 @@
-// The parts that lines tell, one line after another.
+//! The parts that lines tell, one line after another.
 ghost use Rattle.std.specs.Prelude.{◌≡◌, ◌≤◌, ◌+◌, ◌∷◌, ◌++◌, [], length, reverse, nat_lt, IfOk};
 ghost use Rattle.std.specs.List.{list_any, position};
 ghost use Rattle.program_image.specs.Part.{total};
@@ -7,13 +7,11 @@ ghost use Rattle.program_image.specs.ImageText.{add_bytes, add_line, address_of,
 ghost use Rattle.program_image.specs.Answers.{Answers};
 
 use crate::fault::{ImageWhy, LineFault};
-use crate::part::{Part, WORD_BYTES};
+use crate::part::{ADDRESSES, Part};
 use crate::text::{SYNTAX, is_utf8, line_bytes, next_word, number};
+use a64_branches::INSTRUCTION_BYTES;
 use std::alloc::{AllocError, Global};
 use std::marker::Model;
-
-/// How many addresses there are.
-const ADDRESSES: u128 = 1 << 64;
 
 /// The most parts that are told, those without bytes too.
 const MOST_PARTS: usize = 64;
@@ -71,7 +69,7 @@ impl Draft {
         ensures { Answers (λ draft. draft) result (begin_part self start) }
     {
         let Draft { mut parts, size } = self;
-        if start % WORD_BYTES as u64 != 0 {
+        if start % INSTRUCTION_BYTES != 0 {
             return Err(LineFault::Bad(ImageWhy::Unaligned));
         }
         if parts.len() >= MOST_PARTS {
@@ -139,7 +137,7 @@ fn growth_fault(others: &[Part], part: &Part, size: usize, count: usize) -> Opti
 {
     let from = part.end();
     let to = from + count as u128;
-    if count % WORD_BYTES != 0 {
+    if count % INSTRUCTION_BYTES as usize != 0 {
         Some(ImageWhy::Unaligned)
     } else if to > ADDRESSES {
         Some(ImageWhy::Wraps)

@@ -1,17 +1,22 @@
-// The image of a program: the parts of a core's memory that hold it.
-ghost use Rattle.std.specs.Prelude.{◌≡◌, ℕ, ◌+◌, ◌≤◌, [], length, nat_le, true, false, IfOk, IsErrOf};
-ghost use Rattle.std.specs.List.Sorted.{IsPartitionPoint, IsPartitionedBy};
+//! The image of a program: the parts of a core's memory that hold it.
+ghost use Rattle.std.specs.Prelude.{◌≡◌, ◌⊎◌, ℕ, ◌+◌, ◌%◌, ◌^◌, ◌<◌, ◌≤◌, [], length, None, MatchOption, IfOk, IsErrOf};
 ghost use Rattle.std.specs.Str.Lines.{lines};
-ghost use Rattle.trace_io.specs.Causes.{Rose};
-ghost use Rattle.trace_io.specs.Bytes.{TakesAtMost, TellsAsBefore};
+ghost use Rattle.trace_io.specs.Causes.{KeepsFaults, Rose};
+ghost use Rattle.trace_io.specs.Bytes.{ShowsAsBefore, TakesAtMost};
 ghost use Rattle.program_image.specs.Part.{IsImage, word_of};
 ghost use Rattle.program_image.specs.ImageText.{add_lines, image_of, most_text};
 ghost use Rattle.program_image.specs.Answers.{AnswersText, TakesImage, TakesNoImage};
+ghost use Rattle.program_image.specs.Blocks.{HasGap, IsBlock, class_at};
+ghost use Rattle.program_image.specs.Runs.{IsRunLength};
 
+use crate::block::{Block, end_at};
 use crate::draft::Draft;
 use crate::fault::{ImageFault, ImageWhy, LineFault};
+use crate::lookup::{class_at, part_at, word_at};
 use crate::part::Part;
+use crate::runs::{Runs, table};
 use crate::text::next_line;
+use a64_branches::INSTRUCTION_BYTES;
 use std::alloc::Global;
 use std::marker::Model;
 use trace_io::{ReadAllFault, Source, read_all};
@@ -24,17 +29,20 @@ const MOST_TEXT: usize = 64 << 20;
 pub struct Image {
     /// By their addresses.
     parts: Vec<Part>,
+    /// How many plain words follow from each word of each part on.
+    table: Vec<Runs>,
 }
 
 impl Model for Image {
     ghost use Rattle.std.specs.Prelude.{List};
     ghost use Rattle.program_image.specs.Part.{IsImage, Part};
+    ghost use Rattle.program_image.specs.Runs.{IsTable};
 
     ghost Value = { List Part };
 
     ghost view = { λ image. image.parts.items };
 
-    ghost invariant = { λ image. IsImage image.parts.items };
+    ghost invariant = { λ image. IsImage image.parts.items × IsTable image.parts.items image.parts.items image.table.items };
 }
 
 impl Image {
@@ -42,14 +50,17 @@ impl Image {
     ///
     /// `Bad` tells the first line that has a fault, and a longer text is `TooLong` at line 0.
     pub fn read<S: Source>(alloc: Global, source: &mut S) -> Result<Image, ImageFault>
-        ensures ok { IfOk result (TakesImage (S.left source.old) (S.left source.new)) }
+        ensures ok { IfOk result (TakesImage (S.state source.old) (S.state source.new)) }
         ensures parts { IfOk result IsImage }
         ensures bad { (line : ℕ) (why : ImageWhy) → result ≡ Err (ImageFault.Bad line why)
-            → TakesNoImage (S.left source.old) (S.left source.new) line why }
-        ensures read_fault { IsErrOf result ImageFault.ReadFault → Rose (S.faults source.old) (S.faults source.new) }
-        ensures tells { TellsAsBefore (S.left source.old) (S.left source.new) }
-        ensures later { S.faults source.old ≤ S.faults source.new }
-        ensures taken { TakesAtMost (S.left source.old) (S.left source.new) (most_text + 1) }
+            → TakesNoImage (S.state source.old) (S.state source.new) line why }
+        ensures read_fault { IsErrOf result ImageFault.ReadFault
+            → Rose (S.state source.old) (S.state source.new) }
+        ensures kept { IsErrOf result ImageFault.ReadFault
+            ⊎ KeepsFaults (S.state source.old) (S.state source.new) }
+        ensures shows { ShowsAsBefore (S.state source.old) (S.state source.new) }
+        ensures later { (S.state source.old).faults ≤ (S.state source.new).faults }
+        ensures taken { TakesAtMost (S.state source.old) (S.state source.new) (most_text + 1) }
     {
         let text = match read_all(alloc, source, MOST_TEXT) {
             Ok(text) => text,
@@ -70,19 +81,33 @@ impl Image {
         ensures value { result ≡ word_of self.now addr }
         ensures parts { IsImage self.now }
     {
-        let begun = begun_at(&self.parts, addr);
-        let part = self.parts.get(begun.checked_sub(1)?)?;
-        part.word_at(addr)
+        word_at(&self.parts, addr)
     }
-}
 
-/// How many parts begin at an address or before it, of parts that stand by their addresses.
-fn begun_at(parts: &[Part], addr: u64) -> usize
-    requires { IsPartitionedBy (λ part. nat_le part.start addr) parts.now }
-    ensures value { IsPartitionPoint (λ part. nat_le part.start addr ≡ true) (λ part. nat_le part.start addr ≡ false) parts.now result }
-    ensures within { result ≤ length parts.now }
-{
-    parts.partition_point(|part| part.start() <= addr)
+    /// The plain words from an address on, one after the other modulo 2^64, and what stands after them.
+    ///
+    /// It costs the same whatever their number.
+    pub fn block(&self, pc: u64) -> Block
+        requires { pc % 4 ≡ 0 }
+        ensures block { IsBlock self.now pc result }
+        ensures few { result.plain < 2 ^ 62 }
+        ensures gap { HasGap self.now }
+    {
+        let plain = u64::from(self.run_at(pc).unwrap_or(0));
+        let addr = pc.wrapping_add(plain * INSTRUCTION_BYTES);
+        let end = end_at(class_at(&self.parts, addr), addr);
+        Block { plain, end }
+    }
+
+    /// How many plain words there are from an address on: none where no word begins there.
+    fn run_at(&self, addr: u64) -> Option<u32>
+        requires { addr % 4 ≡ 0 }
+        ensures { MatchOption result (class_at self.now addr ≡ None) (IsRunLength self.now addr) }
+    {
+        let place = part_at(&self.parts, addr)?;
+        let offset = addr - self.parts[place].start();
+        self.table[place].at((offset / INSTRUCTION_BYTES) as usize)
+    }
 }
 
 /// The image that a text spells.
@@ -93,7 +118,8 @@ fn parse(alloc: Global, text: &[u8]) -> Result<Image, ImageFault>
 {
     let draft = told(alloc, text)?;
     let parts = draft.by_address(alloc).map_err(|_| ImageFault::Memory)?;
-    Ok(Image { parts })
+    let table = table(alloc, &parts).map_err(|_| ImageFault::Memory)?;
+    Ok(Image { parts, table })
 }
 
 /// The parts that the lines of a text tell.

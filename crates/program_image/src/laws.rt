@@ -1,4 +1,4 @@
-// What the definitions mean, as contracts of functions that do nothing.
+//! What the definitions mean, as contracts of functions that do nothing.
 ghost use Rattle.std.specs.Prelude.{◌≡◌, ◌↔◌, ℕ, ◌+◌, ◌%◌, ◌^◌, ◌<◌, ◌≤◌, ◌⊎◌, List, length, Contains, Ok, Err, None, Some};
 ghost use Rattle.program_image.specs.Part.{IsImage, Part, word_in, word_of};
 ghost use Rattle.program_image.specs.ImageText.{image_of, most_text};

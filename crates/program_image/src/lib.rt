@@ -8,6 +8,7 @@
 //! The layer above uses these contracts:
 //! - [`Image::read`]: the image that a text spells, or the first line that has a fault, and which.
 //! - [`Image::word_at`]: the instruction word at an address.
+//! - [`Image::block`]: the plain words from an address on, and what stands after them.
 //! - the laws: what a text spells, and what holds of every image.
 #![tactic(auto)]
 
@@ -16,7 +17,9 @@ mod draft;
 mod fault;
 mod image;
 mod laws;
+mod lookup;
 mod part;
+mod runs;
 mod text;
 
 pub use block::{Block, BlockEnd};

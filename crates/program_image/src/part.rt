@@ -1,14 +1,15 @@
-// A part of a core's memory: bytes that stand one after another.
+//! A part of a core's memory: bytes that stand one after another.
 ghost use Rattle.std.specs.Prelude.{◌≡◌, ◌+◌, ◌%◌, ◌==◌, ◌^◌, ◌<◌, ◌++◌, [], length, IfOk};
 ghost use Rattle.program_image.specs.Part.{Part, end_of, word_in};
 ghost use Rattle.program_image.specs.ImageText.{has_between};
 
+use a64_branches::INSTRUCTION_BYTES;
 use byteorder::{ByteOrder, LittleEndian};
 use std::alloc::{AllocError, Global};
 use std::marker::Model;
 
-/// The size of an instruction word, in bytes.
-pub const WORD_BYTES: usize = 4;
+/// How many addresses there are.
+pub const ADDRESSES: u128 = 1 << 64;
 
 #[derive(Drop)]
 pub struct Part {
@@ -38,6 +39,13 @@ impl Part {
         ensures { result ≡ self.now.start }
     {
         self.start
+    }
+
+    /// The bytes from the start on.
+    pub fn bytes(&self) -> &[u8]
+        ensures { result.now ≡ self.now.bytes }
+    {
+        &self.bytes
     }
 
     /// Whether there is no byte.
@@ -77,10 +85,10 @@ impl Part {
         ensures { result ≡ word_in self.now addr }
     {
         let offset = addr.checked_sub(self.start)? as usize;
-        if addr % WORD_BYTES as u64 != 0 {
+        if addr % INSTRUCTION_BYTES != 0 {
             return None;
         }
-        let bytes = self.bytes.get(offset..)?.get(..WORD_BYTES)?;
+        let bytes = self.bytes.get(offset..)?.get(..INSTRUCTION_BYTES as usize)?;
         Some(LittleEndian::read_u32(bytes))
     }
 }

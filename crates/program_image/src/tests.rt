@@ -1,3 +1,4 @@
+//! Texts of images and what is read of them.
 use crate::{Block, BlockEnd, Image, ImageFault, ImageWhy};
 use a64_branches::Class;
 use std::alloc::Global;

@@ -1,4 +1,4 @@
-// The lines of a text, the words of a line, and the digits of a word.
+//! The lines of a text, the words of a line, and the digits of a word.
 ghost use Rattle.std.specs.Prelude.{◌≡◌, ◌<◌, ◌≤◌, ◌∷◌, ◌++◌, [], length, IfSome, MatchOption, option_map, not, position, ◌==◌};
 ghost use Rattle.std.specs.List.{position_or_len};
 ghost use Rattle.std.specs.Option.{ok_or};

@@ -1,6 +1,6 @@
 -- The word at an address, by the part that begins last before it.
-use Rattle.std.proofs.Common.{◌≡◌, ℕ, zero, suc, ◌%◌, ◌<◌, ◌≤◌, List, [], ◌∷◌, length, true, false, ◌&&◌, Option, Some, None, nat_lt, nat_le, refl, arith, get_or, subst}
-use Rattle.std.specs.Prelude.{◌==◌, All}
+use Rattle.std.proofs.Common.{◌≡◌, ℕ, zero, suc, ◌-◌, ◌%◌, ◌<◌, ◌≤◌, List, [], ◌∷◌, length, true, false, ◌&&◌, Option, Some, None, nat_lt, nat_le, refl, arith, get_or, subst}
+use Rattle.std.specs.Prelude.{◌==◌, All, MatchOption, SomeIff}
 use Rattle.std.specs.List.Sorted.{IsNonDecreasingBy, IsPartitionPoint, IsPartitionedBy}
 use Rattle.std.specs.Option.{option_or}
 use Rattle.std.proofs.lemmas.Bool.{leb-true, leb-false, false_from_ne_true, and_parts, ltb-true}
@@ -77,3 +77,10 @@ last_begun parts a n k d is point next within = last_begins parts a k d is.order
 -- the first n parts begin at most at the address
 abbrev pub Begun : ℕ → ℕ → List Part → Type 0
 Begun a n parts = IsPartitionPoint (λ part. nat_le part.start a ≡ true) (λ part. nat_le part.start a ≡ false) parts n
+
+-- which part the word is of
+pub place_of : (parts : List Part) (a n : ℕ) (place : Option ℕ) → IsImage parts → Begun a n parts → n ≤ length parts
+    → SomeIff place (1 ≤ n) (n - 1)
+    → MatchOption place (word_of parts a ≡ None) (λ k. (part : Part) → word_of parts a ≡ word_in (get_or parts k part) a)
+place_of parts a n None is begun within none = none_begun parts a n begun (omega (arith, none))
+place_of parts a n (Some k) is begun within before = λ part. last_begun parts a n k part is begun (omega (arith, before.1)) (omega (arith, before.1, within))

@@ -1,6 +1,6 @@
 use Rattle.std.proofs.Common.{nat_le, rules}
 use Rattle.std.proofs.lemmas.List.Sorted.{IsPartitionPoint-from_clause}
-use Rattle.program_image.proofs.image.begun_at.Goals as goal
+use Rattle.program_image.proofs.lookup.begun_at.Goals as goal
 
 pub returns-clause-value : goal.returns-clause-value
 returns-clause-value c =

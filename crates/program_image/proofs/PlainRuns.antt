@@ -1,0 +1,69 @@
+-- Runs of plain words: by the class of a word and the run from the next word on, and how long they can be.
+use Rattle.std.proofs.Common.{◌≡◌, ◌≢◌, ℕ, zero, suc, ◌+◌, ◌*◌, ◌/◌, ◌%◌, ◌^◌, ◌<◌, ◌≤◌, List, Option, Some, None, sym, ap, ◌∙◌, inl, inr, arith, below_more, nat_lt}
+use Rattle.std.proofs.lemmas.Bool.{cases_Bool, ltb-true, ltb-false}
+use Rattle.std.specs.Option.{option_map}
+use Rattle.a64_branches.specs.Classes.{class_of}
+use Rattle.a64_branches.specs.declared.class.Class.{Class}
+use Rattle.a64_branches.specs.declared.class.Class.TheVariants.{Plain, Jump, Cond, Isb, Ind, Eret, Odd}
+use Rattle.program_image.specs.Part.{IsImage, Part, total}
+use Rattle.program_image.specs.Blocks.{class_at, behind, IsPlainRun}
+use Rattle.program_image.specs.Runs.{IsRunLength, run_from}
+use Rattle.program_image.proofs.Gaps.{near_gap}
+
+pub one_more : (image : List Part) (address n : ℕ) → IsPlainRun image address n → class_at image (behind address n) ≡ Some Plain → IsPlainRun image address (n + 1)
+one_more image address n run plain = below_more _ _ run plain
+
+-- addresses count modulo 2^64
+pub run_moved : (image : List Part) (a b n : ℕ) → a % 2 ^ 64 ≡ b % 2 ^ 64 → IsRunLength image a n → IsRunLength image b n
+run_moved image a b n same run =
+    let at : (k : ℕ) → behind a k ≡ behind b k = λ k. omega (arith, same) in
+    ((λ k below. ap (class_at image) (sym (at k)) ∙ run.0 k below), (λ e. run.1 (ap (class_at image) (at n) ∙ e)))
+
+-- no run where the word is not plain
+pub no_run : (image : List Part) (a : ℕ) (class : Option Class) → a < 2 ^ 64 → class_at image a ≡ class → class ≢ Some Plain → IsRunLength image a 0
+no_run image a class fits is not =
+    let here : behind a 0 ≡ a = omega (arith, fits) in
+    ((λ k below. absurd (omega (arith, below))), (λ e. not (sym is ∙ ap (class_at image) (sym here) ∙ e)))
+
+plain_after : (image : List Part) (a n : ℕ) → a < 2 ^ 64 → class_at image a ≡ Some Plain → IsPlainRun image (a + 4) n → (k : ℕ) → k < suc n → class_at image (behind a k) ≡ Some Plain
+plain_after image a n fits plain next zero below = let here : behind a 0 ≡ a = omega (arith, fits) in ap (class_at image) here ∙ plain
+plain_after image a n fits plain next (suc k) below =
+    let at : behind a (suc k) ≡ behind (a + 4) k = omega arith in ap (class_at image) at ∙ next k (omega (arith, below))
+
+longer : (image : List Part) (a n : ℕ) → a < 2 ^ 64 → class_at image a ≡ Some Plain → IsRunLength image (a + 4) n → IsRunLength image a (n + 1)
+longer image a n fits plain next =
+    let at : behind a (n + 1) ≡ behind (a + 4) n = omega arith in
+    ((λ k below. plain_after image a n fits plain next.0 k (omega (arith, below))), (λ e. next.1 (ap (class_at image) (sym at) ∙ e)))
+
+-- the run from a word on
+pub run_steps : (image : List Part) (a n : ℕ) (class : Class) → a < 2 ^ 64 → class_at image a ≡ Some class → IsRunLength image (a + 4) n → IsRunLength image a (run_from class n)
+run_steps image a n Plain fits is next = longer image a n fits is next
+run_steps image a n (Jump off link) fits is next = no_run image a _ fits is (λ e. cc)
+run_steps image a n (Cond off) fits is next = no_run image a _ fits is (λ e. cc)
+run_steps image a n Isb fits is next = no_run image a _ fits is (λ e. cc)
+run_steps image a n (Ind link) fits is next = no_run image a _ fits is (λ e. cc)
+run_steps image a n Eret fits is next = no_run image a _ fits is (λ e. cc)
+run_steps image a n Odd fits is next = no_run image a _ fits is (λ e. cc)
+
+-- a run from address 0 on is no longer than the parts
+pub zero_run_short : (image : List Part) (n : ℕ) → IsImage image → IsPlainRun image 0 n → n ≤ total image
+zero_run_short image n is run =
+    let gap = near_gap image is in
+    let far : ℕ = gap.0 / 4 in
+    elim (cases_Bool (nat_lt far n)) [
+      | inl t ↦
+          let there : behind 0 far ≡ gap.0 = omega (arith, gap.2.0, gap.2.1) in
+          let nothing : class_at image (behind 0 far) ≡ None = ap (class_at image) there ∙ ap (option_map class_of) gap.2.2 in
+          absurd (let x = sym (run far (ltb-true _ _ t)) ∙ nothing in cc)
+      | inr f ↦ omega (arith, ltb-false _ _ f, gap.1)
+    ]
+
+-- the word after a run from address 0 on
+zero_next : (image : List Part) (n address : ℕ) → IsImage image → IsPlainRun image 0 n → address ≡ n * 4 → behind 0 n ≡ address
+zero_next image n address is run at = omega (arith, at, zero_run_short image n is run, is.small)
+
+pub zero_run_more : (image : List Part) (n address : ℕ) → IsImage image → IsPlainRun image 0 n → address ≡ n * 4 → class_at image address ≡ Some Plain
+    → IsPlainRun image 0 (n + 1) × (n + 1 ≤ total image)
+zero_run_more image n address is run at plain =
+    let more = one_more image 0 n run (ap (class_at image) (zero_next image n address is run at) ∙ plain) in
+    (more, zero_run_short image (n + 1) is more)

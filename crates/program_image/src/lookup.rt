@@ -1,0 +1,44 @@
+//! The word at an address, among parts that stand by their addresses.
+ghost use Rattle.std.specs.Prelude.{◌≡◌, ◌≤◌, ◌<◌, length, nat_le, true, false, get_or, MatchOption, IfSome};
+ghost use Rattle.std.specs.List.Sorted.{IsPartitionPoint, IsPartitionedBy};
+ghost use Rattle.program_image.specs.Part.{IsImage, Part, word_in, word_of};
+ghost use Rattle.program_image.specs.Blocks.{class_at};
+
+use crate::part::Part;
+use a64_branches::{Class, class_of};
+
+/// How many parts begin at an address or before it, of parts that stand by their addresses.
+fn begun_at(parts: &[Part], addr: u64) -> usize
+    requires { IsPartitionedBy (λ part. nat_le part.start addr) parts.now }
+    ensures value { IsPartitionPoint (λ part. nat_le part.start addr ≡ true) (λ part. nat_le part.start addr ≡ false) parts.now result }
+    ensures within { result ≤ length parts.now }
+{
+    parts.partition_point(|part| part.start() <= addr)
+}
+
+/// Which part the word at an address can be of: the last one that begins there or before it.
+pub fn part_at(parts: &[Part], addr: u64) -> Option<usize>
+    requires { IsImage parts.now }
+    ensures word { MatchOption result (word_of parts.now addr ≡ None)
+        (λ place. (part : Part) → word_of parts.now addr ≡ word_in (get_or parts.now place part) addr) }
+    ensures begun { IfSome result (λ place. (part : Part) → (get_or parts.now place part).start ≤ addr) }
+    ensures within { IfSome result (λ place. place < length parts.now) }
+{
+    begun_at(parts, addr).checked_sub(1)
+}
+
+/// The instruction word at an address: none where no word begins there.
+pub fn word_at(parts: &[Part], addr: u64) -> Option<u32>
+    requires { IsImage parts.now }
+    ensures { result ≡ word_of parts.now addr }
+{
+    parts[part_at(parts, addr)?].word_at(addr)
+}
+
+/// The class of the word at an address, where one begins there.
+pub fn class_at(parts: &[Part], addr: u64) -> Option<Class>
+    requires { IsImage parts.now }
+    ensures { result ≡ class_at parts.now addr }
+{
+    word_at(parts, addr).map(|word| class_of(word))
+}
