@@ -35,3 +35,12 @@ line_start id = byte_text id ++ 32 ∷ []
 -- and ends with LF
 abbrev pub line_of : ℕ → List ℕ → List ℕ
 line_of id text = line_start id ++ text ++ 10 ∷ []
+
+-- the line of an instruction: its address
+abbrev pub address_line : ℕ → ℕ → List ℕ
+address_line id address = line_of id (hex address)
+
+-- what is seen of a line of an instruction
+pub record AtAddress : Type 0 where
+  pub id : ℕ
+  pub address : ℕ

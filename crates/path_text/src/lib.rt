@@ -7,6 +7,8 @@
 //! [`Line`] is public because `trace_cmd` writes lines of its own with it for now.
 #![tactic(auto)]
 
+mod address_line;
+mod digits;
 mod end;
 mod end_lines;
 mod line;

@@ -1,16 +1,14 @@
 //! One line of the output, put together before it is written.
-ghost use Rattle.std.specs.Prelude.{◌≡◌, ◌+◌, ◌∷◌, ◌++◌, ◌^◌, ◌<◌, ◌≤◌, [], drop, length};
-ghost use Rattle.path_text.specs.Lines.{digit, in_base, line_start, byte_text};
+ghost use Rattle.std.specs.Prelude.{◌≡◌, ◌+◌, ◌∷◌, ◌++◌, ◌<◌, ◌≤◌, [], length};
+ghost use Rattle.path_text.specs.Lines.{in_base, line_start, byte_text};
 
+use crate::digits::{decimal_count, digit, hex_count, put_number};
 use etm_types::Id;
 use std::marker::Model;
 use trace_io::{Failed, Sink, write_all};
 
 /// The longest line, in bytes.
 const LONGEST: usize = 96;
-
-/// The most digits that a number has, in base 10 and above.
-const MOST_DIGITS: usize = 20;
 
 /// The begun line. Contracts see it as its bytes.
 #[derive(Drop)]
@@ -27,45 +25,6 @@ impl Model for Line {
     ghost view = { λ line. take line.len line.bytes };
 
     ghost invariant = { λ line. line.len ≤ 96 };
-}
-
-/// A digit of a base up to 16.
-fn digit(value: u8) -> u8
-    requires { value < 16 }
-    ensures { result ≡ digit value }
-{
-    if value < 10 {
-        b'0' + value
-    } else {
-        b'a' - 10 + value
-    }
-}
-
-/// The two hex digits of a byte.
-fn byte_digits(byte: u8) -> [u8; 2]
-    ensures { result ≡ byte_text byte }
-{
-    [digit(byte / 16), digit(byte % 16)]
-}
-
-/// Puts the digits of a number at the end of `digits`, and says where they begin.
-#[inline(always)]
-fn put_digits(base: u64, n: u64, digits: &mut [u8; MOST_DIGITS]) -> usize
-    requires base { (10 ≤ base) × (base ≤ 16) }
-    requires fits { n < base ^ 20 }
-    ensures within { result ≤ 20 }
-    ensures len { length digits.new ≡ 20 }
-    ensures value { drop result digits.new ≡ in_base base n }
-{
-    let mut at = MOST_DIGITS - 1;
-    digits[at] = digit((n % base) as u8);
-    let mut rest = n / base;
-    while rest > 0 {
-        at -= 1;
-        digits[at] = digit((rest % base) as u8);
-        rest /= base;
-    }
-    at
 }
 
 impl Line {
@@ -109,71 +68,71 @@ impl Line {
         requires { length self.old + 2 ≤ 96 }
         ensures { self.new ≡ self.old ++ byte_text byte }
     {
-        self.text(&byte_digits(byte));
+        self.text(&[digit(byte / 16), digit(byte % 16)]);
     }
 
-    /// Adds a number without leading zeros.
+    /// Adds a number that has so many digits.
     #[inline(always)]
-    fn number(&mut self, base: u64, n: u64)
+    fn number(&mut self, base: u64, n: u64, count: usize)
         requires base { (10 ≤ base) × (base ≤ 16) }
-        requires fits { n < base ^ 20 }
-        requires room { length self.old + length (in_base base n) ≤ 96 }
+        requires count { count ≡ length (in_base base n) }
+        requires room { length self.old + count ≤ 96 }
         ensures value { self.new ≡ self.old ++ in_base base n }
         ensures len { length self.new ≡ length self.old + length (in_base base n) }
     {
-        let mut digits = [0; MOST_DIGITS];
-        let from = put_digits(base, n, &mut digits);
-        self.text(&digits[from..]);
+        let end = self.len + count;
+        put_number(base, n, &mut self.bytes, end);
+        self.len = end;
     }
 
     /// Adds a number of 64 bits in hex, at most 16 digits.
-    #[tactic(auto, using(crate::proofs::Digits::few_hex_64))]
+    #[tactic(auto, using(crate::proofs::DigitLemmas::few_hex_64))]
     pub fn hex(&mut self, n: u64)
         requires { length self.old + 16 ≤ 96 }
         ensures value { self.new ≡ self.old ++ hex n }
         ensures short { length self.new ≤ length self.old + 16 }
     {
-        self.number(16, n);
+        self.number(16, n, hex_count(n));
     }
 
     /// Adds a number of 32 bits in hex, at most 8 digits.
-    #[tactic(auto, using(crate::proofs::Digits::few_hex_32))]
+    #[tactic(auto, using(crate::proofs::DigitLemmas::few_hex_32))]
     pub fn hex_u32(&mut self, n: u32)
         requires { length self.old + 8 ≤ 96 }
         ensures value { self.new ≡ self.old ++ hex n }
         ensures short { length self.new ≤ length self.old + 8 }
     {
-        self.number(16, u64::from(n));
+        self.number(16, u64::from(n), hex_count(u64::from(n)));
     }
 
     /// Adds a number of 64 bits in decimal, at most 20 digits.
-    #[tactic(auto, using(crate::proofs::Digits::few_decimal_64))]
+    #[tactic(auto, using(crate::proofs::DigitLemmas::few_decimal_64))]
     pub fn decimal(&mut self, n: u64)
         requires { length self.old + 20 ≤ 96 }
         ensures value { self.new ≡ self.old ++ decimal n }
         ensures short { length self.new ≤ length self.old + 20 }
     {
-        self.number(10, n);
+        self.number(10, n, decimal_count(n));
     }
 
     /// Adds a number of 32 bits in decimal, at most 10 digits.
-    #[tactic(auto, using(crate::proofs::Digits::few_decimal_32))]
+    #[tactic(auto, using(crate::proofs::DigitLemmas::few_decimal_32))]
     pub fn decimal_u32(&mut self, n: u32)
         requires { length self.old + 10 ≤ 96 }
         ensures value { self.new ≡ self.old ++ decimal n }
         ensures short { length self.new ≤ length self.old + 10 }
     {
-        self.number(10, u64::from(n));
+        self.number(10, u64::from(n), decimal_count(u64::from(n)));
     }
 
     /// Adds a number of 8 bits in decimal, at most 3 digits.
-    #[tactic(auto, using(crate::proofs::Digits::few_decimal_8))]
+    #[tactic(auto, using(crate::proofs::DigitLemmas::few_decimal_8))]
     pub fn decimal_u8(&mut self, n: u8)
         requires { length self.old + 3 ≤ 96 }
         ensures value { self.new ≡ self.old ++ decimal n }
         ensures short { length self.new ≤ length self.old + 3 }
     {
-        self.number(10, u64::from(n));
+        self.number(10, u64::from(n), decimal_count(u64::from(n)));
     }
 
     /// Ends the line, and writes it by one call.

@@ -5,12 +5,11 @@ ghost use Rattle.path_text.specs.Lines.{line_of, hex};
 ghost use Rattle.path_text.specs.PathLines.{whole_context_text, exception_names, name_among, exception_text, same_context, context_line, instruction_lines, lines_of, shown_after_all, on_line, block_items};
 ghost use Rattle.path_text.specs.Writing.{Writes};
 
+use crate::address_line::AddressLine;
 use crate::line::Line;
+use a64_branches::INSTRUCTION_BYTES;
 use etm_types::{Ctx, ExcMark, Id, Walked};
 use trace_io::{Failed, Sink};
-
-/// The size of an instruction in bytes.
-const STEP: u64 = 4;
 
 /// Writes the line of one text.
 fn write_text<K: Sink>(id: Id, text: &[u8], sink: &mut K) -> Result<(), Failed>
@@ -66,23 +65,16 @@ fn write_context_once<K: Sink>(
     }
 }
 
-/// Writes the line of an instruction.
-fn write_instruction<K: Sink>(id: Id, address: u64, sink: &mut K) -> Result<(), Failed>
-    ensures { Writes (K.state sink.old) (K.state sink.new) result (line_of id (hex address)) }
-{
-    let mut line = Line::begin(id);
-    line.hex(address);
-    line.write(sink)
-}
-
-/// Writes the lines of so many instructions, one behind the other.
+/// Writes the lines of so many instructions, one after the other.
 fn write_instructions<K: Sink>(id: Id, start: u64, count: u64, sink: &mut K) -> Result<(), Failed>
     ensures { Writes (K.state sink.old) (K.state sink.new) result (instruction_lines id start count) }
 {
+    let mut line = AddressLine::new(id);
     let mut address = start;
     for _done in 0..count {
-        write_instruction(id, address, sink)?;
-        address = address.wrapping_add(STEP);
+        line.move_to(address);
+        line.write(sink)?;
+        address = address.wrapping_add(INSTRUCTION_BYTES);
     }
     Ok(())
 }

@@ -6,5 +6,8 @@ use Rattle.path_text.proofs.path_lines.write_instructions.Given as goal
 abbrev pub invariant-loop-done : goal.invariant-loop-done
 invariant-loop-done g l =
     let state = g.K.Sink.state in
-    (text : List ℕ) × Wrote (state l.fn.sink) (state l.sink) text
-    × (text ++ instruction_lines l.id l.address (l.count - l._done) ≡ instruction_lines l.id l.start l.count)
+    record {
+      same_id : l.line.id ≡ l.fn.id;
+      so_far : (text : List ℕ) × Wrote (state l.fn.sink) (state l.sink) text
+          × (text ++ instruction_lines l.fn.id l.address (l.count - l._done) ≡ instruction_lines l.fn.id l.start l.count);
+    }

@@ -1,0 +1,154 @@
+-- Digits that are put one before another, and how many there are.
+use Rattle.std.proofs.Common.{◌≡◌, ◌⊎◌, inl, inr, ℕ, zero, suc, ◌+◌, ◌-◌, ◌*◌, ◌/◌, ◌%◌, ◌^◌, ◌<◌, ◌≤◌, Bool, true, false, List, [], ◌∷◌, ◌++◌, length, take, drop, set, refl, sym, ap, subst, ◌∙◌, arith, append_assoc, append-nil}
+use Rattle.std.specs.Prelude.{◌==◌, map}
+use Rattle.std.specs.Int.Digits.{digits_of}
+use Rattle.std.specs.Int.Count.{count_leading_zeros}
+use Rattle.std.proofs.lemmas.Bool.{eqb-true}
+use Rattle.std.proofs.lemmas.List.{length-map, length-append, map-append, drop-set, take-set, take-append-drop, take-take, take_at}
+use Rattle.std.proofs.lemmas.Int.Digits.{digits_of_step, length-digits_of_step, length-digits_of-le}
+use Rattle.std.proofs.lemmas.Nat.{leading_top, pow-add}
+use Rattle.std.proofs.Math.Nat.{zero-div, zero-mod, le-div_iff_mul-le, one-le-pow, pow-zero}
+use native.Mathlib.Numerals.{unary_clauses}
+use Rattle.std.proofs.Math.Pow.{pow_mono}
+use Rattle.path_text.specs.Lines.{digit, in_base}
+
+cases : (b : Bool) → (b ≡ true) ⊎ (b ≡ false)
+cases true = inl refl
+cases false = inr refl
+
+above_zero : (base n : ℕ) → 0 < n → in_base base n ≡ map digit (digits_of base n)
+unfolding in_base
+above_zero base n some = elim (cases (n == 0)) [ inl t ↦ absurd (omega (arith, eqb-true n 0 t)) | inr f ↦ simp f ]
+
+-- the digits of a number above 0: those of all but its last one, and that
+pub digits_step : (base n : ℕ) → 2 ≤ base → 0 < n → map digit (digits_of base n) ≡ map digit (digits_of base (n / base)) ++ (digit (n % base) ∷ [])
+digits_step base n two some = ap (map digit) (digits_of_step base n two some) ∙ map-append digit (digits_of base (n / base)) (n % base ∷ [])
+
+-- so is its text, and that of 0
+pub in_base_step : (base n : ℕ) → 2 ≤ base → in_base base n ≡ map digit (digits_of base (n / base)) ++ (digit (n % base) ∷ [])
+unfolding in_base
+in_base_step base zero two = ap (λ d. digit d ∷ []) (sym (zero-mod base)) ∙ ap (λ d. map digit (digits_of base d) ++ (digit (0 % base) ∷ [])) (sym (zero-div base))
+in_base_step base (suc n) two = above_zero base (suc n) (omega arith) ∙ digits_step base (suc n) two (omega arith)
+
+-- ---- how many digits there are
+
+pub length-in_base : (base n : ℕ) → 2 ≤ base → length (in_base base n) ≡ length (digits_of base (n / base)) + 1
+length-in_base base n two =
+    omega (arith, ap length (in_base_step base n two), length-append (map digit (digits_of base (n / base))) (digit (n % base) ∷ []), length-map (digits_of base (n / base)) digit)
+
+few_digits : (base most n : ℕ) → 2 ≤ base → 1 ≤ most → n < base ^ most → length (in_base base n) ≤ most
+unfolding in_base
+few_digits base most zero two some fits = some
+few_digits base most (suc n) two some fits =
+    omega (arith, ap length (above_zero base (suc n) (omega arith)), length-map (digits_of base (suc n)) digit, length-digits_of-le base most (suc n) two fits)
+
+pub few_hex_64 : (n : ℕ) → n < 2 ^ 64 → length (in_base 16 n) ≤ 16
+few_hex_64 n fits = few_digits 16 16 n (omega arith) (omega arith) (omega arith)
+
+pub few_hex_32 : (n : ℕ) → n < 2 ^ 32 → length (in_base 16 n) ≤ 8
+few_hex_32 n fits = few_digits 16 8 n (omega arith) (omega arith) (omega arith)
+
+pub few_decimal_64 : (n : ℕ) → n < 2 ^ 64 → length (in_base 10 n) ≤ 20
+few_decimal_64 n fits = few_digits 10 20 n (omega arith) (omega arith) (omega arith)
+
+pub few_decimal_32 : (n : ℕ) → n < 2 ^ 32 → length (in_base 10 n) ≤ 10
+few_decimal_32 n fits = few_digits 10 10 n (omega arith) (omega arith) (omega arith)
+
+pub few_decimal_8 : (n : ℕ) → n < 2 ^ 8 → length (in_base 10 n) ≤ 3
+few_decimal_8 n fits = few_digits 10 3 n (omega arith) (omega arith) (omega arith)
+
+many_digits : (base k n : ℕ) → 2 ≤ base → base ^ k ≤ n → k < length (digits_of base n)
+many_digits base zero n two fits = let one : 1 ≤ n = simp pow-zero at fits in omega (arith, length-digits_of_step base n two (omega arith))
+many_digits base (suc k) n two fits =
+    let above : base ^ k ≤ n / base = (le-div_iff_mul-le {k = base} {x = base ^ k} {y = n} (omega arith)).1 (simp unary_clauses at fits) in
+    let some : 0 < n = omega (arith, one-le-pow (suc k) base (omega arith), fits) in
+    let more : length (digits_of base n) ≡ length (digits_of base (n / base)) + 1 = length-digits_of_step base n two some in
+    omega (arith, many_digits base k (n / base) two above, more)
+
+-- where a number stands between two powers, the number of its digits is that of the upper one
+count_between : (base k n : ℕ) → 2 ≤ base → base ^ k ≤ n → n < base ^ (k + 1) → 0 < n → length (in_base base n) ≡ k + 1
+count_between base k n two above below some =
+    omega (arith, ap length (above_zero base n some), length-map (digits_of base n) digit, many_digits base k n two above, length-digits_of-le base (k + 1) n two below)
+
+pub hex_count_zero : length (in_base 16 0) ≡ 1
+unfolding in_base
+hex_count_zero = refl
+
+hex_power : (k : ℕ) → 16 ^ k ≡ 2 ^ (4 * k)
+hex_power zero = refl
+hex_power (suc k) = simp unary_clauses (omega (arith, hex_power k))
+
+pub hex_count : (n : ℕ) → 0 < n → n < 2 ^ 64 → length (in_base 16 n) ≡ 16 - count_leading_zeros 64 n / 4
+hex_count n some fits =
+    let top = leading_top 64 n some fits in let j = top.0 in let k = j / 4 in
+    let above : 16 ^ k ≤ n = rw (hex_power k) (omega (arith, pow_mono {i = 4 * k} {j = j} (omega arith), top.2)) in
+    let below : n < 16 ^ (k + 1) = rw (hex_power (k + 1)) (omega (arith, pow_mono {i = suc j} {j = 4 * (k + 1)} (omega arith), top.3)) in
+    omega (arith, count_between 16 k n (omega arith) above below some, top.1)
+
+pub one_digit : (n : ℕ) → n < 10 → length (in_base 10 n) ≡ 1
+one_digit n below = omega (arith, few_digits 10 1 n (omega arith) (omega arith) (omega arith), length-in_base 10 n (omega arith))
+
+pub two_digits : (n : ℕ) → 10 ≤ n → n < 100 → length (in_base 10 n) ≡ 2
+two_digits n above below = count_between 10 1 n (omega arith) (omega arith) (omega arith) (omega arith)
+
+pub three_digits : (n : ℕ) → 100 ≤ n → n < 1000 → length (in_base 10 n) ≡ 3
+three_digits n above below = count_between 10 2 n (omega arith) (omega arith) (omega arith) (omega arith)
+
+pub four_digits : (n : ℕ) → 1000 ≤ n → n < 10000 → length (in_base 10 n) ≡ 4
+four_digits n above below = count_between 10 3 n (omega arith) (omega arith) (omega arith) (omega arith)
+
+one_more_digit : (n : ℕ) → 10 ≤ n → length (in_base 10 n) ≡ length (in_base 10 (n / 10)) + 1
+one_more_digit n above =
+    omega (arith, length-in_base 10 n (omega arith), ap length (above_zero 10 (n / 10) (omega arith)), length-map (digits_of 10 (n / 10)) digit)
+
+-- from 10000 on there are four more digits than those of a ten-thousandth
+pub four_more_digits : (n : ℕ) → 10000 ≤ n → length (in_base 10 n) ≡ length (in_base 10 (n / 10000)) + 4
+four_more_digits n above =
+    let tenth = n / 10 in let hundredth = tenth / 10 in let thousandth = hundredth / 10 in
+    let same : thousandth / 10 ≡ n / 10000 = omega arith in
+    omega (
+      arith,
+      one_more_digit n (omega arith),
+      one_more_digit tenth (omega arith),
+      one_more_digit hundredth (omega arith),
+      one_more_digit thousandth (omega arith),
+      ap (λ m. length (in_base 10 m)) same,
+    )
+
+-- ---- the digits of a number, put from the last one on
+
+-- one more digit is put before those that are there
+pub put_step : (base rest at : ℕ) (text : List ℕ) → 2 ≤ base → 0 < rest → at < length text
+    → map digit (digits_of base (rest / base)) ++ drop at (set text at (digit (rest % base))) ≡ map digit (digits_of base rest) ++ drop (at + 1) text
+put_step base rest at text two some within =
+    ap (λ t. map digit (digits_of base (rest / base)) ++ t) (drop-set text at (digit (rest % base)) within)
+    ∙ sym (append_assoc (map digit (digits_of base (rest / base))) (digit (rest % base) ∷ []) (drop (at + 1) text))
+    ∙ ap (λ t. t ++ drop (at + 1) text) (sym (digits_step base rest two some))
+
+-- so is the last one, which is 0 for 0
+pub put_last : (base n at : ℕ) (text : List ℕ) → 2 ≤ base → at < length text
+    → map digit (digits_of base (n / base)) ++ drop at (set text at (digit (n % base))) ≡ in_base base n ++ drop (at + 1) text
+put_last base n at text two within =
+    ap (λ t. map digit (digits_of base (n / base)) ++ t) (drop-set text at (digit (n % base)) within)
+    ∙ sym (append_assoc (map digit (digits_of base (n / base))) (digit (n % base) ∷ []) (drop (at + 1) text))
+    ∙ ap (λ t. t ++ drop (at + 1) text) (sym (in_base_step base n two))
+
+-- what stands before is as it was
+pub take_less : (k at : ℕ) (xs ys : List ℕ) → k ≤ at → take at xs ≡ take at ys → take k xs ≡ take k ys
+take_less k at xs ys less same = sym (take-take k at xs less) ∙ ap (take k) same ∙ take-take k at ys less
+
+pub put_all : (at start : ℕ) (text old new : List ℕ) → at ≡ start → take at text ≡ take at old → drop at text ≡ new → text ≡ take start old ++ new
+put_all at start text old new is before after =
+    sym (take-append-drop at text) ∙ ap (λ t. t ++ drop at text) (before ∙ ap (λ k. take k old) is) ∙ ap (λ t. take start old ++ t) after
+
+-- ---- the digits of a number in place of as many others
+
+pub both_above_zero : (m n : ℕ) → length (digits_of 16 m) ≡ length (digits_of 16 n) → (m ≡ n → ⊥) → (0 < m) × (0 < n)
+both_above_zero zero zero many other = absurd (other refl)
+both_above_zero zero (suc n) many other = absurd (omega (arith, many, length-digits_of_step 16 (suc n) (omega arith) (omega arith)))
+both_above_zero (suc m) zero many other = absurd (omega (arith, many, length-digits_of_step 16 (suc m) (omega arith) (omega arith)))
+both_above_zero (suc m) (suc n) many other = (omega arith, omega arith)
+
+-- what stands before the last of some bytes
+pub before_last : (at next : ℕ) (text front : List ℕ) (d : ℕ) → next ≡ at + 1 → length front ≡ at → take next text ≡ front ++ (d ∷ []) → take at text ≡ front
+before_last at next text front d is len e = sym (take-take at next text (omega (arith, is))) ∙ ap (take at) e ∙ take_at front (d ∷ []) at len

@@ -1,0 +1,102 @@
+//! The digits of numbers, put straight to their places in a text.
+//!
+//! How many digits a number has is found first, so that they need no place of their own. The last one is put first.
+ghost use Rattle.std.specs.Prelude.{◌≡◌, ◌+◌, ◌-◌, ◌++◌, ◌<◌, ◌≤◌, length, take, drop};
+ghost use Rattle.path_text.specs.Lines.{digit, in_base, hex, decimal};
+
+/// A digit of a base up to 16.
+#[inline(always)]
+pub fn digit(value: u8) -> u8
+    requires { value < 16 }
+    ensures { result ≡ digit value }
+{
+    if value < 10 {
+        b'0' + value
+    } else {
+        b'a' - 10 + value
+    }
+}
+
+/// How many hex digits a number has.
+#[inline(always)]
+#[tactic(auto, using(crate::proofs::DigitLemmas::hex_count, crate::proofs::DigitLemmas::hex_count_zero, std::proofs::lemmas::Nat::leading_le))]
+pub fn hex_count(n: u64) -> usize
+    ensures { result ≡ length (hex n) }
+{
+    if n == 0 {
+        1
+    } else {
+        16 - n.leading_zeros() as usize / 4
+    }
+}
+
+/// How many decimal digits a number of at most four has.
+#[inline(always)]
+#[tactic(auto, using(crate::proofs::DigitLemmas::one_digit, crate::proofs::DigitLemmas::two_digits, crate::proofs::DigitLemmas::three_digits, crate::proofs::DigitLemmas::four_digits))]
+fn short_count(n: u64) -> usize
+    requires { n < 10000 }
+    ensures { result ≡ length (decimal n) }
+{
+    if n < 10 {
+        1
+    } else if n < 100 {
+        2
+    } else if n < 1000 {
+        3
+    } else {
+        4
+    }
+}
+
+/// How many decimal digits a number has. It takes a step for each four of them.
+#[inline]
+pub fn decimal_count(n: u64) -> usize
+    ensures { result ≡ length (decimal n) }
+{
+    let mut count = 0;
+    let mut rest = n;
+    while rest >= 10_000 {
+        rest /= 10_000;
+        count += 4;
+    }
+    count + short_count(rest)
+}
+
+/// Puts the digits of a number where they end at `end`.
+#[inline(always)]
+pub fn put_number(base: u64, n: u64, text: &mut [u8], end: usize)
+    requires base { (10 ≤ base) × (base ≤ 16) }
+    requires room { length (in_base base n) ≤ end }
+    requires within { end ≤ length text.old }
+    ensures { text.new ≡ take (end - length (in_base base n)) text.old ++ (in_base base n ++ drop end text.old) }
+{
+    let mut at = end - 1;
+    text[at] = digit((n % base) as u8);
+    let mut rest = n / base;
+    while rest > 0 {
+        at -= 1;
+        text[at] = digit((rest % base) as u8);
+        rest /= base;
+    }
+}
+
+/// Makes the hex digits of `old`, which end at `end`, those of `new`, which are as many. Only the last of them are
+/// put, up to the first digit from where on both are the same.
+#[inline(always)]
+pub fn change_hex(old: u64, new: u64, text: &mut [u8], end: usize)
+    requires many { length (hex new) ≡ length (hex old) }
+    requires room { length (hex old) ≤ end }
+    requires within { end ≤ length text.old }
+    requires there { take end text.old ≡ take (end - length (hex old)) text.old ++ hex old }
+    ensures { text.new ≡ take (end - length (hex new)) text.old ++ (hex new ++ drop end text.old) }
+{
+    let mut at = end - 1;
+    text[at] = digit((new % 16) as u8);
+    let (mut left, mut rest) = (old / 16, new / 16);
+    while rest != left {
+        at -= 1;
+        text[at] = digit((rest % 16) as u8);
+        left /= 16;
+        rest /= 16;
+    }
+}
