@@ -20,7 +20,8 @@ n = false
 -- a byte with atoms that are in no row of it
 other_atoms : (byte : ℕ) (atoms : List Bool) → list_all (λ row. not ((row.0 == byte) && same_atoms row.1 atoms)) atom_formats ≡ true → Spells byte atoms → ⊥
 other_atoms byte atoms none spells =
-    let test : not ((byte == byte) && same_atoms atoms atoms) ≡ true = every_row (λ (b : ℕ) (xs : List Bool). not ((b == byte) && same_atoms xs atoms)) none byte atoms spells in
+    let test : not ((byte == byte) && same_atoms atoms atoms) ≡ true =
+    every_row (λ (b : ℕ) (xs : List Bool). not ((b == byte) && same_atoms xs atoms)) none byte atoms spells in
     let byte_is = eq-eqb byte byte refl in
     let atoms_are = same_atoms-refl atoms in
     both_ways ((byte == byte) && same_atoms atoms atoms) (not-true ((byte == byte) && same_atoms atoms atoms) test) (rw (byte_is, atoms_are) refl)
