@@ -1,5 +1,4 @@
--- The atom packets (Arm IHI 0064, atom packets, formats 1 to 6): each byte with the atoms that it tells,
--- oldest first.
+-- The atom packets (Arm IHI 0064, "Atom Format 1 packet" to "Atom Format 6 packet"): each byte with its atoms, oldest first.
 use Rattle.std.specs.Prelude.{ℕ, ◌+◌, Bool, true, false, List, [], ◌∷◌, ◌++◌, map, replicate, Contains}
 use Rattle.std.specs.List.{range_with_len}
 
@@ -51,13 +50,13 @@ format_5 =
     ∷ (0xd7, E ∷ N ∷ E ∷ N ∷ E ∷ [])
     ∷ []
 
--- with a count of 0 to 20: count + 3 times E, and then the last atom
+-- with a COUNT of 0 to 20: COUNT + 3 times E, and then the last atom
 abbrev pub format_6 : ℕ → Bool → List (ℕ × List Bool)
 format_6 first last = map (λ count. (first + count, replicate (count + 3) E ++ last ∷ [])) (range_with_len 0 21)
 
 unfoldable pub atom_formats : List (ℕ × List Bool)
 atom_formats = format_1 ++ format_2 ++ format_3 ++ format_4 ++ format_5 ++ format_6 0xc0 E ++ format_6 0xe0 N
 
--- the byte tells these atoms
+-- the byte is the packet of these atoms
 abbrev pub Spells : ℕ → List Bool → Type 0
 Spells byte atoms = Contains atom_formats (byte, atoms)

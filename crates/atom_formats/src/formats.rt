@@ -5,10 +5,10 @@ ghost use Rattle.atom_formats.specs.Formats.{Spells};
 
 use etm_types::AtomRun;
 
-/// The least number of atoms of format 6: three times E, and the last atom.
-const FEWEST_IN_FORMAT_6: u8 = 4;
+/// Format 6 has so many atoms more than its field COUNT: three times E, and the last atom.
+const MORE_THAN_COUNT: u8 = 4;
 
-/// The run of atoms that a byte tells, where it is an atom packet: a byte of 0xc0 or above.
+/// The atoms of a byte that is an atom packet: 0xc0 or above.
 pub fn atoms_of(byte: u8) -> Option<AtomRun>
     ensures none { (result ≡ None) ↔ (byte < 0xc0) }
     ensures run { IfSome result (λ run. Spells byte (atoms_in run)) }
@@ -31,9 +31,9 @@ pub fn atoms_of(byte: u8) -> Option<AtomRun>
         0xd5 => run(5, 0b00000), // N N N N N
         0xd6 => run(5, 0b01010), // N E N E N
         0xd7 => run(5, 0b10101), // E N E N E
-        // Format 6: the low bits and three times more E, and then E or N.
-        0xc0..=0xd4 => long_run(byte - 0xc0, true),
-        0xe0..=0xf4 => long_run(byte - 0xe0, false),
+        // Format 6: COUNT in bits 4 to 0, and in bit 5 (A) the last atom.
+        0xc0..=0xd4 => format_6(byte - 0xc0, true),
+        0xe0..=0xf4 => format_6(byte - 0xe0, false),
         _ => None,
     }
 }
@@ -47,12 +47,12 @@ fn run(count: u8, bits: u8) -> Option<AtomRun>
     Some(AtomRun { count, bits })
 }
 
-/// E so many times and three times more, for a number 0 to 20, and then the last atom.
-fn long_run(more: u8, last_is_e: bool) -> Option<AtomRun>
-    requires { more ≤ 20 }
-    ensures { result ≡ Some (record { count = more + 4; bits = (if last_is_e then 2 ^ (more + 4) else 2 ^ (more + 3)) - 1 }) }
+/// E as often as COUNT says, 0 to 20, and three times more, and then the last atom.
+fn format_6(count: u8, last_is_e: bool) -> Option<AtomRun>
+    requires { count ≤ 20 }
+    ensures { result ≡ Some (record { count = count + 4; bits = (if last_is_e then 2 ^ (count + 4) else 2 ^ (count + 3)) - 1 }) }
 {
-    let count = more + FEWEST_IN_FORMAT_6;
+    let count = count + MORE_THAN_COUNT;
     let taken = if last_is_e { count } else { count - 1 };
     Some(AtomRun {
         count,

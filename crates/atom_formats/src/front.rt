@@ -1,6 +1,6 @@
-//! The longest front of a list of atoms that one byte tells.
+//! The longest front of a list of atoms that one atom packet holds.
 ghost use Rattle.std.specs.Prelude.{◌≡◌, ◌↔◌, ◌<◌, ◌≤◌, IsTrue, IfSome, None, ℕ, length, take};
-ghost use Rattle.etm_types.specs.Atoms.{atoms_in, low_bits};
+ghost use Rattle.etm_types.specs.Atoms.{atoms_in, low_bits, most_atoms};
 ghost use Rattle.atom_formats.specs.Front.{SpellsFront};
 
 use crate::atoms_of;
@@ -14,24 +14,24 @@ const LONGEST_FIRST: [u8; 64] = [
     0xde, 0xdf, 0xf8, 0xf9, 0xfa, 0xfb, 0xfc, 0xfd, 0xfe, 0xff, 0xd8, 0xd9, 0xda, 0xdb, 0xf6, 0xf7,
 ];
 
-/// The byte that tells the longest front of the atoms, oldest first, that one byte tells, and how many
-/// atoms it tells.
+/// The atom packet of the longest front of the atoms, oldest first, that one packet holds, and how many
+/// atoms it has.
 pub fn longest_front(atoms: &[bool]) -> (u8, usize)
     requires { 0 < length atoms.now }
     ensures front { SpellsFront atoms.now result.0 result.1 }
     ensures longest { (byte n : ℕ) → SpellsFront atoms.now byte n → n ≤ result.1 }
-    ensures within { (1 ≤ result.1) × (result.1 ≤ 24) }
+    ensures within { (1 ≤ result.1) × (result.1 ≤ most_atoms) }
 {
     for byte in LONGEST_FIRST {
-        if let Some(count) = told_at_front(atoms, byte) {
+        if let Some(count) = count_at_front(atoms, byte) {
             return (byte, count);
         }
     }
     unreachable!()
 }
 
-/// How many of the first atoms a byte tells, where it tells a front of them.
-fn told_at_front(atoms: &[bool], byte: u8) -> Option<usize>
+/// How many atoms a byte has, where the list begins with them.
+fn count_at_front(atoms: &[bool], byte: u8) -> Option<usize>
     ensures some { IfSome result (λ n. SpellsFront atoms.now byte n) }
     ensures none { result ≡ None → (n : ℕ) → SpellsFront atoms.now byte n → ⊥ }
 {

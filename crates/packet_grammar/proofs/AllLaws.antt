@@ -5,7 +5,7 @@ use Rattle.etm_types.specs.Settings.{Sizes, AreSettings}
 use Rattle.packet_grammar.specs.declared.packet.Packet.{Packet}
 use Rattle.packet_grammar.specs.Parts.{Outcome}
 use Rattle.packet_grammar.specs.Parsed.{Spells, Begins}
-use Rattle.packet_grammar.specs.Laws.{AtMost as SpellingsAtMost, NoneBeginsAnother, OneOutcome, BeginsWithOne, SpelledOrBegun, NotBoth}
+use Rattle.packet_grammar.specs.Laws.{AtMost as SpellingsAtMost, NoneBeginsAnother, OneOutcome, BeginsWithOne, SpelledOrBegun, NotBoth, longest_packet}
 use Rattle.packet_grammar.proofs.Codes.{Apart, Begun, Stands}
 use Rattle.packet_grammar.proofs.Table.{Told}
 use Rattle.packet_grammar.proofs.Whole.{told_apart, told_covers, told_short}
@@ -44,5 +44,5 @@ not_both s are bytes begun stands =
     let same = spells_apart s are stands.outcome begun.outcome stands.text (bytes ++ begun.more) (stands.rest ++ begun.more) [] stands.spells begun.spells e in
     absurd (omega (arith, ap length same.rests, length-append stands.rest begun.more, begun.some))
 
-pub at_most : SpellingsAtMost 24
+pub at_most : SpellingsAtMost longest_packet
 at_most s are outcome bytes is = told_short s are outcome bytes (told_back s outcome bytes is)

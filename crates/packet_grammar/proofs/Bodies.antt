@@ -9,7 +9,8 @@ use Rattle.packet_grammar.specs.declared.packet.Packet.TheVariants.{Info, Exc}
 use Rattle.packet_grammar.specs.declared.fault.PacketFault.TheVariants.{NumberTooLong, InfoControl, InfoMode, ExceptionTwoByte, ExceptionForm, Aarch32Context}
 use Rattle.packet_grammar.specs.Parts.{Outcome, Part, Known, Byte, Bytes, Where, Then, As}
 use Rattle.packet_grammar.specs.Numbers.{NumberWithin, Number, StampWithin, TimeStamp, little}
-use Rattle.packet_grammar.specs.Contexts.{bit, Field, Context, ShortAddress, LongAddress32, LongAddress64, address_of}
+use Rattle.packet_grammar.specs.Fields.{bit}
+use Rattle.packet_grammar.specs.Contexts.{Field, Context, ShortAddress, LongAddress32, LongAddress64, address_of}
 use Rattle.packet_grammar.specs.Spelling.{Section, Mode, TraceInfo}
 use Rattle.packet_grammar.proofs.Table.{Exception}
 use Rattle.packet_grammar.proofs.Codes.{Code, loosen, known_code, byte_code, where_code, then_code, as_code, bytes_code}

@@ -68,7 +68,7 @@ mode_shown s = (in_info, (1 ∷ 133 ∷ 0 ∷ [], refl, inr (InfoMode 5, refl, i
 pub mode_begins : (s : Sizes) → Begins s (1 ∷ 1 ∷ 133 ∷ [])
 mode_begins s = record { outcome = Err (InfoMode 5); more = 0 ∷ []; some = omega arith; small = one_small 0 (omega arith); spells = mode_shown s }
 
--- A trace info packet with all sections in five bytes each has 22 bytes. So 24 bytes are enough, and 21 are not.
+-- A trace info packet with all sections in five bytes each has 22 bytes. So 22 bytes are enough, and 21 are not.
 zero_in_five : Number (Ok 0) (128 ∷ 128 ∷ 128 ∷ 128 ∷ 0 ∷ [])
 zero_in_five =
     inl (0, 128 ∷ 128 ∷ 128 ∷ 0 ∷ [], [], refl, inl (0, 128 ∷ 128 ∷ 0 ∷ [], [], refl, inl (0, 128 ∷ 0 ∷ [], [], refl, inl (0, 0 ∷ [], [], refl, refl, refl), refl), refl), refl)

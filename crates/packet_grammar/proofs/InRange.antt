@@ -14,7 +14,8 @@ use Rattle.packet_grammar.specs.declared.packet.Packet.TheVariants.{Async, Disca
 use Rattle.packet_grammar.specs.declared.fault.PacketFault.TheVariants.{InfoMode, InfoControl, Aarch32Context}
 use Rattle.packet_grammar.specs.Parts.{Outcome, Part, Known, Byte, Bytes, Where, Then, As}
 use Rattle.packet_grammar.specs.Numbers.{Number, Stamp, little}
-use Rattle.packet_grammar.specs.Contexts.{bit, Field, Context, ShortAddress, LongAddress32, LongAddress64, address_of}
+use Rattle.packet_grammar.specs.Fields.{bit}
+use Rattle.packet_grammar.specs.Contexts.{Field, Context, ShortAddress, LongAddress32, LongAddress64, address_of}
 use Rattle.packet_grammar.specs.Headers.{few_atoms}
 use Rattle.packet_grammar.specs.Spelling.{Section, Mode, TraceInfo, SpellsPacket}
 use Rattle.packet_grammar.specs.Ranges.{IsPacket, IsContext, IsStampSize}

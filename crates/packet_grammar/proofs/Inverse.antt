@@ -17,7 +17,8 @@ use Rattle.packet_grammar.specs.declared.fault.PacketFault.{PacketFault}
 use Rattle.packet_grammar.specs.declared.fault.PacketFault.TheVariants.{ExceptionTwoByte, ExceptionForm, InfoControl}
 use Rattle.packet_grammar.specs.Parts.{Outcome, Part, Known, Byte, Bytes, Where, Then, As}
 use Rattle.packet_grammar.specs.Numbers.{Number, Stamp, StampWithin, TimeStamp}
-use Rattle.packet_grammar.specs.Contexts.{Context, ShortAddress, LongAddress32, LongAddress64, address_of, bit}
+use Rattle.packet_grammar.specs.Fields.{bit}
+use Rattle.packet_grammar.specs.Contexts.{Context, ShortAddress, LongAddress32, LongAddress64, address_of}
 use Rattle.packet_grammar.specs.Headers.{few_atoms, refused_headers, fault_in}
 use Rattle.packet_grammar.proofs.Table.{Body, alone, atoms, extension, trace_info, time_stamp, exception, commit, cancel, context, short_address, long_32, long_64, long_32_with_context, long_64_with_context, headers, body_in, body_of, pick, whole, Follows, Told, AfterZero, AtomsOf, Exception}
 use Rattle.packet_grammar.specs.Spelling.{Section, Mode, TraceInfo, SpellsPacket, OneOf}

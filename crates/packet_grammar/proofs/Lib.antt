@@ -8,6 +8,7 @@ pub mod Whole
 pub mod Inverse
 pub mod AllLaws
 pub mod Streams
+pub mod GoesOn
 pub mod Examples
 pub mod PacketExamples
 pub mod FaultExamples

@@ -1,6 +1,6 @@
 -- Packets with bytes that spell them. The values come from the standard's tables, worked out apart from the definitions. No
 -- bytes spell two packets, so each of these says too what its bytes do not spell.
-use Rattle.std.proofs.Common.{[], ◌∷◌, Bool, true, false, Some, None, Ok, refl, inl, inr, arith}
+use Rattle.std.proofs.Common.{ℕ, List, [], ◌∷◌, Bool, true, false, Some, None, Ok, refl, inl, inr, arith}
 use Rattle.etm_types.specs.Settings.{Sizes}
 use Rattle.etm_types.specs.Atoms.{low_bits}
 use Rattle.etm_types.specs.declared.address.AddrForm.TheVariants.{Match, Short1, Short2, Long32, Long64}
@@ -8,6 +8,7 @@ use Rattle.etm_types.specs.declared.atoms.FewAtoms.{FewAtoms}
 use Rattle.atom_formats.specs.Formats.{atom_formats}
 use Rattle.atom_formats.proofs.Table.{row_found}
 use Rattle.packet_grammar.specs.declared.packet.Packet.TheVariants.{Async, Discard, Overflow, Info, On, Ignore, Event, Time, Exc, Commit, Cancel, Mispredict, Cancel2, Cancel3, CtxSame, CtxInfo, Addr, Atoms}
+use Rattle.packet_grammar.specs.Numbers.{Number}
 use Rattle.packet_grammar.specs.Ranges.{IsPacket}
 use Rattle.packet_grammar.specs.Parsed.{Spells}
 
@@ -39,6 +40,20 @@ two_e = record { count = 2; first = true }
 abbrev one_n : FewAtoms
 one_n = record { count = 1; first = false }
 
+-- the largest number, in five bytes
+abbrev most_in_five : List ℕ
+most_in_five = 0xff ∷ 0xff ∷ 0xff ∷ 0xff ∷ 0x0f ∷ []
+
+most_in_five_is : Number (Ok 0xffffffff) most_in_five
+most_in_five_is = inl (
+  0x1ffffff,
+  0xff ∷ 0xff ∷ 0xff ∷ 0x0f ∷ [],
+  [],
+  refl,
+  inl (0x3ffff, 0xff ∷ 0xff ∷ 0x0f ∷ [], [], refl, inl (0x7ff, 0xff ∷ 0x0f ∷ [], [], refl, inl (0xf, 0x0f ∷ [], [], refl, refl, refl), refl), refl),
+  refl,
+)
+
 -- Alignment Synchronization packet, Discard packet, Overflow packet, Trace On packet, Ignore packet
 pub async : (s : Sizes) → Spells s (Ok Async) (0x00 ∷ 0x00 ∷ 0x00 ∷ 0x00 ∷ 0x00 ∷ 0x00 ∷ 0x00 ∷ 0x00 ∷ 0x00 ∷ 0x00 ∷ 0x00 ∷ 0x80 ∷ [])
 async s = refl
@@ -55,7 +70,7 @@ on s = refl
 pub ignore : (s : Sizes) → Spells s (Ok Ignore) (0x70 ∷ [])
 ignore s = refl
 
--- Trace Info packet: no section; INFO; INFO and SPEC; KEY and CYCT; all four, the third of two bytes
+-- Trace Info packet: no section; INFO; INFO and SPEC; KEY and CYCT; CYCT of five bytes; all four, the third of two bytes
 pub info_bare : (s : Sizes) → Spells s (Ok (Info None None None None)) (0x01 ∷ 0x00 ∷ [])
 info_bare s = (
   0x00 ∷ [],
@@ -115,6 +130,27 @@ info_key_and_threshold s = (
       refl,
       inl (5, 0x05 ∷ [], [], refl, refl, refl),
       inl (None, [], 0x07 ∷ [], refl, refl, inl (Some 7, 0x07 ∷ [], [], refl, inl (7, 0x07 ∷ [], [], refl, refl, refl), refl)),
+    ),
+  ),
+)
+
+pub info_threshold_of_five_bytes : (s : Sizes) → Spells s (Ok (Info None None None (Some 0xffffffff))) (0x01 ∷ 0x08 ∷ 0xff ∷ 0xff ∷ 0xff ∷ 0xff ∷ 0x0f ∷ [])
+info_threshold_of_five_bytes s = (
+  0x08 ∷ most_in_five,
+  refl,
+  inl (
+    None,
+    [],
+    most_in_five,
+    refl,
+    refl,
+    inl (
+      None,
+      [],
+      most_in_five,
+      refl,
+      refl,
+      inl (None, [], most_in_five, refl, refl, inl (Some 0xffffffff, most_in_five, [], refl, inl (0xffffffff, most_in_five, [], refl, most_in_five_is, refl), refl)),
     ),
   ),
 )
@@ -306,13 +342,16 @@ events_1_and_2 s = (0x76, (omega arith, omega arith, refl), refl)
 pub all_events : (s : Sizes) → Spells s (Ok (Event 15)) (0x7f ∷ [])
 all_events s = (0x7f, (omega arith, omega arith, refl), refl)
 
--- Context packet: the same; no field; a VMID; a context ID, with bits 2 and 3 that are passed over; both; of other sizes; and
+-- Context packet: the same; no field, and once with bit 3 that is passed over; a VMID; a context ID, with bits 2 and 3; both; of other sizes; and
 -- of no size, where nothing follows
 pub same_context : (s : Sizes) → Spells s (Ok CtxSame) (0x80 ∷ [])
 same_context s = refl
 
 pub context : (s : Sizes) → Spells s (Ok (CtxInfo (record { el = 1; ns = true; vmid = None; cid = None }))) (0x81 ∷ 0x31 ∷ [])
 context s = (0x31 ∷ [], refl, inl (None, [], [], refl, refl, inl (None, [], [], refl, refl, refl)))
+
+pub context_bit_3 : (s : Sizes) → Spells s (Ok (CtxInfo (record { el = 1; ns = true; vmid = None; cid = None }))) (0x81 ∷ 0x39 ∷ [])
+context_bit_3 s = (0x39 ∷ [], refl, inl (None, [], [], refl, refl, inl (None, [], [], refl, refl, refl)))
 
 pub context_vmid : Spells one_and_four (Ok (CtxInfo (record { el = 2; ns = false; vmid = Some 171; cid = None }))) (0x81 ∷ 0x52 ∷ 0xab ∷ [])
 context_vmid = (
@@ -515,7 +554,7 @@ long_64_bit_7 s = (
   ),
 )
 
--- Atom Format 1 to 6 packets: N; EN; ENN; NEEE; NENEN and NEEEE; four and 24 E; three E and N, and 23 E and N
+-- Atom Format 1 to 6 packets: N; EN; ENN; NEEE, NENE and ENEN; NENEN and NEEEE; four and 24 E; three E and N, and 23 E and N
 pub atom_n : (s : Sizes) → Spells s (Ok (Atoms (record { count = 1; bits = 0x0 }))) (0xf6 ∷ [])
 unfolding atom_formats
 atom_n s = (
@@ -550,6 +589,24 @@ atoms_neee s = (
   (omega arith, omega arith, refl),
   record { some = omega arith; most = omega arith; bits = omega arith },
   row_found atom_formats 0xdc (low_bits 4 0xe) refl,
+)
+
+pub atoms_nene : (s : Sizes) → Spells s (Ok (Atoms (record { count = 4; bits = 0xa }))) (0xde ∷ [])
+unfolding atom_formats
+atoms_nene s = (
+  0xde,
+  (omega arith, omega arith, refl),
+  record { some = omega arith; most = omega arith; bits = omega arith },
+  row_found atom_formats 0xde (low_bits 4 0xa) refl,
+)
+
+pub atoms_enen : (s : Sizes) → Spells s (Ok (Atoms (record { count = 4; bits = 0x5 }))) (0xdf ∷ [])
+unfolding atom_formats
+atoms_enen s = (
+  0xdf,
+  (omega arith, omega arith, refl),
+  record { some = omega arith; most = omega arith; bits = omega arith },
+  row_found atom_formats 0xdf (low_bits 4 0x5) refl,
 )
 
 pub atoms_nenen : (s : Sizes) → Spells s (Ok (Atoms (record { count = 5; bits = 0xa }))) (0xd6 ∷ [])

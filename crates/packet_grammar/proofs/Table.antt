@@ -11,7 +11,8 @@ use Rattle.packet_grammar.specs.declared.fault.PacketFault.{PacketFault}
 use Rattle.packet_grammar.specs.declared.fault.PacketFault.TheVariants.{ExceptionTwoByte, ExceptionForm}
 use Rattle.packet_grammar.specs.Parts.{Outcome, Part, Known, Byte, Then, As}
 use Rattle.packet_grammar.specs.Numbers.{Number, TimeStamp}
-use Rattle.packet_grammar.specs.Contexts.{Context, ShortAddress, LongAddress32, LongAddress64, bit}
+use Rattle.packet_grammar.specs.Fields.{bit}
+use Rattle.packet_grammar.specs.Contexts.{Context, ShortAddress, LongAddress32, LongAddress64}
 use Rattle.packet_grammar.specs.Headers.{few_atoms, refused_headers, fault_in}
 use Rattle.packet_grammar.specs.Spelling.{TraceInfo}
 use Rattle.packet_grammar.specs.Faults.{BadSync}

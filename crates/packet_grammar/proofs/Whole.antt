@@ -22,23 +22,23 @@ module _ (s : Sizes) (are : AreSettings s) where
   atoms_code h least below = record { apart = run_apart h; covers = run_covers h least below; short = run_short h }
 
   -- what follows a header, if it is not one of atoms, is a code
-  body_code : (body : Body) → is_sound (Some body) ≡ true → Code 23 (Follows s body)
-  body_code (alone outcome) e = loosen 0 23 (omega arith) (known_code outcome)
-  body_code (atoms h) e = let from = atoms_from h e in loosen 0 23 (omega arith) (atoms_code h from.0 from.1)
-  body_code extension e = loosen 11 23 (omega arith) zero_code
-  body_code trace_info e = loosen 21 23 (omega arith) info_code
-  body_code time_stamp e = loosen 9 23 (omega arith) (as_code 9 TimeStamp (λ stamp. Time stamp.bits stamp.low) stamp_code)
-  body_code exception e = loosen 1 23 (omega arith) exception_code
-  body_code commit e = loosen 5 23 (omega arith) (as_code 5 Number (λ n. Commit n) number_code)
-  body_code (cancel flip) e = loosen 5 23 (omega arith) (as_code 5 Number (λ n. Cancel n flip) number_code)
-  body_code context e = loosen 9 23 (omega arith) (as_code 9 (Context s) (λ ctx. CtxInfo ctx) (context_code s are))
-  body_code short_address e = loosen 2 23 (omega arith) (as_code 2 ShortAddress (λ form. Addr form None) short_code)
-  body_code long_32 e = loosen 4 23 (omega arith) (as_code 4 LongAddress32 (λ form. Addr form None) long_32_code)
-  body_code long_64 e = loosen 8 23 (omega arith) (as_code 8 LongAddress64 (λ form. Addr form None) long_64_code)
+  body_code : (body : Body) → is_sound (Some body) ≡ true → Code 21 (Follows s body)
+  body_code (alone outcome) e = loosen 0 21 (omega arith) (known_code outcome)
+  body_code (atoms h) e = let from = atoms_from h e in loosen 0 21 (omega arith) (atoms_code h from.0 from.1)
+  body_code extension e = loosen 11 21 (omega arith) zero_code
+  body_code trace_info e = loosen 21 21 (omega arith) info_code
+  body_code time_stamp e = loosen 9 21 (omega arith) (as_code 9 TimeStamp (λ stamp. Time stamp.bits stamp.low) stamp_code)
+  body_code exception e = loosen 1 21 (omega arith) exception_code
+  body_code commit e = loosen 5 21 (omega arith) (as_code 5 Number (λ n. Commit n) number_code)
+  body_code (cancel flip) e = loosen 5 21 (omega arith) (as_code 5 Number (λ n. Cancel n flip) number_code)
+  body_code context e = loosen 9 21 (omega arith) (as_code 9 (Context s) (λ ctx. CtxInfo ctx) (context_code s are))
+  body_code short_address e = loosen 2 21 (omega arith) (as_code 2 ShortAddress (λ form. Addr form None) short_code)
+  body_code long_32 e = loosen 4 21 (omega arith) (as_code 4 LongAddress32 (λ form. Addr form None) long_32_code)
+  body_code long_64 e = loosen 8 21 (omega arith) (as_code 8 LongAddress64 (λ form. Addr form None) long_64_code)
   body_code long_32_with_context e =
-      loosen 13 23 (omega arith) (then_code 4 9 LongAddress32 (λ form. As (Context s) (λ ctx. Addr form (Some ctx))) long_32_code (λ form. as_code 9 (Context s) (λ ctx. Addr form (Some ctx)) (context_code s are)))
+      loosen 13 21 (omega arith) (then_code 4 9 LongAddress32 (λ form. As (Context s) (λ ctx. Addr form (Some ctx))) long_32_code (λ form. as_code 9 (Context s) (λ ctx. Addr form (Some ctx)) (context_code s are)))
   body_code long_64_with_context e =
-      loosen 17 23 (omega arith) (then_code 8 9 LongAddress64 (λ form. As (Context s) (λ ctx. Addr form (Some ctx))) long_64_code (λ form. as_code 9 (Context s) (λ ctx. Addr form (Some ctx)) (context_code s are)))
+      loosen 17 21 (omega arith) (then_code 8 9 LongAddress64 (λ form. As (Context s) (λ ctx. Addr form (Some ctx))) long_64_code (λ form. as_code 9 (Context s) (λ ctx. Addr form (Some ctx)) (context_code s are)))
 
   -- the same of all bodies, but that each has a spelling
   body_apart : (body : Body) → Apart (Follows s body)
@@ -57,7 +57,7 @@ module _ (s : Sizes) (are : AreSettings s) where
   body_apart long_32_with_context = (body_code long_32_with_context refl).apart
   body_apart long_64_with_context = (body_code long_64_with_context refl).apart
 
-  body_short : (body : Body) → AtMost 23 (Follows s body)
+  body_short : (body : Body) → AtMost 21 (Follows s body)
   body_short (alone outcome) = (body_code (alone outcome) refl).short
   body_short (atoms h) = λ outcome text is. omega (arith, run_short h outcome text is)
   body_short extension = (body_code extension refl).short
@@ -83,7 +83,7 @@ module _ (s : Sizes) (are : AreSettings s) where
       (others_same is.header is'.header (is.rest ++ rest) (is'.rest ++ rest') regrouped) in
       record { outcomes = same.outcomes; texts = is.whole ∙ (λ i. first i ∷ same.texts i) ∙ sym is'.whole; rests = same.rests }
 
-  pub told_short : AtMost 24 (Told s)
+  pub told_short : AtMost 22 (Told s)
   told_short outcome text is = omega (arith, ap length is.whole, body_short is.body outcome is.rest is.follows)
 
   pub told_covers : (bytes : List ℕ) → All (λ b. b < 256) bytes → Begun (Told s) bytes ⊎ Stands (Told s) bytes

@@ -1,15 +1,17 @@
--- Which bytes show which fault: each time the bytes from a packet's first one up to the one that shows it.
+-- Which bytes show which fault: each time the bytes from a packet's first one up to the one that shows it (Arm IHI 0064,
+-- "Descriptions of Trace Packets").
 use Rattle.std.specs.Prelude.{◌≡◌, ◌≢◌, ℕ, ◌<◌, ◌≤◌, ◌&&◌, ◌||◌, not, replicate, true, List, [], ◌∷◌, ◌++◌, length, Some, Err, if◌then◌else◌}
 use Rattle.etm_types.specs.Settings.{Sizes}
 use Rattle.packet_grammar.specs.declared.fault.PacketFault.{PacketFault}
 use Rattle.packet_grammar.specs.declared.fault.PacketFault.TheVariants.{Extension, BrokenSync, ExceptionTwoByte, ExceptionForm}
+use Rattle.packet_grammar.specs.Fields.{bit}
 use Rattle.packet_grammar.specs.Numbers.{Number}
-use Rattle.packet_grammar.specs.Contexts.{Context, bit}
+use Rattle.packet_grammar.specs.Contexts.{Context}
 use Rattle.packet_grammar.specs.Headers.{refused_headers, fault_in}
 use Rattle.packet_grammar.specs.Spelling.{TraceInfo}
 
--- So many 00 and one byte more that break off what could be an A-sync: a byte other than 00 among its zeros, or other
--- than 80 behind them. Another 00 stands before these bytes.
+-- Alignment Synchronization packet: so many 00 and one byte more that break off what could be one, a byte other than 00 among
+-- its zeros, or other than 80 after them. Another 00 stands before these bytes.
 pub record BreaksSync (bytes : List ℕ) : Type 0 where
   pub zeros : ℕ
   pub last : ℕ
@@ -19,13 +21,13 @@ pub record BreaksSync (bytes : List ℕ) : Type 0 where
   pub early : zeros < 10 → last ≢ 0x00
   pub late : zeros ≡ 10 → last ≢ 0x80
 
--- what shows a fault behind a 00
+-- Alignment Synchronization packet, Discard packet, Overflow packet: what shows a fault after their first 00
 abbrev pub BadSync : PacketFault → List ℕ → Type 0
 BadSync (Extension b) bytes = (bytes ≡ b ∷ []) × (b ≢ 0x00) × (b ≢ 0x03) × (b ≢ 0x05)
 BadSync BrokenSync bytes = BreaksSync bytes
 BadSync fault bytes = ⊥
 
--- where a fault is
+-- the packet that a fault is in
 pub data Place : Type 0 where
   in_header : Place
   in_sync : Place
@@ -41,7 +43,7 @@ abbrev pub ShowsAt : Sizes → Place → PacketFault → List ℕ → Type 0
 ShowsAt s in_header fault bytes = (h : ℕ) × (bytes ≡ h ∷ []) × (fault_in refused_headers h ≡ Some fault)
 -- Alignment Synchronization packet, Discard packet, Overflow packet
 ShowsAt s in_sync fault bytes = (rest : List ℕ) × (bytes ≡ 0x00 ∷ rest) × BadSync fault rest
--- Trace Info packet: bits 7 to 4 of the control byte, an INFO other than 0, or a number that is too long
+-- Trace Info packet: bits 7 to 4 of the control byte (PLCTL), an INFO other than 0, or a number that is too long
 ShowsAt s in_info fault bytes = (rest : List ℕ) × (bytes ≡ 0x01 ∷ rest) × TraceInfo (Err fault) rest
 -- Exception packet
 ShowsAt s in_exception fault bytes =

@@ -1,16 +1,17 @@
 -- Headers, in the order of their numbers (Arm IHI 0064, "Descriptions of Trace Packets").
-use Rattle.std.specs.Prelude.{ℕ, ◌%◌, ◌==◌, ◌&&◌, true, false, List, [], ◌∷◌, Option, Some, None, nat_le, if◌then◌else◌}
+use Rattle.std.specs.Prelude.{ℕ, ◌==◌, ◌&&◌, true, false, List, [], ◌∷◌, Option, Some, None, nat_le, if◌then◌else◌}
 use Rattle.etm_types.specs.declared.atoms.FewAtoms.{FewAtoms}
 use Rattle.packet_grammar.specs.declared.fault.PacketFault.{PacketFault}
 use Rattle.packet_grammar.specs.declared.fault.PacketFault.TheVariants.{Reserved, Refused}
 use Rattle.packet_grammar.specs.declared.fault.RefusedKind.TheVariants.{CycleCount, TimeCycle, DataSync, Conditional, Q, MProfile, Aarch32Address}
+use Rattle.packet_grammar.specs.Fields.{lowest}
 
--- bits 1 and 0: no atom, E, EE, N
+-- bits 1 and 0 (A): no atom, E, EE, N
 abbrev pub few_atoms : ℕ → FewAtoms
 few_atoms h =
-    if h % 4 == 0 then record { count = 0; first = false }
-    else if h % 4 == 1 then record { count = 1; first = true }
-    else if h % 4 == 2 then record { count = 2; first = true }
+    if lowest 2 h == 0 then record { count = 0; first = false }
+    else if lowest 2 h == 1 then record { count = 1; first = true }
+    else if lowest 2 h == 2 then record { count = 2; first = true }
     else record { count = 1; first = false }
 
 -- the headers that are no packet's: the first and the last of a row, and the fault that each of them shows

@@ -1,12 +1,13 @@
--- What holds of the spellings as a whole, under any settings.
-use Rattle.std.specs.Prelude.{◌≡◌, ◌⊎◌, ℕ, ◌<◌, ◌≤◌, All, List, [], ◌∷◌, ◌++◌, length}
+-- What holds of the spellings as a whole, under any settings (Arm IHI 0064, "Descriptions of Trace Packets").
+use Rattle.std.specs.Prelude.{◌≡◌, ◌⊎◌, ℕ, ◌<◌, ◌≤◌, All, List, [], ◌∷◌, ◌++◌, length, Ok, Err}
 use Rattle.etm_types.specs.Settings.{Sizes, AreSettings}
 use Rattle.packet_grammar.specs.declared.packet.Packet.{Packet}
 use Rattle.packet_grammar.specs.declared.packet.Packet.TheVariants.{Async}
 use Rattle.packet_grammar.specs.Parts.{Outcome}
 use Rattle.packet_grammar.specs.Ranges.{IsPacket}
 use Rattle.packet_grammar.specs.Spelling.{SpellsPacket}
-use Rattle.packet_grammar.specs.Parsed.{Begins, Ending, FirstSync, IsStream, Spells}
+use Rattle.packet_grammar.specs.declared.fault.PacketFault.{PacketFault}
+use Rattle.packet_grammar.specs.Parsed.{Begins, Ending, clean, fault, FirstSync, IsStream, Spells}
 
 -- a spelling that stands at the front of a spelling is all of it
 abbrev pub NoneBeginsAnother : Type 0
@@ -36,6 +37,10 @@ SpelledOrBegun =
 abbrev pub NotBoth : Type 0
 NotBoth = (s : Sizes) → AreSettings s → (bytes : List ℕ) → Begins s bytes → BeginsWithOne s bytes → ⊥
 
+-- the most bytes of a packet: a Trace Info packet of a header, a control byte and four sections of five bytes
+abbrev pub longest_packet : ℕ
+longest_packet = 22
+
 -- no spelling has more bytes
 abbrev pub AtMost : ℕ → Type 0
 AtMost most = (s : Sizes) → AreSettings s → (outcome : Outcome Packet) (bytes : List ℕ) → Spells s outcome bytes → length bytes ≤ most
@@ -61,6 +66,24 @@ abbrev pub StartsWithSync : Type 0
 StartsWithSync =
     (s : Sizes) → AreSettings s → (bytes : List ℕ) (packets : List (ℕ × Packet)) (ending : Ending) (at : ℕ)
     → IsStream s bytes packets ending → FirstSync at bytes → (others : List (ℕ × Packet)) × (packets ≡ (at, Async) ∷ others)
+
+-- After whole packets one spelling more is one packet more, at the offset where they end ..
+abbrev pub GoesOnByAPacket : Type 0
+GoesOnByAPacket =
+    (s : Sizes) (bytes text : List ℕ) (packets : List (ℕ × Packet)) (packet : Packet)
+    → IsStream s bytes packets clean → Spells s (Ok packet) text → IsStream s (bytes ++ text) (packets ++ (length bytes, packet) ∷ []) clean
+
+-- .. or the fault there, whatever follows it
+abbrev pub GoesOnByAFault : Type 0
+GoesOnByAFault =
+    (s : Sizes) (bytes text rest : List ℕ) (packets : List (ℕ × Packet)) (f : PacketFault)
+    → IsStream s bytes packets clean → Spells s (Err f) text → IsStream s (bytes ++ (text ++ rest)) packets (fault (length bytes) f)
+
+-- a stream with a fault stays as it is, whatever follows
+abbrev pub FaultStays : Type 0
+FaultStays =
+    (s : Sizes) (bytes more : List ℕ) (packets : List (ℕ × Packet)) (at : ℕ) (f : PacketFault)
+    → IsStream s bytes packets (fault at f) → IsStream s (bytes ++ more) packets (fault at f)
 
 -- the values of a packet that bytes spell are in their ranges
 abbrev pub ValuesFit : Type 0

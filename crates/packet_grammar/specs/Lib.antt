@@ -1,4 +1,5 @@
 pub mod Parts
+pub mod Fields
 pub mod Numbers
 pub mod Contexts
 pub mod Headers

@@ -1,4 +1,5 @@
--- How the bytes of a stream parse: which packets they are, each with its offset, and how they end.
+-- How the bytes of a stream parse: which packets they are, each with its offset, and how they end (Arm IHI 0064, "Alignment
+-- Synchronization packet", "Descriptions of Trace Packets").
 use Rattle.std.specs.Prelude.{All, ◌≡◌, ◌⊎◌, ℕ, ◌+◌, ◌<◌, List, [], ◌∷◌, ◌++◌, length, drop, Ok, Err, IsTrue, nat_eq}
 use Rattle.std.specs.List.{starts_with}
 use Rattle.etm_types.specs.Settings.{Sizes}
@@ -40,7 +41,7 @@ Parses s at bytes [] (fault place f) =
 Parses s at bytes (packet ∷ packets) ending =
     (text : List ℕ) × (rest : List ℕ) × (packet.0 ≡ at) × (bytes ≡ text ++ rest) × Spells s (Ok packet.1) text × Parses s (at + length text) rest packets ending
 
--- A-sync: eleven bytes 00, and 80
+-- Alignment Synchronization packet: eleven bytes 00, and 80
 abbrev pub sync : List ℕ
 sync = 0 ∷ 0 ∷ 0 ∷ 0 ∷ 0 ∷ 0 ∷ 0 ∷ 0 ∷ 0 ∷ 0 ∷ 0 ∷ 0x80 ∷ []
 

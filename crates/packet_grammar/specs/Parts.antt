@@ -1,4 +1,6 @@
--- A notation for grammars of bytes. A part says which lists of bytes spell which value, and which show which fault.
+-- A notation for what the figures of the standard show: bytes one after the other, of which some are there only where a bit
+-- says so (Arm IHI 0064, "Descriptions of Trace Packets"). A part says which lists of bytes spell which value, and which show
+-- which fault.
 use Rattle.std.specs.Prelude.{◌≡◌, ◌⊎◌, ℕ, Bool, true, false, List, [], ◌∷◌, ◌++◌, length, Result, Ok, Err}
 use Rattle.packet_grammar.specs.declared.fault.PacketFault.{PacketFault}
 
@@ -29,7 +31,7 @@ abbrev pub Where : {A : Type 0} → Bool → Part A → Part A → Part A
 Where true first second outcome bytes = first outcome bytes
 Where false first second outcome bytes = second outcome bytes
 
--- a part, and behind it what follows such a value; or a part that shows a fault
+-- a part, and after it what follows such a value; or a part that shows a fault
 abbrev pub Then : {A B : Type 0} → Part A → (A → Part B) → Part B
 Then {A} first next outcome bytes =
     ((value : A) × (front : List ℕ) × (back : List ℕ) × (bytes ≡ front ++ back) × first (Ok value) front × next value outcome back)

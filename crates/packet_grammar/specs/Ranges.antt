@@ -1,4 +1,4 @@
--- The values that packets have.
+-- The values that the fields of packets have (Arm IHI 0064, "Descriptions of Trace Packets").
 use Rattle.std.specs.Prelude.{◌≡◌, ◌⊎◌, ℕ, ◌*◌, ◌^◌, ◌<◌, ◌≤◌, IfSome}
 use Rattle.etm_types.specs.AddrForm.{IsAddrForm}
 use Rattle.etm_types.specs.Atoms.{IsAtomRun, IsFewAtoms}
@@ -7,13 +7,14 @@ use Rattle.etm_types.specs.declared.context.CtxBits.{CtxBits}
 use Rattle.packet_grammar.specs.declared.packet.Packet.{Packet}
 use Rattle.packet_grammar.specs.declared.packet.Packet.TheVariants.{Info, Event, Time, Exc, Commit, Cancel, Mispredict, Cancel2, Cancel3, CtxInfo, Addr, Atoms}
 
--- a level of at most 3, and numbers that fit their sizes; with no byte a number is never there
+-- Context packet, Address with Context packet: a level of at most 3, and numbers that fit their sizes; with no byte a number is
+-- never there
 pub record IsContext (s : Sizes) (ctx : CtxBits) : Type 0 where
   pub el : ctx.el ≤ 3
   pub vmid : IfSome ctx.vmid (λ n. (0 < s.vmid_bytes) × (n < 256 ^ s.vmid_bytes))
   pub cid : IfSome ctx.cid (λ n. (0 < s.cid_bytes) × (n < 256 ^ s.cid_bytes))
 
--- the bits of a timestamp come in groups of seven, or are all 64
+-- Timestamp packet: the bits come in groups of seven, or are all 64
 abbrev pub IsStampSize : ℕ → Type 0
 IsStampSize bits = (bits ≡ 64) ⊎ ((groups : ℕ) × (1 ≤ groups) × (groups ≤ 8) × (bits ≡ 7 * groups))
 
@@ -30,6 +31,6 @@ IsPacket s (Mispredict few) = IsFewAtoms few
 IsPacket s (Cancel2 few) = IsFewAtoms few
 IsPacket s (Cancel3 e n) = (2 ≤ n) × (n ≤ 5)
 IsPacket s (CtxInfo ctx) = IsContext s ctx
-IsPacket s (Addr form ctx) = IsAddrForm form × IfSome ctx (λ told. IsContext s told)
+IsPacket s (Addr form ctx) = IsAddrForm form × IfSome ctx (λ given. IsContext s given)
 IsPacket s (Atoms run) = IsAtomRun run
 IsPacket s packet = Unit {0}

@@ -1,5 +1,5 @@
 -- Which bytes spell which packet (Arm IHI 0064, "Descriptions of Trace Packets").
-use Rattle.std.specs.Prelude.{◌≡◌, ◌≤◌, ℕ, ◌+◌, ◌-◌, ◌/◌, ◌%◌, ◌==◌, replicate, Bool, true, false, List, [], ◌∷◌, ◌++◌, Option, Some, None, Ok, Err, nat_lt, if◌then◌else◌}
+use Rattle.std.specs.Prelude.{◌≡◌, ◌≤◌, ℕ, ◌+◌, ◌-◌, ◌^◌, ◌==◌, replicate, Bool, true, false, List, [], ◌∷◌, ◌++◌, Option, Some, None, Ok, Err, nat_lt, if◌then◌else◌}
 use Rattle.etm_types.specs.Settings.{Sizes}
 use Rattle.etm_types.specs.Atoms.{IsAtomRun, atoms_in}
 use Rattle.etm_types.specs.declared.address.AddrForm.TheVariants.{Match, Short1, Short2, Long32, Long64}
@@ -8,8 +8,9 @@ use Rattle.packet_grammar.specs.declared.packet.Packet.{Packet}
 use Rattle.packet_grammar.specs.declared.packet.Packet.TheVariants.{Async, Discard, Overflow, Info, On, Ignore, Event, Time, Exc, Commit, Cancel, Mispredict, Cancel2, Cancel3, CtxSame, CtxInfo, Addr, Atoms}
 use Rattle.packet_grammar.specs.declared.fault.PacketFault.TheVariants.{InfoControl, InfoMode}
 use Rattle.packet_grammar.specs.Parts.{Part, Known, Byte, Where, Then, As}
+use Rattle.packet_grammar.specs.Fields.{bit, field, lowest}
 use Rattle.packet_grammar.specs.Numbers.{Number, TimeStamp}
-use Rattle.packet_grammar.specs.Contexts.{Context, ShortAddress, LongAddress32, LongAddress64, bit}
+use Rattle.packet_grammar.specs.Contexts.{Context, ShortAddress, LongAddress32, LongAddress64}
 use Rattle.packet_grammar.specs.Headers.{few_atoms}
 
 -- a section of a trace info packet, where its bit says that it is there
@@ -23,7 +24,7 @@ Mode = Then Number (λ mode. Known (if mode == 0 then Ok mode else Err (InfoMode
 -- a control byte, whose bits 0 to 3 say which of INFO, KEY, SPEC and CYCT follow
 abbrev pub TraceInfo : Part Packet
 TraceInfo =
-    Byte (λ control. Where (nat_lt control 16)
+    Byte (λ control. Where (nat_lt control (2 ^ 4))
     (Then (Section (bit 0 control) Mode) (λ info. Then (Section (bit 1 control) Number) (λ key.
     Then (Section (bit 2 control) Number) (λ spec. As (Section (bit 3 control) Number) (λ cyct. Info info key spec cyct)))))
     (Known (Err (InfoControl control))))
@@ -46,24 +47,24 @@ SpellsPacket s (Info info key spec cyct) bytes = (rest : List ℕ) × (bytes ≡
 SpellsPacket s (Time bits low) bytes = (rest : List ℕ) × (bytes ≡ 0x02 ∷ rest) × TimeStamp (Ok (record { bits = bits; low = low })) rest
 -- Trace On packet
 SpellsPacket s On bytes = bytes ≡ 0x04 ∷ []
--- Exception packet: bits 6 and 0 (E1 and E0) say how the address is told, bits 5 to 1 are the type, and bit 7 says that
--- another byte follows
+-- Exception packet: bits 6 and 0 (E1 and E0) say how the address follows, bits 5 to 1 are the type (TYPE), and bit 7 (C) says
+-- that another byte follows
 SpellsPacket s (Exc kind) bytes =
-    (b : ℕ) × (bytes ≡ 0x06 ∷ b ∷ []) × (bit 7 b ≡ false) × (bit 6 b ≡ false) × (bit 0 b ≡ true) × (kind ≡ b / 2 % 32)
+    (b : ℕ) × (bytes ≡ 0x06 ∷ b ∷ []) × (bit 7 b ≡ false) × (bit 6 b ≡ false) × (bit 0 b ≡ true) × (kind ≡ field 5 1 b)
 -- Commit packet
 SpellsPacket s (Commit n) bytes = (rest : List ℕ) × (bytes ≡ 0x2d ∷ rest) × Number (Ok n) rest
--- Cancel Format 1 packet: bit 0 says that a prediction was wrong
+-- Cancel Format 1 packet: bit 0 (M) says that a prediction was wrong
 SpellsPacket s (Cancel n flip) bytes = (rest : List ℕ) × (bytes ≡ (if flip then 0x2f else 0x2e) ∷ rest) × Number (Ok n) rest
 -- Mispredict packet
 SpellsPacket s (Mispredict few) bytes = (h : ℕ) × OneOf 0x30 0x33 h bytes × (few ≡ few_atoms h)
 -- Cancel Format 2 packet
 SpellsPacket s (Cancel2 few) bytes = (h : ℕ) × OneOf 0x34 0x37 h bytes × (few ≡ few_atoms h)
--- Cancel Format 3 packet: bit 0 is an atom E, and bits 2 and 1 are the number of elements less 2
-SpellsPacket s (Cancel3 e n) bytes = (h : ℕ) × OneOf 0x38 0x3f h bytes × (e ≡ (h % 2 == 1)) × (n ≡ h / 2 % 4 + 2)
+-- Cancel Format 3 packet: bit 0 (A) is an atom E, and bits 2 and 1 (CC) are the number of elements less 2
+SpellsPacket s (Cancel3 e n) bytes = (h : ℕ) × OneOf 0x38 0x3f h bytes × (e ≡ (lowest 1 h == 1)) × (n ≡ field 2 1 h + 2)
 -- Ignore packet
 SpellsPacket s Ignore bytes = bytes ≡ 0x70 ∷ []
--- Event packet: bits 3 to 0 are the events
-SpellsPacket s (Event n) bytes = (h : ℕ) × OneOf 0x71 0x7f h bytes × (n ≡ h % 16)
+-- Event packet: bits 3 to 0 (EVENT) are the events
+SpellsPacket s (Event n) bytes = (h : ℕ) × OneOf 0x71 0x7f h bytes × (n ≡ lowest 4 h)
 -- Context packet
 SpellsPacket s CtxSame bytes = bytes ≡ 0x80 ∷ []
 SpellsPacket s (CtxInfo ctx) bytes = (rest : List ℕ) × (bytes ≡ 0x81 ∷ rest) × Context s (Ok ctx) rest

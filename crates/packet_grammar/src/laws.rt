@@ -1,5 +1,5 @@
-//! What holds of the spellings as a whole, under any settings.
-ghost use Rattle.packet_grammar.specs.Laws.{AtMost, EachIsAStream, NoneBeginsAnother, NotBoth, OneOutcome, OneStream, SpelledOrBegun, StartsWithSync, ValuesFit};
+//! What holds of the spellings as a whole, under any settings (Arm IHI 0064, "Descriptions of Trace Packets").
+ghost use Rattle.packet_grammar.specs.Laws.{AtMost, EachIsAStream, FaultStays, GoesOnByAFault, GoesOnByAPacket, NoneBeginsAnother, NotBoth, OneOutcome, OneStream, SpelledOrBegun, StartsWithSync, ValuesFit, longest_packet};
 
 /// A reader that goes from left to right knows a spelling by its last byte, and what it spells.
 pub fn spellings_are_told_apart()
@@ -13,9 +13,9 @@ pub fn bytes_spell_or_begin()
     ensures not_both { NotBoth }
 {}
 
-/// A reader has room for each spelling in 24 bytes.
+/// A reader has room for each packet, and for the bytes that show a fault, in 22 bytes.
 pub fn spellings_are_short()
-    ensures { AtMost 24 }
+    ensures { AtMost longest_packet }
 {}
 
 /// What the packets of a stream are, and how it ends, is settled by its bytes.
@@ -23,6 +23,14 @@ pub fn a_stream_parses_in_one_way()
     ensures each { EachIsAStream }
     ensures one_way { OneStream }
     ensures starts { StartsWithSync }
+{}
+
+/// Packets follow one another: after whole packets the next bytes are read as after an A-sync, and nothing
+/// is read after a fault.
+pub fn a_stream_goes_on_by_one_spelling()
+    ensures packet { GoesOnByAPacket }
+    ensures fault { GoesOnByAFault }
+    ensures stays { FaultStays }
 {}
 
 /// A reader can keep the values of a packet in the fields that a packet has.

@@ -5,7 +5,8 @@
 //! fault, and how a stream parses.
 //! A reader and a writer of packets promise what they do in these terms. The laws that both build on
 //! are the contracts of [`spellings_are_told_apart`], [`bytes_spell_or_begin`],
-//! [`spellings_are_short`], [`spelled_values_are_in_range`] and [`a_stream_parses_in_one_way`].
+//! [`spellings_are_short`], [`spelled_values_are_in_range`], [`a_stream_parses_in_one_way`] and
+//! [`a_stream_goes_on_by_one_spelling`].
 #![tactic(auto)]
 
 mod fault;
@@ -15,8 +16,8 @@ mod stream_fault;
 
 pub use fault::{PacketFault, RefusedKind};
 pub use laws::{
-    a_stream_parses_in_one_way, bytes_spell_or_begin, spelled_values_are_in_range,
-    spellings_are_short, spellings_are_told_apart,
+    a_stream_goes_on_by_one_spelling, a_stream_parses_in_one_way, bytes_spell_or_begin,
+    spelled_values_are_in_range, spellings_are_short, spellings_are_told_apart,
 };
 pub use packet::Packet;
 pub use stream_fault::Fault;

@@ -13,7 +13,7 @@ use Rattle.packet_reader.specs.declared.step.Step.{Step}
 use Rattle.packet_reader.specs.declared.step.Step.TheVariants.{Skipped, More, Whole, Bad, Stopped}
 use Rattle.packet_reader.specs.Stands.{Gains, Goes}
 use Rattle.packet_reader.specs.Answered.{Answered, told, packets_in, fault_after, fault_in, fault_of, AddUp}
-use Rattle.packet_reader.proofs.Stream.{fault_stays}
+use Rattle.packet_grammar.proofs.GoesOn.{fault_stays}
 
 goes_without_fault : (ending : Ending) → Goes ending → fault_of ending ≡ None
 goes_without_fault clean goes = refl

@@ -8,7 +8,7 @@ use Rattle.packet_reader.specs.declared.phase.Phase.{Phase}
 use Rattle.packet_reader.specs.declared.phase.Phase.TheVariants.{Hunting, Between, Within, Failed}
 use Rattle.packet_reader.specs.States.{tree_of}
 use Rattle.packet_reader.specs.Stands.{FitsPhase, InPhase, is_synced, rest_in, rest_of}
-use Rattle.packet_reader.proofs.Stream.{first_on}
+use Rattle.packet_grammar.proofs.GoesOn.{first_on}
 use Rattle.packet_reader.proofs.Steps.{At, state_open, is_cut}
 
 is_found : (s : Sizes) (bytes : List ℕ) (packets : List (ℕ × Packet)) (ending : Ending) → (ending ≡ no_sync → ⊥) → IsStream s bytes packets ending → (at : ℕ) × FirstSync at bytes

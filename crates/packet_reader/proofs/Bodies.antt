@@ -11,7 +11,8 @@ use Rattle.packet_grammar.specs.declared.packet.Packet.TheVariants.{Time, Info, 
 use Rattle.packet_grammar.specs.declared.fault.PacketFault.TheVariants.{NumberTooLong, InfoControl, InfoMode, ExceptionTwoByte, ExceptionForm, Aarch32Context}
 use Rattle.packet_grammar.specs.Parts.{Outcome, Part, Known, Byte, Bytes, Where, Then, As}
 use Rattle.packet_grammar.specs.Numbers.{NumberWithin, Number, Stamp, StampWithin, TimeStamp, little}
-use Rattle.packet_grammar.specs.Contexts.{bit, Field, Context, ShortAddress, address_of}
+use Rattle.packet_grammar.specs.Fields.{bit}
+use Rattle.packet_grammar.specs.Contexts.{Field, Context, ShortAddress, address_of}
 use Rattle.packet_grammar.specs.Spelling.{Section, Mode, TraceInfo}
 use Rattle.packet_grammar.proofs.Table.{Exception}
 use Rattle.packet_reader.specs.Trees.{Tree, known, byte, Leads, number_tree, stamp_tree, bytes_tree, field_tree}

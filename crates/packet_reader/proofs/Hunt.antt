@@ -20,7 +20,7 @@ use Rattle.packet_reader.specs.Trees.{Tree, Leads, after}
 use Rattle.packet_reader.specs.States.{tree_of, tree_after, Fits, FitsAfter, HeadsBy}
 use Rattle.packet_reader.specs.Stands.{Zeros, InPhase, Gains, Goes, Moves, settled, hunted}
 use Rattle.packet_reader.proofs.Headed.{headed}
-use Rattle.packet_reader.proofs.Stream.{sync_in, sync_out, strip, sync_earlier, fault_stays}
+use Rattle.packet_grammar.proofs.GoesOn.{sync_in, sync_out, strip, sync_earlier, fault_stays}
 use Rattle.packet_reader.proofs.Steps.{Open, state_open, At, StreamAfter, stream_after, phase_after, is_cut}
 
 module _ (s : Sizes) where

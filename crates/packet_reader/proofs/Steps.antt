@@ -13,7 +13,7 @@ use Rattle.packet_reader.specs.declared.state.Progress.TheVariants.{Next, Done}
 use Rattle.packet_reader.specs.Trees.{Tree, known, byte, Leads, number_tree, stamp_tree, bytes_tree, sync_tree}
 use Rattle.packet_reader.specs.States.{tree_of, tree_after, Fits, FitsAfter}
 use Rattle.packet_reader.specs.Stands.{InPhase, settled}
-use Rattle.packet_reader.proofs.Stream.{stream_on}
+use Rattle.packet_grammar.proofs.GoesOn.{stream_on}
 
 -- a byte comes
 abbrev pub Open : Tree → Type 0

@@ -1,4 +1,4 @@
--- What may follow in each state of a reader.
+-- What may follow in each state of a reader (Arm IHI 0064, "Descriptions of Trace Packets").
 use Rattle.std.specs.Prelude.{◌≡◌, ◌↔◌, List, ◌∷◌, ℕ, ◌+◌, ◌-◌, ◌*◌, ◌/◌, ◌%◌, ◌^◌, ◌<◌, ◌≤◌, ◌==◌, ◌&&◌, not, Option, Some, None, Ok, Err, nat_lt, if◌then◌else◌}
 use Rattle.etm_types.specs.Settings.{Sizes}
 use Rattle.etm_types.specs.Atoms.{IsAtomRun, atoms_in}
@@ -10,7 +10,7 @@ use Rattle.packet_grammar.specs.declared.packet.Packet.{Packet}
 use Rattle.packet_grammar.specs.declared.packet.Packet.TheVariants.{Discard, Overflow, Info, Exc, Commit, Cancel, CtxInfo, Addr, Atoms}
 use Rattle.packet_grammar.specs.declared.fault.PacketFault.TheVariants.{Extension, InfoControl, InfoMode, ExceptionTwoByte, ExceptionForm, Aarch32Context}
 use Rattle.packet_grammar.specs.Parts.{Outcome}
-use Rattle.packet_grammar.specs.Contexts.{bit}
+use Rattle.packet_grammar.specs.Fields.{bit, field as field_in, lowest, from_bit, continues, is_last}
 use Rattle.packet_reader.specs.declared.state.State.{State}
 use Rattle.packet_reader.specs.declared.state.State.TheVariants.{Extension as AtExtension, Zeros, Control, Number, Stamp, Exception, Short, ShortHigh, LongFirst, LongSecond, LongHigh, Context, Vmid, Cid}
 use Rattle.packet_reader.specs.declared.state.Purpose.{Purpose}
@@ -22,14 +22,14 @@ use Rattle.packet_reader.specs.declared.state.Progress.TheVariants.{Next, Done}
 use Rattle.packet_grammar.specs.Parsed.{Spells}
 use Rattle.packet_reader.specs.Trees.{Tree, Leads, known, byte, number_tree, stamp_tree, bytes_tree, field_tree, sync_tree}
 
--- behind one 00
+-- Alignment Synchronization packet, Discard packet, Overflow packet: after one 00
 abbrev pub third_kind : ℕ → Outcome Packet
 third_kind b = if b == 0x03 then Ok Discard else if b == 0x05 then Ok Overflow else Err (Extension b)
 
 abbrev pub extension_tree : Tree
 extension_tree = byte (λ b. if b == 0x00 then sync_tree 9 else known (third_kind b))
 
--- the sections of a trace info packet, from the last one on
+-- Trace Info packet: the sections, from the last one on
 abbrev pub cycles_tree : ℕ → Option ℕ → Option ℕ → Option ℕ → Tree
 cycles_tree control info key spec =
     if bit 3 control then number_tree 4 0 0 (λ n. known (Ok (Info info key spec (Some n)))) else known (Ok (Info info key spec None))
@@ -48,9 +48,9 @@ abbrev pub info_tree : ℕ → Tree
 info_tree control = if bit 0 control then number_tree 4 0 0 (mode_tree control) else key_tree control None
 
 abbrev pub control_tree : Tree
-control_tree = byte (λ control. if nat_lt control 16 then info_tree control else known (Err (InfoControl control)))
+control_tree = byte (λ control. if nat_lt control (2 ^ 4) then info_tree control else known (Err (InfoControl control)))
 
--- behind a number
+-- after a number
 abbrev pub behind_number : Purpose → ℕ → Tree
 behind_number ForCommit n = known (Ok (Commit n))
 behind_number (ForCancel flip) n = known (Ok (Cancel n flip))
@@ -59,17 +59,18 @@ behind_number (Key control info) n = spec_tree control info (Some n)
 behind_number (Spec control info key) n = cycles_tree control info key (Some n)
 behind_number (Cycles info key spec) n = known (Ok (Info info key spec (Some n)))
 
+-- Exception packet
 abbrev pub exception_tree : Tree
 exception_tree =
-    byte (λ b. known (if bit 7 b then Err (ExceptionTwoByte b) else if bit 0 b && not (bit 6 b) then Ok (Exc (b / 2 % 32)) else Err (ExceptionForm b)))
+    byte (λ b. known (if bit 7 b then Err (ExceptionTwoByte b) else if bit 0 b && not (bit 6 b) then Ok (Exc (field_in 5 1 b)) else Err (ExceptionForm b)))
 
--- a context, alone or behind an address
+-- Context packet, Address with Context packet: a context, alone or after an address
 abbrev pub with_context : Option AddrForm → CtxBits → Outcome Packet
 with_context None ctx = Ok (CtxInfo ctx)
 with_context (Some form) ctx = Ok (Addr form (Some ctx))
 
 abbrev pub context_of : ℕ → Option ℕ → Option ℕ → CtxBits
-context_of info vmid cid = record { el = info % 4; ns = bit 5 info; vmid = vmid; cid = cid }
+context_of info vmid cid = record { el = lowest 2 info; ns = bit 5 info; vmid = vmid; cid = cid }
 
 abbrev pub cid_tree : Sizes → Option AddrForm → ℕ → Option ℕ → Tree
 cid_tree s form info vmid = field_tree (bit 7 info) s.cid_bytes (λ cid. known (with_context form (context_of info vmid cid)))
@@ -80,13 +81,14 @@ vmid_tree s form info = field_tree (bit 6 info) s.vmid_bytes (cid_tree s form in
 abbrev pub context_tree : Sizes → Option AddrForm → Tree
 context_tree s form = byte (λ info. if bit 4 info then vmid_tree s form info else known (Err (Aarch32Context info)))
 
+-- Short Address packet
 abbrev pub short_high_tree : ℕ → Tree
-short_high_tree low = byte (λ b. known (Ok (Addr (Short2 (low + b * 2 ^ 9)) None)))
+short_high_tree low = byte (λ b. known (Ok (Addr (Short2 (low + from_bit 9 b)) None)))
 
 abbrev pub short_tree : Tree
-short_tree = byte (λ a. if nat_lt a 128 then known (Ok (Addr (Short1 (a * 4)) None)) else short_high_tree ((a - 128) * 4))
+short_tree = byte (λ a. if is_last a then known (Ok (Addr (Short1 (from_bit 2 a)) None)) else short_high_tree (from_bit 2 (a - continues)))
 
--- behind the bytes of a long address
+-- Long Address packets, Address with Context packet: after the bytes of the address
 abbrev pub form_of : Long → ℕ → AddrForm
 form_of long value = if long.wide then Long64 value else Long32 value
 
@@ -94,13 +96,13 @@ abbrev pub behind_long : Sizes → Long → ℕ → Tree
 behind_long s long value = if long.with_context then context_tree s (Some (form_of long value)) else known (Ok (Addr (form_of long value) None))
 
 abbrev pub high_tree : Sizes → Long → ℕ → Field → Tree
-high_tree s long low field = bytes_tree field.left field.count field.value (λ value. behind_long s long (low + value * 2 ^ 16))
+high_tree s long low field = bytes_tree field.left field.count field.value (λ value. behind_long s long (low + from_bit 16 value))
 
 abbrev pub second_tree : Sizes → Long → ℕ → Tree
-second_tree s long low = byte (λ b. high_tree s long (low + b % 128 * 2 ^ 9) (record { left = if long.wide then 6 else 2; count = 0; value = 0 }))
+second_tree s long low = byte (λ b. high_tree s long (low + from_bit 9 (lowest 7 b)) (record { left = if long.wide then 6 else 2; count = 0; value = 0 }))
 
 abbrev pub long_tree : Sizes → Long → Tree
-long_tree s long = byte (λ a. second_tree s long (a % 128 * 4))
+long_tree s long = byte (λ a. second_tree s long (from_bit 2 (lowest 7 a)))
 
 -- what may follow in a state
 abbrev pub tree_of : Sizes → State → Tree
@@ -128,7 +130,7 @@ tree_after s (Done outcome) = known outcome
 abbrev pub FitsField : ℕ → Field → Type 0
 FitsField most field = (1 ≤ field.left) × (field.left + field.count ≤ most) × (field.value < 256 ^ field.count)
 
--- what a state holds is no more than its bytes could tell
+-- what a state holds is no more than its bytes could hold
 abbrev pub Fits : State → Type 0
 Fits (Number purpose left groups value) = (left + groups ≡ 4) × (value < 128 ^ groups)
 Fits (Stamp left groups low) = (left + groups ≡ 8) × (low < 128 ^ groups)
@@ -148,7 +150,7 @@ abbrev pub HeadsBy : ℕ → Progress → Type 0
 HeadsBy header progress =
     (s : Sizes) (outcome : Outcome Packet) (bytes : List ℕ) → Spells s outcome (header ∷ bytes) ↔ Leads (tree_after s progress) outcome bytes
 
--- the run of atoms that a header tells
+-- Atom Format 1 to 6 packets: the run of atoms of a header
 abbrev pub IsRun : ℕ → Progress → Type 0
 IsRun header (Done (Ok (Atoms run))) = IsAtomRun run × TellsAtoms header (atoms_in run)
 IsRun header progress = ⊥

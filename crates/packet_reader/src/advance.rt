@@ -1,7 +1,7 @@
 //! What a byte makes of the begun packet.
 ghost use Rattle.std.specs.Prelude.{◌≡◌, Ok, ◌+◌, ◌-◌, ◌*◌, ◌%◌, ◌^◌, ◌<◌, ◌≤◌, Some, None, if◌then◌else◌, nat_lt, ◌==◌};
 ghost use Rattle.etm_types.specs.Settings.{Sizes};
-ghost use Rattle.packet_grammar.specs.Contexts.{bit};
+ghost use Rattle.packet_grammar.specs.Fields.{bit};
 ghost use Rattle.packet_reader.specs.Trees.{after, known, number_tree, stamp_tree, bytes_tree, sync_tree};
 ghost use Rattle.packet_reader.specs.States.{tree_of, tree_after, Fits, FitsAfter, behind_number, mode_tree, info_tree, key_tree, spec_tree, cycles_tree, vmid_tree, cid_tree, context_tree, context_of, with_context, extension_tree, control_tree, exception_tree, short_tree, short_high_tree, long_tree, second_tree, high_tree, behind_long};
 

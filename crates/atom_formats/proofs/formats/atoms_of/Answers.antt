@@ -45,10 +45,10 @@ pub returns-in-248-to-255-clause-run : goal.returns-in-248-to-255-clause-run
 returns-in-248-to-255-clause-run c = run_told c.args.byte 3 _ c.run-in-248-to-255.result c.run-in-248-to-255.ensures (three_told c.args.byte (search rules) (search rules))
 
 pub returns-in-192-to-212-clause-run : goal.returns-in-192-to-212-clause-run
-returns-in-192-to-212-clause-run c = run_told c.args.byte _ _ c.long_run.result c.long_run.ensures (long_told_e c.args.byte (search rules) (search rules))
+returns-in-192-to-212-clause-run c = run_told c.args.byte _ _ c.format_6.result c.format_6.ensures (long_told_e c.args.byte (search rules) (search rules))
 
 pub returns-in-224-to-244-clause-run : goal.returns-in-224-to-244-clause-run
-returns-in-224-to-244-clause-run c = run_told c.args.byte _ _ c.long_run-in-224-to-244.result c.long_run-in-224-to-244.ensures (long_told_n c.args.byte (search rules) (search rules))
+returns-in-224-to-244-clause-run c = run_told c.args.byte _ _ c.format_6-in-224-to-244.result c.format_6-in-224-to-244.ensures (long_told_n c.args.byte (search rules) (search rules))
 
 pub returns-in-224-to-244-clause-within : goal.returns-in-224-to-244-clause-within
-returns-in-224-to-244-clause-within c = long_within (c.args.byte - 224) c.long_run-in-224-to-244.result c.long_run-in-224-to-244.ensures (search rules)
+returns-in-224-to-244-clause-within c = long_within (c.args.byte - 224) c.format_6-in-224-to-244.result c.format_6-in-224-to-244.ensures (search rules)

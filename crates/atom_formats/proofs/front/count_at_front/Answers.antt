@@ -1,6 +1,6 @@
 use Rattle.std.proofs.Common.{refl}
 use Rattle.atom_formats.proofs.Longest.{no_run, run_elsewhere}
-use Rattle.atom_formats.proofs.front.told_at_front.Goals as goal
+use Rattle.atom_formats.proofs.front.count_at_front.Goals as goal
 
 pub returns-in_err-run-clause-none : goal.returns-in_err-run-clause-none
 returns-in_err-run-clause-none c = λ _ n front. no_run c.args.atoms.now c.args.byte (c.in_err-run.ensures.none.0 refl) n front
