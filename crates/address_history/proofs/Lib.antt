@@ -1,1 +1,2 @@
 pub mod LowBits
+pub mod Examples

@@ -1,23 +1,21 @@
-//! The last three addresses that were told.
-ghost use Rattle.std.specs.Prelude.{◌≡◌, ◌≤◌, ◌<◌, ◌%◌, ◌∷◌, [], Some, take, slice_index};
+//! The three addresses that were traced last.
+ghost use Rattle.std.specs.Prelude.{◌≡◌, ◌≤◌, ◌<◌, ◌%◌, Some, slice_index};
 
+use a64_branches::INSTRUCTION_BYTES;
 use etm_types::AddrForm;
 use std::marker::Model;
 
 /// How many addresses a history holds.
 const ENTRIES: usize = 3;
 
-/// The number of low bits that a form tells, with bits 1 and 0, which are always 0.
+/// How many low bits a form replaces; bits 1 and 0 among them are always 0.
 const SHORT1_BITS: u32 = 9;
 
 const SHORT2_BITS: u32 = 17;
 
 const LONG32_BITS: u32 = 32;
 
-/// Instructions stand at multiples of this.
-const INSTRUCTION_BYTES: u64 = 4;
-
-/// The three addresses that were told last. Contracts see it as their list, the newest first.
+/// The three addresses that were traced last. Contracts see it as their list, the newest first.
 #[derive(Clone, Copy, Debug, PartialEq, Eq)]
 pub struct History {
     entries: [u64; ENTRIES],
@@ -38,11 +36,11 @@ impl Model for History {
 
 impl History {
     ghost use Rattle.etm_types.specs.AddrForm.{IsAddrForm};
-    ghost use Rattle.address_history.specs.Forms.{HasEntry, IsHistory, IsNeeded, address_told, first_form};
+    ghost use Rattle.address_history.specs.Forms.{HasEntry, IsHistory, IsNeeded, address_told, first_form, no_address, put_first};
 
     /// The history at the start of a trace, and after a trace info packet: three times address 0.
     pub fn reset() -> History
-        ensures value { result ≡ 0 ∷ 0 ∷ 0 ∷ [] }
+        ensures value { result ≡ no_address }
         ensures within { IsHistory result }
     {
         History {
@@ -52,7 +50,7 @@ impl History {
 
     /// Puts an address first. The oldest falls out.
     pub fn push(&mut self, addr: u64)
-        ensures value { self.new ≡ addr ∷ take 2 self.old }
+        ensures value { self.new ≡ put_first addr self.old }
         ensures within { IsHistory self.new }
     {
         let [newest, middle, _] = self.entries;
@@ -68,13 +66,14 @@ impl History {
         self.entries[usize::from(i)]
     }
 
-    /// The form in which an address is told, a multiple of 4: the first that applies, of the matches
-    /// with entry 0, 1 and 2, the short forms of 7 and of 15 bits, and the long ones of 32 and of 64.
+    /// The form that gives an address, which is a multiple of 4: the first that does, of the exact
+    /// matches with entry 0, 1 and 2, the short forms of 7 and of 15 bits, and the long ones of 32 and
+    /// of 64.
     pub fn choose(&self, addr: u64) -> AddrForm
         requires { addr % 4 ≡ 0 }
         ensures first { first_form self.now addr ≡ Some result }
         ensures needed { IsNeeded self.now addr result }
-        ensures tells_it { address_told self.now result ≡ addr }
+        ensures gives_it { address_told self.now result ≡ addr }
         ensures within { IsAddrForm result }
         ensures applies { HasEntry result }
     {
@@ -100,7 +99,7 @@ impl History {
         AddrForm::Long64(addr)
     }
 
-    /// The address that a form tells. Bits of a value that are out of their place are passed over.
+    /// The address that a form gives. Bits of a value that are out of their place are passed over.
     pub fn apply(&self, form: &AddrForm) -> u64
         requires { HasEntry form.now }
         ensures { result ≡ address_told self.now form.now }

@@ -1,4 +1,4 @@
--- The context that holds before a trace has told one.
+-- The context before a trace has given one.
 use Rattle.std.specs.Prelude.{false}
 use Rattle.etm_types.specs.declared.context.Ctx.{Ctx}
 

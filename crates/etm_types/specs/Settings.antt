@@ -14,7 +14,7 @@ pub record AreSettings (s : Sizes) : Type 0 where
   pub vmid : IsTrue (is_vmid_size s.vmid_bytes)
   pub cid : IsTrue (is_cid_size s.cid_bytes)
 
--- the exception level is at most 3, and each field is below what its bytes can tell: with no byte, 0 alone
+-- the exception level is at most 3, and each field is a number of its bytes: with no byte, 0 alone
 pub record FitsSettings (s : Sizes) (ctx : Ctx) : Type 0 where
   pub el : ctx.el ≤ 3
   pub vmid : ctx.vmid < 256 ^ s.vmid_bytes

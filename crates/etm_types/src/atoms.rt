@@ -1,4 +1,4 @@
-//! Runs of atoms, as packets tell them (Arm IHI 0064, atom packets and mispredict packets).
+//! Runs of atoms, as packets carry them (Arm IHI 0064, atom, mispredict and cancel packets).
 //!
 //! An atom is E, a branch that was taken, or N, a branch that was not.
 
@@ -11,7 +11,7 @@ pub struct AtomRun {
     pub bits: u32,
 }
 
-/// The atoms of a packet that tells of a wrong prediction: none, E, EE or N.
+/// The atoms of a mispredict or cancel packet: none, E, EE or N.
 #[derive(Clone, Copy, Debug, PartialEq, Eq)]
 pub struct FewAtoms {
     /// How many atoms there are: 0, 1 or 2.

@@ -1,4 +1,4 @@
-//! P0 elements, and what is told of the way to them (Arm IHI 0064, trace elements).
+//! Trace elements, and a P0 element with those that came before it (Arm IHI 0064, trace elements).
 
 use crate::Ctx;
 
@@ -7,11 +7,11 @@ use crate::Ctx;
 pub enum P0 {
     /// An atom: `true` for E, a branch that was taken, and `false` for N.
     Atom(bool),
-    /// An exception of a kind 0 to 31, and the address that it returns to.
+    /// An exception of a type 0 to 31, and its preferred return address.
     Exc { kind: u8, ret: u64 },
 }
 
-/// An element of a trace: what a packet tells of the execution.
+/// An element of a trace.
 #[derive(Clone, Copy, Debug, PartialEq, Eq)]
 pub enum Elem {
     /// Trace info: the trace begins anew here, with so many P0 elements that are not committed.
@@ -28,26 +28,26 @@ pub enum Elem {
     Commit(u32),
     /// So many P0 elements, the newest ones, are cancelled.
     Cancel(u32),
-    /// The newest atom was predicted wrongly: it is the other one.
+    /// A mispredict: the newest atom is the other one, N for E and E for N.
     Flip,
     /// A buffer of the trace unit was full, and trace is missing.
     Overflow,
-    /// The trace unit threw away what it had not told yet.
+    /// The trace unit stopped tracing and discarded what it had not output yet.
     Discard,
 }
 
-/// What was told just before a P0 element.
+/// What elements gave since the last P0 element.
 #[derive(Clone, Copy, Debug, PartialEq, Eq)]
 pub struct Pre {
     /// A trace info element came: return addresses from before it count no more.
     pub flush: bool,
     /// Tracing was turned on.
     pub on: bool,
-    /// Trace is missing here, so the address is not known unless it is told.
+    /// Trace is missing here, so the address is not known unless `addr` gives it.
     pub lost: bool,
-    /// The context, where it was told.
+    /// The context, where one was given.
     pub ctx: Option<Ctx>,
-    /// The address of the next instruction, where it was told.
+    /// The address of the next instruction, where one was given.
     pub addr: Option<u64>,
 }
 
@@ -55,7 +55,7 @@ impl Pre {
     ghost use Rattle.std.specs.Prelude.{◌≡◌};
     ghost use Rattle.etm_types.specs.Pre.{nothing_told, trace_missing};
 
-    /// Nothing was told.
+    /// Nothing was given.
     pub fn nothing_told() -> Pre
         ensures { result ≡ nothing_told }
     {
@@ -68,7 +68,7 @@ impl Pre {
         }
     }
 
-    /// Nothing was told, and trace is missing: so a stream begins.
+    /// Nothing was given, and trace is missing: so a stream begins.
     pub fn trace_missing() -> Pre
         ensures { result ≡ trace_missing }
     {
@@ -79,14 +79,14 @@ impl Pre {
     }
 }
 
-/// A P0 element with what was told just before it.
+/// A P0 element with what was given before it.
 #[derive(Clone, Copy, Debug, PartialEq, Eq)]
 pub struct Entry {
     pub pre: Pre,
     pub p0: P0,
 }
 
-/// What stands in the list of things that a trace has told, oldest first. Definitions alone use it.
+/// What stands in the list of things that a trace has shown, oldest first.
 #[derive(Clone, Copy, Debug, PartialEq, Eq)]
 pub enum Thing {
     /// A P0 element that was seen.

@@ -1,6 +1,6 @@
 //! The values that the layers of the reader pass on: settings and stream IDs, the contexts of executed
-//! code, the elements of a trace with what was told before them, the values that packets carry, what the
-//! walk of an element shows, the items of a path, and the faults of a reader above the packets.
+//! code, the values that packets carry, the elements of a trace, what the walk of a P0 element shows, the
+//! items of a path, and the faults of a reader above the packets.
 //!
 //! Ranges stand where a call asks for them: [`Settings`] and [`Id`] have private fields and exist only
 //! in their range, the other types are open. The terms are those of the ETMv4 architecture (Arm

@@ -93,8 +93,8 @@ impl Settings {
         self.cid_bytes
     }
 
-    /// Whether a context can be told under these settings: its level is at most 3, and its VMID and
-    /// context ID fit their sizes. Size 0 fits 0 alone.
+    /// Whether a packet can carry a context under these settings: its level is at most 3, and its VMID
+    /// and context ID fit their sizes. Size 0 fits 0 alone.
     pub fn fits(&self, ctx: &Ctx) -> bool
         ensures { IsTrue result ↔ FitsSettings self.now ctx.now }
     {

@@ -2,7 +2,7 @@
 
 use crate::Ctx;
 
-/// The block of instructions that a P0 element tells of, and the exception behind it where there is one.
+/// The block of instructions of a P0 element, and the exception after it where there is one.
 /// It stands for these items, in this order: trace on, where `on` is true; one unknown stretch, where
 /// `unknown` is true, else the instructions; the exception, where there is one.
 #[derive(Clone, Copy, Debug, PartialEq, Eq)]
@@ -15,9 +15,9 @@ pub struct Walked {
     pub ctx: Ctx,
     /// The address of the first instruction.
     pub start: u64,
-    /// How many instructions there are, each 4 bytes behind the one before, modulo 2^64.
+    /// How many instructions there are, each 4 bytes after the one before, modulo 2^64.
     pub count: u64,
-    /// The exception that was taken behind them, where one was.
+    /// The exception that was taken after them, where one was.
     pub exc: Option<ExcMark>,
 }
 
@@ -26,6 +26,6 @@ pub struct Walked {
 pub struct ExcMark {
     /// The type of the exception, 0 to 31.
     pub kind: u8,
-    /// The address that it returns to.
+    /// Its preferred return address.
     pub ret: u64,
 }

@@ -1,13 +1,13 @@
-//! The return addresses that a trace unit and its reader keep, so that a return to one of them need
-//! not be told (Arm IHI 0064, "Return stack").
+//! The return addresses that a trace unit and its reader keep, so that the trace can leave out the
+//! target of a return (Arm IHI 0064, "Return stack").
 //!
-//! A call puts the address behind it on the [`ReturnStack`], and a return takes the newest one off.
-//! The stack has one depth for good, and where it is full the oldest address falls out.
+//! A call puts its return address on the [`ReturnStack`], and a return takes the newest one off. The
+//! depth of a stack, at most [`MOST_ADDRESSES`], never changes; on a full one the oldest falls out.
 #![tactic(auto)]
 
 mod stack;
 
-pub use stack::ReturnStack;
+pub use stack::{MOST_ADDRESSES, ReturnStack};
 
 #[cfg(test)]
 mod tests;

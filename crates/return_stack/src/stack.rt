@@ -5,6 +5,9 @@ use circular_buffer::HeapCircularBuffer;
 use std::alloc::{AllocError, Global};
 use std::marker::Model;
 
+/// The most return addresses that a stack keeps.
+pub const MOST_ADDRESSES: usize = 15;
+
 /// At most `depth` return addresses. Contracts see it as the list of its `addresses`, the newest
 /// first, and its `depth`.
 #[derive(Drop, Debug)]
@@ -25,11 +28,12 @@ impl Model for ReturnStack {
 }
 
 impl ReturnStack {
-    ghost use Rattle.return_stack.specs.Stack.{IsStack, pushed};
+    ghost use Rattle.return_stack.specs.Stack.{IsStack, most_addresses, pushed};
 
-    /// An empty stack. This is the one call that takes memory, and the error means want of it.
+    /// An empty stack of a depth up to [`MOST_ADDRESSES`]. This is the one call that takes memory, and
+    /// the error means want of it.
     pub fn new(alloc: Global, depth: usize) -> Result<ReturnStack, AllocError>
-        requires { depth ≤ 15 }
+        requires { depth ≤ most_addresses }
         ensures empty { IfOk result (λ stack. stack.addresses ≡ []) }
         ensures depth { IfOk result (λ stack. stack.depth ≡ depth) }
         ensures within { IfOk result IsStack }
