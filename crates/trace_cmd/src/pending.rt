@@ -1,6 +1,8 @@
 //! What stands in the trace before the next P0 element (Arm IHI 0064, "Descriptions of Trace Elements"). Nothing is
 //! speculated, so that each P0 element is committed as it comes, and nothing is held.
-ghost use Rattle.std.specs.Prelude.{◌≡◌, ◌==◌, Ok, Err, None, Some, if◌then◌else◌};
+ghost use Rattle.std.specs.Prelude.{◌≡◌, ◌==◌, Ok, Err, None, IfOk, IsErr, if◌then◌else◌};
+ghost use Rattle.etm_types.specs.Pre.{trace_missing};
+ghost use Rattle.trace_cmd.specs.Pending.{informs};
 
 use etm_types::{Elem, Entry, Pre, QueueFault, Thing};
 
@@ -13,11 +15,8 @@ pub struct Pending {
     pub informed: bool,
 }
 
-/// What an element leaves, and the thing that it commits.
-type Taken = Result<(Pending, Option<Thing>), QueueFault>;
-
 impl Pending {
-    ghost use Rattle.trace_cmd.specs.Pending.{at_first, commits, informs, taken, tells};
+    ghost use Rattle.trace_cmd.specs.Pending.{at_first, taken};
 
     /// Before the first element: trace is missing.
     pub fn at_first() -> Pending
@@ -29,74 +28,72 @@ impl Pending {
         }
     }
 
-    /// Takes an element. It has a fault where it asks for something that is held.
+    /// Takes an element, and gives the thing that it commits, if any. It has a fault where it asks for something that
+    /// is held, and changes nothing then.
     #[tactic(auto, unfolding(crate::specs::Pending::taken))]
-    pub fn taken(&self, elem: &Elem) -> Taken
-        ensures { result ≡ taken self.now elem.now }
+    pub fn take(&mut self, elem: &Elem) -> Result<Option<Thing>, QueueFault>
+        ensures ok { IfOk result (λ thing. taken self.old elem.now ≡ Ok (self.new, thing)) }
+        ensures fault { (fault : QueueFault) → result ≡ Err fault → taken self.old elem.now ≡ Err fault }
+        ensures unchanged { IsErr result → self.new ≡ self.old }
     {
-        let pre = self.pre;
         match *elem {
-            Elem::Info { spec } => self.informs(spec),
-            Elem::On => self.tells(Pre {
-                on: true,
-                addr: None,
-                ..pre
-            }),
-            Elem::Ctx(ctx) => self.tells(Pre {
-                ctx: Some(ctx),
-                ..pre
-            }),
-            Elem::Addr(addr) => self.tells(Pre {
-                addr: Some(addr),
-                ..pre
-            }),
-            Elem::P0(p0) => self.commits(Thing::Seen(Entry { pre, p0 }), Pre::nothing_told()),
-            Elem::Commit(asked) => self.asks(asked, QueueFault::CommitOverrun { asked, held: 0 }),
-            Elem::Cancel(asked) => self.asks(asked, QueueFault::CancelOverrun { asked, held: 0 }),
+            Elem::Info { spec } => self.inform(spec),
+            Elem::On => {
+                self.pre.on = true;
+                self.pre.addr = None;
+                Ok(None)
+            }
+            Elem::Ctx(ctx) => {
+                self.pre.ctx = Some(ctx);
+                Ok(None)
+            }
+            Elem::Addr(addr) => {
+                self.pre.addr = Some(addr);
+                Ok(None)
+            }
+            Elem::P0(p0) => {
+                let pre = self.pre;
+                self.pre = Pre::nothing_told();
+                Ok(Some(Thing::Seen(Entry { pre, p0 })))
+            }
+            Elem::Commit(asked) => asks(asked, QueueFault::CommitOverrun { asked, held: 0 }),
+            Elem::Cancel(asked) => asks(asked, QueueFault::CancelOverrun { asked, held: 0 }),
             Elem::Flip => Err(QueueFault::NoAtomToFlip { held: 0 }),
-            Elem::Overflow => self.commits(Thing::Gap, Pre::trace_missing()),
-            Elem::Discard => self.commits(Thing::Stop, Pre::trace_missing()),
+            Elem::Overflow => Ok(Some(self.break_off(Thing::Gap))),
+            Elem::Discard => Ok(Some(self.break_off(Thing::Stop))),
         }
     }
 
-    /// So many elements are asked for that are held: the fault where it is not none.
-    fn asks(&self, asked: u32, fault: QueueFault) -> Taken
-        ensures { result ≡ (if asked == 0 then Ok (self.now, None) else Err fault) }
+    /// Trace is missing after a thing that is committed.
+    fn break_off(&mut self, thing: Thing) -> Thing
+        ensures thing { result ≡ thing }
+        ensures missing { self.new ≡ record (self.old) { pre = trace_missing } }
     {
-        if asked == 0 {
-            return Ok((*self, None));
-        }
-        Err(fault)
-    }
-
-    /// The next P0 element has this.
-    fn tells(&self, pre: Pre) -> Taken
-        ensures { result ≡ tells self.now pre }
-    {
-        let informed = self.informed;
-        Ok((Pending { pre, informed }, None))
-    }
-
-    /// A thing is committed, and the next P0 element has this.
-    fn commits(&self, thing: Thing, pre: Pre) -> Taken
-        ensures { result ≡ commits self.now thing pre }
-    {
-        let informed = self.informed;
-        Ok((Pending { pre, informed }, Some(thing)))
+        self.pre = Pre::trace_missing();
+        thing
     }
 
     /// A trace info. The first one may announce P0 elements from before it that are not committed.
-    fn informs(&self, spec: u32) -> Taken
-        ensures { result ≡ informs self.now spec }
+    fn inform(&mut self, spec: u32) -> Result<Option<Thing>, QueueFault>
+        ensures ok { IfOk result (λ thing. informs self.old spec ≡ Ok (self.new, thing)) }
+        ensures fault { (fault : QueueFault) → result ≡ Err fault → informs self.old spec ≡ Err fault }
+        ensures unchanged { IsErr result → self.new ≡ self.old }
     {
         if !self.informed && spec != 0 {
             return Err(QueueFault::SpecTooDeep { spec, depth: 0 });
         }
-        let pre = Pre {
-            flush: true,
-            ..self.pre
-        };
-        let informed = true;
-        Ok((Pending { pre, informed }, None))
+        self.pre.flush = true;
+        self.informed = true;
+        Ok(None)
     }
+}
+
+/// So many elements are asked for that are held: the fault where it is not none.
+fn asks(asked: u32, fault: QueueFault) -> Result<Option<Thing>, QueueFault>
+    ensures { result ≡ (if asked == 0 then Ok None else Err fault) }
+{
+    if asked == 0 {
+        return Ok(None);
+    }
+    Err(fault)
 }

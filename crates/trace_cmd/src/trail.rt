@@ -114,15 +114,9 @@ impl Trail {
         ensures shows { Shows (Takes image.now self.old.pending self.old.walker elem.now) id
             self.new.pending self.new.walker self.old.shown self.new.shown (K.state sink.old) (K.state sink.new) result }
     {
-        match self.pending.taken(elem) {
-            Ok((pending, Some(thing))) => {
-                self.pending = pending;
-                self.take_thing(image, id, &thing, sink)
-            }
-            Ok((pending, None)) => {
-                self.pending = pending;
-                Ok(None)
-            }
+        match self.pending.take(elem) {
+            Ok(Some(thing)) => self.take_thing(image, id, &thing, sink),
+            Ok(None) => Ok(None),
             Err(fault) => Ok(Some(Fault::Queue(fault))),
         }
     }
