@@ -12,7 +12,7 @@ use crate::offset::{imm14, imm19, imm26};
 /// What an instruction is to a trace. Offsets are in bytes, from the address of the instruction.
 #[derive(Clone, Copy, Debug, PartialEq, Eq)]
 pub enum Class {
-    /// An instruction of which a trace does not tell: the word behind it is executed next.
+    /// An instruction that is not traced: the next word is executed after it.
     Plain,
     /// B, or BL where it links.
     Jump { off: i64, link: bool },

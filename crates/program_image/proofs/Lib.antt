@@ -12,3 +12,4 @@ pub mod Gaps
 pub mod First
 pub mod PlainRuns
 pub mod Tables
+pub mod Examples

@@ -1,0 +1,182 @@
+-- Images, lines and faults that were worked out by hand, each beside what a wrong definition would say.
+use Rattle.std.proofs.Common.{◌≡◌, ℕ, zero, suc, ◌<◌, ◌^◌, ◌-◌, true, false, List, [], ◌∷◌, Some, None, Ok, Err, refl, arith}
+use Rattle.std.specs.Prelude.{codes, replicate}
+use Rattle.a64_branches.specs.declared.class.Class.TheVariants.{Plain}
+use Rattle.std.specs.Str.{is_utf8}
+use Rattle.a64_branches.specs.Classes.{class_of}
+use Rattle.program_image.specs.Part.{Part, word_of}
+use Rattle.program_image.specs.Line.{bytes_of, number_of, words_in}
+use Rattle.program_image.specs.ImageText.{add_bytes, add_line, add_lines, add_words, begin_part, by_address, growth_fault, has_between}
+use Rattle.program_image.specs.Blocks.{behind, class_at}
+use Rattle.program_image.specs.Runs.{IsRunLength, runs_of}
+use Rattle.program_image.specs.declared.fault.ImageWhy.TheVariants.{Syntax, Unaligned, Overlap, Wraps, TooLarge}
+
+abbrev nop : List ℕ → List ℕ
+nop words = 0x1f ∷ 0x20 ∷ 0x03 ∷ 0xd5 ∷ words
+
+-- B to itself
+abbrev here : List ℕ → List ℕ
+here words = 0x00 ∷ 0x00 ∷ 0x00 ∷ 0x14 ∷ words
+
+abbrev part : ℕ → List ℕ → Part
+part start bytes = record { start = start; bytes = bytes }
+
+-- ---- on one line each: a reason and one that is tested after it
+
+-- an odd count of digits
+syntax_before_unaligned : add_words (part 0 [] ∷ []) (codes "1f2" ∷ []) ≡ Err Syntax
+syntax_before_unaligned = refl
+
+-- a word after an address that is no multiple of 4
+syntax_before_unaligned_address : add_words [] (codes "@2" ∷ codes "2" ∷ []) ≡ Err Syntax
+syntax_before_unaligned_address = refl
+
+no_part_before_unaligned : add_bytes [] (0x1f ∷ []) ≡ Err Syntax
+no_part_before_unaligned = refl
+
+unaligned_before_wraps : growth_fault [] (part (2 ^ 64 - 4) (nop [])) 2 ≡ Some Unaligned
+unaligned_before_wraps = refl
+
+unaligned_before_overlap : growth_fault (part 4 (nop []) ∷ []) (part 0 (nop [])) 2 ≡ Some Unaligned
+unaligned_before_overlap = refl
+
+unaligned_before_too_large : growth_fault [] (part 0 []) 16777218 ≡ Some Unaligned
+unaligned_before_too_large = refl
+
+unaligned_before_too_many : begin_part (replicate 64 (part 0 [])) 2 ≡ Err Unaligned
+unaligned_before_too_many = refl
+
+wraps_before_overlap : growth_fault (part (2 ^ 64 - 4) (nop []) ∷ []) (part (2 ^ 64 - 8) []) 12 ≡ Some Wraps
+wraps_before_overlap = refl
+
+wraps_before_too_large : growth_fault [] (part (2 ^ 64 - 4) []) 16777220 ≡ Some Wraps
+wraps_before_too_large = refl
+
+overlap_before_too_large : growth_fault (part 4 (nop []) ∷ []) (part 0 []) 16777220 ≡ Some Overlap
+overlap_before_too_large = refl
+
+-- ---- the edges of each reason
+
+at_the_last_address : growth_fault [] (part (2 ^ 64 - 4) []) 4 ≡ None
+at_the_last_address = refl
+
+past_the_last_address : growth_fault [] (part (2 ^ 64 - 4) []) 8 ≡ Some Wraps
+past_the_last_address = refl
+
+-- 16 MiB with the bytes of all parts
+most_bytes_in_all : growth_fault (part 0 (nop []) ∷ []) (part 0x1000 (nop [])) 16777208 ≡ None
+most_bytes_in_all = refl
+
+more_bytes_in_all : growth_fault (part 0 (nop []) ∷ []) (part 0x1000 (nop [])) 16777212 ≡ Some TooLarge
+more_bytes_in_all = refl
+
+-- parts without bytes count
+most_parts_told : begin_part (replicate 63 (part 0 [])) 4 ≡ Ok (part 4 [] ∷ replicate 63 (part 0 []))
+most_parts_told = refl
+
+more_parts_told : begin_part (replicate 64 (part 0 [])) 4 ≡ Err TooLarge
+more_parts_told = refl
+
+-- parts that touch share no byte
+touches_before : has_between 4 8 (part 0 (nop [])) ≡ false
+touches_before = refl
+
+touches_after : has_between 4 8 (part 8 (nop [])) ≡ false
+touches_after = refl
+
+one_byte_shared : has_between 4 9 (part 8 (nop [])) ≡ true
+one_byte_shared = refl
+
+part_within : has_between 0 16 (part 8 (nop [])) ≡ true
+part_within = refl
+
+empty_shares_none : has_between 0 16 (part 8 []) ≡ false
+empty_shares_none = refl
+
+-- ---- lines
+
+seventeen_digits : number_of (codes "00000000000000004") ≡ None
+seventeen_digits = refl
+
+no_digits : number_of [] ≡ None
+no_digits = refl
+
+-- each word has whole bytes
+half_bytes : bytes_of (codes "1f2" ∷ codes "003" ∷ []) ≡ None
+half_bytes = refl
+
+words_by_spaces_and_tabs : words_in (9 ∷ 97 ∷ 32 ∷ 32 ∷ 98 ∷ 99 ∷ 32 ∷ []) ≡ (97 ∷ []) ∷ (98 ∷ 99 ∷ []) ∷ []
+words_by_spaces_and_tabs = refl
+
+-- a comment begins its line, but for spaces
+comment : add_words [] (words_in (codes "  #@2")) ≡ Ok []
+comment = refl
+
+comment_after_digits : add_words (part 0 [] ∷ []) (words_in (codes "1 #")) ≡ Err Syntax
+comment_after_digits = refl
+
+no_utf8_in_a_comment : (bytes : List ℕ) → is_utf8 (35 ∷ bytes) ≡ false → add_line [] (35 ∷ bytes) ≡ Err Syntax
+no_utf8_in_a_comment bytes bad = rw bad refl
+
+-- lines count from 1, those without words too
+second_line : is_utf8 [] ≡ true → is_utf8 (codes "1") ≡ true → add_lines 1 [] ([] ∷ codes "1" ∷ []) ≡ Err (2, Syntax)
+second_line empty digit = rw (empty, digit) refl
+
+-- parts by their addresses, and none without bytes
+in_order : by_address (part 0x1000 (nop []) ∷ part 0x3000 [] ∷ part 0x2000 (here []) ∷ []) ≡ part 0x1000 (nop []) ∷ part 0x2000 (here []) ∷ []
+in_order = refl
+
+put_before : by_address (part 0x2000 (here []) ∷ part 0x1000 (nop []) ∷ []) ≡ part 0x1000 (nop []) ∷ part 0x2000 (here []) ∷ []
+put_before = refl
+
+-- ---- words and runs
+
+-- two parts that touch; the last address, and address 0
+abbrev code : List Part
+code = part 0 (nop (here [])) ∷ part 0x1000 (nop []) ∷ part 0x1004 (nop (here [])) ∷ part (2 ^ 64 - 8) (nop (nop [])) ∷ []
+
+lowest_byte_first : word_of code 0x1000 ≡ Some 0xd503201f
+lowest_byte_first = refl
+
+within_a_word : word_of code 0x1002 ≡ None
+within_a_word = refl
+
+after_the_part : word_of code 0x100c ≡ None
+after_the_part = refl
+
+over_the_end : behind (2 ^ 64 - 8) 3 ≡ 4
+over_the_end = refl
+
+two_plain : (k : ℕ) → k < 2 → class_at code (behind 0x1000 k) ≡ Some Plain
+unfolding class_of
+two_plain zero below = refl
+two_plain (suc zero) below = refl
+two_plain (suc (suc k)) below = absurd (omega (arith, below))
+
+over_parts_that_touch : IsRunLength code 0x1000 2
+unfolding class_of
+over_parts_that_touch = (two_plain, (λ e. cc))
+
+-- the run does not end with its part
+not_of_one_part : IsRunLength code 0x1000 1 → ⊥
+unfolding class_of
+not_of_one_part run = run.1 refl
+
+three_plain : (k : ℕ) → k < 3 → class_at code (behind (2 ^ 64 - 8) k) ≡ Some Plain
+unfolding class_of
+three_plain zero below = refl
+three_plain (suc zero) below = refl
+three_plain (suc (suc zero)) below = refl
+three_plain (suc (suc (suc k))) below = absurd (omega (arith, below))
+
+over_the_last_address : IsRunLength code (2 ^ 64 - 8) 3
+unfolding class_of
+over_the_last_address = (three_plain, (λ e. cc))
+
+not_to_the_last_address : IsRunLength code (2 ^ 64 - 8) 2 → ⊥
+unfolding class_of
+not_to_the_last_address run = run.1 refl
+
+runs_before_a_branch : runs_of (nop (nop (here (nop [])))) 5 ≡ 2 ∷ 1 ∷ 0 ∷ 6 ∷ []
+unfolding class_of
+runs_before_a_branch = refl
