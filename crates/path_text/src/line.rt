@@ -46,11 +46,9 @@ impl Line {
         ensures { result ≡ line_start id }
     {
         let id = id.get();
-        let mut bytes = [0; LONGEST];
-        bytes[0] = digit(id / 16);
-        bytes[1] = digit(id % 16);
-        bytes[2] = b' ';
-        Line { bytes, len: 3 }
+        let mut line = Line::new();
+        line.text(&[digit(id / 16), digit(id % 16), b' ']);
+        line
     }
 
     /// Adds a text.
@@ -135,10 +133,10 @@ impl Line {
         self.number(10, u64::from(n), decimal_count(u64::from(n)));
     }
 
-    /// Ends the line, and writes it by one call.
-    pub fn write<K: Sink>(mut self, sink: &mut K) -> Result<(), Failed>
-        requires { length self < 96 }
-        ensures { Writes (K.state sink.old) (K.state sink.new) result (self ++ 10 ∷ []) }
+    /// Ends the line with LF, and writes it by one call. It is not moved, since that would copy its bytes.
+    pub fn write<K: Sink>(&mut self, sink: &mut K) -> Result<(), Failed>
+        requires { length self.old < 96 }
+        ensures { Writes (K.state sink.old) (K.state sink.new) result (self.old ++ 10 ∷ []) }
     {
         self.text(b"\n");
         write_all(sink, &self.bytes[..self.len])
