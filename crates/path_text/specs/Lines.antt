@@ -1,5 +1,5 @@
 -- Numbers as they are printed, and how a line begins and ends.
-use Rattle.std.specs.Prelude.{ℕ, ◌+◌, ◌/◌, ◌%◌, Bool, if◌then◌else◌, nat_lt, ◌==◌, List, [], ◌∷◌, ◌++◌, map, codes, Option, Some, None}
+use Rattle.std.specs.Prelude.{ℕ, ◌+◌, ◌/◌, ◌%◌, ◌≤◌, Bool, if◌then◌else◌, nat_lt, ◌==◌, List, [], ◌∷◌, ◌++◌, length, map, codes, Option, Some, None}
 use Rattle.std.specs.Int.Digits.{digits_of}
 
 -- a digit: 0 to 9, then a to f
@@ -35,6 +35,18 @@ line_start id = byte_text id ++ 32 ∷ []
 -- and ends with LF
 abbrev pub line_of : ℕ → List ℕ → List ℕ
 line_of id text = line_start id ++ text ++ 10 ∷ []
+
+-- no line is longer
+abbrev pub longest_line : ℕ
+longest_line = 96
+
+-- a line has room for so many bytes more
+abbrev pub HasRoom : ℕ → List ℕ → Type 0
+HasRoom count line = length line + count ≤ longest_line
+
+-- so many bytes are added to a line, or fewer
+abbrev pub AddsAtMost : ℕ → List ℕ → List ℕ → Type 0
+AddsAtMost count old new = length new ≤ length old + count
 
 -- the line of an instruction: its address
 abbrev pub address_line : ℕ → ℕ → List ℕ

@@ -71,3 +71,10 @@ on_line id on = if on then line_of id (codes "on") else []
 -- what is shown between trace on and the exception: one unknown stretch, or instructions
 abbrev pub block_items : Walked → List Item
 block_items w = if w.unknown then item.Unknown ∷ [] else instructions w.ctx w.start w.count
+
+-- the lines of the instructions of a walk, and the context that was printed last after them
+abbrev pub run_lines : ℕ → Option Ctx → Walked → List ℕ
+run_lines id shown w = lines_of id shown (instructions w.ctx w.start w.count)
+
+abbrev pub run_shown : Option Ctx → Walked → Option Ctx
+run_shown shown w = shown_after_all shown (instructions w.ctx w.start w.count)

@@ -4,17 +4,16 @@
 ghost use Rattle.std.specs.Prelude.{◌≡◌, ◌+◌, ◌-◌, ◌++◌, ◌<◌, ◌≤◌, length, take, drop};
 ghost use Rattle.path_text.specs.Lines.{digit, in_base, hex, decimal};
 
+/// The digits of the bases up to 16.
+static DIGITS: [u8; 16] = *b"0123456789abcdef";
+
 /// A digit of a base up to 16.
 #[inline(always)]
 pub fn digit(value: u8) -> u8
     requires { value < 16 }
     ensures { result ≡ digit value }
 {
-    if value < 10 {
-        b'0' + value
-    } else {
-        b'a' - 10 + value
-    }
+    DIGITS[value as usize]
 }
 
 /// How many hex digits a number has.

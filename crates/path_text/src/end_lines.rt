@@ -1,6 +1,6 @@
 //! The lines of how a stream ends.
 ghost use Rattle.std.specs.Prelude.{◌≡◌, ◌+◌, ◌++◌, ◌≤◌, length, codes};
-ghost use Rattle.path_text.specs.Lines.{hex, decimal, byte_text};
+ghost use Rattle.path_text.specs.Lines.{HasRoom, AddsAtMost, hex, decimal, byte_text};
 ghost use Rattle.path_text.specs.EndLines.{refused_text, packet_fault_text, queue_fault_text, walk_fault_text, fault_text, end_text, end_line};
 ghost use Rattle.path_text.specs.Writing.{Writes};
 
@@ -12,10 +12,10 @@ use trace_io::{Failed, Sink};
 
 /// Adds a name and a byte.
 fn add_byte(line: &mut Line, name: &[u8], byte: u8)
-    requires room { length line.old ≤ 32 }
+    requires room { HasRoom 22 line.old }
     requires name { length name.now ≤ 20 }
     ensures value { line.new ≡ line.old ++ (name.now ++ byte_text byte) }
-    ensures short { length line.new ≤ length line.old + 22 }
+    ensures short { AddsAtMost 22 line.old line.new }
 {
     line.text(name);
     line.byte(byte);
@@ -39,9 +39,9 @@ fn refused_name(kind: RefusedKind) -> &'static [u8]
 
 /// Adds why a header is refused.
 fn add_refused(line: &mut Line, kind: RefusedKind, byte: u8)
-    requires { length line.old ≤ 32 }
+    requires { HasRoom 26 line.old }
     ensures value { line.new ≡ line.old ++ packet_fault_text (PacketFault.Refused kind byte) }
-    ensures short { length line.new ≤ length line.old + 26 }
+    ensures short { AddsAtMost 26 line.old line.new }
 {
     line.text(b"refused ");
     line.text(refused_name(kind));
@@ -51,9 +51,9 @@ fn add_refused(line: &mut Line, kind: RefusedKind, byte: u8)
 
 /// Adds why a trace info packet is refused.
 fn add_info_mode(line: &mut Line, value: u32)
-    requires { length line.old ≤ 32 }
+    requires { HasRoom 20 line.old }
     ensures value { line.new ≡ line.old ++ packet_fault_text (PacketFault.InfoMode value) }
-    ensures short { length line.new ≤ length line.old + 20 }
+    ensures short { AddsAtMost 20 line.old line.new }
 {
     line.text(b"info-mode ");
     line.decimal_u32(value);
@@ -61,9 +61,9 @@ fn add_info_mode(line: &mut Line, value: u32)
 
 /// Adds why bytes are no packet.
 fn add_packet_fault(line: &mut Line, fault: &PacketFault)
-    requires { length line.old ≤ 32 }
+    requires { HasRoom 26 line.old }
     ensures value { line.new ≡ line.old ++ packet_fault_text fault.now }
-    ensures short { length line.new ≤ length line.old + 26 }
+    ensures short { AddsAtMost 26 line.old line.new }
 {
     match *fault {
         PacketFault::Reserved(byte) => add_byte(line, b"reserved ", byte),
@@ -81,10 +81,10 @@ fn add_packet_fault(line: &mut Line, fault: &PacketFault)
 
 /// Adds a name and two numbers in decimal.
 fn add_two_counts(line: &mut Line, name: &[u8], first: u32, second: u32)
-    requires room { length line.old ≤ 32 }
+    requires room { HasRoom 36 line.old }
     requires name { length name.now ≤ 15 }
     ensures value { line.new ≡ line.old ++ (name.now ++ decimal first ++ codes " " ++ decimal second) }
-    ensures short { length line.new ≤ length line.old + 36 }
+    ensures short { AddsAtMost 36 line.old line.new }
 {
     line.text(name);
     line.decimal_u32(first);
@@ -94,9 +94,9 @@ fn add_two_counts(line: &mut Line, name: &[u8], first: u32, second: u32)
 
 /// Adds why an element does not fit those that are held.
 fn add_queue_fault(line: &mut Line, fault: &QueueFault)
-    requires { length line.old ≤ 32 }
+    requires { HasRoom 36 line.old }
     ensures value { line.new ≡ line.old ++ queue_fault_text fault.now }
-    ensures short { length line.new ≤ length line.old + 36 }
+    ensures short { AddsAtMost 36 line.old line.new }
 {
     match *fault {
         QueueFault::CommitOverrun { asked, held } => {
@@ -117,10 +117,10 @@ fn add_queue_fault(line: &mut Line, fault: &QueueFault)
 
 /// Adds a name and an address.
 fn add_address(line: &mut Line, name: &[u8], address: u64)
-    requires room { length line.old ≤ 32 }
+    requires room { HasRoom 33 line.old }
     requires name { length name.now ≤ 17 }
     ensures value { line.new ≡ line.old ++ (name.now ++ hex address) }
-    ensures short { length line.new ≤ length line.old + 33 }
+    ensures short { AddsAtMost 33 line.old line.new }
 {
     line.text(name);
     line.hex(address);
@@ -128,10 +128,10 @@ fn add_address(line: &mut Line, name: &[u8], address: u64)
 
 /// Adds a name and two addresses.
 fn add_two_addresses(line: &mut Line, name: &[u8], first: u64, second: u64)
-    requires room { length line.old ≤ 32 }
+    requires room { HasRoom 50 line.old }
     requires name { length name.now ≤ 17 }
     ensures value { line.new ≡ line.old ++ (name.now ++ hex first ++ codes " " ++ hex second) }
-    ensures short { length line.new ≤ length line.old + 50 }
+    ensures short { AddsAtMost 50 line.old line.new }
 {
     add_address(line, name, first);
     line.text(b" ");
@@ -140,9 +140,9 @@ fn add_two_addresses(line: &mut Line, name: &[u8], first: u64, second: u64)
 
 /// Adds why a walk does not go on.
 fn add_walk_fault(line: &mut Line, fault: &WalkFault)
-    requires { length line.old ≤ 32 }
+    requires { HasRoom 50 line.old }
     ensures value { line.new ≡ line.old ++ walk_fault_text fault.now }
-    ensures short { length line.new ≤ length line.old + 50 }
+    ensures short { AddsAtMost 50 line.old line.new }
 {
     match *fault {
         WalkFault::AddressMismatch { known, given } => {
@@ -159,9 +159,9 @@ fn add_walk_fault(line: &mut Line, fault: &WalkFault)
 
 /// Adds the reason of a fault.
 fn add_fault(line: &mut Line, fault: &Fault)
-    requires { length line.old ≤ 32 }
+    requires { HasRoom 50 line.old }
     ensures value { line.new ≡ line.old ++ fault_text fault.now }
-    ensures short { length line.new ≤ length line.old + 50 }
+    ensures short { AddsAtMost 50 line.old line.new }
 {
     match fault {
         Fault::Packet(fault) => add_packet_fault(line, fault),
@@ -173,9 +173,9 @@ fn add_fault(line: &mut Line, fault: &Fault)
 
 /// Adds how a stream ends.
 fn add_end(line: &mut Line, end: &End)
-    requires { length line.old ≤ 3 }
+    requires { HasRoom 77 line.old }
     ensures value { line.new ≡ line.old ++ end_text end.now }
-    ensures short { length line.new ≤ 80 }
+    ensures short { AddsAtMost 77 line.old line.new }
 {
     match end {
         End::Clean => line.text(b"end"),

@@ -19,16 +19,17 @@ pub struct Line {
 
 impl Model for Line {
     ghost use Rattle.std.specs.Prelude.{ℕ, List, ◌≤◌, take};
+    ghost use Rattle.path_text.specs.Lines.{longest_line};
 
     ghost Value = { List ℕ };
 
     ghost view = { λ line. take line.len line.bytes };
 
-    ghost invariant = { λ line. line.len ≤ 96 };
+    ghost invariant = { λ line. line.len ≤ longest_line };
 }
 
 impl Line {
-    ghost use Rattle.path_text.specs.Lines.{hex, decimal};
+    ghost use Rattle.path_text.specs.Lines.{HasRoom, AddsAtMost, hex, decimal};
     ghost use Rattle.path_text.specs.Writing.{Writes};
 
     /// A line without anything.
@@ -46,16 +47,14 @@ impl Line {
         ensures { result ≡ line_start id }
     {
         let id = id.get();
-        let mut bytes = [0; LONGEST];
-        bytes[0] = digit(id / 16);
-        bytes[1] = digit(id % 16);
-        bytes[2] = b' ';
-        Line { bytes, len: 3 }
+        let mut line = Line::new();
+        line.text(&[digit(id / 16), digit(id % 16), b' ']);
+        line
     }
 
     /// Adds a text.
     pub fn text(&mut self, text: &[u8])
-        requires { length self.old + length text.now ≤ 96 }
+        requires { HasRoom (length text.now) self.old }
         ensures { self.new ≡ self.old ++ text.now }
     {
         let end = self.len + text.len();
@@ -65,7 +64,7 @@ impl Line {
 
     /// Adds the two hex digits of a byte.
     pub fn byte(&mut self, byte: u8)
-        requires { length self.old + 2 ≤ 96 }
+        requires { HasRoom 2 self.old }
         ensures { self.new ≡ self.old ++ byte_text byte }
     {
         self.text(&[digit(byte / 16), digit(byte % 16)]);
@@ -76,7 +75,7 @@ impl Line {
     fn number(&mut self, base: u64, n: u64, count: usize)
         requires base { (10 ≤ base) × (base ≤ 16) }
         requires count { count ≡ length (in_base base n) }
-        requires room { length self.old + count ≤ 96 }
+        requires room { HasRoom count self.old }
         ensures value { self.new ≡ self.old ++ in_base base n }
         ensures len { length self.new ≡ length self.old + length (in_base base n) }
     {
@@ -88,9 +87,9 @@ impl Line {
     /// Adds a number of 64 bits in hex, at most 16 digits.
     #[tactic(auto, using(crate::proofs::DigitLemmas::few_hex_64))]
     pub fn hex(&mut self, n: u64)
-        requires { length self.old + 16 ≤ 96 }
+        requires { HasRoom 16 self.old }
         ensures value { self.new ≡ self.old ++ hex n }
-        ensures short { length self.new ≤ length self.old + 16 }
+        ensures short { AddsAtMost 16 self.old self.new }
     {
         self.number(16, n, hex_count(n));
     }
@@ -98,9 +97,9 @@ impl Line {
     /// Adds a number of 32 bits in hex, at most 8 digits.
     #[tactic(auto, using(crate::proofs::DigitLemmas::few_hex_32))]
     pub fn hex_u32(&mut self, n: u32)
-        requires { length self.old + 8 ≤ 96 }
+        requires { HasRoom 8 self.old }
         ensures value { self.new ≡ self.old ++ hex n }
-        ensures short { length self.new ≤ length self.old + 8 }
+        ensures short { AddsAtMost 8 self.old self.new }
     {
         self.number(16, u64::from(n), hex_count(u64::from(n)));
     }
@@ -108,9 +107,9 @@ impl Line {
     /// Adds a number of 64 bits in decimal, at most 20 digits.
     #[tactic(auto, using(crate::proofs::DigitLemmas::few_decimal_64))]
     pub fn decimal(&mut self, n: u64)
-        requires { length self.old + 20 ≤ 96 }
+        requires { HasRoom 20 self.old }
         ensures value { self.new ≡ self.old ++ decimal n }
-        ensures short { length self.new ≤ length self.old + 20 }
+        ensures short { AddsAtMost 20 self.old self.new }
     {
         self.number(10, n, decimal_count(n));
     }
@@ -118,9 +117,9 @@ impl Line {
     /// Adds a number of 32 bits in decimal, at most 10 digits.
     #[tactic(auto, using(crate::proofs::DigitLemmas::few_decimal_32))]
     pub fn decimal_u32(&mut self, n: u32)
-        requires { length self.old + 10 ≤ 96 }
+        requires { HasRoom 10 self.old }
         ensures value { self.new ≡ self.old ++ decimal n }
-        ensures short { length self.new ≤ length self.old + 10 }
+        ensures short { AddsAtMost 10 self.old self.new }
     {
         self.number(10, u64::from(n), decimal_count(u64::from(n)));
     }
@@ -128,17 +127,17 @@ impl Line {
     /// Adds a number of 8 bits in decimal, at most 3 digits.
     #[tactic(auto, using(crate::proofs::DigitLemmas::few_decimal_8))]
     pub fn decimal_u8(&mut self, n: u8)
-        requires { length self.old + 3 ≤ 96 }
+        requires { HasRoom 3 self.old }
         ensures value { self.new ≡ self.old ++ decimal n }
-        ensures short { length self.new ≤ length self.old + 3 }
+        ensures short { AddsAtMost 3 self.old self.new }
     {
         self.number(10, u64::from(n), decimal_count(u64::from(n)));
     }
 
-    /// Ends the line, and writes it by one call.
-    pub fn write<K: Sink>(mut self, sink: &mut K) -> Result<(), Failed>
-        requires { length self < 96 }
-        ensures { Writes (K.state sink.old) (K.state sink.new) result (self ++ 10 ∷ []) }
+    /// Ends the line with LF, and writes it by one call. It is not moved, since that would copy its bytes.
+    pub fn write<K: Sink>(&mut self, sink: &mut K) -> Result<(), Failed>
+        requires { HasRoom 1 self.old }
+        ensures { Writes (K.state sink.old) (K.state sink.new) result (self.old ++ 10 ∷ []) }
     {
         self.text(b"\n");
         write_all(sink, &self.bytes[..self.len])

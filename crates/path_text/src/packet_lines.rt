@@ -1,7 +1,7 @@
 //! The lines of packets.
 ghost use Rattle.std.specs.Prelude.{◌≡◌, ◌+◌, ◌++◌, ◌≤◌, length, codes};
 ghost use Rattle.etm_types.specs.Atoms.{IsFewAtoms};
-ghost use Rattle.path_text.specs.Lines.{hex, decimal, number_or_dash};
+ghost use Rattle.path_text.specs.Lines.{HasRoom, AddsAtMost, hex, decimal, number_or_dash};
 ghost use Rattle.path_text.specs.PacketLines.{HasText, letter, atoms_text, few_text, form_text, told_context_text, carried_text, mispredict_text, packet_text, packet_line};
 ghost use Rattle.path_text.specs.Writing.{Writes};
 
@@ -12,9 +12,9 @@ use trace_io::{Failed, Sink};
 
 /// Adds a number in decimal, or a dash where there is none.
 fn add_decimal(line: &mut Line, n: Option<u32>)
-    requires { length line.old ≤ 86 }
+    requires { HasRoom 10 line.old }
     ensures value { line.new ≡ line.old ++ number_or_dash decimal n }
-    ensures short { length line.new ≤ length line.old + 10 }
+    ensures short { AddsAtMost 10 line.old line.new }
 {
     match n {
         Some(n) => line.decimal_u32(n),
@@ -24,9 +24,9 @@ fn add_decimal(line: &mut Line, n: Option<u32>)
 
 /// Adds a number in hex, or a dash where there is none.
 fn add_hex(line: &mut Line, n: Option<u32>)
-    requires { length line.old ≤ 86 }
+    requires { HasRoom 8 line.old }
     ensures value { line.new ≡ line.old ++ number_or_dash hex n }
-    ensures short { length line.new ≤ length line.old + 8 }
+    ensures short { AddsAtMost 8 line.old line.new }
 {
     match n {
         Some(n) => line.hex_u32(n),
@@ -42,9 +42,9 @@ fn add_info(
     spec: Option<u32>,
     cyct: Option<u32>,
 )
-    requires { length line.old ≤ 24 }
+    requires { HasRoom 48 line.old }
     ensures value { line.new ≡ line.old ++ packet_text (Packet.Info info key spec cyct) }
-    ensures short { length line.new ≤ length line.old + 48 }
+    ensures short { AddsAtMost 48 line.old line.new }
 {
     line.text(b"info ");
     add_decimal(line, info);
@@ -58,9 +58,9 @@ fn add_info(
 
 /// Adds an event packet.
 fn add_event(line: &mut Line, n: u8)
-    requires { length line.old ≤ 24 }
+    requires { HasRoom 9 line.old }
     ensures value { line.new ≡ line.old ++ packet_text (Packet.Event n) }
-    ensures short { length line.new ≤ length line.old + 9 }
+    ensures short { AddsAtMost 9 line.old line.new }
 {
     line.text(b"event ");
     line.decimal_u8(n);
@@ -68,9 +68,9 @@ fn add_event(line: &mut Line, n: u8)
 
 /// Adds a timestamp packet.
 fn add_time(line: &mut Line, bits: u8, low: u64)
-    requires { length line.old ≤ 24 }
+    requires { HasRoom 29 line.old }
     ensures value { line.new ≡ line.old ++ packet_text (Packet.Time bits low) }
-    ensures short { length line.new ≤ length line.old + 29 }
+    ensures short { AddsAtMost 29 line.old line.new }
 {
     line.text(b"time ");
     line.decimal_u8(bits);
@@ -80,9 +80,9 @@ fn add_time(line: &mut Line, bits: u8, low: u64)
 
 /// Adds an exception packet.
 fn add_exception(line: &mut Line, kind: u8)
-    requires { length line.old ≤ 24 }
+    requires { HasRoom 7 line.old }
     ensures value { line.new ≡ line.old ++ packet_text (Packet.Exc kind) }
-    ensures short { length line.new ≤ length line.old + 7 }
+    ensures short { AddsAtMost 7 line.old line.new }
 {
     line.text(b"exc ");
     line.decimal_u8(kind);
@@ -90,9 +90,9 @@ fn add_exception(line: &mut Line, kind: u8)
 
 /// Adds a commit packet.
 fn add_commit(line: &mut Line, n: u32)
-    requires { length line.old ≤ 24 }
+    requires { HasRoom 17 line.old }
     ensures value { line.new ≡ line.old ++ packet_text (Packet.Commit n) }
-    ensures short { length line.new ≤ length line.old + 17 }
+    ensures short { AddsAtMost 17 line.old line.new }
 {
     line.text(b"commit ");
     line.decimal_u32(n);
@@ -100,9 +100,9 @@ fn add_commit(line: &mut Line, n: u32)
 
 /// Adds that a prediction was wrong, where it was.
 fn add_mispredict(line: &mut Line, flip: bool)
-    requires { length line.old ≤ 80 }
+    requires { HasRoom 11 line.old }
     ensures value { line.new ≡ line.old ++ mispredict_text flip }
-    ensures short { length line.new ≤ length line.old + 11 }
+    ensures short { AddsAtMost 11 line.old line.new }
 {
     if flip {
         line.text(b" mispredict");
@@ -111,9 +111,9 @@ fn add_mispredict(line: &mut Line, flip: bool)
 
 /// Adds a cancel packet of format 1.
 fn add_cancel(line: &mut Line, n: u32, flip: bool)
-    requires { length line.old ≤ 24 }
+    requires { HasRoom 28 line.old }
     ensures value { line.new ≡ line.old ++ packet_text (Packet.Cancel n flip) }
-    ensures short { length line.new ≤ length line.old + 28 }
+    ensures short { AddsAtMost 28 line.old line.new }
 {
     line.text(b"cancel ");
     line.decimal_u32(n);
@@ -122,11 +122,11 @@ fn add_cancel(line: &mut Line, n: u32, flip: bool)
 
 /// Adds the name of a packet, and then no atom, E, EE or N.
 fn add_few(line: &mut Line, name: &[u8], few: &FewAtoms)
-    requires room { length line.old ≤ 24 }
+    requires room { HasRoom 13 line.old }
     requires name { length name.now ≤ 11 }
     requires few { IsFewAtoms few.now }
     ensures value { line.new ≡ line.old ++ (name.now ++ few_text few.now) }
-    ensures short { length line.new ≤ length line.old + 13 }
+    ensures short { AddsAtMost 13 line.old line.new }
 {
     line.text(name);
     match (few.count, few.first) {
@@ -139,9 +139,9 @@ fn add_few(line: &mut Line, name: &[u8], few: &FewAtoms)
 
 /// Adds a cancel packet of format 3.
 fn add_cancel3(line: &mut Line, e: bool, n: u8)
-    requires { length line.old ≤ 24 }
+    requires { HasRoom 13 line.old }
     ensures value { line.new ≡ line.old ++ packet_text (Packet.Cancel3 e n) }
-    ensures short { length line.new ≤ length line.old + 13 }
+    ensures short { AddsAtMost 13 line.old line.new }
 {
     if e {
         line.text(b"cancel3 E ");
@@ -153,9 +153,9 @@ fn add_cancel3(line: &mut Line, e: bool, n: u8)
 
 /// Adds what is told of a context.
 fn add_context(line: &mut Line, ctx: &CtxBits)
-    requires { length line.old ≤ 60 }
+    requires { HasRoom 30 line.old }
     ensures value { line.new ≡ line.old ++ told_context_text ctx.now }
-    ensures short { length line.new ≤ length line.old + 30 }
+    ensures short { AddsAtMost 30 line.old line.new }
 {
     line.text(b"ctx el");
     line.decimal_u8(ctx.el);
@@ -171,9 +171,9 @@ fn add_context(line: &mut Line, ctx: &CtxBits)
 
 /// Adds the form of an address.
 fn add_form(line: &mut Line, form: &AddrForm)
-    requires { length line.old ≤ 60 }
+    requires { HasRoom 23 line.old }
     ensures value { line.new ≡ line.old ++ form_text form.now }
-    ensures short { length line.new ≤ length line.old + 23 }
+    ensures short { AddsAtMost 23 line.old line.new }
 {
     match *form {
         AddrForm::Match(index) => {
@@ -201,9 +201,9 @@ fn add_form(line: &mut Line, form: &AddrForm)
 
 /// Adds an address packet.
 fn add_address(line: &mut Line, form: &AddrForm, ctx: &Option<CtxBits>)
-    requires { length line.old ≤ 24 }
+    requires { HasRoom 59 line.old }
     ensures value { line.new ≡ line.old ++ packet_text (Packet.Addr form.now ctx.now) }
-    ensures short { length line.new ≤ length line.old + 59 }
+    ensures short { AddsAtMost 59 line.old line.new }
 {
     line.text(b"addr ");
     add_form(line, form);
@@ -222,10 +222,10 @@ fn letter(is_e: bool) -> u8
 
 /// Adds the letters of a run of atoms, the oldest first.
 fn add_atoms(line: &mut Line, run: &AtomRun)
-    requires room { length line.old ≤ 24 }
+    requires room { HasRoom 30 line.old }
     requires most { run.now.count ≤ 24 }
     ensures value { line.new ≡ line.old ++ packet_text (Packet.Atoms run.now) }
-    ensures short { length line.new ≤ length line.old + 30 }
+    ensures short { AddsAtMost 30 line.old line.new }
 {
     line.text(b"atoms ");
     let mut rest = run.bits;
@@ -237,10 +237,10 @@ fn add_atoms(line: &mut Line, run: &AtomRun)
 
 /// Adds the text of a packet.
 fn add_packet(line: &mut Line, packet: &Packet)
-    requires room { length line.old ≤ 24 }
+    requires room { HasRoom 59 line.old }
     requires has_text { HasText packet.now }
     ensures value { line.new ≡ line.old ++ packet_text packet.now }
-    ensures short { length line.new ≤ length line.old + 59 }
+    ensures short { AddsAtMost 59 line.old line.new }
 {
     match packet {
         Packet::Async => line.text(b"async"),

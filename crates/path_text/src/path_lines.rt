@@ -1,8 +1,8 @@
 //! The lines of a path.
 ghost use Rattle.std.specs.Prelude.{◌≡◌, ◌+◌, ◌++◌, ◌≤◌, length, codes, IfOk, Some, None};
-ghost use Rattle.etm_types.specs.Walked.{instructions, exception, items_of};
-ghost use Rattle.path_text.specs.Lines.{line_of, hex};
-ghost use Rattle.path_text.specs.PathLines.{whole_context_text, exception_names, name_among, exception_text, same_context, context_line, instruction_lines, lines_of, shown_after_all, on_line, block_items};
+ghost use Rattle.etm_types.specs.Walked.{exception, items_of};
+ghost use Rattle.path_text.specs.Lines.{HasRoom, AddsAtMost, line_of, hex};
+ghost use Rattle.path_text.specs.PathLines.{whole_context_text, exception_names, name_among, exception_text, same_context, context_line, instruction_lines, lines_of, shown_after_all, on_line, block_items, run_lines, run_shown};
 ghost use Rattle.path_text.specs.Writing.{Writes};
 
 use crate::address_line::AddressLine;
@@ -86,8 +86,8 @@ fn write_run<K: Sink>(
     shown: &mut Option<Ctx>,
     sink: &mut K,
 ) -> Result<(), Failed>
-    ensures lines { Writes (K.state sink.old) (K.state sink.new) result (lines_of id shown.old (instructions walked.now.ctx walked.now.start walked.now.count)) }
-    ensures shown { IfOk result (λ _. shown.new ≡ shown_after_all shown.old (instructions walked.now.ctx walked.now.start walked.now.count)) }
+    ensures lines { Writes (K.state sink.old) (K.state sink.new) result (run_lines id shown.old walked.now) }
+    ensures shown { IfOk result (λ _. shown.new ≡ run_shown shown.old walked.now) }
 {
     if walked.count == 0 {
         return Ok(());
@@ -126,9 +126,9 @@ fn write_on<K: Sink>(id: Id, on: bool, sink: &mut K) -> Result<(), Failed>
 
 /// Adds the name of an exception's type, or its number where it has none (Arm IHI 0064, exception types).
 fn add_name(line: &mut Line, kind: u8)
-    requires { length line.old ≤ 32 }
+    requires { HasRoom 12 line.old }
     ensures value { line.new ≡ line.old ++ name_among exception_names kind }
-    ensures short { length line.new ≤ length line.old + 12 }
+    ensures short { AddsAtMost 12 line.old line.new }
 {
     match kind {
         0 => line.text(b"reset"),
