@@ -14,11 +14,10 @@ use Rattle.packet_reader.specs.declared.state.State.{State}
 use Rattle.packet_reader.specs.declared.state.Progress.{Progress}
 use Rattle.packet_reader.specs.declared.state.Progress.TheVariants.{Next, Done}
 use Rattle.packet_reader.specs.declared.phase.Phase.TheVariants.{Hunting, Between, Within, Failed}
-use Rattle.packet_reader.specs.declared.phase.Moved.{Moved}
 use Rattle.packet_reader.specs.declared.step.Step.TheVariants.{Skipped, Whole, Stopped}
 use Rattle.packet_reader.specs.Trees.{Tree, Leads, after}
 use Rattle.packet_reader.specs.States.{tree_of, tree_after, Fits, FitsAfter, HeadsBy}
-use Rattle.packet_reader.specs.Stands.{Zeros, InPhase, Gains, Goes, Moves, settled, hunted}
+use Rattle.packet_reader.specs.Stands.{Zeros, InPhase, Gains, Goes, Moved, Moves, settled, zeros_of_sync, zeros_after}
 use Rattle.packet_reader.proofs.Headed.{headed}
 use Rattle.packet_grammar.proofs.GoesOn.{sync_in, sync_out, strip, sync_earlier, fault_stays}
 use Rattle.packet_reader.proofs.Steps.{Open, state_open, At, StreamAfter, stream_after, phase_after, is_cut}
@@ -174,16 +173,15 @@ module _ (s : Sizes) (z x start taken : ℕ) (bytes : List ℕ) (all : length by
       let stream : IsStream s (bytes ++ x ∷ []) ((taken - 12, Async) ∷ []) clean = inl (length zeros.front, first, (sync, [], place, behind, sync_spells s, refl)) in
       ((one_more s bytes x taken all, ((taken - 12, Async) ∷ [], stream)), ([], no_sync, inr (none, refl, refl), stream))
 
-  hunt_moves : (test : Bool) (m : Moved) → ((z == 11) && (x == 128)) ≡ test
-      → m ≡ (if test then record { phase = Between; start = taken; step = Whole (taken - 12) Async } else record { phase = Hunting (if x == 0 then (if nat_lt z 11 then z + 1 else 11) else 0); start = 0; step = Skipped })
-      → InPhase s m.phase m.start (bytes ++ x ∷ []) × Gains s bytes x m.step
-  hunt_moves true m on is =
-      let parts = and_parts (z == 11) (x == 128) on in
-      subst (λ (k : Moved). InPhase s k.phase k.start (bytes ++ x ∷ []) × Gains s bytes x k.step) (sym is) (found_moves (eqb-true z 11 parts.0) (eqb-true x 128 parts.1))
-  hunt_moves false m off is =
-      let later = still_none z x bytes zeros off none in
-      subst (λ (k : Moved). InPhase s k.phase k.start (bytes ++ x ∷ []) × Gains s bytes x k.step) (sym is)
-      ((later, more_zeros z x bytes zeros (x == 0) (nat_lt z 11) refl refl), (inr (none, refl, refl), inr (later, refl, refl)))
+pub hunting_finds : (s : Sizes) (z x start taken : ℕ) → ((z == zeros_of_sync) && (x == 0x80)) ≡ true
+    → Moves s (Hunting z) start taken x (record { phase = Between; start = taken; step = Whole (taken - length sync) Async })
+hunting_finds s z x start taken on bytes all (none, zeros) =
+    let parts = and_parts (z == 11) (x == 128) on in
+    found_moves s z x start taken bytes all none zeros (eqb-true z 11 parts.0) (eqb-true x 128 parts.1)
 
-pub hunting_moves : (s : Sizes) (z x start taken : ℕ) (m : Moved) → m ≡ hunted z x taken → Moves s (Hunting z) start taken x m
-hunting_moves s z x start taken m is bytes all (none, zeros) = hunt_moves s z x start taken bytes all none zeros ((z == 11) && (x == 128)) m refl is
+pub hunting_skips : (s : Sizes) (z x start taken z' : ℕ) → ((z == zeros_of_sync) && (x == 0x80)) ≡ false → z' ≡ zeros_after z x
+    → Moves s (Hunting z) start taken x (record { phase = Hunting z'; start = 0; step = Skipped })
+hunting_skips s z x start taken z' off e bytes all (none, zeros) =
+    let later = still_none z x bytes zeros off none in
+    let counted = more_zeros z x bytes zeros (x == 0) (nat_lt z 11) refl refl in
+    ((later, subst (λ n. Zeros n (bytes ++ x ∷ [])) (sym e) counted), (inr (none, refl, refl), inr (later, refl, refl)))

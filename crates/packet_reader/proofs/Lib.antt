@@ -5,6 +5,7 @@ pub mod Heads
 pub mod Headed
 pub mod Stream
 pub mod Steps
+pub mod Within
 pub mod Hunt
 pub mod Adds
 pub mod OneAnswer

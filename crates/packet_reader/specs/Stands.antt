@@ -1,17 +1,17 @@
--- At which bytes a reader stands, and what a byte more brings.
+-- At which bytes a reader stands, and what a byte more brings (Arm IHI 0064, "Alignment Synchronization packet", "Descriptions
+-- of Trace Packets").
 use Rattle.std.specs.Prelude.{◌≡◌, ◌↔◌, Bool, true, false, ℕ, suc, ◌+◌, ◌-◌, ◌<◌, ◌≤◌, ◌==◌, ◌&&◌, List, [], ◌∷◌, ◌++◌, length, replicate, Ok, Err, nat_lt, if◌then◌else◌}
 use Rattle.etm_types.specs.Settings.{Sizes}
 use Rattle.packet_grammar.specs.declared.packet.Packet.{Packet}
 use Rattle.packet_grammar.specs.declared.packet.Packet.TheVariants.{Async}
 use Rattle.packet_grammar.specs.declared.fault.PacketFault.{PacketFault}
 use Rattle.packet_grammar.specs.Parts.{Outcome}
-use Rattle.packet_grammar.specs.Parsed.{Spells, Ending, no_sync, clean, cut, fault, IsStream, SyncAt}
+use Rattle.packet_grammar.specs.Parsed.{Spells, Ending, no_sync, clean, cut, fault, IsStream, SyncAt, sync}
 use Rattle.packet_reader.specs.declared.state.State.{State}
 use Rattle.packet_reader.specs.declared.state.Progress.{Progress}
 use Rattle.packet_reader.specs.declared.state.Progress.TheVariants.{Next, Done}
 use Rattle.packet_reader.specs.declared.phase.Phase.{Phase}
 use Rattle.packet_reader.specs.declared.phase.Phase.TheVariants.{Hunting, Between, Within, Failed}
-use Rattle.packet_reader.specs.declared.phase.Moved.{Moved}
 use Rattle.packet_reader.specs.declared.step.Step.{Step}
 use Rattle.packet_reader.specs.declared.step.Step.TheVariants.{Skipped, More, Whole, Bad, Stopped}
 use Rattle.packet_reader.specs.Trees.{Leads}
@@ -24,17 +24,26 @@ pub record Standing : Type 0 where
   pub start : ℕ
   pub taken : ℕ
 
+-- how many 00 an A-sync has
+abbrev pub zeros_of_sync : ℕ
+zeros_of_sync = 11
+
 abbrev pub FitsPhase : Phase → Type 0
-FitsPhase (Hunting zeros) = zeros ≤ 11
+FitsPhase (Hunting zeros) = zeros ≤ zeros_of_sync
 FitsPhase (Within state) = Fits state
 FitsPhase _ = Unit
+
+-- how many bytes a phase has counted
+abbrev pub zeros_in : Phase → ℕ
+zeros_in (Hunting zeros) = zeros
+zeros_in _ = 0
 
 -- a list ends in so many 00, and unless these are eleven, in no more
 pub record Zeros (zeros : ℕ) (bytes : List ℕ) : Type 0 where
   pub front : List ℕ
   pub whole : bytes ≡ front ++ replicate zeros 0x00
-  pub most : zeros ≤ 11
-  pub all : zeros < 11 → (other : List ℕ) → bytes ≡ other ++ replicate (suc zeros) 0x00 → ⊥
+  pub most : zeros ≤ zeros_of_sync
+  pub all : zeros < zeros_of_sync → (other : List ℕ) → bytes ≡ other ++ replicate (suc zeros) 0x00 → ⊥
 
 -- The bytes are whole packets and the bytes of a begun one, and what may follow these is what may follow in the state.
 pub record Begun (s : Sizes) (state : State) (start : ℕ) (bytes : List ℕ) : Type 0 where
@@ -77,17 +86,21 @@ Gains s bytes byte (Bad at f) =
 Gains s bytes byte Stopped =
     (packets : List (ℕ × Packet)) × (at : ℕ) × (f : PacketFault) × IsStream s bytes packets (fault at f) × IsStream s (bytes ++ byte ∷ []) packets (fault at f)
 
+-- what a byte makes of a reader: the phase, the offset at which the begun packet starts or the next one, and the answer
+pub record Moved : Type 0 where
+  pub phase : Phase
+  pub start : ℕ
+  pub step : Step
+
 -- what progress on a packet that began at an offset makes of a reader that has taken so many bytes
 abbrev pub settled : Progress → ℕ → ℕ → Moved
 settled (Next state) at taken = record { phase = Within state; start = at; step = More }
 settled (Done (Ok packet)) at taken = record { phase = Between; start = taken; step = Whole at packet }
 settled (Done (Err f)) at taken = record { phase = Failed; start = taken; step = Bad at f }
 
--- what a byte makes of a reader that has found no A-sync
-abbrev pub hunted : ℕ → ℕ → ℕ → Moved
-hunted zeros byte taken =
-    if (zeros == 11) && (byte == 0x80) then record { phase = Between; start = taken; step = Whole (taken - 12) Async }
-    else record { phase = Hunting (if byte == 0x00 then (if nat_lt zeros 11 then zeros + 1 else 11) else 0); start = 0; step = Skipped }
+-- in how many 00 bytes end, with one more
+abbrev pub zeros_after : ℕ → ℕ → ℕ
+zeros_after zeros byte = if byte == 0x00 then (if nat_lt zeros zeros_of_sync then zeros + 1 else zeros_of_sync) else 0
 
 -- from a list to the list with a byte more
 abbrev pub Moves : Sizes → Phase → ℕ → ℕ → ℕ → Moved → Type 0
@@ -98,12 +111,12 @@ abbrev pub is_synced : Phase → Bool
 is_synced (Hunting zeros) = false
 is_synced _ = true
 
--- of how many bytes of a begun packet a reader tells
+-- how many bytes of a begun packet a reader has taken
 abbrev pub rest_in : Phase → ℕ → ℕ → ℕ
 rest_in (Within state) start taken = taken - start
 rest_in _ start taken = 0
 
--- how many bytes a stream has behind its last packet
+-- how many bytes a stream has after its last packet
 abbrev pub rest_of : Ending → ℕ
 rest_of (cut n) = n
 rest_of _ = 0

@@ -72,6 +72,11 @@ with_context (Some form) ctx = Ok (Addr form (Some ctx))
 abbrev pub context_of : ℕ → Option ℕ → Option ℕ → CtxBits
 context_of info vmid cid = record { el = lowest 2 info; ns = bit 5 info; vmid = vmid; cid = cid }
 
+-- the bytes of a context ID, of which some may be read
+abbrev pub last_field_tree : Option AddrForm → ℕ → Option ℕ → Field → Tree
+last_field_tree form info vmid field =
+    bytes_tree field.left field.count field.value (λ cid. known (with_context form (context_of info vmid (Some cid))))
+
 abbrev pub cid_tree : Sizes → Option AddrForm → ℕ → Option ℕ → Tree
 cid_tree s form info vmid = field_tree (bit 7 info) s.cid_bytes (λ cid. known (with_context form (context_of info vmid cid)))
 
@@ -119,12 +124,22 @@ tree_of s (LongSecond long low) = second_tree s long low
 tree_of s (LongHigh long low field) = high_tree s long low field
 tree_of s (Context form) = context_tree s form
 tree_of s (Vmid form info field) = bytes_tree field.left field.count field.value (λ vmid. cid_tree s form info (Some vmid))
-tree_of s (Cid form info vmid field) = bytes_tree field.left field.count field.value (λ cid. known (with_context form (context_of info vmid (Some cid))))
+tree_of s (Cid form info vmid field) = last_field_tree form info vmid field
 
 -- and what after a byte
 abbrev pub tree_after : Sizes → Progress → Tree
 tree_after s (Next state) = tree_of s state
 tree_after s (Done outcome) = known outcome
+
+-- what a byte made of a state that it may have changed where it is: the state is read further, or something else comes of it
+abbrev pub made_of : Option Progress → State → Progress
+made_of None state = Next state
+made_of (Some progress) state = progress
+
+-- what became of a state that was changed where it is: it is read further, or its outcome is known
+abbrev pub progress_of : Option (Outcome Packet) → State → Progress
+progress_of None state = Next state
+progress_of (Some outcome) state = Done outcome
 
 -- at most so many bytes, of which some are left
 abbrev pub FitsField : ℕ → Field → Type 0

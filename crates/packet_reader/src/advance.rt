@@ -1,53 +1,78 @@
-//! What a byte makes of the begun packet.
-ghost use Rattle.std.specs.Prelude.{◌≡◌, Ok, ◌+◌, ◌-◌, ◌*◌, ◌%◌, ◌^◌, ◌<◌, ◌≤◌, Some, None, if◌then◌else◌, nat_lt, ◌==◌};
+//! What a byte makes of the begun packet (Arm IHI 0064, "Descriptions of Trace Packets").
+ghost use Rattle.std.specs.Prelude.{◌≡◌, Ok, ◌+◌, ◌-◌, ◌*◌, ◌%◌, ◌^◌, ◌<◌, ◌≤◌, Some, None, if◌then◌else◌, nat_lt, ◌==◌, ◌||◌, IsTrue};
 ghost use Rattle.etm_types.specs.Settings.{Sizes};
-ghost use Rattle.packet_grammar.specs.Fields.{bit};
+ghost use Rattle.packet_grammar.specs.Fields.{is_last};
 ghost use Rattle.packet_reader.specs.Trees.{after, known, number_tree, stamp_tree, bytes_tree, sync_tree};
-ghost use Rattle.packet_reader.specs.States.{tree_of, tree_after, Fits, FitsAfter, behind_number, mode_tree, info_tree, key_tree, spec_tree, cycles_tree, vmid_tree, cid_tree, context_tree, context_of, with_context, extension_tree, control_tree, exception_tree, short_tree, short_high_tree, long_tree, second_tree, high_tree, behind_long};
+ghost use Rattle.packet_reader.specs.States.{tree_of, tree_after, progress_of, made_of, Fits, FitsAfter, behind_number, mode_tree, info_tree, key_tree, spec_tree, cycles_tree, vmid_tree, cid_tree, last_field_tree, context_tree, context_of, with_context, extension_tree, control_tree, exception_tree, short_tree, short_high_tree, long_tree, second_tree, high_tree, behind_long};
 
+use crate::fields::{bit, field, is_last, lowest, CONTINUES};
 use crate::groups::{with_byte, with_group};
+use crate::part::{byte_goes_on, group_goes_on, zero_goes_on};
 use crate::state::{Field, Long, Progress, Purpose, State};
 use etm_types::{AddrForm, CtxBits, Settings};
 use packet_grammar::{Packet, PacketFault};
 
-/// Bit 7 of a byte says that another one follows.
-const CONTINUES: u8 = 0x80;
+/// The byte at the end of an A-sync.
+const LAST_OF_SYNC: u8 = 0x80;
 
-/// What a byte makes of a state.
-pub fn advance(settings: &Settings, state: State, byte: u8) -> Progress
-    requires { Fits state }
-    ensures tree { tree_after settings.now result ≡ after (tree_of settings.now state) byte }
-    ensures fits { FitsAfter result }
+/// The last of five groups of a number has so many values: it is the number's bits 31 to 28.
+const LAST_GROUP: u8 = 1 << 4;
+
+/// The control byte of a trace info packet has so many values: a bit for each of its four sections.
+const SECTIONS: u8 = 1 << 4;
+
+/// What a byte makes of the begun packet: where it is read further, the state changes, and else the
+/// outcome is known.
+pub fn advance(settings: &Settings, state: &mut State, byte: u8) -> Option<Result<Packet, PacketFault>>
+    requires { Fits state.old }
+    ensures tree { tree_after settings.now (progress_of result state.new) ≡ after (tree_of settings.now state.old) byte }
+    ensures fits { FitsAfter (progress_of result state.new) }
 {
     match state {
-        State::Extension => extension(byte),
-        State::Zeros { left } => zeros(left, byte),
-        State::Control => control_byte(byte),
+        State::Extension => settle(Some(extension(byte)), state),
+        State::Zeros { left } => settle(zeros(left, byte), state),
+        State::Control => settle(Some(control_byte(byte)), state),
         State::Number {
             purpose,
             left,
             groups,
             value,
-        } => number(purpose, left, groups, value, byte),
-        State::Stamp { left, groups, low } => stamp(left, groups, low, byte),
-        State::Exception => Progress::Done(exception(byte)),
-        State::Short => short(byte),
-        State::ShortHigh { low } => short_high(low, byte),
-        State::LongFirst { long } => long_first(long, byte),
-        State::LongSecond { long, low } => long_second(long, low, byte),
-        State::LongHigh { long, low, field } => long_high(long, low, field, byte),
-        State::Context { form } => context(settings, form, byte),
-        State::Vmid { form, info, field } => vmid(settings, form, info, field, byte),
+        } => settle(number(*purpose, left, groups, value, byte), state),
+        State::Stamp { left, groups, low } => settle(stamp(left, groups, low, byte), state),
+        State::Exception => settle(Some(Progress::Done(exception(byte))), state),
+        State::Short => settle(Some(short(byte)), state),
+        State::ShortHigh { low } => settle(Some(short_high(*low, byte)), state),
+        State::LongFirst { long } => settle(Some(long_first(*long, byte)), state),
+        State::LongSecond { long, low } => settle(Some(long_second(*long, *low, byte)), state),
+        State::LongHigh { long, low, field } => settle(long_high(*long, *low, field, byte), state),
+        State::Context { form } => settle(Some(context(settings, *form, byte)), state),
+        State::Vmid { form, info, field } => {
+            settle(vmid(settings, *form, *info, field, byte), state)
+        }
         State::Cid {
             form,
             info,
             vmid,
             field,
-        } => cid(form, info, vmid, field, byte),
+        } => settle(cid(*form, *info, *vmid, field, byte), state),
     }
 }
 
-/// The byte behind a first 00.
+/// The state that comes next, or the outcome.
+fn settle(progress: Option<Progress>, state: &mut State) -> Option<Result<Packet, PacketFault>>
+    ensures { progress_of result state.new ≡ made_of progress state.old }
+{
+    match progress {
+        None => None,
+        Some(Progress::Next(next)) => {
+            *state = next;
+            None
+        }
+        Some(Progress::Done(outcome)) => Some(outcome),
+    }
+}
+
+/// The byte after a first 00.
 fn extension(byte: u8) -> Progress
     ensures tree { (s : Sizes) → tree_after s result ≡ after extension_tree byte }
     ensures fits { FitsAfter result }
@@ -60,22 +85,19 @@ fn extension(byte: u8) -> Progress
     }
 }
 
-/// A byte among the zeros of an A-sync, or behind them.
+/// A byte among the zeros of an A-sync, or after them.
 #[tactic(auto, unfolding(crate::specs::Trees::sync_tree))]
-fn zeros(left: u8, byte: u8) -> Progress
-    ensures tree { (s : Sizes) → tree_after s result ≡ after (sync_tree left) byte }
-    ensures fits { FitsAfter result }
+fn zeros(left: &mut u8, byte: u8) -> Option<Progress>
+    ensures tree { (s : Sizes) → tree_after s (made_of result (State.Zeros left.new)) ≡ after (sync_tree left.old) byte }
+    ensures fits { FitsAfter (made_of result (State.Zeros left.new)) }
 {
-    if left == 0 {
-        if byte == 0x80 {
-            return Progress::Done(Ok(Packet::Async));
-        }
-        return Progress::Done(Err(PacketFault::BrokenSync));
+    if zero_goes_on(left, byte) {
+        return None;
     }
-    if byte == 0x00 {
-        return Progress::Next(State::Zeros { left: left - 1 });
+    if *left == 0 && byte == LAST_OF_SYNC {
+        return Some(Progress::Done(Ok(Packet::Async)));
     }
-    Progress::Done(Err(PacketFault::BrokenSync))
+    Some(Progress::Done(Err(PacketFault::BrokenSync)))
 }
 
 /// The byte of information of an exception.
@@ -87,51 +109,37 @@ fn exception(byte: u8) -> Result<Packet, PacketFault>
     }
     if bit(byte, 0) && !bit(byte, 6) {
         return Ok(Packet::Exc {
-            kind: byte / 2 % 32,
+            kind: field(5, 1, byte),
         });
     }
     Err(PacketFault::ExceptionForm(byte))
 }
 
-/// Whether the bit at a place of a byte is 1.
-fn bit(byte: u8, place: u8) -> bool
-    requires { place ≤ 7 }
-    ensures { result ≡ bit place byte }
+/// A group of a number.
+fn number(purpose: Purpose, left: &mut u8, groups: &mut u8, value: &mut u64, byte: u8) -> Option<Progress>
+    requires { Fits (State.Number purpose left.old groups.old value.old) }
+    ensures tree { (s : Sizes) → tree_after s (made_of result (State.Number purpose left.new groups.new value.new))
+        ≡ after (number_tree left.old groups.old value.old (behind_number purpose)) byte }
+    ensures fits { FitsAfter (made_of result (State.Number purpose left.new groups.new value.new)) }
 {
-    match place {
-        0 => byte % 2 == 1,
-        1 => byte / 2 % 2 == 1,
-        2 => byte / 4 % 2 == 1,
-        3 => byte / 8 % 2 == 1,
-        4 => byte / 16 % 2 == 1,
-        5 => byte / 32 % 2 == 1,
-        6 => byte / 64 % 2 == 1,
-        _ => byte / 128 % 2 == 1,
+    if group_goes_on(left, groups, value, byte) {
+        return None;
     }
+    Some(last_group(purpose, *left, *groups, *value, byte))
 }
 
-/// A group of a number.
+/// The last group of a number. The fifth is the number's bits 31 to 28.
 #[tactic(auto, unfolding(crate::specs::Trees::number_tree))]
-fn number(purpose: Purpose, left: u8, groups: u8, value: u64, byte: u8) -> Progress
-    requires { Fits (State.Number purpose left groups value) }
+fn last_group(purpose: Purpose, left: u8, groups: u8, value: u64, byte: u8) -> Progress
+    requires fits { Fits (State.Number purpose left groups value) }
+    requires last { IsTrue ((left == 0) || is_last byte) }
     ensures tree { (s : Sizes) → tree_after s result ≡ after (number_tree left groups value (behind_number purpose)) byte }
     ensures fits { FitsAfter result }
 {
-    if left == 0 {
-        if byte >= 16 {
-            return Progress::Done(Err(PacketFault::NumberTooLong));
-        }
-        return behind_number(purpose, with_group(value, byte, groups) as u32);
+    if left == 0 && byte >= LAST_GROUP {
+        return Progress::Done(Err(PacketFault::NumberTooLong));
     }
-    if byte < CONTINUES {
-        return behind_number(purpose, with_group(value, byte, groups) as u32);
-    }
-    Progress::Next(State::Number {
-        purpose,
-        left: left - 1,
-        groups: groups + 1,
-        value: with_group(value, byte - CONTINUES, groups),
-    })
+    behind_number(purpose, with_group(value, byte, groups) as u32)
 }
 
 /// Behind the last byte of a number.
@@ -172,7 +180,7 @@ fn control_byte(control: u8) -> Progress
     ensures tree { (s : Sizes) → tree_after s result ≡ after control_tree control }
     ensures fits { FitsAfter result }
 {
-    if control >= 16 {
+    if control >= SECTIONS {
         return Progress::Done(Err(PacketFault::InfoControl(control)));
     }
     if bit(control, 0) {
@@ -230,30 +238,21 @@ fn cycles_section(control: u8, info: Option<u32>, key: Option<u32>, spec: Option
     }))
 }
 
-/// A group of a timestamp.
+/// A group of a timestamp: the ninth has eight bits.
 #[tactic(auto, unfolding(crate::specs::Trees::stamp_tree))]
-fn stamp(left: u8, groups: u8, low: u64, byte: u8) -> Progress
-    requires { Fits (State.Stamp left groups low) }
-    ensures tree { (s : Sizes) → tree_after s result ≡ after (stamp_tree left groups low) byte }
-    ensures fits { FitsAfter result }
+fn stamp(left: &mut u8, groups: &mut u8, low: &mut u64, byte: u8) -> Option<Progress>
+    requires { Fits (State.Stamp left.old groups.old low.old) }
+    ensures tree { (s : Sizes) → tree_after s (made_of result (State.Stamp left.new groups.new low.new)) ≡ after (stamp_tree left.old groups.old low.old) byte }
+    ensures fits { FitsAfter (made_of result (State.Stamp left.new groups.new low.new)) }
 {
-    if left == 0 {
-        return Progress::Done(Ok(Packet::Time {
-            bits: 7 * groups + 8,
-            low: with_group(low, byte, groups),
-        }));
+    if group_goes_on(left, groups, low, byte) {
+        return None;
     }
-    if byte < CONTINUES {
-        return Progress::Done(Ok(Packet::Time {
-            bits: 7 * groups + 7,
-            low: with_group(low, byte, groups),
-        }));
-    }
-    Progress::Next(State::Stamp {
-        left: left - 1,
-        groups: groups + 1,
-        low: with_group(low, byte - CONTINUES, groups),
-    })
+    let last = if *left == 0 { 8 } else { 7 };
+    Some(Progress::Done(Ok(Packet::Time {
+        bits: 7 * *groups + last,
+        low: with_group(*low, byte, *groups),
+    })))
 }
 
 /// The first byte of a short address.
@@ -261,12 +260,12 @@ fn short(byte: u8) -> Progress
     ensures tree { (s : Sizes) → tree_after s result ≡ after short_tree byte }
     ensures fits { FitsAfter result }
 {
-    if byte < CONTINUES {
-        let form = AddrForm::Short1(u64::from(byte) * 4);
+    if is_last(byte) {
+        let form = AddrForm::Short1(u64::from(byte) << 2);
         return Progress::Done(Ok(Packet::Addr { form, ctx: None }));
     }
     Progress::Next(State::ShortHigh {
-        low: u64::from(byte - CONTINUES) * 4,
+        low: u64::from(byte - CONTINUES) << 2,
     })
 }
 
@@ -276,7 +275,7 @@ fn short_high(low: u64, byte: u8) -> Progress
     ensures tree { (s : Sizes) → tree_after s result ≡ after (short_high_tree low) byte }
     ensures fits { FitsAfter result }
 {
-    let form = AddrForm::Short2(low + u64::from(byte) * 512);
+    let form = AddrForm::Short2(low + (u64::from(byte) << 9));
     Progress::Done(Ok(Packet::Addr { form, ctx: None }))
 }
 
@@ -298,7 +297,7 @@ fn long_first(long: Long, byte: u8) -> Progress
 {
     Progress::Next(State::LongSecond {
         long,
-        low: u64::from(byte % CONTINUES) * 4,
+        low: u64::from(lowest(7, byte)) << 2,
     })
 }
 
@@ -310,28 +309,23 @@ fn long_second(long: Long, low: u64, byte: u8) -> Progress
 {
     Progress::Next(State::LongHigh {
         long,
-        low: low + u64::from(byte % CONTINUES) * 512,
+        low: low + (u64::from(lowest(7, byte)) << 9),
         field: field_of(if long.wide { 6 } else { 2 }),
     })
 }
 
 /// A whole byte of a long address.
 #[tactic(auto, unfolding(crate::specs::Trees::bytes_tree))]
-fn long_high(long: Long, low: u64, field: Field, byte: u8) -> Progress
-    requires { Fits (State.LongHigh long low field) }
-    ensures tree { (s : Sizes) → tree_after s result ≡ after (high_tree s long low field) byte }
-    ensures fits { FitsAfter result }
+fn long_high(long: Long, low: u64, field: &mut Field, byte: u8) -> Option<Progress>
+    requires { Fits (State.LongHigh long low field.old) }
+    ensures tree { (s : Sizes) → tree_after s (made_of result (State.LongHigh long low field.new)) ≡ after (high_tree s long low field.old) byte }
+    ensures fits { FitsAfter (made_of result (State.LongHigh long low field.new)) }
 {
-    let value = with_byte(field.value, byte, field.count);
-    if field.left == 1 {
-        return behind_long(long, low + value * 65536);
+    if byte_goes_on(field, byte) {
+        return None;
     }
-    let field = Field {
-        left: field.left - 1,
-        count: field.count + 1,
-        value,
-    };
-    Progress::Next(State::LongHigh { long, low, field })
+    let value = with_byte(field.value, byte, field.count);
+    Some(behind_long(long, low + (value << 16)))
 }
 
 /// Behind the bytes of a long address.
@@ -368,21 +362,16 @@ fn context(settings: &Settings, form: Option<AddrForm>, info: u8) -> Progress
 
 /// A byte of a VMID.
 #[tactic(auto, unfolding(crate::specs::Trees::bytes_tree))]
-fn vmid(settings: &Settings, form: Option<AddrForm>, info: u8, field: Field, byte: u8) -> Progress
-    requires { Fits (State.Vmid form info field) }
-    ensures tree { tree_after settings.now result ≡ after (tree_of settings.now (State.Vmid form info field)) byte }
-    ensures fits { FitsAfter result }
+fn vmid(settings: &Settings, form: Option<AddrForm>, info: u8, field: &mut Field, byte: u8) -> Option<Progress>
+    requires { Fits (State.Vmid form info field.old) }
+    ensures tree { tree_after settings.now (made_of result (State.Vmid form info field.new)) ≡ after (tree_of settings.now (State.Vmid form info field.old)) byte }
+    ensures fits { FitsAfter (made_of result (State.Vmid form info field.new)) }
 {
-    let value = with_byte(field.value, byte, field.count);
-    if field.left == 1 {
-        return behind_vmid(settings, form, info, Some(value as u32));
+    if byte_goes_on(field, byte) {
+        return None;
     }
-    let field = Field {
-        left: field.left - 1,
-        count: field.count + 1,
-        value,
-    };
-    Progress::Next(State::Vmid { form, info, field })
+    let value = with_byte(field.value, byte, field.count);
+    Some(behind_vmid(settings, form, info, Some(value as u32)))
 }
 
 /// Behind a VMID, or where there is none.
@@ -405,35 +394,25 @@ fn behind_vmid(settings: &Settings, form: Option<AddrForm>, info: u8, vmid: Opti
 
 /// A byte of a context ID.
 #[tactic(auto, unfolding(crate::specs::Trees::bytes_tree))]
-fn cid(form: Option<AddrForm>, info: u8, vmid: Option<u32>, field: Field, byte: u8) -> Progress
-    requires { Fits (State.Cid form info vmid field) }
-    ensures tree { (s : Sizes) → tree_after s result ≡ after (tree_of s (State.Cid form info vmid field)) byte }
-    ensures fits { FitsAfter result }
+fn cid(form: Option<AddrForm>, info: u8, vmid: Option<u32>, field: &mut Field, byte: u8) -> Option<Progress>
+    requires { Fits (State.Cid form info vmid field.old) }
+    ensures tree { (s : Sizes) → tree_after s (made_of result (State.Cid form info vmid field.new)) ≡ after (last_field_tree form info vmid field.old) byte }
+    ensures fits { FitsAfter (made_of result (State.Cid form info vmid field.new)) }
 {
-    let value = with_byte(field.value, byte, field.count);
-    if field.left == 1 {
-        let ctx = context_of(info, vmid, Some(value as u32));
-        return Progress::Done(Ok(with_context(form, ctx)));
+    if byte_goes_on(field, byte) {
+        return None;
     }
-    let field = Field {
-        left: field.left - 1,
-        count: field.count + 1,
-        value,
-    };
-    Progress::Next(State::Cid {
-        form,
-        info,
-        vmid,
-        field,
-    })
+    let value = with_byte(field.value, byte, field.count);
+    let ctx = context_of(info, vmid, Some(value as u32));
+    Some(Progress::Done(Ok(with_context(form, ctx))))
 }
 
-/// What an info byte and its fields tell.
+/// The context of an info byte and its fields.
 fn context_of(info: u8, vmid: Option<u32>, cid: Option<u32>) -> CtxBits
     ensures { result ≡ context_of info vmid cid }
 {
     CtxBits {
-        el: info % 4,
+        el: lowest(2, info),
         ns: bit(info, 5),
         vmid,
         cid,

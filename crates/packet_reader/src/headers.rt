@@ -1,16 +1,15 @@
-//! What a header makes of a packet, in the order of the headers' numbers.
-//!
-//! A `match` has an arm for each number of a byte. So the first arm of a table below begins at 00 and the
-//! last one ends at ff, where the headers that the table is asked for do not go.
+//! What a header makes of a packet, in the order of the headers (Arm IHI 0064, "Descriptions of Trace
+//! Packets").
 ghost use Rattle.std.specs.Prelude.{◌≡◌, ◌<◌, ◌≤◌};
 ghost use Rattle.packet_reader.specs.States.{HeadsBy, IsRun, FitsAfter};
 
+use crate::fields::{field, lowest};
 use crate::state::{Long, Progress, Purpose, State};
 use atom_formats::atoms_of;
 use etm_types::{AddrForm, FewAtoms};
 use packet_grammar::{Packet, PacketFault, RefusedKind};
 
-/// The header of a packet. Most headers are those of atoms, so these come first.
+/// What a header makes of a packet. Most headers are those of atom packets, so these come first.
 pub fn header(h: u8) -> Progress
     ensures row { HeadsBy h result }
     ensures fits { FitsAfter result }
@@ -24,7 +23,7 @@ pub fn header(h: u8) -> Progress
     }
 }
 
-/// Synchronization, trace info, timestamps, exceptions, and what becomes of elements.
+/// Synchronization, trace info, timestamps, exceptions, and the resolution of speculation.
 fn first_headers(h: u8) -> Progress
     requires { h ≤ 0x3f }
     ensures row { HeadsBy h result }
@@ -47,7 +46,8 @@ fn first_headers(h: u8) -> Progress
         0x2f => number(Purpose::Cancel { flip: true }),
         0x30..=0x33 => whole(Packet::Mispredict(few_atoms(h))),
         0x34..=0x37 => whole(Packet::Cancel2(few_atoms(h))),
-        0x38..=0xff => whole(cancel_3(h)),
+        0x38..=0x3f => whole(cancel_3(h)),
+        _ => unreachable!(),
     }
 }
 
@@ -58,7 +58,7 @@ fn middle_headers(h: u8) -> Progress
     ensures fits { FitsAfter result }
 {
     match h {
-        0x00..=0x46 => refused(RefusedKind::Conditional, h),
+        0x40..=0x46 => refused(RefusedKind::Conditional, h),
         0x47 => reserved(h),
         0x48..=0x4a => refused(RefusedKind::Conditional, h),
         0x4b => reserved(h),
@@ -68,7 +68,8 @@ fn middle_headers(h: u8) -> Progress
         0x60..=0x67 => reserved(h),
         0x68..=0x6f => refused(RefusedKind::Conditional, h),
         0x70 => whole(Packet::Ignore),
-        0x71..=0xff => whole(Packet::Event(h % 16)),
+        0x71..=0x7f => whole(event(h)),
+        _ => unreachable!(),
     }
 }
 
@@ -79,7 +80,7 @@ fn address_headers(h: u8) -> Progress
     ensures fits { FitsAfter result }
 {
     match h {
-        0x00..=0x80 => whole(Packet::CtxSame),
+        0x80 => whole(Packet::CtxSame),
         0x81 => Progress::Next(State::Context { form: None }),
         0x82 => long(false, true),
         0x83 => refused(RefusedKind::Aarch32Address, h),
@@ -87,7 +88,7 @@ fn address_headers(h: u8) -> Progress
         0x85 => long(true, true),
         0x86 => refused(RefusedKind::Aarch32Address, h),
         0x87..=0x8f => reserved(h),
-        0x90..=0x92 => whole(told_before(h)),
+        0x90..=0x92 => whole(match_address(h)),
         0x93..=0x94 => reserved(h),
         0x95 => Progress::Next(State::Short),
         0x96 => refused(RefusedKind::Aarch32Address, h),
@@ -97,30 +98,33 @@ fn address_headers(h: u8) -> Progress
         0x9c => reserved(h),
         0x9d => long(true, false),
         0x9e => refused(RefusedKind::Aarch32Address, h),
-        0x9f..=0xff => reserved(h),
+        0x9f => reserved(h),
+        _ => unreachable!(),
     }
 }
 
-/// Executed instructions of which only the number is told.
+/// Counts of executed instructions (Q elements).
 fn last_headers(h: u8) -> Progress
     requires { (0xa0 ≤ h) × (h ≤ 0xbf) }
     ensures row { HeadsBy h result }
     ensures fits { FitsAfter result }
 {
     match h {
-        0x00..=0xa2 => refused(RefusedKind::Q, h),
+        0xa0..=0xa2 => refused(RefusedKind::Q, h),
         0xa3..=0xa4 => reserved(h),
         0xa5..=0xa6 => refused(RefusedKind::Q, h),
         0xa7..=0xa9 => reserved(h),
         0xaa..=0xac => refused(RefusedKind::Q, h),
         0xad..=0xae => reserved(h),
         0xaf => refused(RefusedKind::Q, h),
-        0xb0..=0xff => reserved(h),
+        0xb0..=0xbf => reserved(h),
+        _ => unreachable!(),
     }
 }
 
-ghost use Rattle.std.specs.Prelude.{Ok, Err, None, ◌==◌, ◌%◌, ◌/◌, ◌+◌, ◌-◌};
+ghost use Rattle.std.specs.Prelude.{Ok, Err, None, ◌==◌, ◌+◌, ◌-◌};
 ghost use Rattle.packet_grammar.specs.Headers.{few_atoms};
+ghost use Rattle.packet_grammar.specs.Fields.{field, lowest};
 
 /// The header is all.
 fn whole(packet: Packet) -> Progress
@@ -162,11 +166,11 @@ fn long(wide: bool, with_context: bool) -> Progress
     })
 }
 
-/// Bits 1 and 0: no atom, E, EE, N.
+/// Mispredict and Cancel Format 2 packets: bits 1 and 0 (A) are no atom, E, EE, N.
 fn few_atoms(h: u8) -> FewAtoms
     ensures { result ≡ few_atoms h }
 {
-    match h % 4 {
+    match lowest(2, h) {
         0 => FewAtoms {
             count: 0,
             first: false,
@@ -186,18 +190,18 @@ fn few_atoms(h: u8) -> FewAtoms
     }
 }
 
-/// Bit 0 is an atom E, and bits 2 and 1 are the number of elements less 2.
+/// Cancel Format 3 packet: bit 0 (A) is an atom E, and bits 2 and 1 (CC) are the number of elements less 2.
 fn cancel_3(h: u8) -> Packet
-    ensures { result ≡ Packet.Cancel3 (h % 2 == 1) (h / 2 % 4 + 2) }
+    ensures { result ≡ Packet.Cancel3 (lowest 1 h == 1) (field 2 1 h + 2) }
 {
     Packet::Cancel3 {
-        e: h % 2 == 1,
-        n: h / 2 % 4 + 2,
+        e: lowest(1, h) == 1,
+        n: field(2, 1, h) + 2,
     }
 }
 
-/// The address told before, of this index.
-fn told_before(h: u8) -> Packet
+/// Exact Match Address packet: an address of the history, by its index.
+fn match_address(h: u8) -> Packet
     requires { 0x90 ≤ h }
     ensures { result ≡ Packet.Addr (AddrForm.Match (h - 0x90)) None }
 {
@@ -205,6 +209,13 @@ fn told_before(h: u8) -> Packet
         form: AddrForm::Match(h - 0x90),
         ctx: None,
     }
+}
+
+/// Event packet: bits 3 to 0 (EVENT) are the events.
+fn event(h: u8) -> Packet
+    ensures { result ≡ Packet.Event (lowest 4 h) }
+{
+    Packet::Event(lowest(4, h))
 }
 
 /// A timestamp follows.

@@ -8,9 +8,11 @@
 #![tactic(auto)]
 
 mod advance;
+mod fields;
 mod groups;
 mod headers;
 mod laws;
+mod part;
 mod phase;
 mod reader;
 mod state;

@@ -1,7 +1,6 @@
 //! Where in its stream a reader is.
 
 use crate::state::State;
-use crate::step::Step;
 
 /// What a reader does with the next byte.
 #[derive(Clone, Copy, Debug, PartialEq, Eq)]
@@ -14,13 +13,4 @@ pub enum Phase {
     Within { state: State },
     /// It stopped at a fault.
     Failed,
-}
-
-/// What a byte makes of a reader.
-#[derive(Clone, Copy, Debug, PartialEq, Eq)]
-pub struct Moved {
-    pub phase: Phase,
-    /// The offset at which the begun packet starts, or the next one.
-    pub start: u64,
-    pub step: Step,
 }

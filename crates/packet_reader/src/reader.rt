@@ -1,17 +1,18 @@
-//! The reader.
+//! The reader: the search for the first A-sync, and the packets from there on (Arm IHI 0064, "Alignment
+//! Synchronization packet", "Descriptions of Trace Packets").
 ghost use Rattle.std.specs.Prelude.{◌≡◌, ◌≤◌, ◌<◌, ◌+◌, ◌-◌, ◌^◌, ◌++◌, ◌∷◌, [], ◌↔◌, length, List, ℕ, IsTrue, All};
 ghost use Rattle.etm_types.specs.Settings.{AreSettings};
 ghost use Rattle.packet_grammar.specs.Ranges.{IsPacket};
-ghost use Rattle.packet_reader.specs.States.{FitsAfter};
-ghost use Rattle.packet_reader.specs.Stands.{FitsPhase, Moves, settled, hunted};
+ghost use Rattle.packet_reader.specs.States.{FitsAfter, HeadsBy};
+ghost use Rattle.packet_reader.specs.Stands.{FitsPhase, Moved, Moves, settled, zeros_in, zeros_of_sync};
 
 use crate::advance::advance;
 use crate::headers::header;
-use crate::phase::{Moved, Phase};
+use crate::phase::Phase;
 use crate::state::Progress;
 use crate::step::Step;
 use etm_types::Settings;
-use packet_grammar::Packet;
+use packet_grammar::{Packet, PacketFault};
 use std::marker::Model;
 
 /// How many 00 an A-sync has.
@@ -19,6 +20,9 @@ const ZEROS_OF_SYNC: u8 = 11;
 
 /// The byte at the end of an A-sync.
 const LAST_OF_SYNC: u8 = 0x80;
+
+/// How many bytes an A-sync has.
+const LENGTH_OF_SYNC: u64 = ZEROS_OF_SYNC as u64 + 1;
 
 /// Reads the packets of a stream, from its first A-sync on.
 #[derive(Drop)]
@@ -31,13 +35,13 @@ pub struct PacketReader {
 
 impl Model for PacketReader {
     ghost use Rattle.std.specs.Prelude.{◌≤◌};
-    ghost use Rattle.packet_reader.specs.Stands.{Standing, FitsPhase};
+    ghost use Rattle.packet_reader.specs.Stands.{Standing, FitsPhase, zeros_in};
 
     ghost Value = { Standing };
 
     ghost view = { λ r. record { settings = r.settings; phase = r.phase; start = r.start; taken = r.taken } };
 
-    ghost invariant = { λ r. FitsPhase r.phase × (r.start ≤ r.taken) };
+    ghost invariant = { λ r. FitsPhase r.phase × (r.start ≤ r.taken) × (zeros_in r.phase ≤ r.taken) };
 }
 
 impl PacketReader {
@@ -68,10 +72,7 @@ impl PacketReader {
             → (at : ℕ) (packet : Packet) → result ≡ Step.Whole at packet → IsPacket self.old.settings packet }
     {
         self.taken += 1;
-        let moved = moved(&self.settings, self.phase, self.start, self.taken, byte);
-        self.phase = moved.phase;
-        self.start = moved.start;
-        moved.step
+        step(&self.settings, &mut self.phase, &mut self.start, self.taken, byte)
     }
 
     /// How many bytes were taken.
@@ -101,80 +102,97 @@ impl PacketReader {
 }
 
 /// What a byte makes of a reader, which with it has taken so many.
-fn moved(settings: &Settings, phase: Phase, start: u64, taken: u64, byte: u8) -> Moved
-    requires { FitsPhase phase × (start ≤ taken) }
-    ensures moves { Moves settings.now phase start taken byte result }
-    ensures fits { FitsPhase result.phase × (result.start ≤ taken) }
+fn step(settings: &Settings, phase: &mut Phase, start: &mut u64, taken: u64, byte: u8) -> Step
+    requires { FitsPhase phase.old × (start.old ≤ taken) × (zeros_in phase.old < taken) }
+    ensures moves { Moves settings.now phase.old start.old taken byte (record { phase = phase.new; start = start.new; step = result }) }
+    ensures fits { FitsPhase phase.new × (start.new ≤ taken) × (zeros_in phase.new ≤ taken) }
 {
     match phase {
-        Phase::Hunting { zeros } => hunt(zeros, byte, taken),
-        Phase::Between => settle(header(byte), start, taken),
-        Phase::Within { state } => settle(advance(settings, state, byte), start, taken),
-        Phase::Failed => Moved {
-            phase,
-            start,
-            step: Step::Stopped,
-        },
-    }
-}
-
-/// What progress on a packet that began at an offset makes of a reader.
-fn settle(progress: Progress, at: u64, taken: u64) -> Moved
-    requires { FitsAfter progress × (at ≤ taken) }
-    ensures value { result ≡ settled progress at taken }
-    ensures fits { FitsPhase result.phase × (result.start ≤ taken) }
-{
-    match progress {
-        Progress::Next(state) => Moved {
-            phase: Phase::Within { state },
-            start: at,
-            step: Step::More,
-        },
-        Progress::Done(Ok(packet)) => Moved {
-            phase: Phase::Between,
-            start: taken,
-            step: Step::Whole { at, packet },
-        },
-        Progress::Done(Err(fault)) => Moved {
-            phase: Phase::Failed,
-            start: taken,
-            step: Step::Bad { at, fault },
-        },
-    }
-}
-
-/// What a byte makes of a reader that has found no A-sync.
-fn hunt(zeros: u8, byte: u8, taken: u64) -> Moved
-    requires { zeros ≤ 11 }
-    ensures value { result ≡ hunted zeros byte taken }
-    ensures fits { FitsPhase result.phase × (result.start ≤ taken) }
-{
-    if zeros == ZEROS_OF_SYNC && byte == LAST_OF_SYNC {
-        return Moved {
-            phase: Phase::Between,
-            start: taken,
-            step: Step::Whole {
-                at: taken.saturating_sub(12),
+        Phase::Hunting { zeros } => {
+            if !ends_sync(zeros, byte) {
+                *start = 0;
+                return Step::Skipped;
+            }
+            *phase = Phase::Between;
+            *start = taken;
+            Step::Whole {
+                at: taken - LENGTH_OF_SYNC,
                 packet: Packet::Async,
-            },
-        };
-    }
-    Moved {
-        phase: Phase::Hunting {
-            zeros: zeros_behind(zeros, byte),
+            }
+        }
+        Phase::Between => begin(phase, start, taken, byte),
+        Phase::Within { state } => match advance(settings, state, byte) {
+            None => Step::More,
+            Some(outcome) => end(phase, start, taken, outcome),
         },
-        start: 0,
-        step: Step::Skipped,
+        Phase::Failed => Step::Stopped,
     }
 }
 
-ghost use Rattle.std.specs.Prelude.{◌==◌, nat_lt, if◌then◌else◌};
+/// What a header makes of a reader that stands between two packets. Behind a packet of one byte it stands
+/// so again: its phase is left as it is.
+fn begin(phase: &mut Phase, start: &mut u64, taken: u64, h: u8) -> Step
+    requires between { phase.old ≡ Phase.Between }
+    requires start { start.old ≤ taken }
+    ensures value { (progress : Progress) × HeadsBy h progress × FitsAfter progress × (record { phase = phase.new; start = start.new; step = result } ≡ settled progress start.old taken) }
+    ensures fits { FitsPhase phase.new × (start.new ≤ taken) × (zeros_in phase.new ≡ 0) }
+{
+    match header(h) {
+        Progress::Next(state) => {
+            *phase = Phase::Within { state };
+            Step::More
+        }
+        Progress::Done(Ok(packet)) => {
+            let at = *start;
+            *start = taken;
+            Step::Whole { at, packet }
+        }
+        Progress::Done(Err(fault)) => end(phase, start, taken, Err(fault)),
+    }
+}
 
-/// In how many 00 the bytes end behind a byte.
-fn zeros_behind(zeros: u8, byte: u8) -> u8
-    requires { zeros ≤ 11 }
-    ensures value { result ≡ (if byte == 0x00 then (if nat_lt zeros 11 then zeros + 1 else 11) else 0) }
-    ensures most { result ≤ 11 }
+/// What the end of a packet, or a fault, makes of a reader.
+fn end(phase: &mut Phase, start: &mut u64, taken: u64, outcome: Result<Packet, PacketFault>) -> Step
+    requires { start.old ≤ taken }
+    ensures value { record { phase = phase.new; start = start.new; step = result } ≡ settled (Progress.Done outcome) start.old taken }
+    ensures fits { FitsPhase phase.new × (start.new ≤ taken) × (zeros_in phase.new ≡ 0) }
+{
+    let at = *start;
+    *start = taken;
+    match outcome {
+        Ok(packet) => {
+            *phase = Phase::Between;
+            Step::Whole { at, packet }
+        }
+        Err(fault) => {
+            *phase = Phase::Failed;
+            Step::Bad { at, fault }
+        }
+    }
+}
+
+ghost use Rattle.std.specs.Prelude.{◌==◌, ◌&&◌, false};
+ghost use Rattle.packet_reader.specs.Stands.{zeros_after};
+
+/// Whether a byte ends an A-sync, behind so many 00. Where it does not, the 00 are counted further.
+fn ends_sync(zeros: &mut u8, byte: u8) -> bool
+    requires { zeros.old ≤ zeros_of_sync }
+    ensures ends { result ≡ ((zeros.old == zeros_of_sync) && (byte == 0x80)) }
+    ensures counted { result ≡ false → zeros.new ≡ zeros_after zeros.old byte }
+    ensures fits { (zeros.new ≤ zeros_of_sync) × (zeros.new ≤ zeros.old + 1) }
+{
+    if *zeros == ZEROS_OF_SYNC && byte == LAST_OF_SYNC {
+        return true;
+    }
+    *zeros = zeros_after(*zeros, byte);
+    false
+}
+
+/// In how many 00 bytes end, with one more.
+fn zeros_after(zeros: u8, byte: u8) -> u8
+    requires { zeros ≤ zeros_of_sync }
+    ensures value { result ≡ zeros_after zeros byte }
+    ensures most { (result ≤ zeros_of_sync) × (result ≤ zeros + 1) }
 {
     if byte != 0x00 {
         return 0;

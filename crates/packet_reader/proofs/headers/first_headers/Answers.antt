@@ -15,84 +15,118 @@ use Rattle.packet_reader.proofs.headers.first_headers.Goals as goal
 pub returns-in-0-clause-row : goal.returns-in-0-clause-row
 unfolding headers refused_headers
 returns-in-0-clause-row c =
-    by_row c.args.h _ (extension) (says 0 c.args.h 0 0 (extension) refl refl (omega arith) (omega arith)) (refl)
+    by_row c.args.h _ (extension)
+    (says c.args.h 0x00 0x00 (extension) refl refl (omega arith) (omega arith))
+    (refl)
 
 pub returns-in-1-clause-row : goal.returns-in-1-clause-row
 unfolding headers refused_headers
 returns-in-1-clause-row c =
-    by_row c.args.h _ (trace_info) (says 1 c.args.h 1 1 (trace_info) refl refl (omega arith) (omega arith)) (refl)
+    by_row c.args.h _ (trace_info)
+    (says c.args.h 0x01 0x01 (trace_info) refl refl (omega arith) (omega arith))
+    (refl)
 
 pub returns-in-2-clause-row : goal.returns-in-2-clause-row
 unfolding headers refused_headers
 returns-in-2-clause-row c =
-    by_row c.args.h _ (time_stamp) (says 2 c.args.h 2 2 (time_stamp) refl refl (omega arith) (omega arith)) (c.time_stamp.ensures)
+    by_row c.args.h _ (time_stamp)
+    (says c.args.h 0x02 0x02 (time_stamp) refl refl (omega arith) (omega arith))
+    (c.time_stamp.ensures)
 
 pub returns-in-3-clause-row : goal.returns-in-3-clause-row
 unfolding headers refused_headers
 returns-in-3-clause-row c =
-    by_row c.args.h _ (alone (Err (Refused TimeCycle c.args.h))) (refuses 0 c.args.h 3 3 (Refused TimeCycle c.args.h) refl refl refl (omega arith) (omega arith)) (c.refused.ensures)
+    by_row c.args.h _ (alone (Err (Refused TimeCycle c.args.h)))
+    (refuses c.args.h 0x03 0x03 (Refused TimeCycle c.args.h) refl refl refl (omega arith) (omega arith))
+    (c.refused.ensures)
 
 pub returns-in-4-clause-row : goal.returns-in-4-clause-row
 unfolding headers refused_headers
 returns-in-4-clause-row c =
-    by_row c.args.h _ (whole On) (says 3 c.args.h 4 4 (whole On) refl refl (omega arith) (omega arith)) (c.whole.ensures)
+    by_row c.args.h _ (whole On)
+    (says c.args.h 0x04 0x04 (whole On) refl refl (omega arith) (omega arith))
+    (c.whole.ensures)
 
 pub returns-in-5-clause-row : goal.returns-in-5-clause-row
 unfolding headers refused_headers
 returns-in-5-clause-row c =
-    by_row c.args.h _ (alone (Err (Refused MProfile c.args.h))) (refuses 1 c.args.h 5 5 (Refused MProfile c.args.h) refl refl refl (omega arith) (omega arith)) (c.refused-in-5.ensures)
+    by_row c.args.h _ (alone (Err (Refused MProfile c.args.h)))
+    (refuses c.args.h 0x05 0x05 (Refused MProfile c.args.h) refl refl refl (omega arith) (omega arith))
+    (c.refused-in-5.ensures)
 
 pub returns-in-6-clause-row : goal.returns-in-6-clause-row
 unfolding headers refused_headers
 returns-in-6-clause-row c =
-    by_row c.args.h _ (exception) (says 4 c.args.h 6 6 (exception) refl refl (omega arith) (omega arith)) (refl)
+    by_row c.args.h _ (exception)
+    (says c.args.h 0x06 0x06 (exception) refl refl (omega arith) (omega arith))
+    (refl)
 
 pub returns-in-7-clause-row : goal.returns-in-7-clause-row
 unfolding headers refused_headers
 returns-in-7-clause-row c =
-    by_row c.args.h _ (alone (Err (Refused MProfile c.args.h))) (refuses 2 c.args.h 7 7 (Refused MProfile c.args.h) refl refl refl (omega arith) (omega arith)) (c.refused-in-7.ensures)
+    by_row c.args.h _ (alone (Err (Refused MProfile c.args.h)))
+    (refuses c.args.h 0x07 0x07 (Refused MProfile c.args.h) refl refl refl (omega arith) (omega arith))
+    (c.refused-in-7.ensures)
 
 pub returns-in-8-to-11-clause-row : goal.returns-in-8-to-11-clause-row
 unfolding headers refused_headers
 returns-in-8-to-11-clause-row c =
-    by_row c.args.h _ (alone (Err (Reserved c.args.h))) (refuses 3 c.args.h 8 11 (Reserved c.args.h) refl refl refl (omega arith) (omega arith)) (c.reserved.ensures)
+    by_row c.args.h _ (alone (Err (Reserved c.args.h)))
+    (refuses c.args.h 0x08 0x0b (Reserved c.args.h) refl refl refl (omega arith) (omega arith))
+    (c.reserved.ensures)
 
 pub returns-in-12-to-31-clause-row : goal.returns-in-12-to-31-clause-row
 unfolding headers refused_headers
 returns-in-12-to-31-clause-row c =
-    by_row c.args.h _ (alone (Err (Refused CycleCount c.args.h))) (refuses 4 c.args.h 12 31 (Refused CycleCount c.args.h) refl refl refl (omega arith) (omega arith)) (c.refused-in-12-to-31.ensures)
+    by_row c.args.h _ (alone (Err (Refused CycleCount c.args.h)))
+    (refuses c.args.h 0x0c 0x1f (Refused CycleCount c.args.h) refl refl refl (omega arith) (omega arith))
+    (c.refused-in-12-to-31.ensures)
 
 pub returns-in-32-to-44-clause-row : goal.returns-in-32-to-44-clause-row
 unfolding headers refused_headers
 returns-in-32-to-44-clause-row c =
-    by_row c.args.h _ (alone (Err (Refused DataSync c.args.h))) (refuses 5 c.args.h 32 44 (Refused DataSync c.args.h) refl refl refl (omega arith) (omega arith)) (c.refused-in-32-to-44.ensures)
+    by_row c.args.h _ (alone (Err (Refused DataSync c.args.h)))
+    (refuses c.args.h 0x20 0x2c (Refused DataSync c.args.h) refl refl refl (omega arith) (omega arith))
+    (c.refused-in-32-to-44.ensures)
 
 pub returns-in-45-clause-row : goal.returns-in-45-clause-row
 unfolding headers refused_headers
 returns-in-45-clause-row c =
-    by_row c.args.h _ (commit) (says 5 c.args.h 45 45 (commit) refl refl (omega arith) (omega arith)) (c.number.ensures)
+    by_row c.args.h _ (commit)
+    (says c.args.h 0x2d 0x2d (commit) refl refl (omega arith) (omega arith))
+    (c.number.ensures)
 
 pub returns-in-46-clause-row : goal.returns-in-46-clause-row
 unfolding headers refused_headers
 returns-in-46-clause-row c =
-    by_row c.args.h _ (cancel false) (says 6 c.args.h 46 46 (cancel false) refl refl (omega arith) (omega arith)) (c.number-in-46.ensures)
+    by_row c.args.h _ (cancel false)
+    (says c.args.h 0x2e 0x2e (cancel false) refl refl (omega arith) (omega arith))
+    (c.number-in-46.ensures)
 
 pub returns-in-47-clause-row : goal.returns-in-47-clause-row
 unfolding headers refused_headers
 returns-in-47-clause-row c =
-    by_row c.args.h _ (cancel true) (says 7 c.args.h 47 47 (cancel true) refl refl (omega arith) (omega arith)) (c.number-in-47.ensures)
+    by_row c.args.h _ (cancel true)
+    (says c.args.h 0x2f 0x2f (cancel true) refl refl (omega arith) (omega arith))
+    (c.number-in-47.ensures)
 
 pub returns-in-48-to-51-clause-row : goal.returns-in-48-to-51-clause-row
 unfolding headers refused_headers
 returns-in-48-to-51-clause-row c =
-    by_row c.args.h _ (whole (Mispredict (few_atoms c.args.h))) (says 8 c.args.h 48 51 (whole (Mispredict (few_atoms c.args.h))) refl refl (omega arith) (omega arith)) (c.whole-in-48-to-51.ensures ∙ ap (λ (f : FewAtoms). Done (Ok (Mispredict f))) c.few_atoms.ensures)
+    by_row c.args.h _ (whole (Mispredict (few_atoms c.args.h)))
+    (says c.args.h 0x30 0x33 (whole (Mispredict (few_atoms c.args.h))) refl refl (omega arith) (omega arith))
+    (c.whole-in-48-to-51.ensures ∙ ap (λ (f : FewAtoms). Done (Ok (Mispredict f))) c.few_atoms.ensures)
 
 pub returns-in-52-to-55-clause-row : goal.returns-in-52-to-55-clause-row
 unfolding headers refused_headers
 returns-in-52-to-55-clause-row c =
-    by_row c.args.h _ (whole (Cancel2 (few_atoms c.args.h))) (says 9 c.args.h 52 55 (whole (Cancel2 (few_atoms c.args.h))) refl refl (omega arith) (omega arith)) (c.whole-in-52-to-55.ensures ∙ ap (λ (f : FewAtoms). Done (Ok (Cancel2 f))) c.few_atoms-in-52-to-55.ensures)
+    by_row c.args.h _ (whole (Cancel2 (few_atoms c.args.h)))
+    (says c.args.h 0x34 0x37 (whole (Cancel2 (few_atoms c.args.h))) refl refl (omega arith) (omega arith))
+    (c.whole-in-52-to-55.ensures ∙ ap (λ (f : FewAtoms). Done (Ok (Cancel2 f))) c.few_atoms-in-52-to-55.ensures)
 
-pub returns-in-56-to-255-clause-row : goal.returns-in-56-to-255-clause-row
+pub returns-in-56-to-63-clause-row : goal.returns-in-56-to-63-clause-row
 unfolding headers refused_headers
-returns-in-56-to-255-clause-row c =
-    by_row c.args.h _ (whole (Cancel3 (c.args.h % 2 == 1) (c.args.h / 2 % 4 + 2))) (says 10 c.args.h 56 63 (whole (Cancel3 (c.args.h % 2 == 1) (c.args.h / 2 % 4 + 2))) refl refl (omega arith) (omega arith)) (c.whole-in-56-to-255.ensures ∙ ap (λ (p : Packet). Done (Ok p)) c.cancel_3.ensures)
+returns-in-56-to-63-clause-row c =
+    by_row c.args.h _ (whole (Cancel3 (c.args.h % 2 == 1) (c.args.h / 2 % 4 + 2)))
+    (says c.args.h 0x38 0x3f (whole (Cancel3 (c.args.h % 2 == 1) (c.args.h / 2 % 4 + 2))) refl refl (omega arith) (omega arith))
+    (c.whole-in-56-to-63.ensures ∙ ap (λ (p : Packet). Done (Ok p)) c.cancel_3.ensures)

@@ -7,4 +7,6 @@ use Rattle.packet_reader.proofs.headers.header.Goals as goal
 pub returns-in-192-to-255-clause-row : goal.returns-in-192-to-255-clause-row
 unfolding headers
 returns-in-192-to-255-clause-row c =
-    by_row c.args.h _ (atoms c.args.h) (says 21 c.args.h 192 255 (atoms c.args.h) refl refl (omega arith) (omega arith)) (c.atoms.ensures.run)
+    by_row c.args.h _ (atoms c.args.h)
+    (says c.args.h 0xc0 0xff (atoms c.args.h) refl refl (omega arith) (omega arith))
+    (c.atoms.ensures.run)

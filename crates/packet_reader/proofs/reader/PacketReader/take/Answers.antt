@@ -9,13 +9,13 @@ use Rattle.packet_reader.proofs.reader.PacketReader.take.Goals as goal
 
 pub returns-clause-gains : goal.returns-clause-gains
 returns-clause-gains c bytes =
-    let P : Standing → Type 0 = λ v. StandsAt v bytes → Gains v.settings bytes c.args.byte c.moved-moved.result.step in
-    subst P c.self.view_is (λ stands. (c.moved-moved.ensures.moves bytes (omega (arith, stands.0)) stands.1).1)
+    let P : Standing → Type 0 = λ v. StandsAt v bytes → Gains v.settings bytes c.args.byte c.step.result in
+    subst P c.self.view_is (λ stands. (c.step.ensures.moves bytes (omega (arith, stands.0)) stands.1).1)
 
 pub returns-clause-values : goal.returns-clause-values
 returns-clause-values c bytes =
-    let P : Standing → Type 0 = λ v. StandsAt v bytes → All (λ b. b < 256) bytes → (at : ℕ) (packet : Packet) → c.moved-moved.result.step ≡ Whole at packet → IsPacket v.settings packet in
+    let P : Standing → Type 0 = λ v. StandsAt v bytes → All (λ b. b < 256) bytes → (at : ℕ) (packet : Packet) → c.step.result ≡ Whole at packet → IsPacket v.settings packet in
     subst P c.self.view_is
     (λ stands small at packet e.
-    let gains = (c.moved-moved.ensures.moves bytes (omega (arith, stands.0)) stands.1).1 in
+    let gains = (c.step.ensures.moves bytes (omega (arith, stands.0)) stands.1).1 in
     packet_in_range c.self.inside.settings bytes c.args.byte at packet small (omega arith) (subst (λ step. Gains c.self.inside.settings bytes c.args.byte step) e gains))
