@@ -1,4 +1,4 @@
--- Atoms as elements, and what stands behind them.
+-- Atoms as elements, and what stands after them.
 use Rattle.std.proofs.Common.{◌≡◌, ℕ, zero, suc, ◌+◌, ◌-◌, ◌/◌, ◌%◌, ◌^◌, ◌<◌, ◌≤◌, ◌==◌, Bool, List, [], ◌∷◌, ◌++◌, length, slice_get, Some, All, refl, sym, ap, ◌∙◌, arith}
 use Rattle.std.proofs.lemmas.Nat.{shr-shr}
 use Rattle.std.proofs.lemmas.List.Elements.{All-nil, All-cons}
@@ -25,12 +25,12 @@ atom_at (suc n) bits (suc i) rest below =
     atom_at n (bits / 2) i rest (omega arith)
     ∙ ap (λ (b : ℕ). Some (elem.P0 (p0.Atom (b % 2 == 1)))) (half ∙ ap (λ (j : ℕ). bits / 2 ^ j) same)
 
-pub behind_atoms : (n bits i : ℕ) (rest : List Elem) → n ≤ i → slice_get (atoms (low_bits n bits) ++ rest) i ≡ slice_get rest (i - n)
-behind_atoms zero bits i rest past = let all : i - 0 ≡ i = omega arith in rw all refl
-behind_atoms (suc n) bits zero rest past = absurd (omega arith)
-behind_atoms (suc n) bits (suc i) rest past =
+pub after_atoms : (n bits i : ℕ) (rest : List Elem) → n ≤ i → slice_get (atoms (low_bits n bits) ++ rest) i ≡ slice_get rest (i - n)
+after_atoms zero bits i rest past = let all : i - 0 ≡ i = omega arith in rw all refl
+after_atoms (suc n) bits zero rest past = absurd (omega arith)
+after_atoms (suc n) bits (suc i) rest past =
     let same : suc i - suc n ≡ i - n = omega arith in
-    rw same (behind_atoms n (bits / 2) i rest (omega arith))
+    rw same (after_atoms n (bits / 2) i rest (omega arith))
 
 pub atoms_are_elements : (taken : List Bool) → All IsElem (atoms taken)
 atoms_are_elements [] = All-nil IsElem

@@ -1,5 +1,6 @@
 -- Lists of packets with their elements, worked out by hand from the standard's descriptions.
-use Rattle.std.proofs.Common.{◌≡◌, [], ◌∷◌, true, false, Some, None, refl}
+use Rattle.std.proofs.Common.{◌≡◌, List, [], ◌∷◌, map, true, false, Some, None, refl}
+use Rattle.etm_types.specs.declared.atoms.FewAtoms.{FewAtoms}
 use Rattle.etm_types.specs.declared.context.Ctx.{Ctx}
 use Rattle.etm_types.specs.declared.context.CtxBits.{CtxBits}
 use Rattle.etm_types.specs.declared.address.AddrForm.TheVariants.{Match, Short1, Short2, Long32, Long64}
@@ -7,7 +8,7 @@ use Rattle.etm_types.specs.declared.element.Elem.TheVariants as elem
 use Rattle.etm_types.specs.declared.element.P0.TheVariants as p0
 use Rattle.packet_grammar.specs.declared.packet.Packet.{Packet}
 use Rattle.packet_grammar.specs.declared.packet.Packet.TheVariants as packet
-use Rattle.path_elements.specs.Elements.{Told, untold, all_elements}
+use Rattle.path_elements.specs.Elements.{Told, untold, all_elements, elements_of, is_misplaced, tells, told_after}
 
 abbrev secure : Ctx
 secure = record { el = 0; ns = false; vmid = 0; cid = 0 }
@@ -63,7 +64,7 @@ pub addresses_are_pushed :
     }
 addresses_are_pushed = refl
 
--- The address behind an exception is the one that it returns to, and is put first like any other. A context may stand
+-- The address after an exception is its preferred return address, and is put first like any other. A context may stand
 -- between them.
 pub an_exception_has_its_address :
     all_elements begun ((0, packet.Exc 14) ∷ (2, packet.Event 1) ∷ (3, packet.CtxSame) ∷ (4, packet.Addr (Long32 0x1004) None) ∷ (9, packet.Addr (Match 0) None) ∷ [])
@@ -102,3 +103,73 @@ pub elements_come_in_order :
       told = begun;
     }
 elements_come_in_order = refl
+
+-- ---- where packets may come
+
+abbrev no_atom : FewAtoms
+no_atom = record { count = 0; first = false }
+
+-- one packet of each kind, in the order of the standard
+abbrev kinds : List Packet
+kinds =
+    packet.Async ∷ packet.Discard ∷ packet.Overflow ∷ info ∷ packet.On ∷ packet.Ignore
+    ∷ packet.Event 1 ∷ packet.Time 7 0 ∷ packet.Exc 3 ∷ packet.Commit 1 ∷ packet.Cancel 1 false ∷ packet.Mispredict no_atom
+    ∷ packet.Cancel2 no_atom ∷ packet.Cancel3 false 2 ∷ packet.CtxSame ∷ packet.CtxInfo no_field ∷ packet.Addr (Match 0) None
+    ∷ packet.Atoms (record { count = 1; bits = 1 }) ∷ []
+
+-- Between an exception and its address no trace info, trace on, exception, commit, cancel, mispredict or atom may come.
+pub before_the_address_of_an_exception :
+    map (is_misplaced (record begun { awaiting = Some 3 })) kinds
+    ≡ false ∷ false ∷ false ∷ true ∷ true ∷ false
+    ∷ false ∷ false ∷ true ∷ true ∷ true ∷ true
+    ∷ true ∷ true ∷ false ∷ false ∷ false
+    ∷ true ∷ []
+before_the_address_of_an_exception = refl
+
+-- Where no exception awaits its address, every packet may come.
+pub before_an_exception :
+    map (is_misplaced begun) kinds
+    ≡ false ∷ false ∷ false ∷ false ∷ false ∷ false
+    ∷ false ∷ false ∷ false ∷ false ∷ false ∷ false
+    ∷ false ∷ false ∷ false ∷ false ∷ false
+    ∷ false ∷ []
+before_an_exception = refl
+
+-- Before the first trace info no other packet counts.
+pub before_the_first_trace_info :
+    map (tells untold) kinds
+    ≡ false ∷ false ∷ false ∷ true ∷ false ∷ false
+    ∷ false ∷ false ∷ false ∷ false ∷ false ∷ false
+    ∷ false ∷ false ∷ false ∷ false ∷ false
+    ∷ false ∷ []
+before_the_first_trace_info = refl
+
+-- ---- what an overflow, a discard and a trace info leave
+
+abbrev handler : Ctx
+handler = record { el = 1; ns = true; vmid = 5; cid = 7 }
+
+-- addresses, a context, and an exception whose address is still to come
+abbrev under_way : Told
+under_way = record { history = 0x3000 ∷ 0x2000 ∷ 0x1000 ∷ []; context = handler; informed = true; awaiting = Some 3 }
+
+pub after_an_overflow : told_after under_way packet.Overflow ≡ record under_way { awaiting = None }
+after_an_overflow = refl
+
+pub after_a_discard : told_after under_way packet.Discard ≡ record under_way { awaiting = None }
+after_a_discard = refl
+
+pub after_a_trace_info : told_after (record under_way { awaiting = None }) info ≡ begun
+after_a_trace_info = refl
+
+-- a trace info without a SPEC section is one of speculation depth 0
+pub their_elements :
+    map (elements_of under_way) (packet.Overflow ∷ packet.Discard ∷ info ∷ packet.Info None None (Some 3) None ∷ [])
+    ≡ (elem.Overflow ∷ []) ∷ (elem.Discard ∷ []) ∷ (elem.Info 0 ∷ []) ∷ (elem.Info 3 ∷ []) ∷ []
+their_elements = refl
+
+-- an atom, a commit, a cancel and a context packet without an info byte leave all as it was
+pub left_as_it_was :
+    map (told_after under_way) (packet.Atoms (record { count = 1; bits = 1 }) ∷ packet.Commit 1 ∷ packet.Cancel 1 true ∷ packet.CtxSame ∷ [])
+    ≡ under_way ∷ under_way ∷ under_way ∷ under_way ∷ []
+left_as_it_was = refl

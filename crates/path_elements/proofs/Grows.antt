@@ -1,9 +1,9 @@
--- What a list of packets tells, from its front on.
+-- What is gained of a list of packets, from its front on.
 use Rattle.std.proofs.Common.{◌≡◌, ℕ, Bool, true, false, if◌then◌else◌, List, [], ◌∷◌, ◌++◌, Option, Some, None, refl, sym, ap, ◌∙◌}
 use Rattle.std.proofs.lemmas.List.{append_assoc, append-nil}
 use Rattle.etm_types.specs.declared.element.Elem.{Elem}
 use Rattle.packet_grammar.specs.declared.packet.Packet.{Packet}
-use Rattle.path_elements.specs.Elements.{Told, Gained, all_elements, elements_of, told_after, is_misplaced, placed, behind}
+use Rattle.path_elements.specs.Elements.{Told, Gained, all_elements, elements_of, told_after, is_misplaced, placed, with_gained}
 use Rattle.path_elements.specs.Laws.{EachPacketAdds, NoneBehind}
 
 same_gained : (elements others : List (ℕ × Elem)) (awaited other : Option ℕ) (told : Told) → elements ≡ others → awaited ≡ other
@@ -14,22 +14,22 @@ same_gained elements others awaited other told same as_well = cc
 abbrev stopped : Told → ℕ → Gained
 stopped told at = record { elements = []; awaited = Some at; told = told }
 
-behind_both : (here : List (ℕ × Elem)) (elements : List (ℕ × Elem)) (g : Gained) → behind here (behind elements g) ≡ behind (here ++ elements) g
-behind_both here elements g =
+gained_both : (here : List (ℕ × Elem)) (elements : List (ℕ × Elem)) (g : Gained) → with_gained here (with_gained elements g) ≡ with_gained (here ++ elements) g
+gained_both here elements g =
     same_gained (here ++ (elements ++ g.elements)) (here ++ elements ++ g.elements) g.awaited g.awaited g.told (sym (append_assoc here elements g.elements)) refl
 
 goes_on : (b : Bool) (told : Told) (at : ℕ) (here : List (ℕ × Elem)) (front whole : Gained) (packets : List (ℕ × Packet))
-    → (front.awaited ≡ None → whole ≡ behind front.elements (all_elements front.told packets))
-    → (if b then stopped told at else behind here front).awaited ≡ None
-    → (if b then stopped told at else behind here whole)
-    ≡ behind (if b then stopped told at else behind here front).elements (all_elements (if b then stopped told at else behind here front).told packets)
+    → (front.awaited ≡ None → whole ≡ with_gained front.elements (all_elements front.told packets))
+    → (if b then stopped told at else with_gained here front).awaited ≡ None
+    → (if b then stopped told at else with_gained here whole)
+    ≡ with_gained (if b then stopped told at else with_gained here front).elements (all_elements (if b then stopped told at else with_gained here front).told packets)
 goes_on true told at here front whole packets later none = absurd (cc)
 goes_on false told at here front whole packets later none =
-    ap (λ (g : Gained). behind here g) (later none) ∙ behind_both here front.elements (all_elements front.told packets)
+    ap (λ (g : Gained). with_gained here g) (later none) ∙ gained_both here front.elements (all_elements front.told packets)
 
--- behind packets that all may come where they do, others tell what they do from there on
+-- after packets that all may come where they do, what is gained of others is that from there on
 pub elements_append : (told : Told) (packets more : List (ℕ × Packet)) → (all_elements told packets).awaited ≡ None
-    → all_elements told (packets ++ more) ≡ behind (all_elements told packets).elements (all_elements (all_elements told packets).told more)
+    → all_elements told (packets ++ more) ≡ with_gained (all_elements told packets).elements (all_elements (all_elements told packets).told more)
 elements_append told [] more none = refl
 elements_append told (p ∷ packets) more none =
     let after = told_after told p.1 in
@@ -38,10 +38,10 @@ elements_append told (p ∷ packets) more none =
 
 stays : (b : Bool) (told : Told) (at stop : ℕ) (here : List (ℕ × Elem)) (front whole : Gained)
     → (front.awaited ≡ Some at → whole ≡ front)
-    → (if b then stopped told stop else behind here front).awaited ≡ Some at
-    → (if b then stopped told stop else behind here whole) ≡ (if b then stopped told stop else behind here front)
+    → (if b then stopped told stop else with_gained here front).awaited ≡ Some at
+    → (if b then stopped told stop else with_gained here whole) ≡ (if b then stopped told stop else with_gained here front)
 stays true told at stop here front whole later some = refl
-stays false told at stop here front whole later some = ap (λ (g : Gained). behind here g) (later some)
+stays false told at stop here front whole later some = ap (λ (g : Gained). with_gained here g) (later some)
 
 pub none_behind : NoneBehind
 none_behind told [] more at some = absurd (cc)
@@ -51,7 +51,7 @@ none_behind told (p ∷ packets) more at some =
     (none_behind after packets more at) some
 
 one_more : (b : Bool) (g : Gained) (at : ℕ) (here : List (ℕ × Elem)) (after : Told) → g.awaited ≡ None
-    → behind g.elements (if b then stopped g.told at else behind here (record { elements = []; awaited = None; told = after }))
+    → with_gained g.elements (if b then stopped g.told at else with_gained here (record { elements = []; awaited = None; told = after }))
     ≡ (if b then record g { awaited = Some at } else record g { elements = g.elements ++ here; told = after })
 one_more true g at here after none = same_gained (g.elements ++ []) g.elements (Some at) (Some at) g.told (append-nil g.elements) refl
 one_more false g at here after none =

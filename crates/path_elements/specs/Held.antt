@@ -7,7 +7,7 @@ use Rattle.address_history.specs.Forms.{IsHistory, HasEntry}
 use Rattle.packet_grammar.specs.declared.packet.Packet.{Packet}
 use Rattle.packet_grammar.specs.declared.packet.Packet.TheVariants as packet
 use Rattle.etm_types.specs.declared.atoms.AtomRun.{AtomRun}
-use Rattle.etm_types.specs.Atoms.{atoms_in}
+use Rattle.etm_types.specs.Atoms.{atoms_in, most_atoms}
 use Rattle.path_elements.specs.declared.elems.Rest.{Rest}
 use Rattle.path_elements.specs.declared.elems.Rest.TheVariants as rest
 use Rattle.path_elements.specs.Elements.{Told, atoms}
@@ -19,9 +19,9 @@ IsElem (elem.Ctx ctx) = ctx.el ≤ 3
 IsElem (elem.P0 (p0.Exc kind ret)) = (kind < 32) × (ret % 4 ≡ 0)
 IsElem e = ⊤
 
--- at most 24 elements
+-- no more elements than the most atoms of a packet
 pub record AreElems (elements : List Elem) : Type 0 where
-  pub most : length elements ≤ 24
+  pub most : length elements ≤ most_atoms
   pub each : All IsElem elements
 
 -- three addresses of A64 code, a level of at most 3, and where an exception awaits its address, a type that there is
@@ -31,7 +31,7 @@ pub record IsTold (told : Told) : Type 0 where
   pub level : told.context.el ≤ 3
   pub exception : IfSome told.awaiting (λ kind. kind < 32)
 
--- what stands behind the atoms of a packet
+-- what stands after the atoms of a packet
 abbrev pub rest_in : Rest → List Elem
 rest_in rest.Nothing = []
 rest_in (rest.One e) = e ∷ []
@@ -41,13 +41,13 @@ rest_in (rest.Two e f) = e ∷ f ∷ []
 abbrev pub held : AtomRun → Rest → List Elem
 held run rest = atoms (atoms_in run) ++ rest_in rest
 
--- What the elements of a packet build on is in its range: at most 24 atoms, the index of an address that was told, a level
--- of at most 3, and a type of exception that there is. Each packet that bytes spell is so.
+-- What the elements of a packet build on is in its range: the number of atoms, the index of an exact match, a level of at
+-- most 3, and a type of exception that there is. Each packet that bytes spell is so.
 abbrev pub CanBeTaken : Packet → Type 0
 CanBeTaken (packet.Exc kind) = kind < 32
 CanBeTaken (packet.Mispredict few) = few.count ≤ 2
 CanBeTaken (packet.Cancel2 few) = few.count ≤ 2
 CanBeTaken (packet.CtxInfo ctx) = ctx.el ≤ 3
 CanBeTaken (packet.Addr form ctx) = HasEntry form × IfSome ctx (λ told. told.el ≤ 3)
-CanBeTaken (packet.Atoms run) = run.count ≤ 24
+CanBeTaken (packet.Atoms run) = run.count ≤ most_atoms
 CanBeTaken p = ⊤

@@ -17,24 +17,24 @@ with_packet gained at packet =
     if is_misplaced gained.told packet then record gained { awaited = Some at }
     else record gained { elements = gained.elements ++ placed at (elements_of gained.told packet); told = told_after gained.told packet }
 
--- behind packets that all may come where they do, one more adds its elements, or may not come
+-- after packets that all may come where they do, one more adds its elements, or may not come
 abbrev pub EachPacketAdds : Type 0
 EachPacketAdds =
     (told : Told) (packets : List (ℕ × Packet)) (at : ℕ) (packet : Packet)
     → (all_elements told packets).awaited ≡ None
     → all_elements told (packets ++ (at, packet) ∷ []) ≡ with_packet (all_elements told packets) at packet
 
--- behind a packet that may not come where it does, no packet counts
+-- after a packet that may not come where it does, no packet counts
 abbrev pub NoneBehind : Type 0
 NoneBehind =
     (told : Told) (packets more : List (ℕ × Packet)) (at : ℕ)
     → (all_elements told packets).awaited ≡ Some at
     → all_elements told (packets ++ more) ≡ all_elements told packets
 
--- the values of a packet that are in their ranges are such that its elements can be told
+-- a packet whose values are in their ranges can be taken
 abbrev pub PacketsInRange : Type 0
 PacketsInRange = (s : Sizes) (packet : Packet) → IsPacket s packet → CanBeTaken packet
 
--- and so those of a packet that bytes spell, under whatever sizes
+-- and so can a packet that bytes spell, under whatever sizes
 abbrev pub PacketsSpelled : Type 0
 PacketsSpelled = (s : Sizes) (packet : Packet) (bytes : List ℕ) → All (λ b. b < 256) bytes → SpellsPacket s packet bytes → CanBeTaken packet

@@ -1,6 +1,6 @@
 //! The elements of one packet.
 ghost use Rattle.std.specs.Prelude.{◌≡◌, ◌≤◌, ◌+◌, ◌∷◌, ◌++◌, [], length, replicate, slice_get, All};
-ghost use Rattle.etm_types.specs.Atoms.{atoms_in};
+ghost use Rattle.etm_types.specs.Atoms.{atoms_in, most_atoms};
 ghost use Rattle.path_elements.specs.Elements.{atoms};
 ghost use Rattle.path_elements.specs.Held.{IsElem, rest_in};
 
@@ -20,7 +20,7 @@ pub struct Elems {
     rest: Rest,
 }
 
-/// What stands behind the atoms.
+/// What stands after the atoms.
 #[derive(Clone, Copy, Debug)]
 enum Rest {
     Nothing,
@@ -44,7 +44,7 @@ impl Elems {
     /// How many there are, at most 24.
     pub fn len(&self) -> usize
         ensures value { result ≡ length self.now }
-        ensures most { result ≤ 24 }
+        ensures most { result ≤ most_atoms }
     {
         usize::from(self.atoms.count) + self.rest.len()
     }
@@ -120,16 +120,19 @@ impl Elems {
 
     /// The atoms of a run, oldest first.
     pub(crate) fn of_run(run: &AtomRun) -> Elems
-        requires { run.now.count ≤ 24 }
+        requires { run.now.count ≤ most_atoms }
         ensures { result ≡ atoms (atoms_in run.now) }
     {
         Elems {
-            atoms: *run,
+            atoms: AtomRun {
+                count: run.count,
+                bits: run.bits,
+            },
             rest: Rest::Nothing,
         }
     }
 
-    /// Atoms, of which the newest was predicted wrongly.
+    /// Atoms, and a mispredict of the newest.
     pub(crate) fn flipped(few: &FewAtoms) -> Elems
         requires { few.now.count ≤ 2 }
         ensures { result ≡ atoms (replicate few.now.count few.now.first) ++ elem.Flip ∷ [] }
@@ -140,7 +143,7 @@ impl Elems {
         }
     }
 
-    /// Atoms, a cancel of so many elements, and a wrong prediction of the newest atom that is left.
+    /// Atoms, a cancel of so many elements, and a mispredict of the newest atom that is left.
     pub(crate) fn cancelled(few: &FewAtoms, n: u32) -> Elems
         requires { few.now.count ≤ 2 }
         ensures { result ≡ atoms (replicate few.now.count few.now.first) ++ elem.Cancel n ∷ elem.Flip ∷ [] }

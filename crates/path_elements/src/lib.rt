@@ -1,10 +1,10 @@
-//! The elements that the packets of a trace tell (Arm IHI 0064, "Descriptions of Trace Elements").
+//! From the packets of a trace to its elements (Arm IHI 0064, "Descriptions of Trace Elements").
 //!
-//! [`ElemMaker`] takes packets one by one and keeps what later ones build on: the addresses told last,
-//! the context, and an exception whose address is still to come. The layer above uses the contract of
+//! [`ElemMaker`] takes packets one by one and keeps what later ones build on: the address history, the
+//! context, and an exception whose address is still to come. The layer above uses the contract of
 //! [`ElemMaker::take`]: the [`Elems`] of a packet are those that the definition in `specs/` gives for it.
-//! How the elements of a list of packets come of that is the contract of [`elements_come_one_by_one`], and
-//! that every packet of a stream can be taken that of [`spelled_packets_can_be_taken`].
+//! The contract of [`elements_come_one_by_one`] says how the elements of a list of packets are put
+//! together, and that of [`spelled_packets_can_be_taken`] that every packet of a stream can be taken.
 #![tactic(auto)]
 
 mod elems;

@@ -1,6 +1,6 @@
 //! From packets to elements, one packet after the other.
 ghost use Rattle.std.specs.Prelude.{◌≡◌, ◌≤◌, ◌<◌, ◌∷◌, ◌++◌, [], false, true, Some, None, IfOk, IfSome, OnErr, if◌then◌else◌};
-ghost use Rattle.path_elements.specs.Elements.{untold, elements_of, told_after, is_misplaced, may_come_behind, tells};
+ghost use Rattle.path_elements.specs.Elements.{untold, elements_of, told_after, is_misplaced, may_follow_exception, tells};
 ghost use Rattle.path_elements.specs.Held.{AreElems, CanBeTaken, IsTold};
 
 use crate::Elems;
@@ -9,19 +9,11 @@ use etm_types::{AddrForm, Ctx, CtxBits, Elem, FewAtoms, P0};
 use packet_grammar::Packet;
 use std::marker::Model;
 
-/// The context of a trace before one is told: EL0 in Secure state.
-const FIRST_CONTEXT: Ctx = Ctx {
-    el: 0,
-    ns: false,
-    vmid: 0,
-    cid: 0,
-};
-
-/// A packet that may not come between an exception packet and the address packet that belongs to it.
+/// A packet that may not come between an exception packet and its address packet.
 #[derive(Clone, Copy, Debug, PartialEq, Eq)]
 pub struct Awaited;
 
-/// Makes elements of packets. Contracts see the record of what the packets have told so far.
+/// Makes elements of packets. Contracts see the record of what the packets so far gave.
 #[derive(Clone, Copy, Debug, PartialEq, Eq)]
 pub struct ElemMaker {
     history: History,
@@ -57,7 +49,7 @@ impl ElemMaker {
     {
         ElemMaker {
             history: History::reset(),
-            context: FIRST_CONTEXT,
+            context: Ctx::initial(),
             informed: false,
             awaiting: None,
         }
@@ -65,6 +57,7 @@ impl ElemMaker {
 
     /// Takes the next packet, and gives its elements. Where the packet may not come there, nothing
     /// changes.
+    #[inline]
     pub fn take(&mut self, packet: &Packet) -> Result<Elems, Awaited>
         requires { CanBeTaken packet.now }
         ensures ok { IfOk result (λ elems. (is_misplaced self.old packet.now ≡ false)
@@ -72,13 +65,30 @@ impl ElemMaker {
         ensures awaited { OnErr result ((is_misplaced self.old packet.now ≡ true) × (self.new ≡ self.old)) }
         ensures within { IfOk result (λ elems. AreElems elems) }
     {
+        match *packet {
+            Packet::Atoms(ref run) if self.informed && self.awaiting.is_none() => {
+                Ok(Elems::of_run(run))
+            }
+            _ => self.take_any(packet),
+        }
+    }
+
+    /// Takes a packet of any kind. It is long; most packets are atoms, and [`ElemMaker::take`] answers
+    /// those without it.
+    #[inline(never)]
+    fn take_any(&mut self, packet: &Packet) -> Result<Elems, Awaited>
+        requires { CanBeTaken packet.now }
+        ensures ok { IfOk result (λ elems. (is_misplaced self.old packet.now ≡ false)
+            × (elems ≡ elements_of self.old packet.now) × (self.new ≡ told_after self.old packet.now)) }
+        ensures awaited { OnErr result ((is_misplaced self.old packet.now ≡ true) × (self.new ≡ self.old)) }
+    {
         if !self.tells(packet) {
             return Ok(Elems::none());
         }
-        if self.awaiting.is_some() && !may_come_behind(packet) {
+        if self.awaiting.is_some() && !may_follow_exception(packet) {
             return Err(Awaited);
         }
-        Ok(self.tell(packet))
+        Ok(self.take_counted(packet))
     }
 
     /// Whether a packet counts: before the first trace info no other one does.
@@ -88,8 +98,8 @@ impl ElemMaker {
         self.informed || matches!(packet, Packet::Info { .. })
     }
 
-    /// Takes what a packet tells, and gives its elements.
-    fn tell(&mut self, packet: &Packet) -> Elems
+    /// Takes a packet that counts, and gives its elements.
+    fn take_counted(&mut self, packet: &Packet) -> Elems
         requires { CanBeTaken packet.now }
         ensures elements { result ≡ elements_in self.old packet.now }
         ensures told { self.new ≡ told_by self.old packet.now }
@@ -111,8 +121,8 @@ impl ElemMaker {
             Packet::Cancel2(ref few) => Elems::cancelled(few, 1),
             Packet::Cancel3 { e, n } => Elems::cancelled(&one_if(e), u32::from(n)),
             Packet::CtxSame => Elems::one(Elem::Ctx(self.context)),
-            Packet::CtxInfo(ref bits) => Elems::one(self.tell_context(bits)),
-            Packet::Addr { ref form, ref ctx } => self.tell_place(form, ctx),
+            Packet::CtxInfo(ref bits) => Elems::one(self.take_context(bits)),
+            Packet::Addr { ref form, ref ctx } => self.take_place(form, ctx),
         }
     }
 
@@ -122,7 +132,7 @@ impl ElemMaker {
         ensures element { result ≡ elem.Info spec ∷ [] }
     {
         self.history = History::reset();
-        self.context = FIRST_CONTEXT;
+        self.context = Ctx::initial();
         self.informed = true;
         Elems::one(Elem::Info { spec })
     }
@@ -147,24 +157,24 @@ impl ElemMaker {
         Elems::one(gap)
     }
 
-    /// Takes an address, and the context that comes with it before it.
-    fn tell_place(&mut self, form: &AddrForm, ctx: &Option<CtxBits>) -> Elems
+    /// Takes an address, and before it the context that comes with it.
+    fn take_place(&mut self, form: &AddrForm, ctx: &Option<CtxBits>) -> Elems
         requires form { HasEntry form.now }
         requires ctx { IfSome ctx.now (λ bits. bits.el ≤ 3) }
         ensures told { self.new ≡ told_by self.old (packet.Addr form.now ctx.now) }
         ensures elements { result ≡ elements_in self.old (packet.Addr form.now ctx.now) }
     {
         match *ctx {
-            None => Elems::one(self.tell_address(form)),
+            None => Elems::one(self.take_address(form)),
             Some(ref bits) => {
-                let context = self.tell_context(bits);
-                Elems::two(context, self.tell_address(form))
+                let context = self.take_context(bits);
+                Elems::two(context, self.take_address(form))
             }
         }
     }
 
-    /// Takes the context that is told.
-    fn tell_context(&mut self, bits: &CtxBits) -> Elem
+    /// Takes a context.
+    fn take_context(&mut self, bits: &CtxBits) -> Elem
         requires { bits.now.el ≤ 3 }
         ensures told { self.new ≡ record (self.old) { context = context_told bits.now self.old.context } }
         ensures element { result ≡ elem.Ctx (context_told bits.now self.old.context) }
@@ -173,8 +183,8 @@ impl ElemMaker {
         Elem::Ctx(self.context)
     }
 
-    /// Takes the address that is told. An exception that awaits it is told by it.
-    fn tell_address(&mut self, form: &AddrForm) -> Elem
+    /// Takes an address. An exception that awaits it has it as its preferred return address.
+    fn take_address(&mut self, form: &AddrForm) -> Elem
         requires { HasEntry form.now }
         ensures told { self.new ≡ after_address self.old form.now }
         ensures element { result ≡ with_address self.old.awaiting (address_told self.old.history form.now) }
@@ -199,9 +209,9 @@ fn one_if(e: bool) -> FewAtoms
     }
 }
 
-/// Whether a packet may come between an exception packet and its address packet, or is that one.
-fn may_come_behind(packet: &Packet) -> bool
-    ensures { result ≡ may_come_behind packet.now }
+/// Whether a packet may come between an exception packet and its address packet, or is the latter.
+fn may_follow_exception(packet: &Packet) -> bool
+    ensures { result ≡ may_follow_exception packet.now }
 {
     matches!(
         packet,

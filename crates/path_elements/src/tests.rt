@@ -88,7 +88,7 @@ fn refuses(rt: &impl Abort, maker: &mut ElemMaker, packet: &Packet)
 }
 
 #[test]
-fn a_flip_behind_a_sync(rt: HostRuntime) -> Result<(), Fail> {
+fn a_flip_after_a_sync(rt: HostRuntime) -> Result<(), Fail> {
     let mut maker = ElemMaker::new();
     let none = FewAtoms {
         count: 0,

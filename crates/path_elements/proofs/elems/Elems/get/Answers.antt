@@ -1,7 +1,7 @@
 use Rattle.std.proofs.Common.{ℕ, ◌-◌, ◌<◌, ◌≤◌, List, slice_get, arith, ◌∙◌, sym, ap}
 use Rattle.etm_types.specs.declared.element.Elem.{Elem}
 use Rattle.path_elements.specs.Held.{rest_in}
-use Rattle.path_elements.proofs.AtomElems.{count_all, atom_at, behind_atoms}
+use Rattle.path_elements.proofs.AtomElems.{count_all, atom_at, after_atoms}
 use Rattle.path_elements.proofs.elems.Elems.get.Goals as goal
 
 pub overflow_shr-result : goal.overflow_shr-result
@@ -24,5 +24,5 @@ returns c =
     record {
       value =
           c.get.ensures ∙ ap (λ (n : ℕ). slice_get (rest_in e.rest) (c.args.i - n)) c.from-count.ensures
-          ∙ sym (behind_atoms e.atoms.count e.atoms.bits c.args.i (rest_in e.rest) past) ∙ ap (λ (xs : List Elem). slice_get xs c.args.i) c.self.view_is;
+          ∙ sym (after_atoms e.atoms.count e.atoms.bits c.args.i (rest_in e.rest) past) ∙ ap (λ (xs : List Elem). slice_get xs c.args.i) c.self.view_is;
     }
