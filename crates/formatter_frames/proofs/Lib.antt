@@ -5,3 +5,4 @@ pub mod Bytes
 pub mod Going
 pub mod RoundTrip
 pub mod Writing
+pub mod Examples

@@ -1,13 +1,13 @@
 -- The frames that a writer writes.
 use Rattle.std.proofs.Common.{◌≡◌, ℕ, ◌+◌, ◌<◌, List, [], ◌∷◌, ◌++◌, length, take, refl, ap, sym, ◌∙◌, arith, lit<, append-nil, append_assoc, length-append}
-use Rattle.std.specs.Prelude.{Option, None, flat_map, Result, Ok, Err, OnOk, is_err}
+use Rattle.std.specs.Prelude.{None, flat_map, Result, Ok, Err, OnOk, is_err}
 use Rattle.std.proofs.Math.ListN.{set, length-set}
 use Rattle.std.proofs.Math.Seq.{take-length}
 use Rattle.std.proofs.lemmas.List.{take_more_set}
 use Rattle.std.proofs.lemmas.List.Concat.{flat_map-append}
 use Rattle.std.proofs.KnownBytes.{Appends-trans}
-use Rattle.std.specs.Io.KnownBytes.{Appends}
-use Rattle.trace_io.specs.Bytes.{AppendsShorter}
+use Rattle.trace_io.specs.State.{IoState}
+use Rattle.trace_io.specs.Bytes.{AppendsAll, AppendsShorter}
 use Rattle.formatter_frames.specs.declared.symbol.Symbol.{Symbol}
 use Rattle.formatter_frames.specs.declared.symbol.Symbol.TheVariants.{Data}
 use Rattle.formatter_frames.specs.Symbols.{told, symbols_of, id_after}
@@ -72,7 +72,7 @@ filled_some [] some = absurd (omega arith)
 filled_some (symbol ∷ symbols) some = refl
 
 -- a shorter front of the first part, and of the second
-pub shorter_first : (old new : Option (List ℕ)) (xs ys : List ℕ) → AppendsShorter old new xs → AppendsShorter old new (xs ++ ys)
+pub shorter_first : (old new : IoState) (xs ys : List ℕ) → AppendsShorter old new xs → AppendsShorter old new (xs ++ ys)
 shorter_first old new xs ys some = record {
   front = some.front;
   rest = some.rest ++ ys;
@@ -81,12 +81,12 @@ shorter_first old new xs ys some = record {
   shorter = omega (arith, some.shorter, length-append some.rest ys);
 }
 
-pub shorter_second : (old mid new : Option (List ℕ)) (xs ys : List ℕ) → Appends old mid xs → AppendsShorter mid new ys → AppendsShorter old new (xs ++ ys)
+pub shorter_second : (old mid new : IoState) (xs ys : List ℕ) → AppendsAll old mid xs → AppendsShorter mid new ys → AppendsShorter old new (xs ++ ys)
 shorter_second old mid new xs ys all some = record {
   front = xs ++ some.front;
   rest = some.rest;
   whole = ap (λ zs. xs ++ zs) some.whole ∙ sym (append_assoc xs some.front some.rest);
-  appended = Appends-trans old mid new xs some.front all some.appended;
+  appended = Appends-trans old.bytes mid.bytes new.bytes xs some.front all some.appended;
   shorter = some.shorter;
 }
 

@@ -1,3 +1,4 @@
+pub mod Sizes
 pub mod Frame
 pub mod Framed
 pub mod Pieces

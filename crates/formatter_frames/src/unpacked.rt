@@ -19,19 +19,20 @@ pub struct FrameBytes {
 
 impl Model for FrameBytes {
     ghost use Rattle.std.specs.Prelude.{◌≡◌, ℕ, ◌≤◌, List, length, take};
+    ghost use Rattle.formatter_frames.specs.Sizes.{frame_symbols};
 
     ghost Value = { List (ℕ × ℕ) };
 
     ghost view = { λ bytes. take bytes.count bytes.pairs };
 
-    ghost invariant = { λ bytes. (bytes.count ≤ 15) × (length bytes.pairs ≡ 15) };
+    ghost invariant = { λ bytes. (bytes.count ≤ frame_symbols) × (length bytes.pairs ≡ frame_symbols) };
 }
 
 impl FrameBytes {
     /// How many there are, at most fifteen.
     pub fn len(&self) -> usize
         ensures count { result ≡ length self.now }
-        ensures most { result ≤ 15 }
+        ensures most { result ≤ SYMBOLS }
     {
         self.count
     }
@@ -57,9 +58,9 @@ impl FrameBytes {
         }
     }
 
-    // Takes one symbol: a new ID, or a byte of the current ID, where there is one.
+    /// Takes one symbol: a new ID, or a byte of the current ID, where there is one.
     fn take(&mut self, symbol: Symbol, current: &mut Option<u8>)
-        requires { length self.old < 15 }
+        requires { length self.old < SYMBOLS }
         ensures pairs { self.new ≡ self.old ++ pairs_of current.old (symbol ∷ []) }
         ensures current { current.new ≡ id_after current.old (symbol ∷ []) }
         ensures few { length self.new ≤ length self.old + 1 }

@@ -1,7 +1,7 @@
 //! Frames put together.
 ghost use Rattle.std.specs.Prelude.{◌≡◌, ℕ, List, [], ◌∷◌, ◌++◌, false, Some, OnOk, is_err};
 ghost use Rattle.trace_io.specs.Causes.{HasCause};
-ghost use Rattle.trace_io.specs.Bytes.{TellsAsBefore};
+ghost use Rattle.trace_io.specs.Bytes.{ShowsAsBefore};
 ghost use Rattle.formatter_frames.specs.Symbols.{told};
 ghost use Rattle.formatter_frames.specs.Framed.{frames_of, whole_frames, framed};
 ghost use Rattle.formatter_frames.specs.Writer.{StandsAt, AppendsGrowth, Puts};
@@ -24,13 +24,14 @@ pub struct FrameWriter {
 
 impl Model for FrameWriter {
     ghost use Rattle.std.specs.Prelude.{◌≡◌, ◌≤◌, ◌==◌, length, take};
+    ghost use Rattle.formatter_frames.specs.Sizes.{frame_symbols};
     ghost use Rattle.formatter_frames.specs.Writer.{Begun};
 
     ghost Value = { Begun };
 
-    ghost view = { λ w. record { symbols = take w.begun w.symbols; current = w.current; failed = w.begun == 15 } };
+    ghost view = { λ w. record { symbols = take w.begun w.symbols; current = w.current; failed = w.begun == frame_symbols } };
 
-    ghost invariant = { λ w. (w.begun ≤ 15) × (length w.symbols ≡ 15) };
+    ghost invariant = { λ w. (w.begun ≤ frame_symbols) × (length w.symbols ≡ frame_symbols) };
 }
 
 impl FrameWriter {
@@ -53,12 +54,12 @@ impl FrameWriter {
             → OnOk result (StandsAt self.new (pairs ++ (id, byte) ∷ [])) }
         ensures failed { self.new.failed ≡ is_err result }
         ensures written { (pairs : List (ℕ × ℕ)) → StandsAt self.old pairs
-            → AppendsGrowth (K.written sink.old) (K.written sink.new)
+            → AppendsGrowth (K.state sink.old) (K.state sink.new)
             (whole_frames pairs) (whole_frames (pairs ++ (id, byte) ∷ [])) result }
         ensures idle { (pairs : List (ℕ × ℕ)) → StandsAt self.old pairs
             → whole_frames (pairs ++ (id, byte) ∷ []) ≡ whole_frames pairs → sink.new ≡ sink.old }
-        ensures tells { TellsAsBefore (K.written sink.old) (K.written sink.new) }
-        ensures cause { HasCause (K.faults sink.old) (K.faults sink.new) result }
+        ensures shows { ShowsAsBefore (K.state sink.old) (K.state sink.new) }
+        ensures cause { HasCause (K.state sink.old) (K.state sink.new) result }
     {
         self.tell(id, sink)?;
         self.put(Symbol::Data(byte), sink)
@@ -68,12 +69,12 @@ impl FrameWriter {
     pub fn finish<K: Sink>(self, sink: &mut K) -> Result<(), Failed>
         requires { self.failed ≡ false }
         ensures written { (pairs : List (ℕ × ℕ)) → StandsAt self pairs
-            → AppendsGrowth (K.written sink.old) (K.written sink.new)
+            → AppendsGrowth (K.state sink.old) (K.state sink.new)
             (whole_frames pairs) (framed pairs) result }
         ensures idle { (pairs : List (ℕ × ℕ)) → StandsAt self pairs
             → framed pairs ≡ whole_frames pairs → sink.new ≡ sink.old }
-        ensures tells { TellsAsBefore (K.written sink.old) (K.written sink.new) }
-        ensures cause { HasCause (K.faults sink.old) (K.faults sink.new) result }
+        ensures shows { ShowsAsBefore (K.state sink.old) (K.state sink.new) }
+        ensures cause { HasCause (K.state sink.old) (K.state sink.new) result }
     {
         if self.begun == 0 {
             return Ok(());
@@ -86,14 +87,14 @@ impl FrameWriter {
         write_all(sink, &frame_of(&symbols))
     }
 
-    // Makes `id` the ID that holds.
+    /// Makes `id` the ID that holds.
     fn tell<K: Sink>(&mut self, id: Id, sink: &mut K) -> Result<(), Failed>
         requires { self.old.failed ≡ false }
-        ensures puts { Puts self.old self.new (told self.old.current id) (K.written sink.old) (K.written sink.new) result }
+        ensures puts { Puts self.old self.new (told self.old.current id) (K.state sink.old) (K.state sink.new) result }
         ensures current { OnOk result (self.new.current ≡ Some id) }
         ensures idle { frames_of (self.old.symbols ++ told self.old.current id) ≡ [] → sink.new ≡ sink.old }
-        ensures tells { TellsAsBefore (K.written sink.old) (K.written sink.new) }
-        ensures cause { HasCause (K.faults sink.old) (K.faults sink.new) result }
+        ensures shows { ShowsAsBefore (K.state sink.old) (K.state sink.new) }
+        ensures cause { HasCause (K.state sink.old) (K.state sink.new) result }
     {
         if self.current == Some(id) {
             return Ok(());
@@ -102,14 +103,14 @@ impl FrameWriter {
         self.put(Symbol::NewId(FrameId::new(id.get())), sink)
     }
 
-    // Takes the next place of the frame, and writes the frame once it is full.
+    /// Takes the next place of the frame, and writes the frame once it is full.
     fn put<K: Sink>(&mut self, symbol: Symbol, sink: &mut K) -> Result<(), Failed>
         requires { self.old.failed ≡ false }
-        ensures puts { Puts self.old self.new (symbol ∷ []) (K.written sink.old) (K.written sink.new) result }
+        ensures puts { Puts self.old self.new (symbol ∷ []) (K.state sink.old) (K.state sink.new) result }
         ensures current { self.new.current ≡ self.old.current }
         ensures idle { frames_of (self.old.symbols ++ symbol ∷ []) ≡ [] → sink.new ≡ sink.old }
-        ensures tells { TellsAsBefore (K.written sink.old) (K.written sink.new) }
-        ensures cause { HasCause (K.faults sink.old) (K.faults sink.new) result }
+        ensures shows { ShowsAsBefore (K.state sink.old) (K.state sink.new) }
+        ensures cause { HasCause (K.state sink.old) (K.state sink.new) result }
     {
         self.symbols[self.begun] = symbol;
         self.begun += 1;

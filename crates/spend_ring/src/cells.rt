@@ -84,6 +84,9 @@ impl<T, A: Allocator> Lease<T, A> {
     }
 
     /// Gives a block of `count` empty cells back.
+    ///
+    /// No clause says that the block is given back: `deallocate` ensures nothing that one could cite, and a proof may
+    /// let memory go. But nothing else ends a lease, so the call below is the one place to read for that.
     pub(crate) fn give_back(self, alloc: &A, first: First<T>, count: usize, cells: Cells<T>)
         requires block { IsBlock first cells self count alloc.now }
         requires empty { cells.held ≡ replicate count None }
