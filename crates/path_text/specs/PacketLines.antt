@@ -1,6 +1,6 @@
 -- The lines of packets.
 use Rattle.std.specs.Prelude.{ℕ, ◌≤◌, ◌==◌, List, ◌++◌, map, codes, Bool, true, false, if◌then◌else◌, Option, Some, None}
-use Rattle.etm_types.specs.Atoms.{IsFewAtoms, atoms_in}
+use Rattle.etm_types.specs.Atoms.{IsFewAtoms, atoms_in, most_atoms}
 use Rattle.etm_types.specs.declared.address.AddrForm.{AddrForm}
 use Rattle.etm_types.specs.declared.address.AddrForm.TheVariants.{Match, Short1, Short2, Long32, Long64}
 use Rattle.etm_types.specs.declared.atoms.AtomRun.{AtomRun}
@@ -73,5 +73,5 @@ packet_line id at packet = line_of id (decimal at ++ codes " " ++ packet_text pa
 abbrev pub HasText : Packet → Type 0
 HasText (packet.Mispredict few) = IsFewAtoms few
 HasText (packet.Cancel2 few) = IsFewAtoms few
-HasText (packet.Atoms run) = run.count ≤ 24
+HasText (packet.Atoms run) = run.count ≤ most_atoms
 HasText packet = Unit {0}

@@ -1,6 +1,6 @@
 //! The lines of packets.
 ghost use Rattle.std.specs.Prelude.{◌≡◌, ◌+◌, ◌++◌, ◌≤◌, length, codes};
-ghost use Rattle.etm_types.specs.Atoms.{IsFewAtoms};
+ghost use Rattle.etm_types.specs.Atoms.{IsFewAtoms, most_atoms};
 ghost use Rattle.path_text.specs.Lines.{HasRoom, AddsAtMost, hex, decimal, number_or_dash};
 ghost use Rattle.path_text.specs.PacketLines.{HasText, letter, atoms_text, few_text, form_text, told_context_text, carried_text, mispredict_text, packet_text, packet_line};
 ghost use Rattle.path_text.specs.Writing.{Writes};
@@ -223,7 +223,7 @@ fn letter(is_e: bool) -> u8
 /// Adds the letters of a run of atoms, the oldest first.
 fn add_atoms(line: &mut Line, run: &AtomRun)
     requires room { HasRoom 30 line.old }
-    requires most { run.now.count ≤ 24 }
+    requires most { run.now.count ≤ most_atoms }
     ensures value { line.new ≡ line.old ++ packet_text (Packet.Atoms run.now) }
     ensures short { AddsAtMost 30 line.old line.new }
 {
