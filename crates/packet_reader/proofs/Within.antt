@@ -1,5 +1,5 @@
 -- Bytes within a part of a packet.
-use Rattle.std.proofs.Common.{◌≡◌, ℕ, suc, ◌+◌, ◌-◌, ◌*◌, ◌^◌, ◌==◌, ◌||◌, not, Bool, true, false, IsTrue, Some, refl}
+use Rattle.std.proofs.Common.{◌≡◌, ℕ, suc, ◌+◌, ◌-◌, ◌*◌, ◌^◌, ◌==◌, ◌||◌, not, Bool, true, false, IsTrue, refl}
 use Rattle.packet_grammar.specs.Fields.{continues, is_last}
 use Rattle.packet_reader.specs.Trees.{Tree, after, number_tree, stamp_tree, bytes_tree, sync_tree}
 

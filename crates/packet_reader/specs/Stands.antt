@@ -1,12 +1,11 @@
 -- At which bytes a reader stands, and what a byte more brings (Arm IHI 0064, "Alignment Synchronization packet", "Descriptions
 -- of Trace Packets").
-use Rattle.std.specs.Prelude.{◌≡◌, ◌↔◌, Bool, true, false, ℕ, suc, ◌+◌, ◌-◌, ◌<◌, ◌≤◌, ◌==◌, ◌&&◌, List, [], ◌∷◌, ◌++◌, length, replicate, Ok, Err, nat_lt, if◌then◌else◌}
+use Rattle.std.specs.Prelude.{◌≡◌, ◌↔◌, Bool, true, false, ℕ, suc, ◌+◌, ◌-◌, ◌<◌, ◌≤◌, ◌==◌, List, [], ◌∷◌, ◌++◌, length, replicate, Ok, Err, nat_lt, if◌then◌else◌}
 use Rattle.etm_types.specs.Settings.{Sizes}
 use Rattle.packet_grammar.specs.declared.packet.Packet.{Packet}
-use Rattle.packet_grammar.specs.declared.packet.Packet.TheVariants.{Async}
 use Rattle.packet_grammar.specs.declared.fault.PacketFault.{PacketFault}
 use Rattle.packet_grammar.specs.Parts.{Outcome}
-use Rattle.packet_grammar.specs.Parsed.{Spells, Ending, no_sync, clean, cut, fault, IsStream, SyncAt, sync}
+use Rattle.packet_grammar.specs.Parsed.{Spells, Ending, no_sync, clean, cut, fault, IsStream, SyncAt}
 use Rattle.packet_reader.specs.declared.state.State.{State}
 use Rattle.packet_reader.specs.declared.state.Progress.{Progress}
 use Rattle.packet_reader.specs.declared.state.Progress.TheVariants.{Next, Done}

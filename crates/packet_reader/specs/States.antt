@@ -1,5 +1,5 @@
 -- What may follow in each state of a reader (Arm IHI 0064, "Descriptions of Trace Packets").
-use Rattle.std.specs.Prelude.{◌≡◌, ◌↔◌, List, ◌∷◌, ℕ, ◌+◌, ◌-◌, ◌*◌, ◌/◌, ◌%◌, ◌^◌, ◌<◌, ◌≤◌, ◌==◌, ◌&&◌, not, Option, Some, None, Ok, Err, nat_lt, if◌then◌else◌}
+use Rattle.std.specs.Prelude.{◌≡◌, ◌↔◌, List, ◌∷◌, ℕ, ◌+◌, ◌-◌, ◌^◌, ◌<◌, ◌≤◌, ◌==◌, ◌&&◌, not, Option, Some, None, Ok, Err, nat_lt, if◌then◌else◌}
 use Rattle.etm_types.specs.Settings.{Sizes}
 use Rattle.etm_types.specs.Atoms.{IsAtomRun, atoms_in}
 use Rattle.etm_types.specs.declared.address.AddrForm.{AddrForm}

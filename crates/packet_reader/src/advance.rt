@@ -5,15 +5,13 @@ ghost use Rattle.packet_grammar.specs.Fields.{is_last};
 ghost use Rattle.packet_reader.specs.Trees.{after, known, number_tree, stamp_tree, bytes_tree, sync_tree};
 ghost use Rattle.packet_reader.specs.States.{tree_of, tree_after, progress_of, made_of, Fits, FitsAfter, behind_number, mode_tree, info_tree, key_tree, spec_tree, cycles_tree, vmid_tree, cid_tree, last_field_tree, context_tree, context_of, with_context, extension_tree, control_tree, exception_tree, short_tree, short_high_tree, long_tree, second_tree, high_tree, behind_long};
 
-use crate::fields::{bit, field, is_last, lowest, CONTINUES};
+use crate::fields::{CONTINUES, bit, field, is_last, lowest};
 use crate::groups::{with_byte, with_group};
 use crate::part::{byte_goes_on, group_goes_on, zero_goes_on};
 use crate::state::{Field, Long, Progress, Purpose, State};
+use crate::sync::{LAST_OF_SYNC, ZEROS_OF_SYNC};
 use etm_types::{AddrForm, CtxBits, Settings};
 use packet_grammar::{Packet, PacketFault};
-
-/// The byte at the end of an A-sync.
-const LAST_OF_SYNC: u8 = 0x80;
 
 /// The last of five groups of a number has so many values: it is the number's bits 31 to 28.
 const LAST_GROUP: u8 = 1 << 4;
@@ -23,7 +21,11 @@ const SECTIONS: u8 = 1 << 4;
 
 /// What a byte makes of the begun packet: where it is read further, the state changes, and else the
 /// outcome is known.
-pub fn advance(settings: &Settings, state: &mut State, byte: u8) -> Option<Result<Packet, PacketFault>>
+pub fn advance(
+    settings: &Settings,
+    state: &mut State,
+    byte: u8,
+) -> Option<Result<Packet, PacketFault>>
     requires { Fits state.old }
     ensures tree { tree_after settings.now (progress_of result state.new) ≡ after (tree_of settings.now state.old) byte }
     ensures fits { FitsAfter (progress_of result state.new) }
@@ -78,7 +80,9 @@ fn extension(byte: u8) -> Progress
     ensures fits { FitsAfter result }
 {
     match byte {
-        0x00 => Progress::Next(State::Zeros { left: 9 }),
+        0x00 => Progress::Next(State::Zeros {
+            left: ZEROS_OF_SYNC - 2,
+        }),
         0x03 => Progress::Done(Ok(Packet::Discard)),
         0x05 => Progress::Done(Ok(Packet::Overflow)),
         _ => Progress::Done(Err(PacketFault::Extension(byte))),
@@ -116,7 +120,13 @@ fn exception(byte: u8) -> Result<Packet, PacketFault>
 }
 
 /// A group of a number.
-fn number(purpose: Purpose, left: &mut u8, groups: &mut u8, value: &mut u64, byte: u8) -> Option<Progress>
+fn number(
+    purpose: Purpose,
+    left: &mut u8,
+    groups: &mut u8,
+    value: &mut u64,
+    byte: u8,
+) -> Option<Progress>
     requires { Fits (State.Number purpose left.old groups.old value.old) }
     ensures tree { (s : Sizes) → tree_after s (made_of result (State.Number purpose left.new groups.new value.new))
         ≡ after (number_tree left.old groups.old value.old (behind_number purpose)) byte }
@@ -142,7 +152,7 @@ fn last_group(purpose: Purpose, left: u8, groups: u8, value: u64, byte: u8) -> P
     behind_number(purpose, with_group(value, byte, groups) as u32)
 }
 
-/// Behind the last byte of a number.
+/// After the last byte of a number.
 fn behind_number(purpose: Purpose, n: u32) -> Progress
     ensures tree { (s : Sizes) → tree_after s result ≡ behind_number purpose n }
     ensures fits { FitsAfter result }
@@ -189,7 +199,7 @@ fn control_byte(control: u8) -> Progress
     key_section(control, None)
 }
 
-/// Behind an INFO section: only 0 is a mode of this profile.
+/// After an INFO section: only 0 is a mode of this profile.
 fn behind_mode(control: u8, mode: u32) -> Progress
     ensures tree { (s : Sizes) → tree_after s result ≡ mode_tree control mode }
     ensures fits { FitsAfter result }
@@ -255,7 +265,7 @@ fn stamp(left: &mut u8, groups: &mut u8, low: &mut u64, byte: u8) -> Option<Prog
     })))
 }
 
-/// The first byte of a short address.
+/// The first byte of a short address: bits 8 to 2.
 fn short(byte: u8) -> Progress
     ensures tree { (s : Sizes) → tree_after s result ≡ after short_tree byte }
     ensures fits { FitsAfter result }
@@ -269,7 +279,7 @@ fn short(byte: u8) -> Progress
     })
 }
 
-/// The second byte of a short address.
+/// The second byte of a short address: bits 16 to 9.
 fn short_high(low: u64, byte: u8) -> Progress
     requires { Fits (State.ShortHigh low) }
     ensures tree { (s : Sizes) → tree_after s result ≡ after (short_high_tree low) byte }
@@ -314,7 +324,7 @@ fn long_second(long: Long, low: u64, byte: u8) -> Progress
     })
 }
 
-/// A whole byte of a long address.
+/// A byte of a long address from bit 16 on.
 #[tactic(auto, unfolding(crate::specs::Trees::bytes_tree))]
 fn long_high(long: Long, low: u64, field: &mut Field, byte: u8) -> Option<Progress>
     requires { Fits (State.LongHigh long low field.old) }
@@ -328,7 +338,7 @@ fn long_high(long: Long, low: u64, field: &mut Field, byte: u8) -> Option<Progre
     Some(behind_long(long, low + (value << 16)))
 }
 
-/// Behind the bytes of a long address.
+/// After the bytes of a long address.
 fn behind_long(long: Long, value: u64) -> Progress
     ensures tree { (s : Sizes) → tree_after s result ≡ behind_long s long value }
     ensures fits { FitsAfter result }
@@ -362,7 +372,13 @@ fn context(settings: &Settings, form: Option<AddrForm>, info: u8) -> Progress
 
 /// A byte of a VMID.
 #[tactic(auto, unfolding(crate::specs::Trees::bytes_tree))]
-fn vmid(settings: &Settings, form: Option<AddrForm>, info: u8, field: &mut Field, byte: u8) -> Option<Progress>
+fn vmid(
+    settings: &Settings,
+    form: Option<AddrForm>,
+    info: u8,
+    field: &mut Field,
+    byte: u8,
+) -> Option<Progress>
     requires { Fits (State.Vmid form info field.old) }
     ensures tree { tree_after settings.now (made_of result (State.Vmid form info field.new)) ≡ after (tree_of settings.now (State.Vmid form info field.old)) byte }
     ensures fits { FitsAfter (made_of result (State.Vmid form info field.new)) }
@@ -374,7 +390,7 @@ fn vmid(settings: &Settings, form: Option<AddrForm>, info: u8, field: &mut Field
     Some(behind_vmid(settings, form, info, Some(value as u32)))
 }
 
-/// Behind a VMID, or where there is none.
+/// After a VMID, or where there is none.
 fn behind_vmid(settings: &Settings, form: Option<AddrForm>, info: u8, vmid: Option<u32>) -> Progress
     ensures tree { tree_after settings.now result ≡ cid_tree settings.now form info vmid }
     ensures fits { FitsAfter result }
@@ -394,7 +410,13 @@ fn behind_vmid(settings: &Settings, form: Option<AddrForm>, info: u8, vmid: Opti
 
 /// A byte of a context ID.
 #[tactic(auto, unfolding(crate::specs::Trees::bytes_tree))]
-fn cid(form: Option<AddrForm>, info: u8, vmid: Option<u32>, field: &mut Field, byte: u8) -> Option<Progress>
+fn cid(
+    form: Option<AddrForm>,
+    info: u8,
+    vmid: Option<u32>,
+    field: &mut Field,
+    byte: u8,
+) -> Option<Progress>
     requires { Fits (State.Cid form info vmid field.old) }
     ensures tree { (s : Sizes) → tree_after s (made_of result (State.Cid form info vmid field.new)) ≡ after (last_field_tree form info vmid field.old) byte }
     ensures fits { FitsAfter (made_of result (State.Cid form info vmid field.new)) }
@@ -419,7 +441,7 @@ fn context_of(info: u8, vmid: Option<u32>, cid: Option<u32>) -> CtxBits
     }
 }
 
-/// The packet of a context, alone or behind an address.
+/// The packet of a context, alone or after an address.
 fn with_context(form: Option<AddrForm>, ctx: CtxBits) -> Packet
     ensures { Ok result ≡ with_context form ctx }
 {

@@ -237,6 +237,6 @@ fn atoms(h: u8) -> Progress
 {
     match atoms_of(h) {
         Some(run) => whole(Packet::Atoms(run)),
-        None => reserved(h),
+        None => unreachable!(),
     }
 }

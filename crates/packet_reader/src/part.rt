@@ -7,7 +7,7 @@ ghost use Rattle.std.specs.Prelude.{◌≡◌, ◌+◌, ◌-◌, ◌*◌, ◌^�
 ghost use Rattle.packet_grammar.specs.Fields.{continues, is_last};
 ghost use Rattle.packet_reader.specs.States.{FitsField};
 
-use crate::fields::{is_last, CONTINUES};
+use crate::fields::{CONTINUES, is_last};
 use crate::groups::{with_byte, with_group};
 use crate::state::Field;
 

@@ -11,18 +11,10 @@ use crate::headers::header;
 use crate::phase::Phase;
 use crate::state::Progress;
 use crate::step::Step;
+use crate::sync::{LENGTH_OF_SYNC, ends_sync};
 use etm_types::Settings;
 use packet_grammar::{Packet, PacketFault};
 use std::marker::Model;
-
-/// How many 00 an A-sync has.
-const ZEROS_OF_SYNC: u8 = 11;
-
-/// The byte at the end of an A-sync.
-const LAST_OF_SYNC: u8 = 0x80;
-
-/// How many bytes an A-sync has.
-const LENGTH_OF_SYNC: u64 = ZEROS_OF_SYNC as u64 + 1;
 
 /// Reads the packets of a stream, from its first A-sync on.
 #[derive(Drop)]
@@ -72,7 +64,13 @@ impl PacketReader {
             → (at : ℕ) (packet : Packet) → result ≡ Step.Whole at packet → IsPacket self.old.settings packet }
     {
         self.taken += 1;
-        step(&self.settings, &mut self.phase, &mut self.start, self.taken, byte)
+        step(
+            &self.settings,
+            &mut self.phase,
+            &mut self.start,
+            self.taken,
+            byte,
+        )
     }
 
     /// How many bytes were taken.
@@ -129,12 +127,13 @@ fn step(settings: &Settings, phase: &mut Phase, start: &mut u64, taken: u64, byt
     }
 }
 
-/// What a header makes of a reader that stands between two packets. Behind a packet of one byte it stands
-/// so again: its phase is left as it is.
+/// What a header makes of a reader that stands between two packets. After a packet of one byte it stands
+/// there again, so its phase is left as it is.
 fn begin(phase: &mut Phase, start: &mut u64, taken: u64, h: u8) -> Step
     requires between { phase.old ≡ Phase.Between }
     requires start { start.old ≤ taken }
-    ensures value { (progress : Progress) × HeadsBy h progress × FitsAfter progress × (record { phase = phase.new; start = start.new; step = result } ≡ settled progress start.old taken) }
+    ensures value { (progress : Progress) × HeadsBy h progress × FitsAfter progress
+        × (record { phase = phase.new; start = start.new; step = result } ≡ settled progress start.old taken) }
     ensures fits { FitsPhase phase.new × (start.new ≤ taken) × (zeros_in phase.new ≡ 0) }
 {
     match header(h) {
@@ -169,38 +168,6 @@ fn end(phase: &mut Phase, start: &mut u64, taken: u64, outcome: Result<Packet, P
             Step::Bad { at, fault }
         }
     }
-}
-
-ghost use Rattle.std.specs.Prelude.{◌==◌, ◌&&◌, false};
-ghost use Rattle.packet_reader.specs.Stands.{zeros_after};
-
-/// Whether a byte ends an A-sync, behind so many 00. Where it does not, the 00 are counted further.
-fn ends_sync(zeros: &mut u8, byte: u8) -> bool
-    requires { zeros.old ≤ zeros_of_sync }
-    ensures ends { result ≡ ((zeros.old == zeros_of_sync) && (byte == 0x80)) }
-    ensures counted { result ≡ false → zeros.new ≡ zeros_after zeros.old byte }
-    ensures fits { (zeros.new ≤ zeros_of_sync) × (zeros.new ≤ zeros.old + 1) }
-{
-    if *zeros == ZEROS_OF_SYNC && byte == LAST_OF_SYNC {
-        return true;
-    }
-    *zeros = zeros_after(*zeros, byte);
-    false
-}
-
-/// In how many 00 bytes end, with one more.
-fn zeros_after(zeros: u8, byte: u8) -> u8
-    requires { zeros ≤ zeros_of_sync }
-    ensures value { result ≡ zeros_after zeros byte }
-    ensures most { (result ≤ zeros_of_sync) × (result ≤ zeros + 1) }
-{
-    if byte != 0x00 {
-        return 0;
-    }
-    if zeros < ZEROS_OF_SYNC {
-        return zeros + 1;
-    }
-    ZEROS_OF_SYNC
 }
 
 ghost use Rattle.packet_reader.specs.Stands.{is_synced, rest_in};

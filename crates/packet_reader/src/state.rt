@@ -1,14 +1,14 @@
-//! How far the begun packet is read.
+//! How far the begun packet is read (Arm IHI 0064, "Descriptions of Trace Packets").
 
 use etm_types::AddrForm;
 use packet_grammar::{Packet, PacketFault};
 
-/// What is known of the begun packet, and which byte comes next.
+/// What the bytes of the begun packet hold so far, and which byte comes next.
 #[derive(Clone, Copy, Debug, PartialEq, Eq)]
 pub enum State {
-    /// Behind one 00.
+    /// After one 00.
     Extension,
-    /// Behind two 00 or more: so many come before the last byte of an A-sync.
+    /// After two 00 or more: so many come before the last byte of an A-sync.
     Zeros {
         left: u8,
     },
@@ -31,7 +31,7 @@ pub enum State {
     Exception,
     /// The first byte of a short address comes.
     Short,
-    /// Its second byte comes, behind bits 8 to 2.
+    /// Its second byte comes, after bits 8 to 2.
     ShortHigh {
         low: u64,
     },
@@ -39,7 +39,7 @@ pub enum State {
     LongFirst {
         long: Long,
     },
-    /// Its second byte comes, behind bits 8 to 2.
+    /// Its second byte comes, after bits 8 to 2.
     LongSecond {
         long: Long,
         low: u64,
@@ -50,7 +50,7 @@ pub enum State {
         low: u64,
         field: Field,
     },
-    /// The info byte of a context comes, alone or behind an address.
+    /// The info byte of a context comes, alone or after an address.
     Context {
         form: Option<AddrForm>,
     },
@@ -76,7 +76,7 @@ pub struct Field {
     pub left: u8,
     /// How many were read.
     pub count: u8,
-    /// What these are worth.
+    /// The number that these are.
     pub value: u64,
 }
 

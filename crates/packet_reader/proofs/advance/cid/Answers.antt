@@ -1,4 +1,4 @@
-use Rattle.std.proofs.Common.{◌+◌, Some, Ok, arith}
+use Rattle.std.proofs.Common.{Some, arith}
 use Rattle.packet_reader.specs.Trees.{known}
 use Rattle.packet_reader.specs.States.{context_of, with_context}
 use Rattle.packet_reader.proofs.Within.{byte_within}

@@ -1,4 +1,4 @@
-use Rattle.std.proofs.Common.{◌+◌, Some, Ok, arith}
+use Rattle.std.proofs.Common.{◌+◌, arith}
 use Rattle.packet_grammar.specs.Fields.{from_bit}
 use Rattle.packet_reader.specs.States.{behind_long}
 use Rattle.packet_reader.proofs.Within.{byte_within}

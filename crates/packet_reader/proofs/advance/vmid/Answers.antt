@@ -1,10 +1,10 @@
-use Rattle.std.proofs.Common.{◌+◌, Some, Ok, arith}
+use Rattle.std.proofs.Common.{Some, arith}
 use Rattle.packet_reader.specs.States.{cid_tree}
 use Rattle.packet_reader.proofs.Within.{byte_within}
 use Rattle.packet_reader.proofs.advance.vmid.Goals as goal
 
 pub returns-then-byte_goes_on-clause-tree : goal.returns-then-byte_goes_on-clause-tree
-returns-then-byte_goes_on-clause-tree c = 
+returns-then-byte_goes_on-clause-tree c =
     let went = c.if-byte_goes_on.true in
     let old = c.args.field.now in
     let new = c.byte_goes_on.new.field in
