@@ -1,4 +1,4 @@
--- What stands at the end of a block, by the answer that tells of it.
+-- What stands at the end of a block, by the answer that says it.
 use Rattle.std.proofs.Common.{◌≡◌, ℕ, Bool, Option, Some, None, sym, ap, subst}
 use Rattle.std.specs.Option.{option_map}
 use Rattle.a64_branches.specs.Classes.{class_of, HasWholeOffset}

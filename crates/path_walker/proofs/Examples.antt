@@ -1,10 +1,10 @@
 -- Walks that were worked out by hand: what is shown and where the walk goes on, or with which fault it stops.
-use Rattle.std.proofs.Common.{◌≡◌, ◌≢◌, ℕ, zero, suc, ◌+◌, Bool, true, false, List, [], ◌∷◌, ◌++◌, Option, Some, None, is_none, Err, refl, inl, inr, arith}
+use Rattle.std.proofs.Common.{◌≡◌, ◌≢◌, ℕ, zero, suc, ◌+◌, Bool, true, false, List, [], ◌∷◌, ◌++◌, map, Option, Some, None, is_none, Err, refl, inl, inr, arith}
 use Rattle.std.specs.Prelude.{pos, take}
 use Rattle.std.specs.Option.{unwrap_or}
 use Rattle.a64_branches.specs.Classes.{class_of}
 use Rattle.a64_branches.specs.declared.class.Class.{Class}
-use Rattle.a64_branches.specs.declared.class.Class.TheVariants.{Plain, Jump, Cond, Ind, Eret}
+use Rattle.a64_branches.specs.declared.class.Class.TheVariants.{Plain, Jump, Cond, Isb, Ind, Eret, Odd}
 use Rattle.program_image.specs.Blocks.{behind, class_at, IsPlainRun}
 use Rattle.program_image.specs.declared.image.Image.{Image}
 use Rattle.etm_types.specs.Pre.{nothing_told, trace_missing}
@@ -26,7 +26,7 @@ use Rattle.path_walker.specs.Steps.{next_of, stack_after}
 use Rattle.path_walker.specs.Walk.{GoesOn, IsRunBefore, Leads, Shows, Stops, mark_of}
 use Rattle.path_walker.specs.Things.{Walks}
 
--- ---- words, and what is told of them
+-- ---- images, and what is given before entries
 
 abbrev nop : List ℕ → List ℕ
 nop words = 0x1f ∷ 0x20 ∷ 0x03 ∷ 0xd5 ∷ words
@@ -49,6 +49,14 @@ calls =
     ∷ record { start = 0x6000; bytes = 0x20 ∷ 0x00 ∷ 0x3f ∷ 0xd6 ∷ [] }
     ∷ []
 
+-- a000: ISB. b000: BR X1. c000: ERET
+abbrev always : Image
+always =
+    record { start = 0xa000; bytes = 0xdf ∷ 0x3f ∷ 0x03 ∷ 0xd5 ∷ [] }
+    ∷ record { start = 0xb000; bytes = 0x20 ∷ 0x00 ∷ 0x1f ∷ 0xd6 ∷ [] }
+    ∷ record { start = 0xc000; bytes = 0xe0 ∷ 0x03 ∷ 0x9f ∷ 0xd6 ∷ [] }
+    ∷ []
+
 abbrev user : Ctx
 user = record { el = 0; ns = true; vmid = 0; cid = 0 }
 
@@ -59,8 +67,12 @@ kernel = record { el = 1; ns = true; vmid = 0; cid = 0 }
 abbrev begin : ℕ → Ctx → Pre
 begin address ctx = record { flush = true; on = true; lost = true; ctx = Some ctx; addr = Some address }
 
-abbrev told : Option Ctx → ℕ → Pre
-told ctx address = record { flush = false; on = false; lost = false; ctx = ctx; addr = Some address }
+abbrev given : Option Ctx → ℕ → Pre
+given ctx address = record { flush = false; on = false; lost = false; ctx = ctx; addr = Some address }
+
+-- a trace info alone
+abbrev informed : Option ℕ → Pre
+informed address = record { flush = true; on = false; lost = false; ctx = None; addr = address }
 
 abbrev atom : Pre → Bool → Entry
 atom pre taken = record { pre = pre; p0 = Atom taken }
@@ -76,7 +88,7 @@ at pc stack ctx = record { pc = pc; stack = stack; ctx = ctx }
 abbrev ran : Bool → Ctx → ℕ → ℕ → Walked
 ran on ctx start count = record { on = on; unknown = false; ctx = ctx; start = start; count = count; exc = None }
 
--- the same, begun by a trace on, and an interrupt behind them
+-- the same, begun by a trace on, and an interrupt after them
 abbrev ran_to : Ctx → ℕ → ℕ → ℕ → Walked
 ran_to ctx start count address = record { on = true; unknown = false; ctx = ctx; start = start; count = count; exc = Some (record { kind = 14; ret = address }) }
 
@@ -99,7 +111,7 @@ one_before : (image : Image) (ret address : ℕ) → behind address 0 ≢ ret �
 one_before image ret address differs plain zero below = (differs, plain)
 one_before image ret address differs plain (suc k) below = absurd (omega (arith, below))
 
--- a P0 instruction behind so many plain ones
+-- a P0 instruction after so many plain ones
 goes : (image : Image) (address : ℕ) (stack : List ℕ) (taken : Bool) (plain : ℕ) (class : Class) (pc : Pc) → IsPlainRun image address plain → class_at image (behind address plain) ≡ Some class
     → next_of class (behind address plain) taken ≡ Some pc → GoesOn image address stack taken (plain + 1) pc (stack_after class (behind address plain) stack)
 goes image address stack taken plain class pc run there next = record { plain = plain; class = class; run = run; there = there; next = next; counted = refl; kept = refl }
@@ -110,20 +122,55 @@ shows : (image : Image) (s : State) (entry : Entry) (count : ℕ) (pc : Pc) (sta
     → Shows image s entry (record { on = entry.pre.on; unknown = is_none (start_of s entry.pre).at; ctx = context_of s entry.pre; start = unwrap_or (start_of s entry.pre).at 0; count = count; exc = mark_of entry.p0 }) (at pc stack (context_of s entry.pre))
 shows image s entry count pc stack agrees leads = record { agrees = agrees; leads = leads; on = refl; unknown = refl; start = refl; ctx = refl; kept = refl; exc = refl }
 
+-- ---- how instructions go on
+
+-- one class of each kind, B and BL, BR and RET, and BLR
+abbrev classes : List Class
+classes = Plain ∷ Jump (pos 8) false ∷ Jump (pos 8) true ∷ Cond (pos 8) ∷ Isb ∷ Ind false ∷ Ind true ∷ Eret ∷ Odd ∷ []
+
+pub by_e_atoms :
+    map (λ class. next_of class 0x1000 true) classes
+    ≡ None ∷ Some (Known 0x1008) ∷ Some (Known 0x1008) ∷ Some (Known 0x1008) ∷ Some (Known 0x1004) ∷ Some (Awaited true) ∷ Some (Awaited false)
+    ∷ Some (Awaited false) ∷ None ∷ []
+by_e_atoms = refl
+
+pub by_n_atoms :
+    map (λ class. next_of class 0x1000 false) classes ≡ None ∷ None ∷ None ∷ Some (Known 0x1004) ∷ None ∷ None ∷ None ∷ None ∷ None ∷ []
+by_n_atoms = refl
+
+pub stacks_after :
+    map (λ class. stack_after class 0x1000 (0x3004 ∷ [])) classes
+    ≡ (0x3004 ∷ []) ∷ (0x3004 ∷ []) ∷ (0x1004 ∷ 0x3004 ∷ []) ∷ (0x3004 ∷ []) ∷ (0x3004 ∷ []) ∷ (0x3004 ∷ []) ∷ (0x1004 ∷ 0x3004 ∷ [])
+    ∷ (0x3004 ∷ []) ∷ (0x3004 ∷ []) ∷ []
+stacks_after = refl
+
 -- ---- addresses
 
--- Trace begins at 1000, and an E atom tells that B.EQ branches.
+-- Trace begins at 1000, and an E atom says that B.EQ branches.
 begins : Shows code first_state (atom (begin 0x1000 kernel) true) (ran true kernel 0x1000 2) (at (Known 0x100c) [] kernel)
 unfolding class_of
 begins = shows code _ _ 2 (Known 0x100c) [] refl (goes code 0x1000 [] true 1 (Cond (pos 8)) (Known 0x100c) (one_plain code 0x1000 refl) refl refl)
 
--- There 100c comes next, and not 1000. It has B, of which an N atom tells nothing.
-elsewhere : Stops code (at (Known 0x100c) [] kernel) (atom (told None 0x1000) true) (fault.AddressMismatch 0x100c 0x1000)
+-- There 100c comes next, and not 1000. It has B, which can have no N atom.
+elsewhere : Stops code (at (Known 0x100c) [] kernel) (atom (given None 0x1000) true) (fault.AddressMismatch 0x100c 0x1000)
 elsewhere = inl refl
 
 not_b : Stops code (at (Known 0x100c) [] user) (atom nothing_told false) (fault.BadAtom 0x100c)
 unfolding class_of
 not_b = inr (refl, (0, none_plain code 0x100c, (refl, refl)))
+
+-- ISB, BR and ERET can have none either.
+not_isb : Stops always (at (Known 0xa000) [] user) (atom nothing_told false) (fault.BadAtom 0xa000)
+unfolding class_of
+not_isb = inr (refl, (0, none_plain always 0xa000, (refl, refl)))
+
+not_br : Stops always (at (Known 0xb000) [] user) (atom nothing_told false) (fault.BadAtom 0xb000)
+unfolding class_of
+not_br = inr (refl, (0, none_plain always 0xb000, (refl, refl)))
+
+not_eret : Stops always (at (Known 0xc000) [] user) (atom nothing_told false) (fault.BadAtom 0xc000)
+unfolding class_of
+not_eret = inr (refl, (0, none_plain always 0xc000, (refl, refl)))
 
 -- Nothing stands at 9000, and BC.EQ is not read.
 nowhere : Stops code first_state (atom (begin 0x9000 kernel) true) (fault.NoCode 0x9000)
@@ -140,13 +187,25 @@ missed : Stops code first_state (irq (begin 0x1000 kernel) 0x1008) (fault.Return
 unfolding class_of
 missed = inr (refl, (1, one_before code 0x1008 0x1000 (λ e. absurd (omega (arith, e))) refl, (λ e. absurd (omega (arith, e))), refl))
 
+-- So may a word that is not read, and a place where none is, before the return address.
+odd_before : Stops calls first_state (irq (begin 0x5000 kernel) 0x5004) (fault.Odd 0x5000)
+unfolding class_of
+odd_before = inr (refl, (0, none_before calls 0x5004 0x5000, (λ e. absurd (omega (arith, e))), refl))
+
+none_there : Stops code first_state (irq (begin 0x1008 kernel) 0x2000) (fault.ReturnMissed 0x100c 0x2000)
+unfolding class_of
+none_there = inr (refl, (1, one_before code 0x2000 0x1008 (λ e. absurd (omega (arith, e))) refl, (λ e. absurd (omega (arith, e))), refl))
+
+no_code_before : Stops code first_state (irq (begin 0x9000 kernel) 0x9004) (fault.NoCode 0x9000)
+no_code_before = inr (refl, (0, none_before code 0x9004 0x9000, (λ e. absurd (omega (arith, e))), refl))
+
 -- Where the return address comes at once nothing is shown, and no word is asked for.
 at_once : Shows code first_state (irq (begin 0x9000 kernel) 0x9000) (ran_to kernel 0x9000 0 0x9000) (at (Awaited false) [] kernel)
 at_once = shows code _ _ 0 (Awaited false) [] refl (none_before code 0x9000 0x9000, refl, refl, refl)
 
 -- ---- return addresses
 
--- BL puts the address behind it on the return stack. RET takes the newest off, unless an address is told.
+-- BL puts its return address on the return stack. RET takes the newest off, unless an address is given.
 called : Shows calls (at (Known 0x3010) (0x3004 ∷ []) user) (atom nothing_told true) (ran false user 0x3010 1) (at (Known 0x3018) (0x3014 ∷ 0x3004 ∷ []) user)
 unfolding class_of
 called =
@@ -157,9 +216,9 @@ unfolding class_of
 returned =
     shows calls _ _ 1 (Awaited true) (0x3004 ∷ []) refl (goes calls 0x3014 (0x3004 ∷ []) true 0 (Ind false) (Awaited true) (none_plain calls 0x3014) refl refl)
 
-return_told : Shows calls (at (Awaited true) (0x3004 ∷ []) user) (atom (told None 0x3004) true) (ran false user 0x3004 1) (at (Known 0x3004) (0x3004 ∷ []) user)
+return_given : Shows calls (at (Awaited true) (0x3004 ∷ []) user) (atom (given None 0x3004) true) (ran false user 0x3004 1) (at (Known 0x3004) (0x3004 ∷ []) user)
 unfolding class_of
-return_told =
+return_given =
     shows calls _ _ 1 (Known 0x3004) (0x3004 ∷ []) refl (goes calls 0x3004 (0x3004 ∷ []) true 0 (Jump (pos 0) false) (Known 0x3004) (none_plain calls 0x3004) refl refl)
 
 -- After BLR no address is taken off: the place is lost, and the return stack with it.
@@ -179,10 +238,26 @@ unfolding class_of fifteen
 sixteenth =
     shows calls _ _ 1 (Known 0x3010) (0x3004 ∷ take 14 fifteen) refl (goes calls 0x3000 fifteen true 0 (Jump (pos 16) true) (Known 0x3010) (none_plain calls 0x3000) refl refl)
 
--- Trace info empties the return stack. So does missing trace, unless an address is told.
-flushed : Shows calls (at (Awaited true) (0x3004 ∷ []) user) (atom (record { flush = true; on = false; lost = false; ctx = None; addr = None }) true) (unknown user None) (at Lost [] user)
+-- Trace info empties the return stack: a full one too, where an address is given. What is known of the next address stays.
+emptied_full : Shows calls (at (Awaited true) fifteen user) (atom (informed (Some 0x3004)) true) (ran false user 0x3004 1) (at (Known 0x3004) [] user)
+unfolding class_of fifteen
+emptied_full = shows calls _ _ 1 (Known 0x3004) [] refl (goes calls 0x3004 [] true 0 (Jump (pos 0) false) (Known 0x3004) (none_plain calls 0x3004) refl refl)
+
+emptied_known : Shows calls (at (Known 0x3010) (0x3004 ∷ []) user) (atom (informed None) true) (ran false user 0x3010 1) (at (Known 0x3018) (0x3014 ∷ []) user)
+unfolding class_of
+emptied_known = shows calls _ _ 1 (Known 0x3018) (0x3014 ∷ []) refl (goes calls 0x3010 [] true 0 (Jump (pos 8) true) (Known 0x3018) (none_plain calls 0x3010) refl refl)
+
+-- After an overflow nothing is known of the next address, and no return address is taken off.
+overflowed : Shows calls (at (Awaited true) (0x3004 ∷ []) user) (atom trace_missing true) (unknown user None) (at Lost [] user)
+overflowed = shows calls _ _ 0 Lost [] refl (refl, refl, refl)
+
+overflowed_known : Shows calls (at (Known 0x3010) (0x3004 ∷ []) user) (atom trace_missing false) (unknown user None) (at Lost [] user)
+overflowed_known = shows calls _ _ 0 Lost [] refl (refl, refl, refl)
+
+flushed : Shows calls (at (Awaited true) (0x3004 ∷ []) user) (atom (informed None) true) (unknown user None) (at Lost [] user)
 flushed = shows calls _ _ 0 Lost [] refl (refl, refl, refl)
 
+-- Missing trace empties it too, unless an address is given.
 lost : Shows code (at (Known 0x1000) (0x3004 ∷ []) user) (irq trace_missing 0x1000) (unknown user (Some (record { kind = 14; ret = 0x1000 }))) (at (Awaited false) [] user)
 lost = shows code _ _ 0 (Awaited false) [] refl (refl, refl, refl)
 
@@ -192,17 +267,17 @@ unfolding class_of
 found =
     shows code _ _ 2 (Known 0x1008) (0x3004 ∷ []) refl (goes code 0x1000 (0x3004 ∷ []) false 1 (Cond (pos 8)) (Known 0x1008) (one_plain code 0x1000 refl) refl refl)
 
--- ---- a whole trace: an interrupt at 1004 is handled at 8000, ERET comes back, and then an atom tells nothing of B
+-- ---- a whole trace: an interrupt at 1004 is handled at 8000, ERET comes back, and then B has an N atom
 
 interrupt : Shows code first_state (irq (begin 0x1000 user) 0x1004) (ran_to user 0x1000 1 0x1004) (at (Awaited false) [] user)
 unfolding class_of
 interrupt = shows code _ _ 1 (Awaited false) [] refl (one_before code 0x1004 0x1000 (λ e. absurd (omega (arith, e))) refl, refl, refl, refl)
 
-handled : Shows code (at (Awaited false) [] user) (atom (told (Some kernel) 0x8000) true) (ran false kernel 0x8000 2) (at (Awaited false) [] kernel)
+handled : Shows code (at (Awaited false) [] user) (atom (given (Some kernel) 0x8000) true) (ran false kernel 0x8000 2) (at (Awaited false) [] kernel)
 unfolding class_of
 handled = shows code _ _ 2 (Awaited false) [] refl (goes code 0x8000 [] true 1 Eret (Awaited false) (one_plain code 0x8000 refl) refl refl)
 
-back : Shows code (at (Awaited false) [] kernel) (atom (told (Some user) 0x1004) true) (ran false user 0x1004 1) (at (Known 0x100c) [] user)
+back : Shows code (at (Awaited false) [] kernel) (atom (given (Some user) 0x1004) true) (ran false user 0x1004 1) (at (Known 0x100c) [] user)
 unfolding class_of
 back = shows code _ _ 1 (Known 0x100c) [] refl (goes code 0x1004 [] true 0 (Cond (pos 8)) (Known 0x100c) (none_plain code 0x1004) refl refl)
 
@@ -217,9 +292,9 @@ after = item.Instr 0x1004 user ∷ []
 
 interrupted : Walks code first_state (Seen (irq (begin 0x1000 user) 0x1004)
     ∷ Gap
-    ∷ Seen (atom (told (Some kernel) 0x8000) true)
+    ∷ Seen (atom (given (Some kernel) 0x8000) true)
     ∷ Unseen
-    ∷ Seen (atom (told (Some user) 0x1004) true)
+    ∷ Seen (atom (given (Some user) 0x1004) true)
     ∷ Seen (atom nothing_told false)
     ∷ Stop
     ∷ []) (before ++ item.Gap ∷ handler ++ after) (Err (fault.BadAtom 0x100c))

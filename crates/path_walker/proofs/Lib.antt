@@ -1,8 +1,10 @@
 pub mod Ends
 pub mod Stacks
 pub mod Search
+pub mod Gap
 pub mod OneWalk
 pub mod SomeWalk
 pub mod After
 pub mod OneTrail
+pub mod Joined
 pub mod Examples

@@ -36,7 +36,7 @@ abbrev pub IsLed : Image → Option ℕ → List ℕ → P0 → Led → Type 0
 IsLed image at stack p0 (Ok o) = Leads image at stack p0 o.0 o.1 o.2
 IsLed image at stack p0 (Err f) = Halts image at p0 f
 
--- by the class of the word behind n plain words
+-- by the class of the word after n plain words
 abbrev by_next : Class → ℕ → ℕ → List ℕ → Option Pc → Led
 by_next class at n stack None = Err (fault.BadAtom at)
 by_next class at n stack (Some pc) = Ok (n + 1, pc, stack_after class at stack)
@@ -80,18 +80,18 @@ same_led : (m n : ℕ) (pc : Pc) (a b : List ℕ) → m ≡ n → a ≡ b → Le
 same_led m n pc a b e f = ap (λ m. Led-of m pc a) e ∙ ap (Led-of n pc) f
 
 module _ (image : Image) (address : ℕ) where
-  abbrev class_behind : ℕ → Option Class
-  class_behind n = class_at image (behind address n)
+  abbrev class_after : ℕ → Option Class
+  class_after n = class_at image (behind address n)
 
   abbrev IsPlain : ℕ → Type 0
-  IsPlain k = class_behind k ≡ Some Plain
+  IsPlain k = class_after k ≡ Some Plain
 
-  -- an atom leads as the word behind the plain words says
+  -- an atom leads as the word after the plain words says
   record ByAtom (taken : Bool) (stack : List ℕ) (to : Led) : Type 0 where
     plain : ℕ
     run : IsPlainRun image address plain
     not : IsPlain plain → ⊥
-    led : to ≡ by_class (class_behind plain) (behind address plain) plain taken stack
+    led : to ≡ by_class (class_after plain) (behind address plain) plain taken stack
 
   by_atom : (taken : Bool) (stack : List ℕ) (led : Led) → IsLed image (Some address) stack (Atom taken) led → ByAtom taken stack led
   by_atom taken stack (Ok o) g =
@@ -105,16 +105,16 @@ module _ (image : Image) (address : ℕ) where
       }
   by_atom taken stack (Err f) h =
       let at = behind address h.0 in
-      let to = refused (class_behind h.0) at h.0 taken stack f h.2 in
+      let to = refused (class_after h.0) at h.0 taken stack f h.2 in
       record { plain = h.0; run = h.1; not = to.not; led = sym to.led }
 
   one_atom : (taken : Bool) (stack : List ℕ) (a b : Led) → ByAtom taken stack a → ByAtom taken stack b → a ≡ b
   one_atom taken stack a b p q =
-      p.led ∙ ap (λ n. by_class (class_behind n) (behind address n) n taken stack) (same_first IsPlain p.plain q.plain p.run p.not q.run q.not) ∙ sym q.led
+      p.led ∙ ap (λ n. by_class (class_after n) (behind address n) n taken stack) (same_first IsPlain p.plain q.plain p.run p.not q.run q.not) ∙ sym q.led
 
   -- the word is not yet the one at the return address, and is plain
   abbrev IsBefore : ℕ → ℕ → Type 0
-  IsBefore ret k = (behind address k ≢ ret) × (class_behind k ≡ Some Plain)
+  IsBefore ret k = (behind address k ≢ ret) × (class_after k ≡ Some Plain)
 
   abbrev by_miss : Option Class → ℕ → ℕ → Led
   by_miss None at ret = Err (fault.NoCode at)
@@ -122,7 +122,7 @@ module _ (image : Image) (address : ℕ) where
   by_miss (Some class) at ret = Err (fault.ReturnMissed at ret)
 
   abbrev by_return : ℕ → List ℕ → ℕ → Led
-  by_return ret stack n = if behind address n == ret then Led-of n (Awaited false) stack else by_miss (class_behind n) (behind address n) ret
+  by_return ret stack n = if behind address n == ret then Led-of n (Awaited false) stack else by_miss (class_after n) (behind address n) ret
 
   missed : (c : Option Class) (at ret : ℕ) (f : WalkFault) → Misses c at ret f → (by_miss c at ret ≡ Err f) × (c ≢ Some Plain)
   missed None at ret f r = (ap (λ f. Err f) (sym r), λ p. cc)
@@ -151,16 +151,16 @@ module _ (image : Image) (address : ℕ) where
         run = g.0;
         not = λ p. p.0 g.1;
         led = (ap (λ pc. Led-of o.0 pc o.2) g.2 ∙ ap (Led-of o.0 (Awaited false)) g.3)
-            ∙ ap (λ b. if b then Led-of o.0 (Awaited false) stack else by_miss (class_behind o.0) (behind address o.0) ret) (sym (eq-eqb (behind address o.0) ret g.1));
+            ∙ ap (λ b. if b then Led-of o.0 (Awaited false) stack else by_miss (class_after o.0) (behind address o.0) ret) (sym (eq-eqb (behind address o.0) ret g.1));
       }
   by_exception kind ret stack (Err f) h =
       let at = behind address h.0 in
-      let to = missed (class_behind h.0) at ret f h.3 in
+      let to = missed (class_after h.0) at ret f h.3 in
       record {
         plain = h.0;
         run = h.1;
         not = λ p. to.1 p.1;
-        led = sym to.0 ∙ ap (λ b. if b then Led-of h.0 (Awaited false) stack else by_miss (class_behind h.0) at ret) (sym (differs at ret h.2));
+        led = sym to.0 ∙ ap (λ b. if b then Led-of h.0 (Awaited false) stack else by_miss (class_after h.0) at ret) (sym (differs at ret h.2));
       }
 
   one_exception : (ret : ℕ) (stack : List ℕ) (a b : Led) → ByException ret stack a → ByException ret stack b → a ≡ b

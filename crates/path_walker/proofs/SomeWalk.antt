@@ -7,7 +7,11 @@ use Rattle.a64_branches.specs.declared.class.Class.{Class}
 use Rattle.a64_branches.specs.declared.class.Class.TheVariants.{Plain, Jump, Cond, Isb, Ind, Eret, Odd}
 use Rattle.program_image.specs.Blocks.{class_at, behind, HasGap}
 use Rattle.program_image.specs.declared.image.Image.{Image}
+<<<<<<< HEAD
 use Rattle.program_image.proofs.PlainRuns.{run_short}
+=======
+use Rattle.path_walker.proofs.Gap.{run_short}
+>>>>>>> f872907694328063a7f046c041ca43864be377ba
 use Rattle.etm_types.specs.declared.element.P0.{P0}
 use Rattle.etm_types.specs.declared.element.P0.TheVariants.{Atom, Exc}
 use Rattle.etm_types.specs.declared.element.Pre.{Pre}
@@ -24,9 +28,9 @@ use Rattle.path_walker.proofs.Search.{cases, first, First, Below}
 use Rattle.path_walker.proofs.OneWalk.{Led, IsLed, Walk, shown}
 use Rattle.path_walker.proofs.Stacks.{AreReturns, nothing}
 
-told : {X : Type 0} (o : Option X) → ((x : X) × (o ≡ Some x)) ⊎ (o ≡ None)
-told None = inr refl
-told (Some x) = inl (x, refl)
+some_or_none : {X : Type 0} (o : Option X) → ((x : X) × (o ≡ Some x)) ⊎ (o ≡ None)
+some_or_none None = inr refl
+some_or_none (Some x) = inl (x, refl)
 
 plain_or_not : (c : Option Class) → (c ≡ Some Plain) ⊎ (c ≢ Some Plain)
 plain_or_not None = inr (λ e. cc)
@@ -38,7 +42,7 @@ plain_or_not (Some Isb) = inr (λ e. cc)
 plain_or_not (Some (Ind link)) = inr (λ e. cc)
 plain_or_not (Some Eret) = inr (λ e. cc)
 
--- ---- behind plain words
+-- ---- after plain words
 
 abbrev GoesOrNot : Option Class → ℕ → Bool → Type 0
 GoesOrNot c at taken =
@@ -49,13 +53,13 @@ goes_or_not None at taken not = inr (fault.NoCode at, refl)
 goes_or_not (Some Plain) at taken not = absurd (not refl)
 goes_or_not (Some Odd) at taken not = inr (fault.Odd at, refl)
 goes_or_not (Some (Jump offset link)) at taken not =
-    elim (told (next_of (Jump offset link) at taken)) [ inl p ↦ inl (Jump offset link, p.0, refl, p.1) | inr none ↦ inr (fault.BadAtom at, (none, refl)) ]
+    elim (some_or_none (next_of (Jump offset link) at taken)) [ inl p ↦ inl (Jump offset link, p.0, refl, p.1) | inr none ↦ inr (fault.BadAtom at, (none, refl)) ]
 goes_or_not (Some (Cond offset)) at taken not =
-    elim (told (next_of (Cond offset) at taken)) [ inl p ↦ inl (Cond offset, p.0, refl, p.1) | inr none ↦ inr (fault.BadAtom at, (none, refl)) ]
-goes_or_not (Some Isb) at taken not = elim (told (next_of Isb at taken)) [ inl p ↦ inl (Isb, p.0, refl, p.1) | inr none ↦ inr (fault.BadAtom at, (none, refl)) ]
+    elim (some_or_none (next_of (Cond offset) at taken)) [ inl p ↦ inl (Cond offset, p.0, refl, p.1) | inr none ↦ inr (fault.BadAtom at, (none, refl)) ]
+goes_or_not (Some Isb) at taken not = elim (some_or_none (next_of Isb at taken)) [ inl p ↦ inl (Isb, p.0, refl, p.1) | inr none ↦ inr (fault.BadAtom at, (none, refl)) ]
 goes_or_not (Some (Ind link)) at taken not =
-    elim (told (next_of (Ind link) at taken)) [ inl p ↦ inl (Ind link, p.0, refl, p.1) | inr none ↦ inr (fault.BadAtom at, (none, refl)) ]
-goes_or_not (Some Eret) at taken not = elim (told (next_of Eret at taken)) [ inl p ↦ inl (Eret, p.0, refl, p.1) | inr none ↦ inr (fault.BadAtom at, (none, refl)) ]
+    elim (some_or_none (next_of (Ind link) at taken)) [ inl p ↦ inl (Ind link, p.0, refl, p.1) | inr none ↦ inr (fault.BadAtom at, (none, refl)) ]
+goes_or_not (Some Eret) at taken not = elim (some_or_none (next_of Eret at taken)) [ inl p ↦ inl (Eret, p.0, refl, p.1) | inr none ↦ inr (fault.BadAtom at, (none, refl)) ]
 
 misses : (c : Option Class) (at ret : ℕ) → c ≢ Some Plain → (f : WalkFault) × Misses c at ret f
 misses None at ret not = (fault.NoCode at, refl)
@@ -125,20 +129,20 @@ pub record IsStart (start : Start) : Type 0 where
   pub at : ToldIsAligned start.at
   pub stack : AreReturns start.stack
 
-untold_start : (pc : Pc) (stack : List ℕ) → IsPc pc → AreReturns stack → IsStart (untold pc stack)
-untold_start (Known address) stack known r = record { at = known; stack = r }
-untold_start (Awaited true) [] known r = record { at = tt; stack = nothing }
-untold_start (Awaited true) (address ∷ stack) known r =
+known_start : (pc : Pc) (stack : List ℕ) → IsPc pc → AreReturns stack → IsStart (untold pc stack)
+known_start (Known address) stack known r = record { at = known; stack = r }
+known_start (Awaited true) [] known r = record { at = tt; stack = nothing }
+known_start (Awaited true) (address ∷ stack) known r =
     record {
       at = r.aligned 0 0 (omega arith);
       stack = record { aligned = All-drop IsAligned 1 (address ∷ stack) r.aligned; few = omega (arith, r.few) };
     }
-untold_start (Awaited false) stack known r = record { at = tt; stack = nothing }
-untold_start Lost stack known r = record { at = tt; stack = nothing }
+known_start (Awaited false) stack known r = record { at = tt; stack = nothing }
+known_start Lost stack known r = record { at = tt; stack = nothing }
 
 start_by_start : (addr : Option ℕ) (pc : Pc) (stack : List ℕ) → ToldIsAligned addr → IsPc pc → AreReturns stack → IsStart (start_by addr pc stack)
 start_by_start (Some given) pc stack aligned known r = record { at = aligned; stack = r }
-start_by_start None pc stack aligned known r = untold_start pc stack known r
+start_by_start None pc stack aligned known r = known_start pc stack known r
 
 lost_or : (b : Bool) (pc : Pc) → IsPc pc → IsPc (if b then Lost else pc)
 lost_or true pc known = tt
@@ -162,7 +166,7 @@ is_shown image s entry (Err f) agrees led = inr (agrees, led)
 
 pub some_walk : (image : Image) (s : State) (entry : Entry) → HasGap image → IsState s → HasAlignedAddresses entry → (walk : Walk) × IsWalk image s entry walk
 some_walk image s entry gap state aligned =
-    elim (told (mismatch_of (pc_before s entry.pre) entry.pre.addr)) [
+    elim (some_or_none (mismatch_of (pc_before s entry.pre) entry.pre.addr)) [
       | inl differs ↦ (Err differs.0, inl differs.1)
       | inr agrees ↦
           let start = start_of s entry.pre in

@@ -4,17 +4,18 @@ use Rattle.std.specs.List.{All}
 use Rattle.std.proofs.lemmas.List.Elements.{All-cons, All-take, All-drop}
 use Rattle.std.proofs.lemmas.List.{length-take}
 use Rattle.etm_types.specs.declared.context.Ctx.{Ctx}
+use Rattle.return_stack.specs.Stack.{most_addresses}
 use Rattle.path_walker.specs.declared.pc.Pc.{Pc}
 use Rattle.path_walker.specs.declared.start.StackUse.{StackUse}
 use Rattle.path_walker.specs.declared.start.StackUse.TheVariants.{Keep, Pop, Clear}
-use Rattle.path_walker.specs.State.{State, IsState, IsAligned, IsPc, depth}
+use Rattle.path_walker.specs.State.{State, IsState, IsAligned, IsPc}
 use Rattle.path_walker.specs.Start.{used}
 use Rattle.path_walker.specs.Steps.{linked}
 use Rattle.path_walker.specs.Walk.{ToldIsAligned}
 
 pub record AreReturns (stack : List ℕ) : Type 0 where
   pub aligned : All IsAligned stack
-  pub few : length stack ≤ depth
+  pub few : length stack ≤ most_addresses
 
 pub nothing : AreReturns []
 nothing = record { aligned = λ k d lt. absurd (omega arith); few = omega arith }
@@ -27,7 +28,7 @@ used_returns Clear stack r = nothing
 pub linked_returns : (link : Option ℕ) (stack : List ℕ) → ToldIsAligned link → AreReturns stack → AreReturns (linked link stack)
 linked_returns None stack at r = r
 linked_returns (Some address) stack at r =
-    record { aligned = All-take IsAligned depth (address ∷ stack) (All-cons IsAligned address stack at r.aligned); few = omega (arith, length-take depth (address ∷ stack)) }
+    record { aligned = All-take IsAligned most_addresses (address ∷ stack) (All-cons IsAligned address stack at r.aligned); few = omega (arith, length-take most_addresses (address ∷ stack)) }
 
 pub state_after : (s : State) (u : StackUse) (link : Option ℕ) (pc : Pc) (ctx : Ctx) → IsState s → ToldIsAligned link → IsPc pc
     → IsState (record { pc = pc; stack = linked link (used u s.stack); ctx = ctx })

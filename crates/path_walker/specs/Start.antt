@@ -1,6 +1,6 @@
--- Where an entry begins, by what was told before it and by the walk so far (Arm IHI 0064, "Descriptions of Trace Elements": the trace
+-- Where an entry begins, by what elements gave before it and by the walk so far (Arm IHI 0064, "Descriptions of Trace Elements": the trace
 -- info, trace on, context and address elements). When the return stack is emptied is this project's own choice.
-use Rattle.std.specs.Prelude.{ℕ, Bool, true, false, ◌||◌, ◌==◌, if◌then◌else◌, List, [], ◌∷◌, drop, Option, Some, None}
+use Rattle.std.specs.Prelude.{◌≡◌, ℕ, Bool, true, false, ◌||◌, ◌==◌, if◌then◌else◌, List, [], ◌∷◌, drop, Option, Some, None}
 use Rattle.std.specs.Option.{unwrap_or}
 use Rattle.etm_types.specs.declared.context.Ctx.{Ctx}
 use Rattle.etm_types.specs.declared.element.Pre.{Pre}
@@ -8,11 +8,13 @@ use Rattle.etm_types.specs.declared.walk_fault.WalkFault.{WalkFault}
 use Rattle.etm_types.specs.declared.walk_fault.WalkFault.TheVariants.{AddressMismatch}
 use Rattle.path_walker.specs.declared.pc.Pc.{Pc}
 use Rattle.path_walker.specs.declared.pc.Pc.TheVariants.{Known, Awaited, Lost}
+use Rattle.path_walker.specs.declared.start.Start.{Start as Answer}
 use Rattle.path_walker.specs.declared.start.StackUse.{StackUse}
 use Rattle.path_walker.specs.declared.start.StackUse.TheVariants.{Keep, Pop, Clear}
 use Rattle.path_walker.specs.State.{State}
 
--- Trace on, and missing trace, make the address unknown. Trace info empties the return stack. A context that was told holds from here on.
+-- Trace on, and missing trace, make the address unknown. Trace info empties the return stack. A context that was given holds
+-- from here on.
 abbrev pub pc_before : State → Pre → Pc
 pc_before s pre = if pre.on || pre.lost then Lost else s.pc
 
@@ -25,7 +27,7 @@ stack_before s pre = emptied pre.flush s.stack
 abbrev pub context_of : State → Pre → Ctx
 context_of s pre = unwrap_or pre.ctx s.ctx
 
--- the fault of an address that was told, where another one is known
+-- the fault of an address that was given, where another one is known
 abbrev pub mismatch_of : Pc → Option ℕ → Option WalkFault
 mismatch_of (Known known) (Some given) = if known == given then None else Some (AddressMismatch known given)
 mismatch_of pc addr = None
@@ -35,7 +37,7 @@ pub record Start : Type 0 where
   pub at : Option ℕ
   pub stack : List ℕ
 
--- Where no address was told, it is the one that is known, or, where it may be, the newest return address, which is taken off.
+-- Where no address was given, it is the one that is known, or, where it may be, the newest return address, which is taken off.
 -- Else it is not known, and the return stack is emptied.
 abbrev pub untold : Pc → List ℕ → Start
 untold (Known address) stack = record { at = Some address; stack = stack }
@@ -44,7 +46,7 @@ untold (Awaited true) [] = record { at = None; stack = [] }
 untold (Awaited false) stack = record { at = None; stack = [] }
 untold Lost stack = record { at = None; stack = [] }
 
--- where the address was told, it is that one, and the return stack stays
+-- where an address was given, it is that one, and the return stack stays
 abbrev pub start_by : Option ℕ → Pc → List ℕ → Start
 start_by (Some given) pc stack = record { at = Some given; stack = stack }
 start_by None pc stack = untold pc stack
@@ -52,8 +54,16 @@ start_by None pc stack = untold pc stack
 abbrev pub start_of : State → Pre → Start
 start_of s pre = start_by pre.addr (pc_before s pre) (stack_before s pre)
 
--- what the code says of the return addresses: the ones that stay
+-- the return addresses that stay, as the code says it
 abbrev pub used : StackUse → List ℕ → List ℕ
 used Keep stack = stack
 used Pop stack = drop 1 stack
 used Clear stack = []
+
+-- what the code says leaves these of any return addresses
+abbrev pub Leaves : StackUse → (List ℕ → List ℕ) → Type 0
+Leaves u left = (stack : List ℕ) → used u stack ≡ left stack
+
+-- the code answers this start, of these return addresses
+abbrev pub StartsAs : Answer → List ℕ → Start → Type 0
+StartsAs answer stack start = (answer.at ≡ start.at) × (used answer.stack stack ≡ start.stack)

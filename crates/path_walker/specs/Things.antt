@@ -1,4 +1,4 @@
--- The walk of what a trace told, from the first thing on, up to the first entry that has a fault.
+-- The walk of the things of a trace, from the first on, up to the first entry that has a fault.
 use Rattle.std.specs.Prelude.{◌≡◌, ◌⊎◌, List, [], ◌∷◌, ◌++◌, Result, Ok, Err, ⊤}
 use Rattle.program_image.specs.declared.image.Image.{Image}
 use Rattle.etm_types.specs.Walked.{items_of}

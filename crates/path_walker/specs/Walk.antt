@@ -19,7 +19,7 @@ use Rattle.path_walker.specs.State.{State, IsAligned}
 use Rattle.path_walker.specs.Start.{pc_before, context_of, mismatch_of, start_of}
 use Rattle.path_walker.specs.Steps.{next_of, stack_after}
 
--- ---- an atom: plain words and the P0 instruction behind them
+-- ---- an atom: plain words, and the P0 instruction after them
 
 -- so many instructions are executed from an address on, and the last one goes on at pc
 pub record GoesOn (image : Image) (address : ℕ) (stack : List ℕ) (taken : Bool) (count : ℕ) (pc : Pc) (after : List ℕ) : Type 0 where
@@ -38,7 +38,7 @@ Refuses (Some Plain) address taken f = ⊥
 Refuses (Some Odd) address taken f = f ≡ fault.Odd address
 Refuses (Some class) address taken f = (next_of class address taken ≡ None) × (f ≡ fault.BadAtom address)
 
--- ---- an exception: plain words up to the one that it returns to
+-- ---- an exception: plain words up to its preferred return address
 
 -- the n words from an address on are plain, and none of them stands at the return address
 abbrev pub IsRunBefore : Image → ℕ → ℕ → ℕ → Type 0
@@ -54,7 +54,7 @@ Misses (Some class) address ret f = f ≡ fault.ReturnMissed address ret
 -- ---- a P0 element
 
 -- From an address that is known or not, with these return addresses, so many instructions are shown, and the walk goes on at pc
--- with others. Behind an exception the address is awaited, and is not taken off the return stack.
+-- with others. After an exception the address is awaited, and is not taken off the return stack.
 abbrev pub Leads : Image → Option ℕ → List ℕ → P0 → ℕ → Pc → List ℕ → Type 0
 Leads image None stack (Atom taken) count pc after = (count ≡ 0) × (pc ≡ Lost) × (after ≡ stack)
 Leads image None stack (Exc kind ret) count pc after = (count ≡ 0) × (pc ≡ Awaited false) × (after ≡ stack)

@@ -5,18 +5,17 @@ ghost use Rattle.program_image.specs.Blocks.{behind, class_at, IsBlock};
 ghost use Rattle.etm_types.specs.declared.element.P0.TheVariants as p0;
 ghost use Rattle.etm_types.specs.declared.walk_fault.WalkFault.{WalkFault};
 ghost use Rattle.path_walker.specs.declared.pc.Pc.TheVariants.{Awaited};
+ghost use Rattle.return_stack.specs.Stack.{most_addresses};
 ghost use Rattle.path_walker.specs.State.{IsAligned, IsPc};
 ghost use Rattle.path_walker.specs.Steps.{next_of, stack_after, linked};
-ghost use Rattle.path_walker.specs.Walk.{Leads, Halts, ToldIsAligned, ReturnIsAligned};
+ghost use Rattle.path_walker.specs.Leg.{IsLeg, IsAlignedLeg};
+ghost use Rattle.path_walker.specs.Walk.{Halts, ToldIsAligned, ReturnIsAligned};
 
 use crate::pc::Pc;
-use a64_branches::{Class, target};
+use a64_branches::{Class, INSTRUCTION_BYTES, target};
 use etm_types::{P0, WalkFault};
 use program_image::{BlockEnd, Image};
 use return_stack::ReturnStack;
-
-/// The size of an instruction, in bytes.
-const WORD_BYTES: u64 = 4;
 
 /// What is executed for a P0 element, and where it leads.
 #[derive(Clone, Copy, Debug, PartialEq, Eq)]
@@ -29,7 +28,7 @@ pub struct Leg {
 }
 
 impl Leg {
-    /// So many plain words, and an exception behind them.
+    /// So many plain words, and an exception after them.
     fn to_exception(count: u64) -> Leg
         ensures { result ≡ record { count = count; next = Awaited false; link = None } }
     {
@@ -42,7 +41,7 @@ impl Leg {
 
     /// Puts the return address on a stack, where there is one.
     pub fn push_link(&self, stack: &mut ReturnStack)
-        requires { stack.old.depth ≡ 15 }
+        requires { stack.old.depth ≡ most_addresses }
         ensures addresses { stack.new.addresses ≡ linked self.now.link stack.old.addresses }
         ensures depth { stack.new.depth ≡ stack.old.depth }
     {
@@ -52,7 +51,7 @@ impl Leg {
     }
 }
 
-/// Where the instruction at an address goes on by an atom: none where the atom cannot tell of it.
+/// Where the instruction at an address goes on by an atom: none where it can have no such atom.
 fn next_of(class: Class, addr: u64, taken: bool) -> Option<Pc>
     requires address { addr % 4 ≡ 0 }
     requires whole { HasWholeOffset class }
@@ -62,7 +61,7 @@ fn next_of(class: Class, addr: u64, taken: bool) -> Option<Pc>
     match (class, taken) {
         (Class::Jump { off, .. } | Class::Cond { off }, true) => Some(Pc::Known(target(addr, off))),
         (Class::Isb, true) | (Class::Cond { .. }, false) => {
-            Some(Pc::Known(addr.wrapping_add(WORD_BYTES)))
+            Some(Pc::Known(addr.wrapping_add(INSTRUCTION_BYTES)))
         }
         (Class::Ind { link }, true) => Some(Pc::Awaited { pops: !link }),
         (Class::Eret, true) => Some(Pc::Awaited { pops: false }),
@@ -78,18 +77,18 @@ fn link_of(class: Class, addr: u64) -> Option<u64>
 {
     match class {
         Class::Jump { link: true, .. } | Class::Ind { link: true } => {
-            Some(addr.wrapping_add(WORD_BYTES))
+            Some(addr.wrapping_add(INSTRUCTION_BYTES))
         }
         _ => None,
     }
 }
 
-/// The plain words from an address on and the P0 instruction behind them, of which an atom tells.
+/// The plain words from an address on, and after them the P0 instruction of an atom.
 fn leg_of_atom(image: &Image, pc: u64, taken: bool) -> Result<Leg, WalkFault>
     requires { pc % 4 ≡ 0 }
-    ensures leads { IfOk result (λ leg. (stack : List ℕ) → Leads image.now (Some pc) stack (p0.Atom taken) leg.count leg.next (linked leg.link stack)) }
+    ensures leads { IfOk result (IsLeg image.now (Some pc) (p0.Atom taken)) }
     ensures halts { (fault : WalkFault) → result ≡ Err fault → Halts image.now (Some pc) (p0.Atom taken) fault }
-    ensures aligned { IfOk result (λ leg. IsPc leg.next × ToldIsAligned leg.link) }
+    ensures aligned { IfOk result IsAlignedLeg }
 {
     let block = image.block(pc);
     match block.end {
@@ -106,15 +105,15 @@ fn leg_of_atom(image: &Image, pc: u64, taken: bool) -> Result<Leg, WalkFault>
     }
 }
 
-/// The plain words from an address on, up to the one at the return address of an exception.
+/// The plain words from an address on, up to the preferred return address of an exception.
 fn leg_of_exception(image: &Image, pc: u64, kind: u8, ret: u64) -> Result<Leg, WalkFault>
     requires start { pc % 4 ≡ 0 }
     requires ret { ret % 4 ≡ 0 }
-    ensures leads { IfOk result (λ leg. (stack : List ℕ) → Leads image.now (Some pc) stack (p0.Exc kind ret) leg.count leg.next (linked leg.link stack)) }
+    ensures leads { IfOk result (IsLeg image.now (Some pc) (p0.Exc kind ret)) }
     ensures halts { (fault : WalkFault) → result ≡ Err fault → Halts image.now (Some pc) (p0.Exc kind ret) fault }
-    ensures aligned { IfOk result (λ leg. IsPc leg.next × ToldIsAligned leg.link) }
+    ensures aligned { IfOk result IsAlignedLeg }
 {
-    let words = ret.wrapping_sub(pc) / WORD_BYTES;
+    let words = ret.wrapping_sub(pc) / INSTRUCTION_BYTES;
     let block = image.block(pc);
     if words <= block.plain {
         return Ok(Leg::to_exception(words));
@@ -130,9 +129,9 @@ fn leg_of_exception(image: &Image, pc: u64, kind: u8, ret: u64) -> Result<Leg, W
 pub fn leg_of(image: &Image, at: Option<u64>, p0: P0) -> Result<Leg, WalkFault>
     requires start { ToldIsAligned at }
     requires ret { ReturnIsAligned p0 }
-    ensures leads { IfOk result (λ leg. (stack : List ℕ) → Leads image.now at stack p0 leg.count leg.next (linked leg.link stack)) }
+    ensures leads { IfOk result (IsLeg image.now at p0) }
     ensures halts { (fault : WalkFault) → result ≡ Err fault → Halts image.now at p0 fault }
-    ensures aligned { IfOk result (λ leg. IsPc leg.next × ToldIsAligned leg.link) }
+    ensures aligned { IfOk result IsAlignedLeg }
 {
     match (at, p0) {
         (Some(pc), P0::Atom(taken)) => leg_of_atom(image, pc, taken),

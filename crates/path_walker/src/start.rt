@@ -1,7 +1,8 @@
-//! Where an entry begins, by what was told before it and by the walk so far.
-ghost use Rattle.std.specs.Prelude.{◌≡◌, ℕ, List, IfOk, IsOk};
+//! Where an entry begins, by what elements gave before it and by the walk so far.
+ghost use Rattle.std.specs.Prelude.{◌≡◌, IfOk, IsOk, Some, None, true};
 ghost use Rattle.etm_types.specs.declared.walk_fault.WalkFault.{WalkFault};
-ghost use Rattle.path_walker.specs.Start.{emptied, mismatch_of, untold, used};
+ghost use Rattle.path_walker.specs.declared.pc.Pc.TheVariants.{Awaited};
+ghost use Rattle.path_walker.specs.Start.{Leaves, StartsAs, emptied, mismatch_of, untold, used};
 
 use crate::pc::Pc;
 use etm_types::WalkFault;
@@ -27,9 +28,9 @@ pub enum StackUse {
 }
 
 impl StackUse {
-    /// Where nothing is taken off: none stays if the stack is flushed.
+    /// Where nothing is taken off: after a trace info none stays, else all do.
     fn unpopped(flush: bool) -> StackUse
-        ensures { (stack : List ℕ) → used result stack ≡ emptied flush stack }
+        ensures { Leaves result (emptied flush) }
     {
         if flush {
             StackUse::Clear
@@ -38,7 +39,7 @@ impl StackUse {
         }
     }
 
-    /// Does so with a stack.
+    /// Does that with a stack.
     pub fn apply(self, stack: &mut ReturnStack)
         ensures addresses { stack.new.addresses ≡ used self stack.old.addresses }
         ensures depth { stack.new.depth ≡ stack.old.depth }
@@ -53,10 +54,10 @@ impl StackUse {
     }
 }
 
-/// Where an entry begins whose address was told.
-pub fn told(pc: Pc, given: u64, flush: bool) -> Result<Start, WalkFault>
+/// Where an entry begins for which an address was given.
+pub fn at_given(pc: Pc, given: u64, flush: bool) -> Result<Start, WalkFault>
     ensures at { IfOk result (λ start. start.at ≡ Some given) }
-    ensures stack { IfOk result (λ start. (stack : List ℕ) → used start.stack stack ≡ emptied flush stack) }
+    ensures stack { IfOk result (λ start. Leaves start.stack (emptied flush)) }
     ensures agrees { IsOk result → mismatch_of pc (Some given) ≡ None }
     ensures differs { (fault : WalkFault) → result ≡ Err fault → mismatch_of pc (Some given) ≡ Some fault }
 {
@@ -69,22 +70,33 @@ pub fn told(pc: Pc, given: u64, flush: bool) -> Result<Start, WalkFault>
     }
 }
 
-/// Where an entry begins whose address was not told.
-pub fn untold(pc: Pc, stack: &ReturnStack, flush: bool) -> Start
-    ensures at { result.at ≡ (untold pc (emptied flush stack.now.addresses)).at }
-    ensures stack { used result.stack stack.now.addresses ≡ (untold pc (emptied flush stack.now.addresses)).stack }
+/// Where an entry begins for which no address was given.
+pub fn at_known(pc: Pc, stack: &ReturnStack, flush: bool) -> Start
+    ensures { StartsAs result stack.now.addresses (untold pc (emptied flush stack.now.addresses)) }
 {
-    let top = if flush { None } else { stack.top() };
-    match (pc, top) {
-        (Pc::Known(addr), _) => Start {
+    match pc {
+        Pc::Known(addr) => Start {
             at: Some(addr),
             stack: StackUse::unpopped(flush),
         },
-        (Pc::Awaited { pops: true }, Some(addr)) => Start {
+        Pc::Awaited { pops: true } if !flush => at_newest(stack),
+        _ => Start {
+            at: None,
+            stack: StackUse::Clear,
+        },
+    }
+}
+
+/// Where an entry begins whose address may be the newest return address.
+fn at_newest(stack: &ReturnStack) -> Start
+    ensures { StartsAs result stack.now.addresses (untold (Awaited true) stack.now.addresses) }
+{
+    match stack.top() {
+        Some(addr) => Start {
             at: Some(addr),
             stack: StackUse::Pop,
         },
-        _ => Start {
+        None => Start {
             at: None,
             stack: StackUse::Clear,
         },

@@ -4,15 +4,12 @@ ghost use Rattle.etm_types.specs.declared.walk_fault.WalkFault.{WalkFault};
 
 use crate::leg::{Leg, leg_of};
 use crate::pc::Pc;
-use crate::start::{StackUse, Start, told, untold};
+use crate::start::{StackUse, Start, at_given, at_known};
 use etm_types::{Ctx, Entry, ExcMark, P0, Pre, WalkFault, Walked};
 use program_image::Image;
-use return_stack::ReturnStack;
+use return_stack::{MOST_ADDRESSES, ReturnStack};
 use std::alloc::{AllocError, Global};
 use std::marker::Model;
-
-/// How many return addresses are kept.
-const DEPTH: usize = 15;
 
 /// The walk over an image, between two entries. Contracts see it as what is known of the next
 /// instruction's address, the return addresses, and the context.
@@ -25,18 +22,19 @@ pub struct Walker {
 
 impl Model for Walker {
     ghost use Rattle.std.specs.Prelude.{◌≡◌};
+    ghost use Rattle.return_stack.specs.Stack.{most_addresses};
     ghost use Rattle.path_walker.specs.State.{State, IsState};
 
     ghost Value = { State };
 
     ghost view = { λ w. record { pc = w.pc; stack = w.stack.addresses; ctx = w.ctx } };
 
-    ghost invariant = { λ w. IsState (record { pc = w.pc; stack = w.stack.addresses; ctx = w.ctx }) × (w.stack.depth ≡ 15) };
+    ghost invariant = { λ w. IsState (record { pc = w.pc; stack = w.stack.addresses; ctx = w.ctx }) × (w.stack.depth ≡ most_addresses) };
 }
 
 impl Walker {
     ghost use Rattle.path_walker.specs.State.{IsState, IsPc, first_state};
-    ghost use Rattle.path_walker.specs.Start.{context_of, mismatch_of, pc_before, start_of, used};
+    ghost use Rattle.path_walker.specs.Start.{StartsAs, context_of, mismatch_of, pc_before, start_of, used};
     ghost use Rattle.path_walker.specs.Steps.{linked};
     ghost use Rattle.path_walker.specs.Walk.{HasAlignedAddresses, Shows, Stops, ToldIsAligned, mark_of};
 
@@ -46,16 +44,11 @@ impl Walker {
         ensures first { IfOk result (λ walker. walker ≡ first_state) }
         ensures state { IfOk result IsState }
     {
-        let stack = ReturnStack::new(alloc, DEPTH)?;
+        let stack = ReturnStack::new(alloc, MOST_ADDRESSES)?;
         Ok(Walker {
             pc: Pc::Lost,
             stack,
-            ctx: Ctx {
-                el: 0,
-                ns: false,
-                vmid: 0,
-                cid: 0,
-            },
+            ctx: Ctx::initial(),
         })
     }
 
@@ -86,8 +79,7 @@ impl Walker {
     /// Where an entry begins.
     fn start(&self, pre: &Pre) -> Result<Start, WalkFault>
         requires { ToldIsAligned pre.now.addr }
-        ensures at { IfOk result (λ start. start.at ≡ (start_of self.now pre.now).at) }
-        ensures stack { IfOk result (λ start. used start.stack self.now.stack ≡ (start_of self.now pre.now).stack) }
+        ensures begins { IfOk result (λ start. StartsAs start self.now.stack (start_of self.now pre.now)) }
         ensures agrees { IsOk result → mismatch_of (pc_before self.now pre.now) pre.now.addr ≡ None }
         ensures differs { (fault : WalkFault) → result ≡ Err fault → mismatch_of (pc_before self.now pre.now) pre.now.addr ≡ Some fault }
         ensures aligned { IfOk result (λ start. ToldIsAligned start.at) }
@@ -98,12 +90,12 @@ impl Walker {
             self.pc
         };
         match pre.addr {
-            Some(given) => told(pc, given, pre.flush),
-            None => Ok(untold(pc, &self.stack, pre.flush)),
+            Some(given) => at_given(pc, given, pre.flush),
+            None => Ok(at_known(pc, &self.stack, pre.flush)),
         }
     }
 
-    /// Goes on behind a leg.
+    /// Goes on after a leg.
     fn go_on(&mut self, stack: StackUse, leg: &Leg, ctx: Ctx)
         requires next { IsPc leg.now.next }
         requires link { ToldIsAligned leg.now.link }
@@ -119,7 +111,7 @@ impl Walker {
 
 ghost use Rattle.path_walker.specs.Walk.{mark_of};
 
-/// The exception that a P0 element tells of.
+/// The exception of a P0 element, where it is one.
 fn mark_of(p0: P0) -> Option<ExcMark>
     ensures { result ≡ mark_of p0 }
 {

@@ -45,7 +45,7 @@ use Rattle.path_elements.specs.Elements.{
   told_after,
   is_misplaced,
   placed,
-  behind,
+  with_gained,
   all_elements,
 }
 use Rattle.trace_cmd.specs.Trail.{IsAlignedElem, AreAlignedElems}
@@ -164,7 +164,7 @@ placed_aligned at (e ∷ es) are =
 
 joined_aligned : (b : Bool) (stop : Gained) (here : List (ℕ × Elem)) (rest : Gained) → AreAlignedElems stop.elements → AreAlignedElems here
     → AreAlignedElems rest.elements
-    → AreAlignedElems (if b then stop else behind here rest).elements
+    → AreAlignedElems (if b then stop else with_gained here rest).elements
 joined_aligned true stop here rest is also too = is
 joined_aligned false stop here rest is also too = All-append IsAlignedThere here rest.elements also too
 

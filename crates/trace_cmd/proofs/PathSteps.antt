@@ -47,7 +47,7 @@ use Rattle.packet_reader.specs.declared.step.Step.{Step}
 use Rattle.packet_reader.specs.declared.step.Step.TheVariants.{Skipped, More, Whole, Bad, Stopped}
 use Rattle.packet_reader.proofs.Adds.{Told, gains_more, nothing_told}
 use Rattle.packet_reader.proofs.Stream.{stream_on, fault_stays}
-use Rattle.path_elements.specs.Elements.{Told as ToldSoFar, Gained, untold, all_elements, elements_of, told_after, is_misplaced, placed, behind}
+use Rattle.path_elements.specs.Elements.{Told as ToldSoFar, Gained, untold, all_elements, elements_of, told_after, is_misplaced, placed, with_gained}
 use Rattle.path_elements.specs.Laws.{with_packet}
 use Rattle.path_elements.proofs.Grows.{elements_append, each_packet_adds, none_behind}
 use Rattle.path_text.specs.PathLines.{lines_of, shown_after_all}
@@ -96,11 +96,11 @@ module _ (packets : List (ℕ × Packet)) (elements : List (ℕ × Elem)) (so_fa
       let here = one_more is ∙ ap either misplaced in none_behind untold (packets ++ (at, packet) ∷ []) later at (ap (λ (g : Gained). g.awaited) here) ∙ here
 
   gains_later : (later : List (ℕ × Packet)) → all_elements untold packets ≡ gains elements None so_far → is_misplaced so_far packet ≡ false
-      → all_elements untold ((packets ++ (at, packet) ∷ []) ++ later) ≡ behind there (all_elements (told_after so_far packet) later)
+      → all_elements untold ((packets ++ (at, packet) ∷ []) ++ later) ≡ with_gained there (all_elements (told_after so_far packet) later)
   gains_later later is free =
       let here = gains_packet is free in
       elements_append untold (packets ++ (at, packet) ∷ []) later (ap (λ (g : Gained). g.awaited) here)
-      ∙ ap (λ (g : Gained). behind g.elements (all_elements g.told later)) here
+      ∙ ap (λ (g : Gained). with_gained g.elements (all_elements g.told later)) here
 
 -- the path of a stream, by a run over what its packets gain
 path_from : (image : Image) (s : Sizes) (bytes : List ℕ) (packets : List (ℕ × Packet)) (ending : Ending) (elements : List (ℕ × Elem)) (awaited : Option ℕ)
