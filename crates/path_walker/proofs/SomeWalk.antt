@@ -7,11 +7,7 @@ use Rattle.a64_branches.specs.declared.class.Class.{Class}
 use Rattle.a64_branches.specs.declared.class.Class.TheVariants.{Plain, Jump, Cond, Isb, Ind, Eret, Odd}
 use Rattle.program_image.specs.Blocks.{class_at, behind, HasGap}
 use Rattle.program_image.specs.declared.image.Image.{Image}
-<<<<<<< HEAD
-use Rattle.program_image.proofs.PlainRuns.{run_short}
-=======
 use Rattle.path_walker.proofs.Gap.{run_short}
->>>>>>> f872907694328063a7f046c041ca43864be377ba
 use Rattle.etm_types.specs.declared.element.P0.{P0}
 use Rattle.etm_types.specs.declared.element.P0.TheVariants.{Atom, Exc}
 use Rattle.etm_types.specs.declared.element.Pre.{Pre}

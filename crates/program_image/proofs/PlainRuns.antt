@@ -1,12 +1,12 @@
 -- Runs of plain words: by the class of a word and the run from the next word on, and how long they can be.
-use Rattle.std.proofs.Common.{◌≡◌, ◌≢◌, ℕ, zero, suc, ◌+◌, ◌-◌, ◌*◌, ◌/◌, ◌%◌, ◌^◌, ◌<◌, ◌≤◌, List, Option, Some, None, sym, ap, ◌∙◌, inl, inr, arith, below_more, nat_lt}
+use Rattle.std.proofs.Common.{◌≡◌, ◌≢◌, ℕ, zero, suc, ◌+◌, ◌*◌, ◌/◌, ◌%◌, ◌^◌, ◌<◌, ◌≤◌, List, Option, Some, None, sym, ap, ◌∙◌, inl, inr, arith, below_more, nat_lt}
 use Rattle.std.proofs.lemmas.Bool.{cases_Bool, ltb-true, ltb-false}
 use Rattle.std.specs.Option.{option_map}
 use Rattle.a64_branches.specs.Classes.{class_of}
 use Rattle.a64_branches.specs.declared.class.Class.{Class}
 use Rattle.a64_branches.specs.declared.class.Class.TheVariants.{Plain, Jump, Cond, Isb, Ind, Eret, Odd}
 use Rattle.program_image.specs.Part.{IsImage, Part, total}
-use Rattle.program_image.specs.Blocks.{class_at, behind, HasGap, IsPlainRun}
+use Rattle.program_image.specs.Blocks.{class_at, behind, IsPlainRun}
 use Rattle.program_image.specs.Runs.{IsRunLength, run_from}
 use Rattle.program_image.proofs.Gaps.{near_gap}
 
@@ -67,26 +67,3 @@ pub zero_run_more : (image : List Part) (n address : ℕ) → IsImage image → 
 zero_run_more image n address is run at plain =
     let more = one_more image 0 n run (ap (class_at image) (zero_next image n address is run at) ∙ plain) in
     (more, zero_run_short image (n + 1) is more)
-
--- ---- for callers: how far a run may lead
-
--- each multiple of 4 stands so many words after another one
-reached : (from to : ℕ) → from % 4 ≡ 0 → to % 4 ≡ 0 → to < 2 ^ 64 → (n : ℕ) × (n < 2 ^ 62) × (behind from n ≡ to)
-reached from to aligned also lower =
-    let low : ℕ = from % 2 ^ 64 in
-    elim (cases_Bool (nat_lt to low)) [
-      | inl t ↦ let lt = ltb-true _ _ t in ((to + 2 ^ 64 - low) / 4, omega arith, omega arith)
-      | inr f ↦ let le = ltb-false _ _ f in ((to - low) / 4, omega arith, omega arith)
-    ]
-
--- a run of plain words does not go past a gap
-pub run_short : (image : List Part) (address n : ℕ) → address % 4 ≡ 0 → HasGap image → IsPlainRun image address n → n < 2 ^ 62
-run_short image address n aligned gap run =
-    let far = reached address gap.address aligned gap.aligned gap.within in
-    elim (cases_Bool (nat_lt far.0 n)) [
-      | inl t ↦
-          let plain = run far.0 (ltb-true _ _ t) in
-          let nothing : class_at image (behind address far.0) ≡ None = ap (class_at image) far.2 ∙ ap (option_map class_of) gap.none in
-          absurd (let x = sym plain ∙ nothing in cc)
-      | inr f ↦ omega (arith, ltb-false _ _ f, far.1)
-    ]
