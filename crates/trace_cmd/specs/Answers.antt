@@ -5,8 +5,8 @@ use Rattle.trace_io.specs.Bytes.{TakesAll, TakesCount, AppendsAll, AppendsFront}
 use Rattle.trace_io.specs.Causes.{KeepsFaults, Rose}
 use Rattle.program_image.specs.declared.image.Image.{Image}
 use Rattle.program_image.specs.Answers.{TakesImage, TakesNoImage}
+use Rattle.program_image.specs.Faults.{why_text}
 use Rattle.program_image.specs.declared.fault.ImageWhy.{ImageWhy}
-use Rattle.program_image.specs.declared.fault.ImageWhy.TheVariants.{Syntax, Unaligned, Overlap, Wraps, TooLarge, TooLong}
 use Rattle.trace_cmd.specs.declared.status.Status.{Status}
 use Rattle.trace_cmd.specs.declared.status.Status.TheVariants as status
 use Rattle.trace_cmd.specs.Words.{Path, Packets, meaning}
@@ -29,14 +29,6 @@ code_of status.InputTooLong = 8
 
 abbrev pub usage_line : List ℕ
 usage_line = codes "usage: etm path|packets|trace|retired|selftest" ++ 10 ∷ []
-
-abbrev pub why_text : ImageWhy → List ℕ
-why_text Syntax = codes "syntax"
-why_text Unaligned = codes "unaligned"
-why_text Overlap = codes "overlap"
-why_text Wraps = codes "wraps"
-why_text TooLarge = codes "too-large"
-why_text TooLong = codes "too-long"
 
 abbrev pub image_line : ℕ → ImageWhy → List ℕ
 image_line line why = codes "image line " ++ decimal line ++ codes ": " ++ why_text why ++ 10 ∷ []

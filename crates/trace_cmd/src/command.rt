@@ -5,7 +5,7 @@ ghost use Rattle.trace_io.specs.Bytes.{ShowsAsBefore};
 ghost use Rattle.trace_io.specs.Causes.{KeepsFaults};
 ghost use Rattle.trace_cmd.specs.Words.{meaning, image_of, texts};
 ghost use Rattle.path_text.specs.Writing.{Writes};
-ghost use Rattle.trace_cmd.specs.Answers.{usage_line, image_line, why_text, call, IsPathCall, IsPacketsCall, NoReadFailed, ReadsImage, ReadsFirst, IsAnswer, AnswersSo, Answers};
+ghost use Rattle.trace_cmd.specs.Answers.{usage_line, image_line, call, IsPathCall, IsPacketsCall, NoReadFailed, ReadsImage, ReadsFirst, IsAnswer, AnswersSo, Answers};
 
 use crate::input::{answer_packets, answer_path};
 use crate::status::Status;
@@ -26,22 +26,8 @@ fn write_image_bad<K: Sink>(line: u64, why: ImageWhy, out: &mut K) -> Result<(),
     text.text(b"image line ");
     text.decimal(line);
     text.text(b": ");
-    text.text(why_text(why));
+    text.text(why.text().as_bytes());
     text.write(out)
-}
-
-/// What is printed of a fault of an image.
-fn why_text(why: ImageWhy) -> &'static [u8]
-    ensures { result.now ≡ why_text why }
-{
-    match why {
-        ImageWhy::Syntax => b"syntax",
-        ImageWhy::Unaligned => b"unaligned",
-        ImageWhy::Overlap => b"overlap",
-        ImageWhy::Wraps => b"wraps",
-        ImageWhy::TooLarge => b"too-large",
-        ImageWhy::TooLong => b"too-long",
-    }
 }
 
 /// Reads the image, and answers by it and the input.
