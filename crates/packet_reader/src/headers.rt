@@ -6,7 +6,7 @@ ghost use Rattle.packet_reader.specs.States.{HeadsBy, IsRun, FitsAfter};
 use crate::fields::{field, lowest};
 use crate::state::{Long, Progress, Purpose, State};
 use atom_formats::atoms_of;
-use etm_types::{AddrForm, FewAtoms};
+use etm_types::{AddrForm, AtomRun, FewAtoms};
 use packet_grammar::{Packet, PacketFault, RefusedKind};
 
 /// What a header makes of a packet. Most headers are those of atom packets, so these come first.
@@ -15,7 +15,7 @@ pub fn header(h: u8) -> Progress
     ensures fits { FitsAfter result }
 {
     match h {
-        0xc0..=0xff => atoms(h),
+        0xc0..=0xff => whole(Packet::Atoms(run_of(h))),
         0x00..=0x3f => first_headers(h),
         0x40..=0x7f => middle_headers(h),
         0x80..=0x9f => address_headers(h),
@@ -229,14 +229,19 @@ fn time_stamp() -> Progress
     })
 }
 
-/// A run of atoms.
-fn atoms(h: u8) -> Progress
+/// The first header of an atom packet. All from here on are such headers.
+pub const FIRST_OF_ATOMS: u8 = 0xc0;
+
+/// The atoms of an atom packet, which its header alone holds.
+#[inline(always)]
+pub fn run_of(h: u8) -> AtomRun
     requires { 0xc0 ≤ h }
-    ensures run { IsRun h result }
-    ensures fits { FitsAfter result }
+    ensures run { IsRun h (Progress.Done (Ok (Packet.Atoms result))) }
+    ensures fits { FitsAfter (Progress.Done (Ok (Packet.Atoms result))) }
+    ensures row { HeadsBy h (Progress.Done (Ok (Packet.Atoms result))) }
 {
     match atoms_of(h) {
-        Some(run) => whole(Packet::Atoms(run)),
+        Some(run) => run,
         None => unreachable!(),
     }
 }

@@ -7,7 +7,7 @@ ghost use Rattle.packet_reader.specs.States.{FitsAfter, HeadsBy};
 ghost use Rattle.packet_reader.specs.Stands.{FitsPhase, Moved, Moves, settled, zeros_in, zeros_of_sync};
 
 use crate::advance::advance;
-use crate::headers::header;
+use crate::headers::{FIRST_OF_ATOMS, header, run_of};
 use crate::phase::Phase;
 use crate::state::Progress;
 use crate::step::Step;
@@ -54,6 +54,7 @@ impl PacketReader {
     }
 
     /// Takes the next byte.
+    #[inline(always)]
     pub fn take(&mut self, byte: u8) -> Step
         requires { self.old.taken < 2 ^ 62 }
         ensures settings { self.new.settings ≡ self.old.settings }
@@ -99,8 +100,30 @@ impl PacketReader {
     }
 }
 
-/// What a byte makes of a reader, which with it has taken so many.
+/// What a byte makes of a reader, which with it has taken so many. Most bytes are atom packets, which leave
+/// the phase as it is: these go the short way, and the answer stays where it is used.
+#[inline(always)]
 fn step(settings: &Settings, phase: &mut Phase, start: &mut u64, taken: u64, byte: u8) -> Step
+    requires { FitsPhase phase.old × (start.old ≤ taken) × (zeros_in phase.old < taken) }
+    ensures moves { Moves settings.now phase.old start.old taken byte (record { phase = phase.new; start = start.new; step = result }) }
+    ensures fits { FitsPhase phase.new × (start.new ≤ taken) × (zeros_in phase.new ≤ taken) }
+{
+    match phase {
+        Phase::Between if byte >= FIRST_OF_ATOMS => {
+            let at = *start;
+            *start = taken;
+            Step::Whole {
+                at,
+                packet: Packet::Atoms(run_of(byte)),
+            }
+        }
+        _ => any_step(settings, phase, start, taken, byte),
+    }
+}
+
+/// The same, of any byte.
+#[inline(never)]
+fn any_step(settings: &Settings, phase: &mut Phase, start: &mut u64, taken: u64, byte: u8) -> Step
     requires { FitsPhase phase.old × (start.old ≤ taken) × (zeros_in phase.old < taken) }
     ensures moves { Moves settings.now phase.old start.old taken byte (record { phase = phase.new; start = start.new; step = result }) }
     ensures fits { FitsPhase phase.new × (start.new ≤ taken) × (zeros_in phase.new ≤ taken) }
