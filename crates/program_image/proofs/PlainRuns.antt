@@ -1,5 +1,6 @@
 -- Runs of plain words: by the class of a word and the run from the next word on, and how long they can be.
-use Rattle.std.proofs.Common.{◌≡◌, ◌≢◌, ℕ, zero, suc, ◌+◌, ◌*◌, ◌/◌, ◌%◌, ◌^◌, ◌<◌, ◌≤◌, List, Option, Some, None, sym, ap, ◌∙◌, inl, inr, arith, below_more, nat_lt}
+use Rattle.std.proofs.Common.{◌≡◌, ◌≢◌, ℕ, zero, suc, ◌+◌, ◌*◌, ◌/◌, ◌%◌, ◌^◌, ◌<◌, ◌≤◌}
+use Rattle.std.proofs.Common.{List, Option, Some, None, sym, ap, ◌∙◌, inl, inr, arith, below_more, nat_lt}
 use Rattle.std.proofs.lemmas.Bool.{cases_Bool, ltb-true, ltb-false}
 use Rattle.std.specs.Option.{option_map}
 use Rattle.a64_branches.specs.Classes.{class_of}
@@ -10,7 +11,8 @@ use Rattle.program_image.specs.Blocks.{class_at, behind, IsPlainRun}
 use Rattle.program_image.specs.Runs.{IsRunLength, run_from}
 use Rattle.program_image.proofs.Gaps.{near_gap}
 
-pub one_more : (image : List Part) (address n : ℕ) → IsPlainRun image address n → class_at image (behind address n) ≡ Some Plain → IsPlainRun image address (n + 1)
+pub one_more : (image : List Part) (address n : ℕ) → IsPlainRun image address n → class_at image (behind address n) ≡ Some Plain
+    → IsPlainRun image address (n + 1)
 one_more image address n run plain = below_more _ _ run plain
 
 -- addresses count modulo 2^64
@@ -25,7 +27,8 @@ no_run image a class fits is not =
     let here : behind a 0 ≡ a = omega (arith, fits) in
     ((λ k below. absurd (omega (arith, below))), (λ e. not (sym is ∙ ap (class_at image) (sym here) ∙ e)))
 
-plain_after : (image : List Part) (a n : ℕ) → a < 2 ^ 64 → class_at image a ≡ Some Plain → IsPlainRun image (a + 4) n → (k : ℕ) → k < suc n → class_at image (behind a k) ≡ Some Plain
+plain_after : (image : List Part) (a n : ℕ) → a < 2 ^ 64 → class_at image a ≡ Some Plain → IsPlainRun image (a + 4) n → (k : ℕ) → k < suc n
+    → class_at image (behind a k) ≡ Some Plain
 plain_after image a n fits plain next zero below = let here : behind a 0 ≡ a = omega (arith, fits) in ap (class_at image) here ∙ plain
 plain_after image a n fits plain next (suc k) below =
     let at : behind a (suc k) ≡ behind (a + 4) k = omega arith in ap (class_at image) at ∙ next k (omega (arith, below))
@@ -36,7 +39,8 @@ longer image a n fits plain next =
     ((λ k below. plain_after image a n fits plain next.0 k (omega (arith, below))), (λ e. next.1 (ap (class_at image) (sym at) ∙ e)))
 
 -- the run from a word on
-pub run_steps : (image : List Part) (a n : ℕ) (class : Class) → a < 2 ^ 64 → class_at image a ≡ Some class → IsRunLength image (a + 4) n → IsRunLength image a (run_from class n)
+pub run_steps : (image : List Part) (a n : ℕ) (class : Class) → a < 2 ^ 64 → class_at image a ≡ Some class → IsRunLength image (a + 4) n
+    → IsRunLength image a (run_from class n)
 run_steps image a n Plain fits is next = longer image a n fits is next
 run_steps image a n (Jump off link) fits is next = no_run image a _ fits is (λ e. cc)
 run_steps image a n (Cond off) fits is next = no_run image a _ fits is (λ e. cc)

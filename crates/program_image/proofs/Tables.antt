@@ -1,5 +1,6 @@
 -- Tables of runs: how they are counted, and what they hold.
-use Rattle.std.proofs.Common.{◌≡◌, ◌≢◌, ℕ, zero, suc, ◌+◌, ◌-◌, ◌*◌, ◌/◌, ◌%◌, ◌^◌, ◌<◌, ◌≤◌, List, [], ◌∷◌, ◌++◌, length, take, drop, reverse, get_or, Bool, true, false, Some, None, refl, sym, ap, ◌∙◌, subst, inl, inr, arith, cond, append_assoc, append-nil, length-append, nat_lt}
+use Rattle.std.proofs.Common.{◌≡◌, ◌≢◌, ℕ, zero, suc, ◌+◌, ◌-◌, ◌*◌, ◌/◌, ◌%◌, ◌^◌, ◌<◌, ◌≤◌, List, [], ◌∷◌, ◌++◌, length, take, drop}
+use Rattle.std.proofs.Common.{reverse, get_or, Bool, true, false, Some, None, refl, sym, ap, ◌∙◌, subst, inl, inr, arith, cond, append_assoc, append-nil, length-append, nat_lt}
 use Rattle.std.specs.Prelude.{◌==◌, All, Contains, MatchOption, slice_get}
 use Rattle.std.specs.Option.{option_map}
 use Rattle.std.proofs.lemmas.Bool.{cases_Bool, eqb-true, eqb-false, eq-eqb, le-leb, lt-ltb, ltb-true, ltb-false}
@@ -48,14 +49,19 @@ word_first (a ∷ b ∷ c ∷ []) done next len = absurd (omega (arith, len))
 word_first (a ∷ b ∷ c ∷ d ∷ []) done next len = refl
 word_first (a ∷ b ∷ c ∷ d ∷ e ∷ more) done next len = absurd (omega (arith, len))
 
-pub word_counted : (bytes rest before word counts counts' : List ℕ) (next run run' : ℕ) → (before ≡ take (length rest - 4) rest) × (word ≡ drop (length rest - 4) rest) × (length before + 4 ≡ length rest)
+pub word_counted : (bytes rest before word counts counts' : List ℕ) (next run run' : ℕ)
+    → (before ≡ take (length rest - 4) rest) × (word ≡ drop (length rest - 4) rest) × (length before + 4 ≡ length rest)
     → run' ≡ run_from (class_of (little_number 4 word)) run → run' ≤ run + 1 → counts' ≡ counts ++ run' ∷ []
     → Counted bytes rest counts next run → Counted bytes before counts' next run'
 word_counted bytes rest before word counts counts' next run run' cut is more pushed counted =
-    let whole : rest ≡ before ++ word = sym (take-append-drop (length rest - 4) rest) ∙ ap (λ (xs : List ℕ). xs ++ drop (length rest - 4) rest) (sym cut.0) ∙ ap (λ (xs : List ℕ). before ++ xs) (sym cut.1) in
+    let whole : rest ≡ before ++ word =
+    sym (take-append-drop (length rest - 4) rest) ∙ ap (λ (xs : List ℕ). xs ++ drop (length rest - 4) rest) (sym cut.0)
+    ∙ ap (λ (xs : List ℕ). before ++ xs) (sym cut.1) in
     let len : length word ≡ 4 = omega (arith, ap length whole, length-append before word, cut.2) in
-    let first : run' ≡ run_from (class_of (little_number 4 word)) (first_run (runs_of counted.done next) next) = is ∙ ap (run_from (class_of (little_number 4 word))) counted.first in
-    let runs : runs_of (word ++ counted.done) next ≡ run' ∷ runs_of counted.done next = word_first word counted.done next len ∙ ap (λ (n : ℕ). n ∷ runs_of counted.done next) (sym first) in
+    let first : run' ≡ run_from (class_of (little_number 4 word)) (first_run (runs_of counted.done next) next) =
+    is ∙ ap (run_from (class_of (little_number 4 word))) counted.first in
+    let runs : runs_of (word ++ counted.done) next ≡ run' ∷ runs_of counted.done next =
+    word_first word counted.done next len ∙ ap (λ (n : ℕ). n ∷ runs_of counted.done next) (sym first) in
     record {
       done = word ++ counted.done;
       whole = counted.whole ∙ ap (λ (xs : List ℕ). xs ++ counted.done) whole ∙ append_assoc before word counted.done;
@@ -75,7 +81,8 @@ all_counted bytes rest counts next run short counted =
     let same : bytes ≡ counted.done = counted.whole ∙ ap (λ (xs : List ℕ). xs ++ counted.done) none in
     counted.runs ∙ ap (λ (xs : List ℕ). runs_of xs next) (sym same)
 
-pub first_counted : (bytes rest counts : List ℕ) (next run : ℕ) → length rest < 4 → Counted bytes rest counts next run → first_run (reverse counts) next ≤ next + length bytes
+pub first_counted : (bytes rest counts : List ℕ) (next run : ℕ) → length rest < 4 → Counted bytes rest counts next run
+    → first_run (reverse counts) next ≤ next + length bytes
 first_counted bytes rest counts next run short counted =
     let same = ap (λ (runs : List ℕ). first_run runs next) counted.runs in
     omega (arith, same, counted.first, counted.small)
@@ -95,7 +102,8 @@ four_dropped n xs a b c d more e =
     ∙ dropped (suc (suc (suc n))) xs d more (dropped (suc (suc n)) xs c (d ∷ more) (dropped (suc n) xs b (c ∷ d ∷ more) (dropped n xs a (b ∷ c ∷ d ∷ more) e)))
 
 -- the word that begins with the n-th byte of a part
-word_here : (part : Part) (address n a b c d : ℕ) (more : List ℕ) → IsPart part → n % 4 ≡ 0 → address ≡ part.start + n → n + length (a ∷ b ∷ c ∷ d ∷ more) ≡ length part.bytes
+word_here : (part : Part) (address n a b c d : ℕ) (more : List ℕ) → IsPart part → n % 4 ≡ 0 → address ≡ part.start + n
+    → n + length (a ∷ b ∷ c ∷ d ∷ more) ≡ length part.bytes
     → drop n part.bytes ≡ a ∷ b ∷ c ∷ d ∷ more → word_in part address ≡ Some (little_number 4 (a ∷ b ∷ c ∷ d ∷ []))
 word_here part address n a b c d more is aligned at fits cut =
     let test = eq-eqb (address % 4) 0 (omega (arith, at, aligned, is.aligned)) in
@@ -104,7 +112,8 @@ word_here part address n a b c d more is aligned at fits cut =
     let offset : address - part.start ≡ n = omega (arith, at) in
     let size : address - part.start + 4 - (address - part.start) ≡ 4 = omega arith in
     let bytes : take (address - part.start + 4 - (address - part.start)) (drop (address - part.start) part.bytes) ≡ a ∷ b ∷ c ∷ d ∷ [] =
-    ap (λ (m : ℕ). take m (drop (address - part.start) part.bytes)) size ∙ ap (λ (m : ℕ). take 4 (drop m part.bytes)) offset ∙ ap (λ (xs : List ℕ). take 4 xs) cut in
+    ap (λ (m : ℕ). take m (drop (address - part.start) part.bytes)) size ∙ ap (λ (m : ℕ). take 4 (drop m part.bytes)) offset
+    ∙ ap (λ (xs : List ℕ). take 4 xs) cut in
     rw (test, low, high) (ap (λ (xs : List ℕ). Some (little_number 4 xs)) bytes)
 
 record Holds (image : List Part) (address next : ℕ) (runs : List ℕ) : Type 0 where
@@ -124,14 +133,19 @@ runs_hold image part address n next (a ∷ b ∷ c ∷ []) is in_image is_part a
 runs_hold image part address n next (a ∷ b ∷ c ∷ d ∷ more) is in_image is_part aligned at fits cut after =
     let word : ℕ = little_number 4 (a ∷ b ∷ c ∷ d ∷ []) in
     let here = word_of_part image address word is (part, in_image, word_here part address n a b c d more is_part aligned at fits cut) in
-    let later = runs_hold image part (address + 4) (n + 4) next more is in_image is_part (omega (arith, aligned)) (omega (arith, at)) (omega (arith, fits)) (four_dropped n part.bytes a b c d more cut) after in
-    let run = run_steps image address (first_run (runs_of more next) next) (class_of word) (omega (arith, at, fits, is_part.within)) (ap (option_map class_of) here) later.first in
+    let later =
+    runs_hold image part (address + 4) (n + 4) next more is in_image is_part (omega (arith, aligned)) (omega (arith, at)) (omega (arith, fits))
+    (four_dropped n part.bytes a b c d more cut) after in
+    let run =
+    run_steps image address (first_run (runs_of more next) next) (class_of word) (omega (arith, at, fits, is_part.within)) (ap (option_map class_of) here)
+    later.first in
     record { first = run; all = (run, later.all) }
 
 -- the runs of a part, by that from its end on
 part_runs : (image : List Part) (part : Part) (next : ℕ) → IsImage image → Contains image part → IsPart part → IsRunLength image (end_of part % 2 ^ 64) next
     → Holds image part.start next (runs_of part.bytes next)
-part_runs image part next is in_image is_part after = runs_hold image part part.start 0 next part.bytes is in_image is_part refl (omega arith) (omega arith) refl after
+part_runs image part next is in_image is_part after = runs_hold image part part.start 0 next part.bytes is in_image is_part refl (omega arith) (omega arith)
+    refl after
 
 length_runs : (bytes : List ℕ) (next : ℕ) → length bytes % 4 ≡ 0 → 4 * length (runs_of bytes next) ≡ length bytes
 length_runs [] next whole = refl
@@ -211,7 +225,8 @@ whole_with : (parts rest before done : List Part) (part : Part) → parts ≡ re
 whole_with parts rest before done part whole cut = whole ∙ ap (λ (ps : List Part). ps ++ done) cut ∙ append_assoc before (part ∷ []) done
 
 -- the run that follows the last part of the rest
-pub next_run : (parts rest before : List Part) (part : Part) (table : List (List ℕ)) (start run : ℕ) (joins : Bool) → IsImage parts → Tabled parts rest table start run
+pub next_run : (parts rest before : List Part) (part : Part) (table : List (List ℕ)) (start run : ℕ) (joins : Bool) → IsImage parts
+    → Tabled parts rest table start run
     → rest ≡ before ++ part ∷ [] → (end_of part % 2 ^ 64 == start) ≡ joins → IsRunLength parts (end_of part % 2 ^ 64) (cond joins run 0)
 next_run parts rest before part table start run true is tabled cut joins =
     let same = eqb-true (end_of part % 2 ^ 64) start joins in
@@ -221,7 +236,8 @@ next_run parts rest before part table start run false is tabled cut joins =
     let apart : end_of part % 2 ^ 64 ≢ first_start tabled.done = λ e. eqb-false (end_of part % 2 ^ 64) start joins (e ∙ sym tabled.begins) in
     let none = none_at_end before part tabled.done (subst InOrder whole is.order) (subst (λ (ps : List Part). All IsPart ps) whole is.parts) apart in
     let here : word_of parts (end_of part % 2 ^ 64) ≡ None =
-    ap (word_of parts) (let small : end_of part % 2 ^ 64 ≡ end_of part = omega (arith, none.0) in small) ∙ ap (λ (ps : List Part). word_of ps (end_of part)) whole ∙ none.1 in
+    ap (word_of parts) (let small : end_of part % 2 ^ 64 ≡ end_of part = omega (arith, none.0) in small)
+    ∙ ap (λ (ps : List Part). word_of ps (end_of part)) whole ∙ none.1 in
     no_run parts (end_of part % 2 ^ 64) None (omega arith) (ap (option_map class_of) here) (λ e. cc)
 
 choice_below : (joins : Bool) (run : ℕ) → cond joins run 0 ≤ run
@@ -229,20 +245,26 @@ choice_below true run = omega arith
 choice_below false run = omega arith
 
 -- a run after a part and the part's bytes fit in 32 bits
-pub next_fits : (parts rest before : List Part) (part : Part) (table : List (List ℕ)) (start run next : ℕ) (joins : Bool) → Tabled parts rest table start run → rest ≡ before ++ part ∷ []
+pub next_fits : (parts rest before : List Part) (part : Part) (table : List (List ℕ)) (start run next : ℕ) (joins : Bool)
+    → Tabled parts rest table start run → rest ≡ before ++ part ∷ []
     → next ≡ cond joins run 0 → next + length part.bytes < 2 ^ 32
 next_fits parts rest before part table start run next joins tabled cut is_next =
     let sum = total-append before (part ∷ []) in omega (arith, tabled.small, ap total cut, sum, is_next, choice_below joins run)
 
-pub part_tabled : (parts rest before : List Part) (part : Part) (table table' : List (List ℕ)) (runs : List ℕ) (start run next start' run' : ℕ) → IsImage parts → Tabled parts rest table start run
-    → rest ≡ before ++ part ∷ [] → next ≡ cond (end_of part % 2 ^ 64 == start) run 0 → runs ≡ runs_of part.bytes next → run' ≡ first_run runs next → first_run runs next ≤ next + length part.bytes
+pub part_tabled : (parts rest before : List Part) (part : Part) (table table' : List (List ℕ)) (runs : List ℕ) (start run next start' run' : ℕ)
+    → IsImage parts → Tabled parts rest table start run
+    → rest ≡ before ++ part ∷ [] → next ≡ cond (end_of part % 2 ^ 64 == start) run 0 → runs ≡ runs_of part.bytes next → run' ≡ first_run runs next
+    → first_run runs next ≤ next + length part.bytes
     → table' ≡ table ++ runs ∷ [] → start' ≡ part.start → Tabled parts before table' start' run'
 part_tabled parts rest before part table table' runs start run next start' run' is tabled cut is_next are is_run more pushed is_start =
-    let after = subst (IsRunLength parts (end_of part % 2 ^ 64)) (sym is_next) (next_run parts rest before part table start run (end_of part % 2 ^ 64 == start) is tabled cut refl) in
+    let after =
+    subst (IsRunLength parts (end_of part % 2 ^ 64)) (sym is_next)
+    (next_run parts rest before part table start run (end_of part % 2 ^ 64 == start) is tabled cut refl) in
     let fewer : next ≤ run = omega (arith, is_next, choice_below (end_of part % 2 ^ 64 == start) run) in
     let whole = whole_with parts rest before tabled.done part tabled.whole cut in
     let len = length-append before (part ∷ tabled.done) in
-    let seam : get_or parts (length before) part ≡ part = ap (λ (ps : List Part). get_or ps (length before) part) whole ∙ get_or-append_seam before part tabled.done part in
+    let seam : get_or parts (length before) part ≡ part =
+    ap (λ (ps : List Part). get_or ps (length before) part) whole ∙ get_or-append_seam before part tabled.done part in
     let within : length before < length parts = omega (arith, ap length whole, len) in
     let is_part = subst IsPart seam (is.parts (length before) part within) in
     let holds = subst (Holds parts part.start next) (sym are) (part_runs parts part next is (length before, within, seam) is_part after) in
@@ -254,11 +276,13 @@ part_tabled parts rest before part table table' runs start run next start' run' 
           subst (λ (t : List (List ℕ)). IsTable parts (part ∷ tabled.done) t) (sym (ap reverse pushed ∙ reversed_push table runs))
           (holds.all, ap (λ (rs : List ℕ). 4 * length rs) are ∙ length_runs part.bytes next is_part.whole, tabled.runs);
       begins = is_start;
-      followed = λ _ _ _ _. subst (IsRunLength parts start') (sym is_run) (subst (λ (a : ℕ). IsRunLength parts a (first_run runs next)) (sym is_start) holds.first);
+      followed = λ _ _ _ _. subst (IsRunLength parts start') (sym is_run)
+          (subst (λ (a : ℕ). IsRunLength parts a (first_run runs next)) (sym is_start) holds.first);
       small = omega (arith, tabled.small, ap total cut, sum, fewer, more, is_run);
     }
 
-pub all_tabled : (parts rest : List Part) (table : List (List ℕ)) (start run : ℕ) → rest ≡ [] → Tabled parts rest table start run → IsTable parts parts (reverse table)
+pub all_tabled : (parts rest : List Part) (table : List (List ℕ)) (start run : ℕ) → rest ≡ [] → Tabled parts rest table start run
+    → IsTable parts parts (reverse table)
 all_tabled parts rest table start run none tabled =
     let same : parts ≡ tabled.done = tabled.whole ∙ ap (λ (ps : List Part). ps ++ tabled.done) none in
     subst (λ (ps : List Part). IsTable parts ps (reverse table)) (sym same) tabled.runs
@@ -269,7 +293,8 @@ record RunsOf (image : List Part) (part : Part) (runs : List ℕ) : Type 0 where
   all : AreRuns image part.start runs
   size : 4 * length runs ≡ length part.bytes
 
-runs_of_part : (image parts : List Part) (table : List (List ℕ)) (k : ℕ) (d : Part) (e : List ℕ) → IsTable image parts table → k < length parts → RunsOf image (get_or parts k d) (get_or table k e)
+runs_of_part : (image parts : List Part) (table : List (List ℕ)) (k : ℕ) (d : Part) (e : List ℕ) → IsTable image parts table → k < length parts
+    → RunsOf image (get_or parts k d) (get_or table k e)
 runs_of_part image [] table k d e is within = absurd (omega (arith, within))
 runs_of_part image (part ∷ parts) [] k d e is within = absurd is
 runs_of_part image (part ∷ parts) (runs ∷ table) zero d e is within = record { all = is.0; size = is.1 }
@@ -281,7 +306,8 @@ same_length image [] (runs ∷ table) is = absurd is
 same_length image (part ∷ parts) [] is = absurd is
 same_length image (part ∷ parts) (runs ∷ table) is = ap suc (same_length image parts table is.2)
 
-run_of_word : (image : List Part) (address k : ℕ) (runs : List ℕ) → AreRuns image address runs → k < length runs → IsRunLength image (address + 4 * k) (get_or runs k 0)
+run_of_word : (image : List Part) (address k : ℕ) (runs : List ℕ) → AreRuns image address runs → k < length runs
+    → IsRunLength image (address + 4 * k) (get_or runs k 0)
 run_of_word image address k [] are within = absurd (omega (arith, within))
 run_of_word image address zero (run ∷ runs) are within =
     let at : address ≡ address + 4 * 0 = omega arith in subst (λ (a : ℕ). IsRunLength image a run) at are.0
@@ -290,19 +316,25 @@ run_of_word image address (suc k) (run ∷ runs) are within =
     subst (λ (a : ℕ). IsRunLength image a (get_or runs k 0)) at (run_of_word image (address + 4) k runs are.1 (omega (arith, within)))
 
 -- the run at an address, by the part that begins last before it
-pub run_found : (image : List Part) (table : List (List ℕ)) (address place : ℕ) (part : Part) (runs : List ℕ) → IsImage image → IsTable image image table → address % 4 ≡ 0
-    → place < length image → part ≡ get_or image place part → runs ≡ get_or table place runs → word_of image address ≡ word_in (get_or image place part) address
-    → (get_or image place part).start ≤ address → MatchOption (slice_get runs ((address - part.start) / 4)) (class_at image address ≡ None) (IsRunLength image address)
+pub run_found : (image : List Part) (table : List (List ℕ)) (address place : ℕ) (part : Part) (runs : List ℕ) → IsImage image → IsTable image image table
+    → address % 4 ≡ 0
+    → place < length image → part ≡ get_or image place part → runs ≡ get_or table place runs
+    → word_of image address ≡ word_in (get_or image place part) address
+    → (get_or image place part).start ≤ address
+    → MatchOption (slice_get runs ((address - part.start) / 4)) (class_at image address ≡ None) (IsRunLength image address)
 run_found image table address place part runs is is_table aligned within there these word begun =
     let k : ℕ = (address - part.start) / 4 in
-    let of = subst (λ (rs : List ℕ). RunsOf image part rs) (sym these) (subst (λ (p : Part). RunsOf image p (get_or table place runs)) (sym there) (runs_of_part image image table place part runs is_table within)) in
+    let of =
+    subst (λ (rs : List ℕ). RunsOf image part rs) (sym these)
+    (subst (λ (p : Part). RunsOf image p (get_or table place runs)) (sym there) (runs_of_part image image table place part runs is_table within)) in
     let is_part = subst IsPart (sym there) (is.parts place part within) in
     let from : part.start ≤ address = omega (arith, begun, ap (λ (p : Part). p.start) there) in
     elim (cases_Bool (nat_lt k (length runs))) [
       | inl t ↦
           let inside : k < length runs = ltb-true _ _ t in
           let at : part.start + 4 * k ≡ address = omega (arith, from, aligned, is_part.aligned) in
-          rw (slice_get-get_or runs k 0 inside) (subst (λ (a : ℕ). IsRunLength image a (get_or runs k 0)) at (run_of_word image part.start k runs of.all inside))
+          rw (slice_get-get_or runs k 0 inside)
+          (subst (λ (a : ℕ). IsRunLength image a (get_or runs k 0)) at (run_of_word image part.start k runs of.all inside))
       | inr f ↦
           let past : length runs ≤ k = ltb-false _ _ f in
           let nothing : word_in part address ≡ None = outside part address (λ low high. omega (arith, high, past, of.size)) in

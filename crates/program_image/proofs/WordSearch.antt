@@ -1,5 +1,6 @@
 -- The word at an address, by the part that begins last before it.
-use Rattle.std.proofs.Common.{◌≡◌, ℕ, zero, suc, ◌-◌, ◌%◌, ◌<◌, ◌≤◌, List, [], ◌∷◌, length, true, false, ◌&&◌, Option, Some, None, nat_lt, nat_le, refl, arith, get_or, subst}
+use Rattle.std.proofs.Common.{◌≡◌, ℕ, zero, suc, ◌-◌, ◌%◌, ◌<◌, ◌≤◌, List, [], ◌∷◌, length}
+use Rattle.std.proofs.Common.{true, false, ◌&&◌, Option, Some, None, nat_lt, nat_le, refl, arith, get_or, subst}
 use Rattle.std.specs.Prelude.{◌==◌, All, MatchOption, SomeIff}
 use Rattle.std.specs.List.Sorted.{IsNonDecreasingBy, IsPartitionPoint, IsPartitionedBy}
 use Rattle.std.specs.Option.{option_or}
@@ -33,10 +34,12 @@ pub none_begins : (parts : List Part) (a : ℕ) → Splits parts a 0 → word_of
 none_begins [] a s = refl
 none_begins (part ∷ parts) a s =
     let here = s.high 0 part (omega arith) (omega arith) in
-    let rest : Splits parts a 0 = record { low = λ k d h. absurd (omega (arith, h)); high = λ k d from to. s.high (suc k) d (omega arith) (omega (arith, to)) } in
+    let rest : Splits parts a 0 =
+    record { low = λ k d h. absurd (omega (arith, h)); high = λ k d from to. s.high (suc k) d (omega arith) (omega (arith, to)) } in
     rw (outside part a (λ from to. omega (arith, from, here))) (none_begins parts a rest)
 
-pub last_begins : (parts : List Part) (a n : ℕ) (d : Part) → InOrder parts → n < length parts → Splits parts a (suc n) → word_of parts a ≡ word_in (get_or parts n d) a
+pub last_begins : (parts : List Part) (a n : ℕ) (d : Part) → InOrder parts → n < length parts → Splits parts a (suc n)
+    → word_of parts a ≡ word_in (get_or parts n d) a
 last_begins [] a n d order short s = absurd (omega (arith, short))
 last_begins (part ∷ parts) a zero d order short s =
     rw (none_begins parts a (splits_tail part parts a 0 s)) (or_none (word_in part a))
@@ -61,16 +64,19 @@ rising (part ∷ parts) order = rises part parts order.0 (rising parts order.1)
 pub partitioned : (parts : List Part) (a : ℕ) → IsImage parts → IsPartitionedBy (λ part. nat_le part.start a) parts
 partitioned parts a is = IsPartitionedBy-leb (λ part. part.start) parts a (rising parts is.order)
 
-splits_at : (parts : List Part) (a n : ℕ) → IsPartitionPoint (λ part. nat_le part.start a ≡ true) (λ part. nat_le part.start a ≡ false) parts n → Splits parts a n
+splits_at : (parts : List Part) (a n : ℕ) → IsPartitionPoint (λ part. nat_le part.start a ≡ true) (λ part. nat_le part.start a ≡ false) parts n
+    → Splits parts a n
 splits_at parts a n point = record {
   low = λ k d h. leb-true _ a (point.0 k d (omega arith) h);
   high = λ k d from to. leb-false _ a (point.1 k d from to);
 }
 
-pub none_begun : (parts : List Part) (a n : ℕ) → IsPartitionPoint (λ part. nat_le part.start a ≡ true) (λ part. nat_le part.start a ≡ false) parts n → n ≡ 0 → word_of parts a ≡ None
+pub none_begun : (parts : List Part) (a n : ℕ) → IsPartitionPoint (λ part. nat_le part.start a ≡ true) (λ part. nat_le part.start a ≡ false) parts n → n ≡ 0
+    → word_of parts a ≡ None
 none_begun parts a n point none = none_begins parts a (subst (λ (m : ℕ). Splits parts a m) none (splits_at parts a n point))
 
-pub last_begun : (parts : List Part) (a n k : ℕ) (d : Part) → IsImage parts → IsPartitionPoint (λ part. nat_le part.start a ≡ true) (λ part. nat_le part.start a ≡ false) parts n
+pub last_begun : (parts : List Part) (a n k : ℕ) (d : Part) → IsImage parts
+    → IsPartitionPoint (λ part. nat_le part.start a ≡ true) (λ part. nat_le part.start a ≡ false) parts n
     → n ≡ suc k → k < length parts → word_of parts a ≡ word_in (get_or parts k d) a
 last_begun parts a n k d is point next within = last_begins parts a k d is.order within (subst (λ (m : ℕ). Splits parts a m) next (splits_at parts a n point))
 

@@ -13,16 +13,16 @@ use Rattle.program_image.specs.declared.fault.LineFault.TheVariants as line_faul
 
 -- the value that a line gives, as view shows it, or its fault; want of memory is free
 abbrev pub Answers : {X Y : Type 0} → (X → Y) → Result X LineFault → Result Y ImageWhy → Type 0
-Answers view (Ok x) told = told ≡ Ok (view x)
-Answers view (Err (line_fault.Bad why)) told = told ≡ Err why
-Answers view (Err line_fault.Memory) told = ⊤
+Answers view (Ok x) given = given ≡ Ok (view x)
+Answers view (Err (line_fault.Bad why)) given = given ≡ Err why
+Answers view (Err line_fault.Memory) given = ⊤
 
 -- the same of a text, with the line of the fault
 abbrev pub AnswersText : {X Y : Type 0} → (X → Y) → Result X ImageFault → Result Y (ℕ × ImageWhy) → Type 0
-AnswersText view (Ok x) told = told ≡ Ok (view x)
-AnswersText view (Err (image_fault.Bad line why)) told = told ≡ Err (line, why)
-AnswersText view (Err image_fault.ReadFault) told = ⊥
-AnswersText view (Err image_fault.Memory) told = ⊤
+AnswersText view (Ok x) given = given ≡ Ok (view x)
+AnswersText view (Err (image_fault.Bad line why)) given = given ≡ Err (line, why)
+AnswersText view (Err image_fault.ReadFault) given = ⊥
+AnswersText view (Err image_fault.Memory) given = ⊤
 
 -- all that was left was taken, and it spells the image
 abbrev pub TakesImage : IoState → IoState → List Part → Type 0

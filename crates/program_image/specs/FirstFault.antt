@@ -5,7 +5,7 @@ use Rattle.program_image.specs.Part.{Part}
 use Rattle.program_image.specs.ImageText.{add_line, add_lines}
 use Rattle.program_image.specs.declared.fault.ImageWhy.{ImageWhy}
 
--- the lines before it tell parts, and it has this fault after them
+-- the lines before it spell parts, and it has this fault after them
 pub record IsFirstFault (text : List ℕ) (line : ℕ) (why : ImageWhy) : Type 0 where
   pub before : List (List ℕ)
   pub bad : List ℕ

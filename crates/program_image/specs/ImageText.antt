@@ -1,5 +1,6 @@
 -- The text of a program image: lines that begin a part at an address, and lines of its bytes.
-use Rattle.std.specs.Prelude.{ℕ, ◌+◌, ◌%◌, ◌^◌, ◌==◌, nat_le, nat_lt, min, max, not, Bool, List, [], ◌∷◌, ◌++◌, length, drop, fold, Option, Some, None, Result, Ok, Err, slice_index, if◌then◌else◌}
+use Rattle.std.specs.Prelude.{ℕ, ◌+◌, ◌%◌, ◌^◌, ◌==◌, nat_le, nat_lt, min, max, not, Bool, List, []}
+use Rattle.std.specs.Prelude.{◌∷◌, ◌++◌, length, drop, fold, Option, Some, None, Result, Ok, Err, slice_index, if◌then◌else◌}
 use Rattle.std.specs.List.{insert, list_any, position_or_len}
 use Rattle.std.specs.Option.{ok_or}
 use Rattle.std.specs.Str.{is_utf8}
@@ -19,7 +20,7 @@ abbrev pub ◌>>=◌ : {A B : Type 0} → Result A ImageWhy → (A → Result B 
 Ok x >>= f = f x
 Err why >>= f = Err why
 
--- The parts that were told so far stand last first: bytes belong to the first of them.
+-- The parts that lines began so far stand last first: bytes belong to the first of them.
 
 -- a part that begins at an address
 abbrev pub begin_part : List Part → ℕ → Result (List Part) ImageWhy
@@ -46,17 +47,17 @@ abbrev pub unless : {A : Type 0} → Option ImageWhy → A → Result A ImageWhy
 unless None value = Ok value
 unless (Some why) value = Err why
 
--- bytes at the end of the part that was told last
+-- bytes at the end of the part that was begun last
 abbrev pub add_bytes : List Part → List ℕ → Result (List Part) ImageWhy
 add_bytes [] bytes = Err Syntax
 add_bytes (part ∷ others) bytes = unless (growth_fault others part (length bytes)) (record { start = part.start; bytes = part.bytes ++ bytes } ∷ others)
 
--- the address in the words behind `@`: digits alone
+-- the address in the words after `@`: digits alone
 abbrev pub address_of : List ℕ → List (List ℕ) → Result ℕ ImageWhy
 address_of digits [] = ok_or (number_of digits) Syntax
 address_of digits (word ∷ words) = Err Syntax
 
--- A line without words, or whose first word begins with `#`, tells nothing. One that begins with `@` begins a part, and any
+-- A line without words, or whose first word begins with `#`, changes nothing. One that begins with `@` begins a part, and any
 -- other has bytes.
 abbrev pub add_words : List Part → List (List ℕ) → Result (List Part) ImageWhy
 add_words parts [] = Ok parts

@@ -1,5 +1,6 @@
--- The parts of a core's memory that an image tells, and the instruction word at an address.
-use Rattle.std.specs.Prelude.{◌≡◌, ℕ, ◌+◌, ◌-◌, ◌%◌, ◌^◌, ◌<◌, ◌≤◌, ◌==◌, ◌&&◌, nat_le, nat_lt, List, [], ◌∷◌, length, All, Option, Some, None, slice_range, ⊤, if◌then◌else◌}
+-- The parts of a core's memory that an image has, and the instruction word at an address.
+use Rattle.std.specs.Prelude.{◌≡◌, ℕ, ◌+◌, ◌-◌, ◌%◌, ◌^◌, ◌<◌, ◌≤◌, ◌==◌, ◌&&◌, nat_le}
+use Rattle.std.specs.Prelude.{nat_lt, List, [], ◌∷◌, length, All, Option, Some, None, slice_range, ⊤, if◌then◌else◌}
 use Rattle.std.specs.Option.{option_or}
 use Rattle.byteorder.specs.Endian.{little_number}
 
@@ -8,7 +9,7 @@ pub record Part : Type 0 where
   pub start : ℕ
   pub bytes : List ℕ
 
--- the address behind the last byte
+-- the address after the last byte
 abbrev pub end_of : Part → ℕ
 end_of part = part.start + length part.bytes
 
@@ -20,7 +21,8 @@ total (part ∷ parts) = length part.bytes + total parts
 -- the word of a part at the address a: its four bytes stand lowest first
 abbrev pub word_in : Part → ℕ → Option ℕ
 word_in part a =
-    if (a % 4 == 0) && (nat_le part.start a && nat_lt a (end_of part)) then Some (little_number 4 (slice_range part.bytes (a - part.start) (a - part.start + 4)))
+    if (a % 4 == 0) && (nat_le part.start a && nat_lt a (end_of part))
+    then Some (little_number 4 (slice_range part.bytes (a - part.start) (a - part.start + 4)))
     else None
 
 -- the word at the address a: that of the part that has this address

@@ -1,4 +1,4 @@
-//! The parts that lines tell, one line after another.
+//! The parts that lines spell, one line after another.
 ghost use Rattle.std.specs.Prelude.{◌≡◌, ◌≤◌, ◌+◌, ◌∷◌, ◌++◌, [], length, reverse, nat_lt, IfOk};
 ghost use Rattle.std.specs.List.{list_any, position};
 ghost use Rattle.program_image.specs.Part.{total};
@@ -13,13 +13,13 @@ use a64_branches::INSTRUCTION_BYTES;
 use std::alloc::{AllocError, Global};
 use std::marker::Model;
 
-/// The most parts that are told, those without bytes too.
+/// The most parts that lines may begin, those without bytes too.
 const MOST_PARTS: usize = 64;
 
 /// The most bytes that the parts have: 16 MiB.
 const MOST_BYTES: usize = 16 << 20;
 
-/// The parts that were told so far, the last one last.
+/// The parts that lines began so far, in the order of the lines.
 #[derive(Drop)]
 pub struct Draft {
     parts: Vec<Part>,
@@ -47,7 +47,7 @@ impl Draft {
         Draft { parts, size: 0 }
     }
 
-    /// What is told with one line more.
+    /// The parts after one line more.
     pub fn with_line(self, alloc: Global, line: &[u8]) -> Result<Draft, LineFault>
         ensures { Answers (λ draft. draft) result (add_line self line.now) }
     {
@@ -64,7 +64,7 @@ impl Draft {
         }
     }
 
-    /// What is told with a part that begins at an address.
+    /// The parts after a line that begins one at an address.
     fn begin(self, alloc: Global, start: u64) -> Result<Draft, LineFault>
         ensures { Answers (λ draft. draft) result (begin_part self start) }
     {
@@ -80,7 +80,7 @@ impl Draft {
         Ok(Draft { parts, size })
     }
 
-    /// What is told with these bytes at the end of the last part.
+    /// The parts with these bytes at the end of the last one.
     fn with_bytes(self, bytes: &[u8]) -> Result<Draft, LineFault>
         ensures { Answers (λ draft. draft) result (add_bytes self bytes.now) }
     {
@@ -111,7 +111,7 @@ impl Draft {
     }
 }
 
-/// The address in the words behind `@`.
+/// The address in the words after `@`.
 fn address(digits: &[u8], rest: &[u8]) -> Result<u64, LineFault>
     ensures { Answers (λ start. start) result (address_of digits.now (words_in rest.now)) }
 {
@@ -150,8 +150,8 @@ fn growth_fault(others: &[Part], part: &Part, size: usize, count: usize) -> Opti
     }
 }
 
-/// The first part that begins behind an address.
-fn first_behind(sorted: &[Part], start: u64) -> Option<usize>
+/// The first part that begins after an address.
+fn first_after(sorted: &[Part], start: u64) -> Option<usize>
     ensures { result ≡ position (λ other. nat_lt start other.start) sorted.now }
 {
     sorted.iter().position(|other| start < other.start())
@@ -164,7 +164,7 @@ fn placed(mut sorted: Vec<Part>, part: Part) -> Result<Vec<Part>, AllocError>
     if part.is_empty() {
         return Ok(sorted);
     }
-    let place = first_behind(&sorted, part.start()).unwrap_or(sorted.len());
+    let place = first_after(&sorted, part.start()).unwrap_or(sorted.len());
     sorted.insert(place, part)?;
     Ok(sorted)
 }

@@ -48,7 +48,7 @@ impl Model for Image {
 impl Image {
     /// Reads the text of an image, all that the source has left and at most 64 MiB of it.
     ///
-    /// `Bad` tells the first line that has a fault, and a longer text is `TooLong` at line 0.
+    /// `Bad` has the first line that has a fault, and a longer text is `TooLong` at line 0.
     pub fn read<S: Source>(alloc: Global, source: &mut S) -> Result<Image, ImageFault>
         ensures ok { IfOk result (TakesImage (S.state source.old) (S.state source.new)) }
         ensures parts { IfOk result IsImage }
@@ -116,14 +116,14 @@ fn parse(alloc: Global, text: &[u8]) -> Result<Image, ImageFault>
     requires { length text.now ≤ MOST_TEXT }
     ensures { AnswersText (λ image. image) result (image_of text.now) }
 {
-    let draft = told(alloc, text)?;
+    let draft = draft_of(alloc, text)?;
     let parts = draft.by_address(alloc).map_err(|_| ImageFault::Memory)?;
     let table = table(alloc, &parts).map_err(|_| ImageFault::Memory)?;
     Ok(Image { parts, table })
 }
 
-/// The parts that the lines of a text tell.
-fn told(alloc: Global, text: &[u8]) -> Result<Draft, ImageFault>
+/// The parts that the lines of a text spell, in their order.
+fn draft_of(alloc: Global, text: &[u8]) -> Result<Draft, ImageFault>
     requires { length text.now ≤ MOST_TEXT }
     ensures { AnswersText (λ draft. draft) result (add_lines 1 [] (lines text.now)) }
 {

@@ -1,4 +1,4 @@
-//! What a core's memory holds of its program: the text that tells it, and the word at an address.
+//! What a core's memory holds of its program: the text that spells it, and the word at an address.
 //!
 //! A text has lines that end with LF, or CR and LF. `@` and an address of 1 to 16 hex digits begin a
 //! part, and the other lines have its bytes in the order in which memory holds them, as words of hex

@@ -55,7 +55,7 @@ impl Part {
         self.bytes.is_empty()
     }
 
-    /// The address behind the last byte, which may be 2^64.
+    /// The address after the last byte, which may be 2^64.
     pub fn end(&self) -> u128
         ensures value { result ≡ end_of self.now }
         ensures small { result < 2 ^ 65 }
@@ -70,7 +70,7 @@ impl Part {
         from.max(u128::from(self.start)) < to.min(self.end())
     }
 
-    /// The part with these bytes behind its own.
+    /// The part with these bytes after its own.
     pub fn with_bytes(mut self, bytes: &[u8]) -> Result<Part, AllocError>
         ensures { IfOk result (λ part. part ≡ record { start = self.start; bytes = self.bytes ++ bytes.now }) }
     {

@@ -41,7 +41,7 @@ fn line_end(text: &[u8]) -> Option<usize>
     text.iter().position(|byte| *byte == b'\n')
 }
 
-/// The first line of a text that is not empty, without its end, and the text behind that.
+/// The first line of a text that is not empty, without its end, and the text after that.
 pub fn next_line(text: &[u8]) -> (&[u8], &[u8])
     requires { 0 < length text.now }
     ensures lines { lines text.now ≡ result.0.now ∷ lines result.1.now }
@@ -81,7 +81,7 @@ fn word_end(line: &[u8]) -> usize
     first_blank(line).unwrap_or(line.len())
 }
 
-/// The first word of a line, and the line behind it.
+/// The first word of a line, and the line after it.
 pub fn next_word(line: &[u8]) -> Option<(&[u8], &[u8])>
     ensures words { MatchOption result (words_in line.now ≡ []) (λ found. words_in line.now ≡ found.0.now ∷ words_in found.1.now) }
     ensures shorter { IfSome result (λ found. length found.1.now < length line.now) }
@@ -104,7 +104,7 @@ pub fn number(digits: &[u8]) -> Option<u64>
     Some(BigEndian::read_u64(&bytes))
 }
 
-/// The bytes with those behind them that hex digits spell.
+/// The bytes with those after them that hex digits spell.
 fn with_digits(mut bytes: Vec<u8>, digits: &[u8]) -> Result<Vec<u8>, LineFault>
     ensures { Answers (λ v. v.items) result (ok_or (option_map (λ more. bytes.items ++ more) (result_ok (decode_of digits.now))) ImageWhy.Syntax) }
 {

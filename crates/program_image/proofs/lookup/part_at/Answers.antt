@@ -6,4 +6,5 @@ begun_at-requires c = partitioned c.args.parts.now c.args.addr c.requires
 
 pub returns-clause-word : goal.returns-clause-word
 returns-clause-word c =
-    place_of c.args.parts.now c.args.addr c.begun_at.result c.checked_sub.result c.requires c.begun_at.ensures.value c.begun_at.ensures.within c.checked_sub.ensures
+    place_of c.args.parts.now c.args.addr c.begun_at.result c.checked_sub.result c.requires c.begun_at.ensures.value c.begun_at.ensures.within
+    c.checked_sub.ensures

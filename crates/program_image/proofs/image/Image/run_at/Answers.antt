@@ -20,8 +20,12 @@ returns c =
     let same = c.deref.ensures.value in
     let within : place < length c.self.inside.parts.items = omega (arith, c.in_ok-place.ensures.within, ap length same) in
     let word = ap (λ parts. word_of parts addr) (sym same) ∙ c.in_ok-place.ensures.word part ∙ ap (λ parts. word_in (get_or parts place part) addr) same in
-    let begun : (get_or c.self.inside.parts.items place part).start ≤ addr = subst (λ (parts : List Part). (get_or parts place part).start ≤ addr) same (c.in_ok-place.ensures.begun part) in
-    let found = run_found c.self.inside.parts.items c.self.inside.table.items addr place part runs c.self.invariant.0 c.self.invariant.1 c.requires within c.index.ensures c.index-2.ensures word begun in
-    let at : slice_get runs ((addr - part.start) / 4) ≡ c.at.result = ap (λ start. slice_get runs ((addr - start) / 4)) (sym c.start.ensures) ∙ sym c.at.ensures in
+    let begun : (get_or c.self.inside.parts.items place part).start ≤ addr =
+    subst (λ (parts : List Part). (get_or parts place part).start ≤ addr) same (c.in_ok-place.ensures.begun part) in
+    let found =
+    run_found c.self.inside.parts.items c.self.inside.table.items addr place part runs c.self.invariant.0 c.self.invariant.1 c.requires within
+    c.index.ensures c.index-2.ensures word begun in
+    let at : slice_get runs ((addr - part.start) / 4) ≡ c.at.result =
+    ap (λ start. slice_get runs ((addr - start) / 4)) (sym c.start.ensures) ∙ sym c.at.ensures in
     subst (λ (parts : List Part). MatchOption c.at.result (class_at parts addr ≡ None) (IsRunLength parts addr)) c.self.view_is
     (subst (λ run. MatchOption run (class_at c.self.inside.parts.items addr ≡ None) (IsRunLength c.self.inside.parts.items addr)) at found)

@@ -7,5 +7,6 @@ use Rattle.program_image.proofs.runs.Runs.of_bytes.Goals as goal
 pub loop-before-preserved : goal.loop-before-preserved
 loop-before-preserved c =
     let run = c.run_from-run.ensures.value ∙ ap (λ word. run_from (class_of word) c.loop-before.run) c.read_u32.ensures in
-    word_counted c.args.bytes.now c.loop-before.rest.now c.in-Some.before.now c.in-Some.word.now c.loop-before.of_words.items c.push.new.self.items c.args.next c.loop-before.run c.run_from-run.result
+    word_counted c.args.bytes.now c.loop-before.rest.now c.in-Some.before.now c.in-Some.word.now c.loop-before.of_words.items c.push.new.self.items
+    c.args.next c.loop-before.run c.run_from-run.result
     c.in-Some.ensures.cases run c.run_from-run.ensures.small c.in_ok-push.ensures.items c.loop-before.invariant

@@ -1,7 +1,7 @@
 use Rattle.std.proofs.Common.{◌≡◌, ◌+◌, ◌≤◌, [], length}
 use Rattle.std.specs.Str.Lines.{lines}
 use Rattle.program_image.specs.ImageText.{add_lines}
-use Rattle.program_image.proofs.image.told.Given as goal
+use Rattle.program_image.proofs.image.draft_of.Given as goal
 
 abbrev pub invariant-loop-rest : goal.invariant-loop-rest
 invariant-loop-rest l = record {
