@@ -1,12 +1,12 @@
 -- Digits that are put one before another, and how many there are.
-use Rattle.std.proofs.Common.{◌≡◌, ◌⊎◌, inl, inr, ℕ, zero, suc, ◌+◌, ◌-◌, ◌*◌, ◌/◌, ◌%◌, ◌^◌, ◌<◌, ◌≤◌, Bool, true, false, List, [], ◌∷◌, ◌++◌, length, take, drop, set, refl, sym, ap, subst, ◌∙◌, arith, append_assoc, append-nil}
+use Rattle.std.proofs.Common.{◌≡◌, ◌⊎◌, inl, inr, ℕ, zero, suc, ◌+◌, ◌-◌, ◌*◌, ◌/◌, ◌%◌, ◌^◌, ◌<◌, ◌≤◌, Bool, true, false, List, [], ◌∷◌, ◌++◌, length, take, drop, set, refl, sym, ap, ◌∙◌, arith, append_assoc}
 use Rattle.std.specs.Prelude.{◌==◌, map}
 use Rattle.std.specs.Int.Digits.{digits_of}
 use Rattle.std.specs.Int.Count.{count_leading_zeros}
 use Rattle.std.proofs.lemmas.Bool.{eqb-true}
-use Rattle.std.proofs.lemmas.List.{length-map, length-append, map-append, drop-set, take-set, take-append-drop, take-take, take_at}
+use Rattle.std.proofs.lemmas.List.{length-map, length-append, map-append, drop-set, take-append-drop, take-take, take_at}
 use Rattle.std.proofs.lemmas.Int.Digits.{digits_of_step, length-digits_of_step, length-digits_of-le}
-use Rattle.std.proofs.lemmas.Nat.{leading_top, pow-add}
+use Rattle.std.proofs.lemmas.Nat.{leading_top}
 use Rattle.std.proofs.Math.Nat.{zero-div, zero-mod, le-div_iff_mul-le, one-le-pow, pow-zero}
 use native.Mathlib.Numerals.{unary_clauses}
 use Rattle.std.proofs.Math.Pow.{pow_mono}
@@ -27,14 +27,16 @@ digits_step base n two some = ap (map digit) (digits_of_step base n two some) �
 -- so is its text, and that of 0
 pub in_base_step : (base n : ℕ) → 2 ≤ base → in_base base n ≡ map digit (digits_of base (n / base)) ++ (digit (n % base) ∷ [])
 unfolding in_base
-in_base_step base zero two = ap (λ d. digit d ∷ []) (sym (zero-mod base)) ∙ ap (λ d. map digit (digits_of base d) ++ (digit (0 % base) ∷ [])) (sym (zero-div base))
+in_base_step base zero two =
+    ap (λ d. digit d ∷ []) (sym (zero-mod base)) ∙ ap (λ d. map digit (digits_of base d) ++ (digit (0 % base) ∷ [])) (sym (zero-div base))
 in_base_step base (suc n) two = above_zero base (suc n) (omega arith) ∙ digits_step base (suc n) two (omega arith)
 
 -- ---- how many digits there are
 
 pub length-in_base : (base n : ℕ) → 2 ≤ base → length (in_base base n) ≡ length (digits_of base (n / base)) + 1
 length-in_base base n two =
-    omega (arith, ap length (in_base_step base n two), length-append (map digit (digits_of base (n / base))) (digit (n % base) ∷ []), length-map (digits_of base (n / base)) digit)
+    let above = digits_of base (n / base) in
+    omega (arith, ap length (in_base_step base n two), length-append (map digit above) (digit (n % base) ∷ []), length-map above digit)
 
 few_digits : (base most n : ℕ) → 2 ≤ base → 1 ≤ most → n < base ^ most → length (in_base base n) ≤ most
 unfolding in_base
@@ -68,7 +70,13 @@ many_digits base (suc k) n two fits =
 -- where a number stands between two powers, the number of its digits is that of the upper one
 count_between : (base k n : ℕ) → 2 ≤ base → base ^ k ≤ n → n < base ^ (k + 1) → 0 < n → length (in_base base n) ≡ k + 1
 count_between base k n two above below some =
-    omega (arith, ap length (above_zero base n some), length-map (digits_of base n) digit, many_digits base k n two above, length-digits_of-le base (k + 1) n two below)
+    omega (
+      arith,
+      ap length (above_zero base n some),
+      length-map (digits_of base n) digit,
+      many_digits base k n two above,
+      length-digits_of-le base (k + 1) n two below,
+    )
 
 pub hex_count_zero : length (in_base 16 0) ≡ 1
 unfolding in_base
@@ -96,6 +104,8 @@ three_digits n above below = count_between 10 2 n (omega arith) (omega arith) (o
 
 pub four_digits : (n : ℕ) → 1000 ≤ n → n < 10000 → length (in_base 10 n) ≡ 4
 four_digits n above below = count_between 10 3 n (omega arith) (omega arith) (omega arith) (omega arith)
+
+pub ruleset short_counts = (one_digit, two_digits, three_digits, four_digits)
 
 one_more_digit : (n : ℕ) → 10 ≤ n → length (in_base 10 n) ≡ length (in_base 10 (n / 10)) + 1
 one_more_digit n above =

@@ -135,7 +135,7 @@ pub names_of_exceptions :
 unfolding in_base
 names_of_exceptions = (refl, refl, refl, refl, refl, refl, refl, refl, refl, refl, refl, refl)
 
--- the other types are told by their numbers
+-- the other types are shown by their numbers
 pub numbers_of_exceptions :
     (exception_text 5 0x1004 ≡ codes "exc 5 1004")
     × (exception_text 8 0x1004 ≡ codes "exc 8 1004")

@@ -42,7 +42,7 @@ lines_of-run id shown ctx address (suc n) some =
     ap (λ t. (context_line id shown ctx ++ line_of id (hex address)) ++ t) (lines_of-instructions id ((address + 4) % 2 ^ 64) ctx n)
     ∙ append_assoc (context_line id shown ctx) (line_of id (hex address)) (instruction_lines id ((address + 4) % 2 ^ 64) n)
 
--- ---- lines of items, one list behind another
+-- ---- lines of items, one list after another
 
 pub lines_of-append : (id : ℕ) (shown : Option Ctx) (xs ys : List Item) → lines_of id shown (xs ++ ys) ≡ lines_of id shown xs ++ lines_of id (shown_after_all shown xs) ys
 lines_of-append id shown [] ys = refl
@@ -88,16 +88,16 @@ unfolding on_items
 shown_after_all-on shown true items = refl
 shown_after_all-on shown false items = refl
 
-behind_on : (w : Walked) → on_items w.on ++ (block_items w ++ exception w.exc) ≡ items_of w
+after_on : (w : Walked) → on_items w.on ++ (block_items w ++ exception w.exc) ≡ items_of w
 unfolding on_items
-behind_on w = sym (append_assoc (on_items w.on) (block_items w) (exception w.exc))
+after_on w = sym (append_assoc (on_items w.on) (block_items w) (exception w.exc))
 
 pub lines_of-items : (id : ℕ) (shown : Option Ctx) (w : Walked)
     → on_line id w.on ++ (lines_of id shown (block_items w) ++ lines_of id None (exception w.exc)) ≡ lines_of id shown (items_of w)
 lines_of-items id shown w =
-    ap (λ t. on_line id w.on ++ t) (rest_lines id shown w) ∙ lines_of-on id shown w.on (block_items w ++ exception w.exc) ∙ ap (lines_of id shown) (behind_on w)
+    ap (λ t. on_line id w.on ++ t) (rest_lines id shown w) ∙ lines_of-on id shown w.on (block_items w ++ exception w.exc) ∙ ap (lines_of id shown) (after_on w)
 
 pub shown_after_all-items : (shown : Option Ctx) (w : Walked) → shown_after_all shown (block_items w) ≡ shown_after_all shown (items_of w)
 shown_after_all-items shown w =
     sym (shown_after_all-exception (shown_after_all shown (block_items w)) w.exc) ∙ sym (shown_after_all-append shown (block_items w) (exception w.exc))
-    ∙ sym (shown_after_all-on shown w.on (block_items w ++ exception w.exc)) ∙ ap (shown_after_all shown) (behind_on w)
+    ∙ sym (shown_after_all-on shown w.on (block_items w ++ exception w.exc)) ∙ ap (shown_after_all shown) (after_on w)

@@ -23,7 +23,7 @@ atoms_text run = map letter (atoms_in run)
 abbrev pub few_text : FewAtoms → List ℕ
 few_text few = if few.count == 0 then codes "-" else if few.count == 2 then codes "EE" else if few.first then codes "E" else codes "N"
 
--- the form of an address with the bits that are told, in place
+-- the form of an address with the bits that it gives, in place
 abbrev pub form_text : AddrForm → List ℕ
 form_text (Match index) = codes "match " ++ decimal index
 form_text (Short1 value) = codes "short1 " ++ hex value
@@ -31,7 +31,7 @@ form_text (Short2 value) = codes "short2 " ++ hex value
 form_text (Long32 value) = codes "long32 " ++ hex value
 form_text (Long64 value) = codes "long64 " ++ hex value
 
--- a context packet tells a number or leaves it out
+-- a context packet gives a number or leaves it out
 abbrev pub told_context_text : CtxBits → List ℕ
 told_context_text ctx =
     codes "ctx el" ++ decimal ctx.el ++ security ctx.ns ++ number_or_dash hex ctx.vmid ++ codes " " ++ number_or_dash hex ctx.cid
@@ -51,7 +51,8 @@ packet_text packet.Overflow = codes "overflow"
 packet_text packet.On = codes "on"
 packet_text packet.Ignore = codes "ignore"
 packet_text (packet.Info info key spec cyct) =
-    codes "info " ++ number_or_dash decimal info ++ codes " " ++ number_or_dash decimal key ++ codes " " ++ number_or_dash decimal spec ++ codes " " ++ number_or_dash decimal cyct
+    codes "info " ++ number_or_dash decimal info ++ codes " " ++ number_or_dash decimal key ++ codes " "
+    ++ number_or_dash decimal spec ++ codes " " ++ number_or_dash decimal cyct
 packet_text (packet.Event n) = codes "event " ++ decimal n
 packet_text (packet.Time bits low) = codes "time " ++ decimal bits ++ codes " " ++ decimal low
 packet_text (packet.Exc kind) = codes "exc " ++ decimal kind

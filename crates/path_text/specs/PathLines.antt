@@ -13,7 +13,8 @@ whole_context_text ctx = codes "ctx el" ++ decimal ctx.el ++ security ctx.ns ++ 
 -- the names of the exceptions that have one, by their types (Arm IHI 0064, exception types)
 abbrev pub exception_names : List (ℕ × List ℕ)
 exception_names =
-    (0, codes "reset") ∷ (1, codes "debug-halt") ∷ (2, codes "call") ∷ (3, codes "trap") ∷ (4, codes "system-error") ∷ (6, codes "inst-debug") ∷ (7, codes "data-debug")
+    (0, codes "reset") ∷ (1, codes "debug-halt") ∷ (2, codes "call") ∷ (3, codes "trap") ∷ (4, codes "system-error")
+    ∷ (6, codes "inst-debug") ∷ (7, codes "data-debug")
     ∷ (10, codes "alignment") ∷ (11, codes "inst-fault") ∷ (12, codes "data-fault") ∷ (14, codes "irq") ∷ (15, codes "fiq") ∷ []
 
 -- the name of a type, or its number where it has none
@@ -59,7 +60,7 @@ abbrev pub shown_after_all : Option Ctx → List Item → Option Ctx
 shown_after_all shown [] = shown
 shown_after_all shown (i ∷ items) = shown_after_all (shown_after shown i) items
 
--- the lines of so many instructions, one behind the other, where their context was printed
+-- the lines of so many instructions, one after the other, where their context was printed
 abbrev pub instruction_lines : ℕ → ℕ → ℕ → List ℕ
 instruction_lines id address zero = []
 instruction_lines id address (suc n) = line_of id (hex address) ++ instruction_lines id ((address + 4) % 2 ^ 64) n

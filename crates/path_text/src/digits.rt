@@ -31,7 +31,7 @@ pub fn hex_count(n: u64) -> usize
 
 /// How many decimal digits a number of at most four has.
 #[inline(always)]
-#[tactic(auto, using(crate::proofs::DigitLemmas::one_digit, crate::proofs::DigitLemmas::two_digits, crate::proofs::DigitLemmas::three_digits, crate::proofs::DigitLemmas::four_digits))]
+#[tactic(auto, using(crate::proofs::DigitLemmas::short_counts))]
 fn short_count(n: u64) -> usize
     requires { n < 10000 }
     ensures { result ≡ length (decimal n) }

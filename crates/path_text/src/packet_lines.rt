@@ -2,7 +2,8 @@
 ghost use Rattle.std.specs.Prelude.{◌≡◌, ◌+◌, ◌++◌, ◌≤◌, length, codes};
 ghost use Rattle.etm_types.specs.Atoms.{IsFewAtoms, most_atoms};
 ghost use Rattle.path_text.specs.Lines.{HasRoom, AddsAtMost, hex, decimal, number_or_dash};
-ghost use Rattle.path_text.specs.PacketLines.{HasText, letter, atoms_text, few_text, form_text, told_context_text, carried_text, mispredict_text, packet_text, packet_line};
+ghost use Rattle.path_text.specs.PacketLines.{HasText, letter, atoms_text, few_text, form_text};
+ghost use Rattle.path_text.specs.PacketLines.{told_context_text, carried_text, mispredict_text, packet_text, packet_line};
 ghost use Rattle.path_text.specs.Writing.{Writes};
 
 use crate::line::Line;
@@ -151,7 +152,7 @@ fn add_cancel3(line: &mut Line, e: bool, n: u8)
     line.decimal_u8(n);
 }
 
-/// Adds what is told of a context.
+/// Adds the fields of a context that a packet has.
 fn add_context(line: &mut Line, ctx: &CtxBits)
     requires { HasRoom 30 line.old }
     ensures value { line.new ≡ line.old ++ told_context_text ctx.now }

@@ -2,7 +2,8 @@
 ghost use Rattle.std.specs.Prelude.{◌≡◌, ◌+◌, ◌++◌, ◌≤◌, length, codes, IfOk, Some, None};
 ghost use Rattle.etm_types.specs.Walked.{exception, items_of};
 ghost use Rattle.path_text.specs.Lines.{HasRoom, AddsAtMost, line_of, hex};
-ghost use Rattle.path_text.specs.PathLines.{whole_context_text, exception_names, name_among, exception_text, same_context, context_line, instruction_lines, lines_of, shown_after_all, on_line, block_items, run_lines, run_shown};
+ghost use Rattle.path_text.specs.PathLines.{whole_context_text, exception_names, name_among, exception_text, same_context, context_line};
+ghost use Rattle.path_text.specs.PathLines.{instruction_lines, lines_of, shown_after_all, on_line, block_items, run_lines, run_shown};
 ghost use Rattle.path_text.specs.Writing.{Writes};
 
 use crate::address_line::AddressLine;
@@ -79,7 +80,7 @@ fn write_instructions<K: Sink>(id: Id, start: u64, count: u64, sink: &mut K) -> 
     Ok(())
 }
 
-/// Writes the lines of the instructions of a walk, behind that of their context.
+/// Writes the lines of the instructions of a walk, after that of their context.
 fn write_run<K: Sink>(
     id: Id,
     walked: &Walked,

@@ -1,4 +1,4 @@
-use Rattle.std.proofs.Common.{ℕ, arith}
+use Rattle.std.proofs.Common.{arith}
 use Rattle.path_text.proofs.DigitLemmas.{few_decimal_64, four_more_digits}
 use Rattle.path_text.proofs.digits.decimal_count.Goals as goal
 

@@ -1,4 +1,4 @@
-use Rattle.std.proofs.Common.{◌≡◌, ◌+◌, ◌≤◌, length}
+use Rattle.std.proofs.Common.{◌≡◌, ◌+◌, length}
 use Rattle.path_text.specs.Lines.{decimal}
 use Rattle.path_text.proofs.digits.decimal_count.Given as goal
 

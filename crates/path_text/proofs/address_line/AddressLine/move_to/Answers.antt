@@ -11,23 +11,25 @@ overflow_add-end c = omega (arith, c.hex_count-end.ensures, few_hex_64 c.args.ad
 pub overflow_add-end-2 : goal.overflow_add-end-2
 overflow_add-end-2 c = omega (arith, c.hex_count-end.ensures, few_hex_64 c.args.address (omega arith))
 
--- how long the line is, for each place where that counts
 pub change_hex-requires-clause-many : goal.change_hex-requires-clause-many
 change_hex-requires-clause-many c =
     let line = c.self.inside in
-    omega (arith, c.if-self-end.true, c.hex_count-end.ensures, line_length line.id line.address line.len line.bytes (omega (arith, c.self.invariant.0, c.self.told)) c.self.invariant.1)
+    let len = line_length line.id line.address line.len line.bytes (omega (arith, c.self.invariant.0, c.self.told)) c.self.invariant.1 in
+    omega (arith, c.if-self-end.true, c.hex_count-end.ensures, len)
 
 pub change_hex-requires-clause-room : goal.change_hex-requires-clause-room
 change_hex-requires-clause-room c =
     let line = c.self.inside in
-    omega (arith, c.if-self-end.true, line_length line.id line.address line.len line.bytes (omega (arith, c.self.invariant.0, c.self.told)) c.self.invariant.1)
+    let len = line_length line.id line.address line.len line.bytes (omega (arith, c.self.invariant.0, c.self.told)) c.self.invariant.1 in
+    omega (arith, c.if-self-end.true, len)
 
 pub change_hex-requires-clause-there : goal.change_hex-requires-clause-there
 change_hex-requires-clause-there c =
     let line = c.self.inside in let end = 3 + c.hex_count-end.result in
     let len = line_length line.id line.address line.len line.bytes (omega (arith, c.self.invariant.0, c.self.told)) c.self.invariant.1 in
     let start : 3 ≡ end - length (hex line.address) = omega (arith, c.if-self-end.true, len) in
-    digits_there line.id line.address end line.bytes (omega (arith, c.if-self-end.true, len)) (ap (λ n. take n line.bytes) (sym c.if-self-end.true) ∙ c.self.invariant.1)
+    digits_there line.id line.address end line.bytes (omega (arith, c.if-self-end.true, len))
+    (ap (λ n. take n line.bytes) (sym c.if-self-end.true) ∙ c.self.invariant.1)
     ∙ ap (λ n. take n line.bytes ++ hex line.address) start
 
 pub put_number-requires-clause-within : goal.put_number-requires-clause-within
@@ -47,14 +49,16 @@ invariant_of-self c =
         c.self.invariant.0,
         ap (λ n. take n w.change_hex.new.text) w.if-self-end.true ∙ ap (λ t. take (end + 1) t) w.change_hex.ensures
             ∙ ap (λ n. take (end + 1) (take n bytes ++ (hex address ++ drop end bytes))) start
-            ∙ line_changed id line.address address end bytes (omega (arith, len, w.if-self-end.true)) (omega (arith, len, w.if-self-end.true, c.hex_count-end.ensures))
+            ∙ line_changed id line.address address end bytes (omega (arith, len, w.if-self-end.true))
+            (omega (arith, len, w.if-self-end.true, c.hex_count-end.ensures))
             (ap (λ n. take n bytes) (sym w.if-self-end.true) ∙ c.self.invariant.1),
       )
       | else-self-end w ↦ rw w.self-inside-is (
         omega (arith, few, c.hex_count-end.ensures),
         ap (λ t. take (end + 1) (set t end 10)) w.put_number.ensures
             ∙ ap (λ n. take (end + 1) (set (take n bytes ++ (hex address ++ drop end bytes)) end 10)) start
-            ∙ line_made id address end bytes (front_there id line.address line.len bytes (omega (arith, len)) c.self.invariant.1) (omega (arith, c.hex_count-end.ensures))
+            ∙ line_made id address end bytes (front_there id line.address line.len bytes (omega (arith, len)) c.self.invariant.1)
+            (omega (arith, c.hex_count-end.ensures))
             (omega (arith, few, c.hex_count-end.ensures, c.self.told)),
       )
     ]
