@@ -150,7 +150,14 @@ info_threshold_of_five_bytes s = (
       most_in_five,
       refl,
       refl,
-      inl (None, [], most_in_five, refl, refl, inl (Some 0xffffffff, most_in_five, [], refl, inl (0xffffffff, most_in_five, [], refl, most_in_five_is, refl), refl)),
+      inl (
+        None,
+        [],
+        most_in_five,
+        refl,
+        refl,
+        inl (Some 0xffffffff, most_in_five, [], refl, inl (0xffffffff, most_in_five, [], refl, most_in_five_is, refl), refl),
+      ),
     ),
   ),
 )

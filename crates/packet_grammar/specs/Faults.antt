@@ -47,7 +47,8 @@ ShowsAt s in_sync fault bytes = (rest : List ℕ) × (bytes ≡ 0x00 ∷ rest) �
 ShowsAt s in_info fault bytes = (rest : List ℕ) × (bytes ≡ 0x01 ∷ rest) × TraceInfo (Err fault) rest
 -- Exception packet
 ShowsAt s in_exception fault bytes =
-    (b : ℕ) × (bytes ≡ 0x06 ∷ b ∷ []) × ((bit 7 b || not (bit 0 b && not (bit 6 b))) ≡ true) × (fault ≡ (if bit 7 b then ExceptionTwoByte b else ExceptionForm b))
+    (b : ℕ) × (bytes ≡ 0x06 ∷ b ∷ []) × ((bit 7 b || not (bit 0 b && not (bit 6 b))) ≡ true)
+    × (fault ≡ (if bit 7 b then ExceptionTwoByte b else ExceptionForm b))
 -- Commit packet, Cancel Format 1 packet
 ShowsAt s in_number fault bytes = (h : ℕ) × (rest : List ℕ) × (0x2d ≤ h) × (h ≤ 0x2f) × (bytes ≡ h ∷ rest) × Number (Err fault) rest
 -- Context packet: an info byte in AArch32 state

@@ -1,11 +1,13 @@
 -- Which bytes spell which packet (Arm IHI 0064, "Descriptions of Trace Packets").
-use Rattle.std.specs.Prelude.{◌≡◌, ◌≤◌, ℕ, ◌+◌, ◌-◌, ◌^◌, ◌==◌, replicate, Bool, true, false, List, [], ◌∷◌, ◌++◌, Option, Some, None, Ok, Err, nat_lt, if◌then◌else◌}
+use Rattle.std.specs.Prelude.{◌≡◌, ◌≤◌, ℕ, ◌+◌, ◌-◌, ◌^◌, ◌==◌, replicate, Bool, true, false, List, [], ◌∷◌, ◌++◌, Option, Some, None, Ok, Err, nat_lt}
+use Rattle.std.specs.Prelude.{if◌then◌else◌}
 use Rattle.etm_types.specs.Settings.{Sizes}
 use Rattle.etm_types.specs.Atoms.{IsAtomRun, atoms_in}
 use Rattle.etm_types.specs.declared.address.AddrForm.TheVariants.{Match, Short1, Short2, Long32, Long64}
 use Rattle.atom_formats.specs.Formats.{Spells as TellsAtoms}
 use Rattle.packet_grammar.specs.declared.packet.Packet.{Packet}
-use Rattle.packet_grammar.specs.declared.packet.Packet.TheVariants.{Async, Discard, Overflow, Info, On, Ignore, Event, Time, Exc, Commit, Cancel, Mispredict, Cancel2, Cancel3, CtxSame, CtxInfo, Addr, Atoms}
+use Rattle.packet_grammar.specs.declared.packet.Packet.TheVariants.{Async, Discard, Overflow, Info, On, Ignore, Event, Time, Exc, Commit, Cancel, Mispredict}
+use Rattle.packet_grammar.specs.declared.packet.Packet.TheVariants.{Cancel2, Cancel3, CtxSame, CtxInfo, Addr, Atoms}
 use Rattle.packet_grammar.specs.declared.fault.PacketFault.TheVariants.{InfoControl, InfoMode}
 use Rattle.packet_grammar.specs.Parts.{Part, Known, Byte, Where, Then, As}
 use Rattle.packet_grammar.specs.Fields.{bit, field, lowest}

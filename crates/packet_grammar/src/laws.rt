@@ -1,5 +1,6 @@
 //! What holds of the spellings as a whole, under any settings (Arm IHI 0064, "Descriptions of Trace Packets").
-ghost use Rattle.packet_grammar.specs.Laws.{AtMost, EachIsAStream, FaultStays, GoesOnByAFault, GoesOnByAPacket, NoneBeginsAnother, NotBoth, OneOutcome, OneStream, SpelledOrBegun, StartsWithSync, ValuesFit, longest_packet};
+ghost use Rattle.packet_grammar.specs.Laws.{AtMost, EachIsAStream, FaultStays, GoesOnByAFault, GoesOnByAPacket, NoneBeginsAnother, NotBoth, OneOutcome};
+ghost use Rattle.packet_grammar.specs.Laws.{OneStream, SpelledOrBegun, StartsWithSync, ValuesFit, longest_packet};
 
 /// A reader that goes from left to right knows a spelling by its last byte, and what it spells.
 pub fn spellings_are_told_apart()

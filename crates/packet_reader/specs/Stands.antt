@@ -1,6 +1,7 @@
 -- At which bytes a reader stands, and what a byte more brings (Arm IHI 0064, "Alignment Synchronization packet", "Descriptions
 -- of Trace Packets").
-use Rattle.std.specs.Prelude.{◌≡◌, ◌↔◌, Bool, true, false, ℕ, suc, ◌+◌, ◌-◌, ◌<◌, ◌≤◌, ◌==◌, List, [], ◌∷◌, ◌++◌, length, replicate, Ok, Err, nat_lt, if◌then◌else◌}
+use Rattle.std.specs.Prelude.{◌≡◌, ◌↔◌, Bool, true, false, ℕ, suc, ◌+◌, ◌-◌, ◌<◌, ◌≤◌, ◌==◌, List, [], ◌∷◌, ◌++◌, length, replicate, Ok, Err, nat_lt}
+use Rattle.std.specs.Prelude.{if◌then◌else◌}
 use Rattle.etm_types.specs.Settings.{Sizes}
 use Rattle.packet_grammar.specs.declared.packet.Packet.{Packet}
 use Rattle.packet_grammar.specs.declared.fault.PacketFault.{PacketFault}
@@ -77,7 +78,8 @@ Goes (fault at f) = ⊥
 abbrev pub Gains : Sizes → List ℕ → ℕ → Step → Type 0
 Gains s bytes byte Skipped = IsStream s bytes [] no_sync × IsStream s (bytes ++ byte ∷ []) [] no_sync
 Gains s bytes byte More =
-    (packets : List (ℕ × Packet)) × (ending : Ending) × (n : ℕ) × Goes ending × IsStream s bytes packets ending × IsStream s (bytes ++ byte ∷ []) packets (cut n)
+    (packets : List (ℕ × Packet)) × (ending : Ending) × (n : ℕ) × Goes ending × IsStream s bytes packets ending
+    × IsStream s (bytes ++ byte ∷ []) packets (cut n)
 Gains s bytes byte (Whole at packet) =
     (packets : List (ℕ × Packet)) × (ending : Ending) × IsStream s bytes packets ending × IsStream s (bytes ++ byte ∷ []) (packets ++ (at, packet) ∷ []) clean
 Gains s bytes byte (Bad at f) =

@@ -12,7 +12,8 @@ use Rattle.packet_grammar.specs.declared.fault.PacketFault.TheVariants.{Extensio
 use Rattle.packet_grammar.specs.Parts.{Outcome}
 use Rattle.packet_grammar.specs.Fields.{bit, field as field_in, lowest, from_bit, continues, is_last}
 use Rattle.packet_reader.specs.declared.state.State.{State}
-use Rattle.packet_reader.specs.declared.state.State.TheVariants.{Extension as AtExtension, Zeros, Control, Number, Stamp, Exception, Short, ShortHigh, LongFirst, LongSecond, LongHigh, Context, Vmid, Cid}
+use Rattle.packet_reader.specs.declared.state.State.TheVariants.{Extension as AtExtension, Zeros, Control, Number, Stamp, Exception, Short, ShortHigh}
+use Rattle.packet_reader.specs.declared.state.State.TheVariants.{LongFirst, LongSecond, LongHigh, Context, Vmid, Cid}
 use Rattle.packet_reader.specs.declared.state.Purpose.{Purpose}
 use Rattle.packet_reader.specs.declared.state.Purpose.TheVariants.{Commit as ForCommit, Cancel as ForCancel, Mode, Key, Spec, Cycles}
 use Rattle.packet_reader.specs.declared.state.Long.{Long}

@@ -3,7 +3,10 @@ ghost use Rattle.std.specs.Prelude.{◌≡◌, Ok, ◌+◌, ◌-◌, ◌*◌, �
 ghost use Rattle.etm_types.specs.Settings.{Sizes};
 ghost use Rattle.packet_grammar.specs.Fields.{is_last};
 ghost use Rattle.packet_reader.specs.Trees.{after, known, number_tree, stamp_tree, bytes_tree, sync_tree};
-ghost use Rattle.packet_reader.specs.States.{tree_of, tree_after, progress_of, made_of, Fits, FitsAfter, behind_number, mode_tree, info_tree, key_tree, spec_tree, cycles_tree, vmid_tree, cid_tree, last_field_tree, context_tree, context_of, with_context, extension_tree, control_tree, exception_tree, short_tree, short_high_tree, long_tree, second_tree, high_tree, behind_long};
+ghost use Rattle.packet_reader.specs.States.{tree_of, tree_after, progress_of, made_of, Fits, FitsAfter, behind_number, mode_tree, info_tree, key_tree};
+ghost use Rattle.packet_reader.specs.States.{spec_tree, cycles_tree, vmid_tree, cid_tree, last_field_tree, context_tree, context_of, with_context};
+ghost use Rattle.packet_reader.specs.States.{extension_tree, control_tree, exception_tree, short_tree, short_high_tree, long_tree, second_tree, high_tree};
+ghost use Rattle.packet_reader.specs.States.{behind_long};
 
 use crate::fields::{CONTINUES, bit, field, is_last, lowest};
 use crate::groups::{with_byte, with_group};
@@ -380,7 +383,8 @@ fn vmid(
     byte: u8,
 ) -> Option<Progress>
     requires { Fits (State.Vmid form info field.old) }
-    ensures tree { tree_after settings.now (made_of result (State.Vmid form info field.new)) ≡ after (tree_of settings.now (State.Vmid form info field.old)) byte }
+    ensures tree { tree_after settings.now (made_of result (State.Vmid form info field.new))
+        ≡ after (tree_of settings.now (State.Vmid form info field.old)) byte }
     ensures fits { FitsAfter (made_of result (State.Vmid form info field.new)) }
 {
     if byte_goes_on(field, byte) {

@@ -10,4 +10,5 @@ returns-then-byte_goes_on-clause-tree c = λ _.
     let old = c.args.field.now in
     let new = c.byte_goes_on.new.field in
     byte_within old.left new.left old.count new.count old.value new.value c.args.byte (omega (arith, c.byte_goes_on.ensures.left went))
-    (c.byte_goes_on.ensures.count went) (c.byte_goes_on.ensures.value went) (λ cid. known (with_context c.args.form (context_of c.args.info c.args.vmid (Some cid))))
+    (c.byte_goes_on.ensures.count went) (c.byte_goes_on.ensures.value went)
+    (λ cid. known (with_context c.args.form (context_of c.args.info c.args.vmid (Some cid))))

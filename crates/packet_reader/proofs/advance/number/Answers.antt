@@ -10,4 +10,5 @@ returns-then-group_goes_on-clause-tree c = λ _.
     let new = c.group_goes_on.new in
     let more = neither (c.args.left.now == 0) (is_last c.args.byte) c.group_goes_on.result c.group_goes_on.ensures.within went in
     group_within c.args.left.now new.left c.args.groups.now new.groups c.args.value.now new.value c.args.byte
-    (omega (arith, c.group_goes_on.ensures.left went)) more.1 (c.group_goes_on.ensures.groups went) (c.group_goes_on.ensures.value went) (behind_number c.args.purpose)
+    (omega (arith, c.group_goes_on.ensures.left went)) more.1 (c.group_goes_on.ensures.groups went)
+    (c.group_goes_on.ensures.value went) (behind_number c.args.purpose)
