@@ -9,9 +9,9 @@ fn a_match_is_pushed_again(rt: HostRuntime) {
         history.push(addr);
     }
     for (index, addr) in [(2, 0x1000), (0, 0x1000), (2, 0x3000)] {
-        let told = history.apply(&AddrForm::Match(index));
-        assert_eq!(rt; told, addr, "at {index}");
-        history.push(told);
+        let given = history.apply(&AddrForm::Match(index));
+        assert_eq!(rt; given, addr, "at {index}");
+        history.push(given);
     }
     assert_eq!(rt;
         (history.entry(0), history.entry(1), history.entry(2)),
@@ -20,7 +20,7 @@ fn a_match_is_pushed_again(rt: HostRuntime) {
 }
 
 #[test]
-fn an_address_is_told_by_the_first_form(rt: HostRuntime) {
+fn an_address_is_given_by_the_first_form(rt: HostRuntime) {
     let mut history = History::reset();
     history.push(0x1000);
     for (addr, form) in [

@@ -44,7 +44,7 @@ fn ids_are_1_to_111(rt: HostRuntime) {
 }
 
 #[test]
-fn a_context_is_told_by_what_differs(rt: HostRuntime) {
+fn a_context_is_given_by_what_differs(rt: HostRuntime) {
     let last = Ctx {
         el: 0,
         ns: false,

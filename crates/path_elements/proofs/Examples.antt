@@ -67,7 +67,8 @@ addresses_are_pushed = refl
 -- The address after an exception is its preferred return address, and is put first like any other. A context may stand
 -- between them.
 pub an_exception_has_its_address :
-    all_elements begun ((0, packet.Exc 14) ∷ (2, packet.Event 1) ∷ (3, packet.CtxSame) ∷ (4, packet.Addr (Long32 0x1004) None) ∷ (9, packet.Addr (Match 0) None) ∷ [])
+    all_elements begun ((0, packet.Exc 14) ∷ (2, packet.Event 1) ∷ (3, packet.CtxSame) ∷ (4, packet.Addr (Long32 0x1004) None)
+    ∷ (9, packet.Addr (Match 0) None) ∷ [])
     ≡ record {
       elements = (3, elem.Ctx secure) ∷ (4, elem.P0 (p0.Exc 14 0x1004)) ∷ (9, elem.Addr 0x1004) ∷ [];
       awaited = None;

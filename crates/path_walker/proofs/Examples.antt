@@ -1,5 +1,5 @@
 -- Walks that were worked out by hand: what is shown and where the walk goes on, or with which fault it stops.
-use Rattle.std.proofs.Common.{◌≡◌, ◌≢◌, ℕ, zero, suc, ◌+◌, Bool, true, false, List, [], ◌∷◌, ◌++◌, map, Option, Some, None, is_none, Err, refl, inl, inr, arith}
+use Rattle.std.proofs.Common.{◌≡◌, ◌≢◌, ℕ, zero, suc, ◌+◌, Bool, true, false, List, [], ◌∷◌, ◌++◌, map, length, Option, Some, None, is_none, Ok, Err, refl, ap, inl, inr, arith}
 use Rattle.std.specs.Prelude.{pos, take}
 use Rattle.std.specs.Option.{unwrap_or}
 use Rattle.a64_branches.specs.Classes.{class_of}
@@ -25,6 +25,7 @@ use Rattle.path_walker.specs.Start.{context_of, mismatch_of, pc_before, start_of
 use Rattle.path_walker.specs.Steps.{next_of, stack_after}
 use Rattle.path_walker.specs.Walk.{GoesOn, IsRunBefore, Leads, Shows, Stops, mark_of}
 use Rattle.path_walker.specs.Things.{Walks}
+use Rattle.path_walker.proofs.OneWalk.{Walk, one_walk}
 
 -- ---- images, and what is given before entries
 
@@ -112,14 +113,16 @@ one_before image ret address differs plain zero below = (differs, plain)
 one_before image ret address differs plain (suc k) below = absurd (omega (arith, below))
 
 -- a P0 instruction after so many plain ones
-goes : (image : Image) (address : ℕ) (stack : List ℕ) (taken : Bool) (plain : ℕ) (class : Class) (pc : Pc) → IsPlainRun image address plain → class_at image (behind address plain) ≡ Some class
+goes : (image : Image) (address : ℕ) (stack : List ℕ) (taken : Bool) (plain : ℕ)
+    (class : Class) (pc : Pc) → IsPlainRun image address plain → class_at image (behind address plain) ≡ Some class
     → next_of class (behind address plain) taken ≡ Some pc → GoesOn image address stack taken (plain + 1) pc (stack_after class (behind address plain) stack)
 goes image address stack taken plain class pc run there next = record { plain = plain; class = class; run = run; there = there; next = next; counted = refl; kept = refl }
 
 -- what an entry shows that leads somewhere
 shows : (image : Image) (s : State) (entry : Entry) (count : ℕ) (pc : Pc) (stack : List ℕ) → mismatch_of (pc_before s entry.pre) entry.pre.addr ≡ None
     → Leads image (start_of s entry.pre).at (start_of s entry.pre).stack entry.p0 count pc stack
-    → Shows image s entry (record { on = entry.pre.on; unknown = is_none (start_of s entry.pre).at; ctx = context_of s entry.pre; start = unwrap_or (start_of s entry.pre).at 0; count = count; exc = mark_of entry.p0 }) (at pc stack (context_of s entry.pre))
+    → Shows image s entry (record { on = entry.pre.on; unknown = is_none (start_of s entry.pre).at; ctx = context_of s entry.pre; start = unwrap_or (start_of s entry.pre).at 0; count = count; exc = mark_of entry.p0 })
+    (at pc stack (context_of s entry.pre))
 shows image s entry count pc stack agrees leads = record { agrees = agrees; leads = leads; on = refl; unknown = refl; start = refl; ctx = refl; kept = refl; exc = refl }
 
 -- ---- how instructions go on
@@ -128,17 +131,17 @@ shows image s entry count pc stack agrees leads = record { agrees = agrees; lead
 abbrev classes : List Class
 classes = Plain ∷ Jump (pos 8) false ∷ Jump (pos 8) true ∷ Cond (pos 8) ∷ Isb ∷ Ind false ∷ Ind true ∷ Eret ∷ Odd ∷ []
 
-pub by_e_atoms :
+by_e_atoms :
     map (λ class. next_of class 0x1000 true) classes
     ≡ None ∷ Some (Known 0x1008) ∷ Some (Known 0x1008) ∷ Some (Known 0x1008) ∷ Some (Known 0x1004) ∷ Some (Awaited true) ∷ Some (Awaited false)
     ∷ Some (Awaited false) ∷ None ∷ []
 by_e_atoms = refl
 
-pub by_n_atoms :
+by_n_atoms :
     map (λ class. next_of class 0x1000 false) classes ≡ None ∷ None ∷ None ∷ Some (Known 0x1004) ∷ None ∷ None ∷ None ∷ None ∷ None ∷ []
 by_n_atoms = refl
 
-pub stacks_after :
+stacks_after :
     map (λ class. stack_after class 0x1000 (0x3004 ∷ [])) classes
     ≡ (0x3004 ∷ []) ∷ (0x3004 ∷ []) ∷ (0x1004 ∷ 0x3004 ∷ []) ∷ (0x3004 ∷ []) ∷ (0x3004 ∷ []) ∷ (0x3004 ∷ []) ∷ (0x1004 ∷ 0x3004 ∷ [])
     ∷ (0x3004 ∷ []) ∷ (0x3004 ∷ []) ∷ []
@@ -206,20 +209,26 @@ at_once = shows code _ _ 0 (Awaited false) [] refl (none_before code 0x9000 0x90
 -- ---- return addresses
 
 -- BL puts its return address on the return stack. RET takes the newest off, unless an address is given.
-called : Shows calls (at (Known 0x3010) (0x3004 ∷ []) user) (atom nothing_told true) (ran false user 0x3010 1) (at (Known 0x3018) (0x3014 ∷ 0x3004 ∷ []) user)
+called : Shows calls (at (Known 0x3010) (0x3004 ∷ []) user) (atom nothing_told true)
+    (ran false user 0x3010 1) (at (Known 0x3018) (0x3014 ∷ 0x3004 ∷ []) user)
 unfolding class_of
 called =
-    shows calls _ _ 1 (Known 0x3018) (0x3014 ∷ 0x3004 ∷ []) refl (goes calls 0x3010 (0x3004 ∷ []) true 0 (Jump (pos 8) true) (Known 0x3018) (none_plain calls 0x3010) refl refl)
+    shows calls _ _ 1 (Known 0x3018) (0x3014 ∷ 0x3004 ∷ []) refl
+    (goes calls 0x3010 (0x3004 ∷ []) true 0 (Jump (pos 8) true) (Known 0x3018) (none_plain calls 0x3010) refl refl)
 
-returned : Shows calls (at (Awaited true) (0x3014 ∷ 0x3004 ∷ []) user) (atom nothing_told true) (ran false user 0x3014 1) (at (Awaited true) (0x3004 ∷ []) user)
+returned : Shows calls (at (Awaited true) (0x3014 ∷ 0x3004 ∷ []) user) (atom nothing_told true)
+    (ran false user 0x3014 1) (at (Awaited true) (0x3004 ∷ []) user)
 unfolding class_of
 returned =
-    shows calls _ _ 1 (Awaited true) (0x3004 ∷ []) refl (goes calls 0x3014 (0x3004 ∷ []) true 0 (Ind false) (Awaited true) (none_plain calls 0x3014) refl refl)
+    shows calls _ _ 1 (Awaited true) (0x3004 ∷ []) refl
+    (goes calls 0x3014 (0x3004 ∷ []) true 0 (Ind false) (Awaited true) (none_plain calls 0x3014) refl refl)
 
-return_given : Shows calls (at (Awaited true) (0x3004 ∷ []) user) (atom (given None 0x3004) true) (ran false user 0x3004 1) (at (Known 0x3004) (0x3004 ∷ []) user)
+return_given : Shows calls (at (Awaited true) (0x3004 ∷ []) user) (atom (given None 0x3004) true)
+    (ran false user 0x3004 1) (at (Known 0x3004) (0x3004 ∷ []) user)
 unfolding class_of
 return_given =
-    shows calls _ _ 1 (Known 0x3004) (0x3004 ∷ []) refl (goes calls 0x3004 (0x3004 ∷ []) true 0 (Jump (pos 0) false) (Known 0x3004) (none_plain calls 0x3004) refl refl)
+    shows calls _ _ 1 (Known 0x3004) (0x3004 ∷ []) refl
+    (goes calls 0x3004 (0x3004 ∷ []) true 0 (Jump (pos 0) false) (Known 0x3004) (none_plain calls 0x3004) refl refl)
 
 -- After BLR no address is taken off: the place is lost, and the return stack with it.
 linked : Shows calls (at (Known 0x6000) [] user) (atom nothing_told true) (ran false user 0x6000 1) (at (Awaited false) (0x6004 ∷ []) user)
@@ -233,19 +242,26 @@ not_popped = shows calls _ _ 0 Lost [] refl (refl, refl, refl)
 fifteen : List ℕ
 fifteen = 0 ∷ 4 ∷ 8 ∷ 12 ∷ 16 ∷ 20 ∷ 24 ∷ 28 ∷ 32 ∷ 36 ∷ 40 ∷ 44 ∷ 48 ∷ 52 ∷ 56 ∷ []
 
-sixteenth : Shows calls (at (Known 0x3000) fifteen user) (atom nothing_told true) (ran false user 0x3000 1) (at (Known 0x3010) (0x3004 ∷ take 14 fifteen) user)
+sixteenth : Shows calls (at (Known 0x3000) fifteen user) (atom nothing_told true)
+    (ran false user 0x3000 1) (at (Known 0x3010) (0x3004 ∷ take 14 fifteen) user)
 unfolding class_of fifteen
 sixteenth =
-    shows calls _ _ 1 (Known 0x3010) (0x3004 ∷ take 14 fifteen) refl (goes calls 0x3000 fifteen true 0 (Jump (pos 16) true) (Known 0x3010) (none_plain calls 0x3000) refl refl)
+    shows calls _ _ 1 (Known 0x3010) (0x3004 ∷ take 14 fifteen) refl
+    (goes calls 0x3000 fifteen true 0 (Jump (pos 16) true) (Known 0x3010) (none_plain calls 0x3000) refl refl)
 
 -- Trace info empties the return stack: a full one too, where an address is given. What is known of the next address stays.
 emptied_full : Shows calls (at (Awaited true) fifteen user) (atom (informed (Some 0x3004)) true) (ran false user 0x3004 1) (at (Known 0x3004) [] user)
 unfolding class_of fifteen
-emptied_full = shows calls _ _ 1 (Known 0x3004) [] refl (goes calls 0x3004 [] true 0 (Jump (pos 0) false) (Known 0x3004) (none_plain calls 0x3004) refl refl)
+emptied_full =
+    shows calls _ _ 1 (Known 0x3004) [] refl
+    (goes calls 0x3004 [] true 0 (Jump (pos 0) false) (Known 0x3004) (none_plain calls 0x3004) refl refl)
 
-emptied_known : Shows calls (at (Known 0x3010) (0x3004 ∷ []) user) (atom (informed None) true) (ran false user 0x3010 1) (at (Known 0x3018) (0x3014 ∷ []) user)
+emptied_known : Shows calls (at (Known 0x3010) (0x3004 ∷ []) user) (atom (informed None) true)
+    (ran false user 0x3010 1) (at (Known 0x3018) (0x3014 ∷ []) user)
 unfolding class_of
-emptied_known = shows calls _ _ 1 (Known 0x3018) (0x3014 ∷ []) refl (goes calls 0x3010 [] true 0 (Jump (pos 8) true) (Known 0x3018) (none_plain calls 0x3010) refl refl)
+emptied_known =
+    shows calls _ _ 1 (Known 0x3018) (0x3014 ∷ []) refl
+    (goes calls 0x3010 [] true 0 (Jump (pos 8) true) (Known 0x3018) (none_plain calls 0x3010) refl refl)
 
 -- After an overflow nothing is known of the next address, and no return address is taken off.
 overflowed : Shows calls (at (Awaited true) (0x3004 ∷ []) user) (atom trace_missing true) (unknown user None) (at Lost [] user)
@@ -258,14 +274,46 @@ flushed : Shows calls (at (Awaited true) (0x3004 ∷ []) user) (atom (informed N
 flushed = shows calls _ _ 0 Lost [] refl (refl, refl, refl)
 
 -- Missing trace empties it too, unless an address is given.
-lost : Shows code (at (Known 0x1000) (0x3004 ∷ []) user) (irq trace_missing 0x1000) (unknown user (Some (record { kind = 14; ret = 0x1000 }))) (at (Awaited false) [] user)
+lost : Shows code (at (Known 0x1000) (0x3004 ∷ []) user) (irq trace_missing 0x1000)
+    (unknown user (Some (record { kind = 14; ret = 0x1000 }))) (at (Awaited false) [] user)
 lost = shows code _ _ 0 (Awaited false) [] refl (refl, refl, refl)
 
-found : Shows code (at (Known 0x100c) (0x3004 ∷ []) user) (atom (record { flush = false; on = false; lost = true; ctx = None; addr = Some 0x1000 }) false) (ran false user 0x1000 2)
+found : Shows code (at (Known 0x100c) (0x3004 ∷ []) user) (atom (record { flush = false; on = false; lost = true; ctx = None; addr = Some 0x1000 }) false)
+    (ran false user 0x1000 2)
     (at (Known 0x1008) (0x3004 ∷ []) user)
 unfolding class_of
 found =
-    shows code _ _ 2 (Known 0x1008) (0x3004 ∷ []) refl (goes code 0x1000 (0x3004 ∷ []) false 1 (Cond (pos 8)) (Known 0x1008) (one_plain code 0x1000 refl) refl refl)
+    shows code _ _ 2 (Known 0x1008) (0x3004 ∷ []) refl
+    (goes code 0x1000 (0x3004 ∷ []) false 1 (Cond (pos 8)) (Known 0x1008) (one_plain code 0x1000 refl) refl refl)
+
+-- ---- what is not shown, since an entry has one walk
+
+abbrev walks_to : Walked → State → Walk
+walks_to walked after = Ok (walked, after)
+
+abbrev addresses_kept : Walk → ℕ
+addresses_kept (Ok w) = length w.1.stack
+addresses_kept (Err f) = 0
+
+-- the full return stack does not stay after a trace info
+not_kept : Shows calls (at (Awaited true) fifteen user) (atom (informed (Some 0x3004)) true) (ran false user 0x3004 1) (at (Known 0x3004) fifteen user) → ⊥
+unfolding fifteen
+not_kept other =
+    let kept = walks_to (ran false user 0x3004 1) (at (Known 0x3004) fifteen user) in
+    let none : 0 ≡ 15
+    = ap addresses_kept (one_walk calls _ _ (walks_to (ran false user 0x3004 1) (at (Known 0x3004) [] user)) kept emptied_full other) in
+    omega (arith, none)
+
+-- after an overflow the newest return address is not the next one
+not_taken_off : Shows calls (at (Awaited true) (0x3014 ∷ []) user) (atom trace_missing true) (ran false user 0x3014 1) (at (Awaited true) [] user) → ⊥
+not_taken_off other =
+    let unknown_there = shows calls (at (Awaited true) (0x3014 ∷ []) user) (atom trace_missing true) 0 Lost [] refl (refl, refl, refl) in
+    let same = one_walk calls _ _ (walks_to (unknown user None) (at Lost [] user)) (walks_to (ran false user 0x3014 1) _) unknown_there other in cc
+
+-- ISB is not passed by an N atom
+not_passed : Shows always (at (Known 0xa000) [] user) (atom nothing_told false) (ran false user 0xa000 1) (at (Known 0xa004) [] user) → ⊥
+not_passed other =
+    let same = one_walk always _ _ (Err (fault.BadAtom 0xa000)) (walks_to (ran false user 0xa000 1) _) not_isb other in cc
 
 -- ---- a whole trace: an interrupt at 1004 is handled at 8000, ERET comes back, and then B has an N atom
 

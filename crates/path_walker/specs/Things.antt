@@ -26,7 +26,8 @@ StopsAt image s _ f = ⊥
 abbrev pub Walks : Image → State → List Thing → List Item → Result State WalkFault → Type 0
 Walks image s [] items outcome = (items ≡ []) × (outcome ≡ Ok s)
 Walks image s (thing ∷ things) items outcome =
-    ((first : List Item) × (rest : List Item) × (next : State) × Gives image s thing first next × Walks image next things rest outcome × (items ≡ first ++ rest))
+    ((first : List Item) × (rest : List Item) × (next : State) × Gives image s thing first next × Walks image next things rest outcome
+    × (items ≡ first ++ rest))
     ⊎ ((f : WalkFault) × StopsAt image s thing f × (items ≡ []) × (outcome ≡ Err f))
 
 -- the addresses in all entries are those of instructions

@@ -83,7 +83,7 @@ fn begin(addr: u64, ctx: Ctx) -> Pre {
     }
 }
 
-fn told(addr: u64) -> Pre {
+fn given(addr: u64) -> Pre {
     Pre {
         addr: Some(addr),
         ..Pre::nothing_told()
@@ -135,7 +135,7 @@ fn an_exception_comes_back(rt: HostRuntime) -> Result<(), Fail> {
     assert_eq!(rt; walk(&rt, &mut walker, &code, pre, irq), Ok(walked));
     let pre = Pre {
         ctx: Some(system),
-        ..told(0x8000)
+        ..given(0x8000)
     };
     assert_eq!(rt;
         walk(&rt, &mut walker, &handler, pre, TAKEN),
@@ -143,7 +143,7 @@ fn an_exception_comes_back(rt: HostRuntime) -> Result<(), Fail> {
     );
     let pre = Pre {
         ctx: Some(user),
-        ..told(0x1004)
+        ..given(0x1004)
     };
     assert_eq!(rt;
         walk(&rt, &mut walker, &code, pre, TAKEN),
@@ -162,7 +162,7 @@ fn a_return_pops_what_a_call_pushed(rt: HostRuntime) -> Result<(), Fail> {
         (nothing, run(EL0, 0x3010, 1)),
         (nothing, run(EL0, 0x3018, 1)),
         (nothing, run(EL0, 0x3014, 1)),
-        (told(0x3004), run(EL0, 0x3004, 1)),
+        (given(0x3004), run(EL0, 0x3004, 1)),
     ];
     for (pre, walked) in walks {
         assert_eq!(rt; walk(&rt, &mut walker, &image, pre, TAKEN), Ok(walked));
@@ -216,7 +216,7 @@ fn a_fault_leaves_a_known_place_as_it_was(rt: HostRuntime) -> Result<(), Fail> {
     };
     let faults = [
         (nothing, P0::Atom(false), WalkFault::BadAtom(0x100c)),
-        (told(0x1000), TAKEN, mismatch),
+        (given(0x1000), TAKEN, mismatch),
     ];
     for (pre, p0, fault) in faults {
         assert_eq!(rt; walk(&rt, &mut walker, &image, pre, p0), Err(fault));
@@ -270,7 +270,7 @@ fn a_lost_place_loses_the_return_addresses(rt: HostRuntime) -> Result<(), Fail> 
     let walks = [
         (begin(0x2000, EL0), first(run(EL0, 0x2000, 1))),
         (Pre::trace_missing(), unknown(EL0)),
-        (told(0x2018), run(EL0, 0x2018, 1)),
+        (given(0x2018), run(EL0, 0x2018, 1)),
         (nothing, unknown(EL0)),
     ];
     for (pre, walked) in walks {
@@ -280,7 +280,7 @@ fn a_lost_place_loses_the_return_addresses(rt: HostRuntime) -> Result<(), Fail> 
 }
 
 #[test]
-fn a_lost_place_that_is_told_keeps_them(rt: HostRuntime) -> Result<(), Fail> {
+fn a_lost_place_with_an_address_keeps_them(rt: HostRuntime) -> Result<(), Fail> {
     let image = read(rt.alloc(), CALLS)?;
     let mut walker = Walker::new(rt.alloc())?;
     let nothing = Pre::nothing_told();
@@ -289,7 +289,7 @@ fn a_lost_place_that_is_told_keeps_them(rt: HostRuntime) -> Result<(), Fail> {
         (
             Pre {
                 lost: true,
-                ..told(0x2018)
+                ..given(0x2018)
             },
             run(EL0, 0x2018, 1),
         ),
