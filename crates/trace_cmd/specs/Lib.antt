@@ -1,4 +1,5 @@
 pub mod Words
+pub mod Reading
 pub mod PacketList
 pub mod Resolving
 pub mod Pending
