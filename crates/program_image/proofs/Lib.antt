@@ -10,6 +10,6 @@ pub mod Spelled
 pub mod WordLaws
 pub mod Gaps
 pub mod First
-pub mod PlainRuns
+pub mod Runs
 pub mod Tables
 pub mod Examples

@@ -1,6 +1,7 @@
 -- Tables of runs: how they are counted, and what they hold.
 use Rattle.std.proofs.Common.{◌≡◌, ◌≢◌, ℕ, zero, suc, ◌+◌, ◌-◌, ◌*◌, ◌/◌, ◌%◌, ◌^◌, ◌<◌, ◌≤◌, List, [], ◌∷◌, ◌++◌, length, take, drop}
-use Rattle.std.proofs.Common.{reverse, get_or, Bool, true, false, Some, None, refl, sym, ap, ◌∙◌, subst, inl, inr, arith, cond, append_assoc, append-nil, length-append, nat_lt}
+use Rattle.std.proofs.Common.{reverse, get_or, Bool, true, false, Some, None, refl, sym, ap}
+use Rattle.std.proofs.Common.{◌∙◌, subst, inl, inr, arith, cond, append_assoc, append-nil, length-append, nat_lt}
 use Rattle.std.specs.Prelude.{◌==◌, All, Contains, MatchOption, slice_get}
 use Rattle.std.specs.Option.{option_map}
 use Rattle.std.proofs.lemmas.Bool.{cases_Bool, eqb-true, eqb-false, eq-eqb, le-leb, lt-ltb, ltb-true, ltb-false}
@@ -15,7 +16,7 @@ use Rattle.program_image.specs.Blocks.{class_at}
 use Rattle.program_image.specs.Runs.{AreRuns, IsFollowedBy, IsRunLength, IsTable, first_run, run_from, runs_of}
 use Rattle.program_image.proofs.Gaps.{Behind, none_before}
 use Rattle.program_image.proofs.Lists.{reversed_push}
-use Rattle.program_image.proofs.PlainRuns.{no_run, run_moved, run_steps}
+use Rattle.program_image.proofs.Runs.{no_run, run_moved, run_steps}
 use Rattle.program_image.proofs.WordSearch.{outside}
 use Rattle.program_image.proofs.WordLaws.{word_of_part}
 

@@ -14,7 +14,7 @@ use crate::draft::Draft;
 use crate::fault::{ImageFault, ImageWhy, LineFault};
 use crate::lookup::{class_at, part_at, word_at};
 use crate::part::Part;
-use crate::runs::{Runs, table};
+use crate::run_table::{Runs, table};
 use crate::text::next_line;
 use a64_branches::INSTRUCTION_BYTES;
 use std::alloc::Global;

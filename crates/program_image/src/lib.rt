@@ -19,7 +19,7 @@ mod image;
 mod laws;
 mod lookup;
 mod part;
-mod runs;
+mod run_table;
 mod text;
 
 pub use block::{Block, BlockEnd};

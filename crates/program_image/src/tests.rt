@@ -142,3 +142,24 @@ fn a_block_ends_where_a_trace_tells(rt: HostRuntime) -> Result<(), Fail> {
     assert_eq!(rt; last.block(0xffff_ffff_ffff_fff8), Block { plain: 2, end });
     Ok(())
 }
+
+#[test]
+fn a_block_goes_on_over_parts_that_touch(rt: HostRuntime) -> Result<(), Fail> {
+    let text =
+        b"@1004\n1f2003d5 c0035fd6\n@1000\n1f2003d5\n@0\n1f2003d5 c0035fd6\n@fffffffffffffffc\n1f2003d5\n";
+    let image = read(rt.alloc(), text)?;
+    for (pc, addr) in [(0x1000, 0x1008), (0xffff_ffff_ffff_fffc, 4)] {
+        let class = Class::Ind { link: false };
+        let end = BlockEnd::P0 { addr, class };
+        assert_eq!(rt; image.block(pc), Block { plain: 2, end });
+    }
+    Ok(())
+}
+
+#[test]
+fn a_fault_has_its_number_and_its_word(rt: HostRuntime) {
+    let why = ImageWhy::TooLong;
+    assert_eq!(rt; why.text(), "too-long");
+    assert_eq!(rt; ImageFault::Bad { line: 0, why }.number(), 6);
+    assert_eq!(rt; ImageFault::Memory.number(), 8);
+}

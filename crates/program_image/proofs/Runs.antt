@@ -1,13 +1,13 @@
 -- Runs of plain words: by the class of a word and the run from the next word on, and how long they can be.
-use Rattle.std.proofs.Common.{◌≡◌, ◌≢◌, ℕ, zero, suc, ◌+◌, ◌*◌, ◌/◌, ◌%◌, ◌^◌, ◌<◌, ◌≤◌}
-use Rattle.std.proofs.Common.{List, Option, Some, None, sym, ap, ◌∙◌, inl, inr, arith, below_more, nat_lt}
-use Rattle.std.proofs.lemmas.Bool.{cases_Bool, ltb-true, ltb-false}
+use Rattle.std.proofs.Common.{◌≡◌, ◌≢◌, ℕ, zero, suc, ◌+◌, ◌-◌, ◌*◌, ◌/◌, ◌%◌, ◌^◌, ◌<◌, ◌≤◌}
+use Rattle.std.proofs.Common.{List, Option, Some, None, sym, ap, ◌∙◌, inl, inr, arith, below_more, nat_le, nat_lt}
+use Rattle.std.proofs.lemmas.Bool.{cases_Bool, leb-true, leb-false, ltb-true, ltb-false}
 use Rattle.std.specs.Option.{option_map}
 use Rattle.a64_branches.specs.Classes.{class_of}
 use Rattle.a64_branches.specs.declared.class.Class.{Class}
 use Rattle.a64_branches.specs.declared.class.Class.TheVariants.{Plain, Jump, Cond, Isb, Ind, Eret, Odd}
 use Rattle.program_image.specs.Part.{IsImage, Part, total}
-use Rattle.program_image.specs.Blocks.{class_at, behind, IsPlainRun}
+use Rattle.program_image.specs.Blocks.{class_at, behind, IsPlainRun, HasGap}
 use Rattle.program_image.specs.Runs.{IsRunLength, run_from}
 use Rattle.program_image.proofs.Gaps.{near_gap}
 
@@ -48,6 +48,27 @@ run_steps image a n Isb fits is next = no_run image a _ fits is (λ e. cc)
 run_steps image a n (Ind link) fits is next = no_run image a _ fits is (λ e. cc)
 run_steps image a n Eret fits is next = no_run image a _ fits is (λ e. cc)
 run_steps image a n Odd fits is next = no_run image a _ fits is (λ e. cc)
+
+-- each multiple of 4 stands so many words after another one
+reached : (from to : ℕ) → from % 4 ≡ 0 → to % 4 ≡ 0 → to < 2 ^ 64 → (n : ℕ) × (n < 2 ^ 62) × (behind from n ≡ to)
+reached from to aligned also lower =
+    let low : ℕ = from % 2 ^ 64 in
+    elim (cases_Bool (nat_le low to)) [
+      | inl t ↦ let le = leb-true _ _ t in ((to - low) / 4, omega arith, omega arith)
+      | inr f ↦ let lt = leb-false _ _ f in ((to + 2 ^ 64 - low) / 4, omega arith, omega arith)
+    ]
+
+-- a run of plain words does not go past a gap
+pub run_short : (image : List Part) (address n : ℕ) → address % 4 ≡ 0 → HasGap image → IsPlainRun image address n → n < 2 ^ 62
+run_short image address n aligned gap run =
+    let far = reached address gap.address aligned gap.aligned gap.within in
+    elim (cases_Bool (nat_lt far.0 n)) [
+      | inl t ↦
+          let plain = run far.0 (ltb-true _ _ t) in
+          let nothing : class_at image (behind address far.0) ≡ None = ap (class_at image) far.2 ∙ ap (option_map class_of) gap.none in
+          absurd (let x = sym plain ∙ nothing in cc)
+      | inr f ↦ omega (arith, ltb-false _ _ f, far.1)
+    ]
 
 -- a run from address 0 on is no longer than the parts
 pub zero_run_short : (image : List Part) (n : ℕ) → IsImage image → IsPlainRun image 0 n → n ≤ total image

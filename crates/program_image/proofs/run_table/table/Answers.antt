@@ -3,7 +3,7 @@ use Rattle.std.specs.Prelude.{◌==◌}
 use Rattle.program_image.specs.Part.{end_of}
 use Rattle.program_image.specs.Runs.{first_run, runs_of}
 use Rattle.program_image.proofs.Tables.{next_fits, part_tabled}
-use Rattle.program_image.proofs.runs.table.Goals as goal
+use Rattle.program_image.proofs.run_table.table.Goals as goal
 
 pub of_bytes-requires-clause-fits : goal.of_bytes-requires-clause-fits
 of_bytes-requires-clause-fits c =

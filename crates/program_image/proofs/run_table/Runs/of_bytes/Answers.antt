@@ -2,7 +2,7 @@ use Rattle.std.proofs.Common.{◌∙◌, ap}
 use Rattle.a64_branches.specs.Classes.{class_of}
 use Rattle.program_image.specs.Runs.{run_from}
 use Rattle.program_image.proofs.Tables.{word_counted}
-use Rattle.program_image.proofs.runs.Runs.of_bytes.Goals as goal
+use Rattle.program_image.proofs.run_table.Runs.of_bytes.Goals as goal
 
 pub loop-before-preserved : goal.loop-before-preserved
 loop-before-preserved c =
