@@ -1,8 +1,8 @@
 //! One line of the output, put together before it is written.
 ghost use Rattle.std.specs.Prelude.{◌≡◌, ◌+◌, ◌∷◌, ◌++◌, ◌<◌, ◌≤◌, [], length};
-ghost use Rattle.path_text.specs.Lines.{in_base, line_start, byte_text};
+ghost use Rattle.path_text.specs.Lines.{line_start, byte_text};
 
-use crate::digits::{decimal_count, digit, hex_count, put_number};
+use crate::digits::{decimal_count, digit, hex_count, put_decimal, put_number};
 use etm_types::Id;
 use std::marker::Model;
 use trace_io::{Failed, Sink, write_all};
@@ -70,17 +70,27 @@ impl Line {
         self.text(&[digit(byte / 16), digit(byte % 16)]);
     }
 
-    /// Adds a number that has so many digits.
+    /// Adds the hex digits of a number.
     #[inline(always)]
-    fn number(&mut self, base: u64, n: u64, count: usize)
-        requires base { (10 ≤ base) × (base ≤ 16) }
-        requires count { count ≡ length (in_base base n) }
-        requires room { HasRoom count self.old }
-        ensures value { self.new ≡ self.old ++ in_base base n }
-        ensures len { length self.new ≡ length self.old + length (in_base base n) }
+    fn hex_digits(&mut self, n: u64)
+        requires { HasRoom (length (hex n)) self.old }
+        ensures value { self.new ≡ self.old ++ hex n }
+        ensures len { length self.new ≡ length self.old + length (hex n) }
     {
-        let end = self.len + count;
-        put_number(base, n, &mut self.bytes, end);
+        let end = self.len + hex_count(n);
+        put_number(16, n, &mut self.bytes, end);
+        self.len = end;
+    }
+
+    /// Adds the decimal digits of a number.
+    #[inline(always)]
+    fn decimal_digits(&mut self, n: u64)
+        requires { HasRoom (length (decimal n)) self.old }
+        ensures value { self.new ≡ self.old ++ decimal n }
+        ensures len { length self.new ≡ length self.old + length (decimal n) }
+    {
+        let end = self.len + decimal_count(n);
+        put_decimal(n, &mut self.bytes, end);
         self.len = end;
     }
 
@@ -91,7 +101,7 @@ impl Line {
         ensures value { self.new ≡ self.old ++ hex n }
         ensures short { AddsAtMost 16 self.old self.new }
     {
-        self.number(16, n, hex_count(n));
+        self.hex_digits(n);
     }
 
     /// Adds a number of 32 bits in hex, at most 8 digits.
@@ -101,7 +111,7 @@ impl Line {
         ensures value { self.new ≡ self.old ++ hex n }
         ensures short { AddsAtMost 8 self.old self.new }
     {
-        self.number(16, u64::from(n), hex_count(u64::from(n)));
+        self.hex_digits(u64::from(n));
     }
 
     /// Adds a number of 64 bits in decimal, at most 20 digits.
@@ -111,7 +121,7 @@ impl Line {
         ensures value { self.new ≡ self.old ++ decimal n }
         ensures short { AddsAtMost 20 self.old self.new }
     {
-        self.number(10, n, decimal_count(n));
+        self.decimal_digits(n);
     }
 
     /// Adds a number of 32 bits in decimal, at most 10 digits.
@@ -121,7 +131,7 @@ impl Line {
         ensures value { self.new ≡ self.old ++ decimal n }
         ensures short { AddsAtMost 10 self.old self.new }
     {
-        self.number(10, u64::from(n), decimal_count(u64::from(n)));
+        self.decimal_digits(u64::from(n));
     }
 
     /// Adds a number of 8 bits in decimal, at most 3 digits.
@@ -131,7 +141,7 @@ impl Line {
         ensures value { self.new ≡ self.old ++ decimal n }
         ensures short { AddsAtMost 3 self.old self.new }
     {
-        self.number(10, u64::from(n), decimal_count(u64::from(n)));
+        self.decimal_digits(u64::from(n));
     }
 
     /// Ends the line with LF, and writes it by one call. It is not moved, since that would copy its bytes.
