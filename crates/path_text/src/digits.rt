@@ -1,11 +1,18 @@
 //! The digits of numbers, put straight to their places in a text.
 //!
 //! How many digits a number has is found first, so that they need no place of their own. The last one is put first.
-ghost use Rattle.std.specs.Prelude.{◌≡◌, ◌+◌, ◌-◌, ◌/◌, ◌%◌, ◌∷◌, ◌++◌, ◌<◌, ◌≤◌, length, take, drop};
+ghost use Rattle.std.specs.Prelude.{◌≡◌, ◌+◌, ◌-◌, ◌/◌, ◌%◌, ◌∷◌, ◌++◌, ◌<◌, ◌≤◌, [], length, take, drop};
 ghost use Rattle.path_text.specs.Lines.{digit, in_base, hex, decimal};
 
 /// The digits of the bases up to 16.
 static DIGITS: [u8; 16] = *b"0123456789abcdef";
+
+/// The numbers below 100, two digits each.
+static PAIRS: [u8; 200] = *b"0001020304050607080910111213141516171819\
+2021222324252627282930313233343536373839\
+4041424344454647484950515253545556575859\
+6061626364656667686970717273747576777879\
+8081828384858687888990919293949596979899";
 
 /// A digit of a base up to 16.
 #[inline(always)]
@@ -99,6 +106,16 @@ pub fn put_number(base: u64, n: u64, text: &mut [u8], end: usize)
     }
 }
 
+/// The two digits of a number below 100.
+#[inline(always)]
+fn pair(n: u8) -> [u8; 2]
+    requires { n < 100 }
+    ensures { result ≡ digit (n / 10) ∷ digit (n % 10) ∷ [] }
+{
+    let at = 2 * n as usize;
+    [PAIRS[at], PAIRS[at + 1]]
+}
+
 /// Puts a number below 100 as two digits.
 #[inline(always)]
 fn put_pair(n: u8, text: &mut [u8], at: usize)
@@ -106,8 +123,7 @@ fn put_pair(n: u8, text: &mut [u8], at: usize)
     requires within { at + 2 ≤ length text.old }
     ensures { text.new ≡ take at text.old ++ (digit (n / 10) ∷ digit (n % 10) ∷ drop (at + 2) text.old) }
 {
-    let pair = [digit(n / 10), digit(n % 10)];
-    text[at..at + 2].copy_from_slice(&pair);
+    text[at..at + 2].copy_from_slice(&pair(n));
 }
 
 /// Puts the decimal digits of a number below 100 where they end at `end`.
