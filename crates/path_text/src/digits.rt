@@ -123,7 +123,9 @@ fn put_pair(n: u8, text: &mut [u8], at: usize)
     requires within { at + 2 ≤ length text.old }
     ensures { text.new ≡ take at text.old ++ (digit (n / 10) ∷ digit (n % 10) ∷ drop (at + 2) text.old) }
 {
-    text[at..at + 2].copy_from_slice(&pair(n));
+    let [tens, ones] = pair(n);
+    text[at] = tens;
+    text[at + 1] = ones;
 }
 
 /// Puts the decimal digits of a number below 100 where they end at `end`.

@@ -3,7 +3,8 @@ ghost use Rattle.std.specs.Prelude.{◌≡◌, ◌+◌, ◌∷◌, ◌++◌, ◌
 ghost use Rattle.path_text.specs.Lines.{line_start, byte_text};
 
 use crate::digits::{decimal_count, digit, hex_count, put_decimal, put_number};
-use etm_types::Id;
+use crate::letters::put_atoms;
+use etm_types::{AtomRun, Id};
 use std::marker::Model;
 use trace_io::{Failed, Sink, write_all};
 
@@ -30,6 +31,7 @@ impl Model for Line {
 
 impl Line {
     ghost use Rattle.path_text.specs.Lines.{HasRoom, AddsAtMost, hex, decimal};
+    ghost use Rattle.path_text.specs.PacketLines.{atoms_text};
     ghost use Rattle.path_text.specs.Writing.{Writes};
 
     /// A line without anything.
@@ -142,6 +144,17 @@ impl Line {
         ensures short { AddsAtMost 3 self.old self.new }
     {
         self.decimal_digits(u64::from(n));
+    }
+
+    /// Adds the letters of a run of atoms, the oldest first.
+    #[tactic(auto, using(crate::proofs::AtomLemmas::count_letters))]
+    pub fn atoms(&mut self, run: &AtomRun)
+        requires { HasRoom run.now.count self.old }
+        ensures value { self.new ≡ self.old ++ atoms_text run.now }
+        ensures len { length self.new ≡ length self.old + run.now.count }
+    {
+        put_atoms(run, &mut self.bytes, self.len);
+        self.len += run.count as usize;
     }
 
     /// Ends the line with LF, and writes it by one call. It is not moved, since that would copy its bytes.
