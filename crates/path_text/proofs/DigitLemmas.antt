@@ -4,7 +4,7 @@ use Rattle.std.specs.Prelude.{◌==◌, map}
 use Rattle.std.specs.Int.Digits.{digits_of}
 use Rattle.std.specs.Int.Count.{count_leading_zeros}
 use Rattle.std.proofs.lemmas.Bool.{eqb-true}
-use Rattle.std.proofs.lemmas.List.{length-map, length-append, map-append, drop-set, take-append-drop, take-take, take_at}
+use Rattle.std.proofs.lemmas.List.{length-map, length-append, length-take-le, map-append, drop-set, set_split, take-append-drop, take-take, take_at, drop_at}
 use Rattle.std.proofs.lemmas.Int.Digits.{digits_of_step, length-digits_of_step, length-digits_of-le}
 use Rattle.std.proofs.lemmas.Nat.{leading_top}
 use Rattle.std.proofs.Math.Nat.{zero-div, zero-mod, le-div_iff_mul-le, one-le-pow, pow-zero}
@@ -107,12 +107,26 @@ four_digits n above below = count_between 10 3 n (omega arith) (omega arith) (om
 
 pub ruleset short_counts = (one_digit, two_digits, three_digits, four_digits)
 
+pub five_digits : (n : ℕ) → 10000 ≤ n → n < 100000 → length (in_base 10 n) ≡ 5
+five_digits n above below = count_between 10 4 n (omega arith) (omega arith) (omega arith) (omega arith)
+
+pub six_digits : (n : ℕ) → 100000 ≤ n → n < 1000000 → length (in_base 10 n) ≡ 6
+six_digits n above below = count_between 10 5 n (omega arith) (omega arith) (omega arith) (omega arith)
+
+pub seven_digits : (n : ℕ) → 1000000 ≤ n → n < 10000000 → length (in_base 10 n) ≡ 7
+seven_digits n above below = count_between 10 6 n (omega arith) (omega arith) (omega arith) (omega arith)
+
+pub eight_digits : (n : ℕ) → 10000000 ≤ n → n < 100000000 → length (in_base 10 n) ≡ 8
+eight_digits n above below = count_between 10 7 n (omega arith) (omega arith) (omega arith) (omega arith)
+
+pub ruleset middle_counts = (five_digits, six_digits, seven_digits, eight_digits)
+
 one_more_digit : (n : ℕ) → 10 ≤ n → length (in_base 10 n) ≡ length (in_base 10 (n / 10)) + 1
 one_more_digit n above =
     omega (arith, length-in_base 10 n (omega arith), ap length (above_zero 10 (n / 10) (omega arith)), length-map (digits_of 10 (n / 10)) digit)
 
 -- from 10000 on there are four more digits than those of a ten-thousandth
-pub four_more_digits : (n : ℕ) → 10000 ≤ n → length (in_base 10 n) ≡ length (in_base 10 (n / 10000)) + 4
+four_more_digits : (n : ℕ) → 10000 ≤ n → length (in_base 10 n) ≡ length (in_base 10 (n / 10000)) + 4
 four_more_digits n above =
     let tenth = n / 10 in let hundredth = tenth / 10 in let thousandth = hundredth / 10 in
     let same : thousandth / 10 ≡ n / 10000 = omega arith in
@@ -124,6 +138,73 @@ four_more_digits n above =
       one_more_digit thousandth (omega arith),
       ap (λ m. length (in_base 10 m)) same,
     )
+
+-- and so twice from 100000000 on
+pub eight_more_digits : (n : ℕ) → 100000000 ≤ n → length (in_base 10 n) ≡ length (in_base 10 (n / 100000000)) + 8
+eight_more_digits n above =
+    let same : n / 10000 / 10000 ≡ n / 100000000 = omega arith in
+    omega (arith, four_more_digits n (omega arith), four_more_digits (n / 10000) (omega arith), ap (λ m. length (in_base 10 m)) same)
+
+-- from 100 on there are two more digits than those of a hundredth
+pub two_more_digits : (n : ℕ) → 100 ≤ n → length (in_base 10 n) ≡ length (in_base 10 (n / 100)) + 2
+two_more_digits n above =
+    let same : n / 10 / 10 ≡ n / 100 = omega arith in
+    omega (arith, one_more_digit n (omega arith), one_more_digit (n / 10) (omega arith), ap (λ m. length (in_base 10 m)) same)
+
+-- ---- two decimal digits at a time
+
+pub decimal_one : (n : ℕ) → n < 10 → in_base 10 n ≡ digit n ∷ []
+decimal_one n below =
+    let above : n / 10 ≡ 0 = omega arith in let last : n % 10 ≡ n = omega arith in
+    in_base_step 10 n (omega arith) ∙ ap (λ k. map digit (digits_of 10 k) ++ (digit (n % 10) ∷ [])) above ∙ ap (λ k. digit k ∷ []) last
+
+decimal_more : (n : ℕ) → 10 ≤ n → in_base 10 n ≡ in_base 10 (n / 10) ++ (digit (n % 10) ∷ [])
+decimal_more n above =
+    in_base_step 10 n (omega arith) ∙ ap (λ t. t ++ (digit (n % 10) ∷ [])) (sym (above_zero 10 (n / 10) (omega arith)))
+
+pub decimal_two : (n : ℕ) → 10 ≤ n → n < 100 → in_base 10 n ≡ digit (n / 10) ∷ digit (n % 10) ∷ []
+decimal_two n above below =
+    decimal_more n above ∙ ap (λ t. t ++ (digit (n % 10) ∷ [])) (decimal_one (n / 10) (omega arith))
+
+-- from 100 on: the digits of a hundredth, and two more
+pub decimal_step : (n : ℕ) → 100 ≤ n → in_base 10 n ≡ in_base 10 (n / 100) ++ (digit (n % 100 / 10) ∷ digit (n % 100 % 10) ∷ [])
+decimal_step n above =
+    let hundredth : n / 10 / 10 ≡ n / 100 = omega arith in
+    let tens : n / 10 % 10 ≡ n % 100 / 10 = omega arith in let ones : n % 10 ≡ n % 100 % 10 = omega arith in
+    let one = digit (n % 10) ∷ [] in
+    decimal_more n (omega arith) ∙ ap (λ t. t ++ one) (decimal_more (n / 10) (omega arith))
+    ∙ append_assoc (in_base 10 (n / 10 / 10)) (digit (n / 10 % 10) ∷ []) one
+    ∙ ap (λ k. in_base 10 k ++ (digit (n / 10 % 10) ∷ one)) hundredth
+    ∙ ap (λ k. in_base 10 (n / 100) ++ (digit k ∷ one)) tens
+    ∙ ap (λ k. in_base 10 (n / 100) ++ (digit (n % 100 / 10) ∷ digit k ∷ [])) ones
+
+-- a number of one digit is put
+pub put_one : (n end : ℕ) (text : List ℕ) → n < 10 → 1 ≤ end → end ≤ length text
+    → set text (end - 1) (digit n) ≡ take (end - length (in_base 10 n)) text ++ (in_base 10 n ++ drop end text)
+put_one n end text below some within =
+    let last : suc (end - 1) ≡ end = omega (arith, some) in
+    set_split text (end - 1) (digit n) (omega (arith, some, within)) ∙ ap (λ k. take (end - 1) text ++ (digit n ∷ drop k text)) last
+    ∙ ap (λ k. take (end - k) text ++ (digit n ∷ drop end text)) (sym (one_digit n below))
+    ∙ ap (λ d. take (end - length (in_base 10 n)) text ++ (d ++ drop end text)) (sym (decimal_one n below))
+
+-- a number of two digits is put
+pub put_both : (n end : ℕ) (text : List ℕ) → 10 ≤ n → n < 100 → 2 ≤ end
+    → take (end - 2) text ++ (digit (n / 10) ∷ digit (n % 10) ∷ drop (end - 2 + 2) text) ≡ take (end - length (in_base 10 n)) text ++ (in_base 10 n ++ drop end text)
+put_both n end text above below some =
+    let pair = digit (n / 10) ∷ digit (n % 10) ∷ [] in
+    let last : end - 2 + 2 ≡ end = omega (arith, some) in
+    ap (λ k. take (end - 2) text ++ (pair ++ drop k text)) last
+    ∙ ap (λ k. take (end - k) text ++ (pair ++ drop end text)) (sym (two_digits n above below))
+    ∙ ap (λ d. take (end - length (in_base 10 n)) text ++ (d ++ drop end text)) (sym (decimal_two n above below))
+
+-- two more digits, put before those that are there
+pub put_two : (rest at : ℕ) (text : List ℕ) → 100 ≤ rest → at + 2 ≤ length text
+    → in_base 10 (rest / 100) ++ drop at (take at text ++ (digit (rest % 100 / 10) ∷ digit (rest % 100 % 10) ∷ drop (at + 2) text))
+    ≡ in_base 10 rest ++ drop (at + 2) text
+put_two rest at text above within =
+    let pair = digit (rest % 100 / 10) ∷ digit (rest % 100 % 10) ∷ [] in
+    ap (λ t. in_base 10 (rest / 100) ++ t) (drop_at (take at text) (pair ++ drop (at + 2) text) at (length-take-le at text (omega (arith, within))))
+    ∙ sym (append_assoc (in_base 10 (rest / 100)) pair (drop (at + 2) text)) ∙ ap (λ t. t ++ drop (at + 2) text) (sym (decimal_step rest above))
 
 -- ---- the digits of a number, put from the last one on
 

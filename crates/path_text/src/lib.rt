@@ -11,6 +11,7 @@ mod address_line;
 mod digits;
 mod end;
 mod end_lines;
+mod letters;
 mod line;
 mod packet_lines;
 mod path_lines;

@@ -1,9 +1,10 @@
 //! One line of the output, put together before it is written.
 ghost use Rattle.std.specs.Prelude.{◌≡◌, ◌+◌, ◌∷◌, ◌++◌, ◌<◌, ◌≤◌, [], length};
-ghost use Rattle.path_text.specs.Lines.{in_base, line_start, byte_text};
+ghost use Rattle.path_text.specs.Lines.{line_start, byte_text};
 
-use crate::digits::{decimal_count, digit, hex_count, put_number};
-use etm_types::Id;
+use crate::digits::{decimal_count, digit, hex_count, put_decimal, put_number};
+use crate::letters::put_atoms;
+use etm_types::{AtomRun, Id};
 use std::marker::Model;
 use trace_io::{Failed, Sink, write_all};
 
@@ -30,6 +31,7 @@ impl Model for Line {
 
 impl Line {
     ghost use Rattle.path_text.specs.Lines.{HasRoom, AddsAtMost, hex, decimal};
+    ghost use Rattle.path_text.specs.PacketLines.{atoms_text};
     ghost use Rattle.path_text.specs.Writing.{Writes};
 
     /// A line without anything.
@@ -70,17 +72,27 @@ impl Line {
         self.text(&[digit(byte / 16), digit(byte % 16)]);
     }
 
-    /// Adds a number that has so many digits.
+    /// Adds the hex digits of a number.
     #[inline(always)]
-    fn number(&mut self, base: u64, n: u64, count: usize)
-        requires base { (10 ≤ base) × (base ≤ 16) }
-        requires count { count ≡ length (in_base base n) }
-        requires room { HasRoom count self.old }
-        ensures value { self.new ≡ self.old ++ in_base base n }
-        ensures len { length self.new ≡ length self.old + length (in_base base n) }
+    fn hex_digits(&mut self, n: u64)
+        requires { HasRoom (length (hex n)) self.old }
+        ensures value { self.new ≡ self.old ++ hex n }
+        ensures len { length self.new ≡ length self.old + length (hex n) }
     {
-        let end = self.len + count;
-        put_number(base, n, &mut self.bytes, end);
+        let end = self.len + hex_count(n);
+        put_number(16, n, &mut self.bytes, end);
+        self.len = end;
+    }
+
+    /// Adds the decimal digits of a number.
+    #[inline(always)]
+    fn decimal_digits(&mut self, n: u64)
+        requires { HasRoom (length (decimal n)) self.old }
+        ensures value { self.new ≡ self.old ++ decimal n }
+        ensures len { length self.new ≡ length self.old + length (decimal n) }
+    {
+        let end = self.len + decimal_count(n);
+        put_decimal(n, &mut self.bytes, end);
         self.len = end;
     }
 
@@ -91,7 +103,7 @@ impl Line {
         ensures value { self.new ≡ self.old ++ hex n }
         ensures short { AddsAtMost 16 self.old self.new }
     {
-        self.number(16, n, hex_count(n));
+        self.hex_digits(n);
     }
 
     /// Adds a number of 32 bits in hex, at most 8 digits.
@@ -101,7 +113,7 @@ impl Line {
         ensures value { self.new ≡ self.old ++ hex n }
         ensures short { AddsAtMost 8 self.old self.new }
     {
-        self.number(16, u64::from(n), hex_count(u64::from(n)));
+        self.hex_digits(u64::from(n));
     }
 
     /// Adds a number of 64 bits in decimal, at most 20 digits.
@@ -111,7 +123,7 @@ impl Line {
         ensures value { self.new ≡ self.old ++ decimal n }
         ensures short { AddsAtMost 20 self.old self.new }
     {
-        self.number(10, n, decimal_count(n));
+        self.decimal_digits(n);
     }
 
     /// Adds a number of 32 bits in decimal, at most 10 digits.
@@ -121,7 +133,7 @@ impl Line {
         ensures value { self.new ≡ self.old ++ decimal n }
         ensures short { AddsAtMost 10 self.old self.new }
     {
-        self.number(10, u64::from(n), decimal_count(u64::from(n)));
+        self.decimal_digits(u64::from(n));
     }
 
     /// Adds a number of 8 bits in decimal, at most 3 digits.
@@ -131,7 +143,18 @@ impl Line {
         ensures value { self.new ≡ self.old ++ decimal n }
         ensures short { AddsAtMost 3 self.old self.new }
     {
-        self.number(10, u64::from(n), decimal_count(u64::from(n)));
+        self.decimal_digits(u64::from(n));
+    }
+
+    /// Adds the letters of a run of atoms, the oldest first.
+    #[tactic(auto, using(crate::proofs::AtomLemmas::count_letters))]
+    pub fn atoms(&mut self, run: &AtomRun)
+        requires { HasRoom run.now.count self.old }
+        ensures value { self.new ≡ self.old ++ atoms_text run.now }
+        ensures len { length self.new ≡ length self.old + run.now.count }
+    {
+        put_atoms(run, &mut self.bytes, self.len);
+        self.len += run.count as usize;
     }
 
     /// Ends the line with LF, and writes it by one call. It is not moved, since that would copy its bytes.

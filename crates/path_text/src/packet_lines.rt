@@ -2,7 +2,7 @@
 ghost use Rattle.std.specs.Prelude.{◌≡◌, ◌+◌, ◌++◌, ◌≤◌, length, codes};
 ghost use Rattle.etm_types.specs.Atoms.{IsFewAtoms, most_atoms};
 ghost use Rattle.path_text.specs.Lines.{HasRoom, AddsAtMost, hex, decimal, number_or_dash};
-ghost use Rattle.path_text.specs.PacketLines.{HasText, letter, atoms_text, few_text, form_text};
+ghost use Rattle.path_text.specs.PacketLines.{HasText, atoms_text, few_text, form_text};
 ghost use Rattle.path_text.specs.PacketLines.{told_context_text, carried_text, mispredict_text, packet_text, packet_line};
 ghost use Rattle.path_text.specs.Writing.{Writes};
 
@@ -214,13 +214,6 @@ fn add_address(line: &mut Line, form: &AddrForm, ctx: &Option<CtxBits>)
     }
 }
 
-/// The letter of an atom.
-fn letter(is_e: bool) -> u8
-    ensures { result ≡ letter is_e }
-{
-    if is_e { b'E' } else { b'N' }
-}
-
 /// Adds the letters of a run of atoms, the oldest first.
 fn add_atoms(line: &mut Line, run: &AtomRun)
     requires room { HasRoom 30 line.old }
@@ -229,11 +222,7 @@ fn add_atoms(line: &mut Line, run: &AtomRun)
     ensures short { AddsAtMost 30 line.old line.new }
 {
     line.text(b"atoms ");
-    let mut rest = run.bits;
-    for _atom in 0..run.count {
-        line.text(&[letter(rest % 2 == 1)]);
-        rest /= 2;
-    }
+    line.atoms(run);
 }
 
 /// Adds the text of a packet.
