@@ -29,6 +29,7 @@ pub enum Class {
 }
 
 /// The class of an instruction word: that of the first encoding which it has, or `Plain` without one.
+#[inline(always)]
 #[tactic(auto, unfolding(crate::specs::Classes::class_of))]
 pub fn class_of(word: u32) -> Class
     ensures value { result ≡ class_of word }
