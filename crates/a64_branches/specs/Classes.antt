@@ -74,6 +74,10 @@ class_by (r ∷ others) word = if bit_and word r.mask == r.value then r.class wo
 unfoldable pub class_of : ℕ → Class
 class_of word = class_by rows word
 
+-- the rows in the order in which the code tests them: those that are met most often come first
+abbrev pub rows_as_tested : List Row
+rows_as_tested = conditional_branches ++ unconditional_branches ++ testing_branches ++ barriers ++ branches_to_registers
+
 -- where the class has an offset, it is one of whole instructions
 abbrev pub HasWholeOffset : Class → Type 0
 HasWholeOffset (Jump offset link) = IsWhole offset

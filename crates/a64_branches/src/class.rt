@@ -1,11 +1,11 @@
 //! The class of an instruction word.
 ghost use Rattle.std.specs.Prelude.{◌≡◌};
-ghost use Rattle.a64_branches.specs.Classes.{HasWholeOffset, class_of};
+ghost use Rattle.a64_branches.specs.Classes.{HasWholeOffset, class_by, class_of, rows_as_tested};
 
 use crate::encoding::{
     ANY_BRANCH_TO_REGISTER, BRANCH, BRANCH_CONDITIONALLY, BRANCH_CONSISTENT, BRANCH_TO_REGISTER,
-    BRANCH_WITH_LINK, BRANCH_WITH_LINK_TO_REGISTER, COMPARE_AND_BRANCH, EXCEPTION_RETURN, RETURN,
-    SYNCHRONIZATION_BARRIER, TEST_BIT_AND_BRANCH,
+    BRANCH_WITH_LINK, BRANCH_WITH_LINK_TO_REGISTER, BRANCHES_AND_SYSTEM, COMPARE_AND_BRANCH,
+    EXCEPTION_RETURN, RETURN, SYNCHRONIZATION_BARRIER, TEST_BIT_AND_BRANCH,
 };
 use crate::offset::{imm14, imm19, imm26};
 
@@ -29,26 +29,26 @@ pub enum Class {
 }
 
 /// The class of an instruction word: that of the first encoding which it has, or `Plain` without one.
-#[tactic(auto, unfolding(crate::specs::Classes::class_of))]
+#[inline(always)]
 pub fn class_of(word: u32) -> Class
     ensures value { result ≡ class_of word }
     ensures whole { HasWholeOffset result }
 {
+    if BRANCHES_AND_SYSTEM.fits(word) {
+        class_in_group(word)
+    } else {
+        Class::Plain
+    }
+}
+
+/// The class of a word by the encodings in the order of how often they are met.
+#[inline(always)]
+fn class_in_group(word: u32) -> Class
+    ensures { result ≡ class_by rows_as_tested word }
+{
     if BRANCH_CONDITIONALLY.fits(word) {
         Class::Cond { off: imm19(word) }
     } else if BRANCH_CONSISTENT.fits(word) {
-        Class::Odd
-    } else if SYNCHRONIZATION_BARRIER.fits(word) {
-        Class::Isb
-    } else if BRANCH_TO_REGISTER.fits(word) {
-        Class::Ind { link: false }
-    } else if BRANCH_WITH_LINK_TO_REGISTER.fits(word) {
-        Class::Ind { link: true }
-    } else if RETURN.fits(word) {
-        Class::Ind { link: false }
-    } else if EXCEPTION_RETURN.fits(word) {
-        Class::Eret
-    } else if ANY_BRANCH_TO_REGISTER.fits(word) {
         Class::Odd
     } else if BRANCH.fits(word) {
         Class::Jump {
@@ -64,6 +64,18 @@ pub fn class_of(word: u32) -> Class
         Class::Cond { off: imm19(word) }
     } else if TEST_BIT_AND_BRANCH.fits(word) {
         Class::Cond { off: imm14(word) }
+    } else if SYNCHRONIZATION_BARRIER.fits(word) {
+        Class::Isb
+    } else if BRANCH_TO_REGISTER.fits(word) {
+        Class::Ind { link: false }
+    } else if BRANCH_WITH_LINK_TO_REGISTER.fits(word) {
+        Class::Ind { link: true }
+    } else if RETURN.fits(word) {
+        Class::Ind { link: false }
+    } else if EXCEPTION_RETURN.fits(word) {
+        Class::Eret
+    } else if ANY_BRANCH_TO_REGISTER.fits(word) {
+        Class::Odd
     } else {
         Class::Plain
     }

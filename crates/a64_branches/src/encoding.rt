@@ -16,6 +16,9 @@ impl Encoding {
     }
 }
 
+/// The group that has all these encodings, and others: bits 28 to 26 are 101.
+pub const BRANCHES_AND_SYSTEM: Encoding = Encoding(0x1c00_0000, 0x1400_0000);
+
 /// B.cond: 0101 0100 imm19 0 cond.
 pub const BRANCH_CONDITIONALLY: Encoding = Encoding(0xff00_0010, 0x5400_0000);
 

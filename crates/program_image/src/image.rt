@@ -1,5 +1,5 @@
 //! The image of a program: the parts of a core's memory that hold it.
-ghost use Rattle.std.specs.Prelude.{◌≡◌, ◌⊎◌, ℕ, ◌+◌, ◌%◌, ◌^◌, ◌<◌, ◌≤◌, [], length, None, MatchOption, IfOk, IsErrOf};
+ghost use Rattle.std.specs.Prelude.{◌≡◌, ◌⊎◌, ℕ, ◌+◌, ◌%◌, ◌^◌, ◌<◌, ◌≤◌, [], length, None, MatchOption, IfOk, IfSome, IsErrOf};
 ghost use Rattle.std.specs.Str.Lines.{lines};
 ghost use Rattle.trace_io.specs.Causes.{KeepsFaults, Rose};
 ghost use Rattle.trace_io.specs.Bytes.{ShowsAsBefore, TakesAtMost};
@@ -9,10 +9,10 @@ ghost use Rattle.program_image.specs.Answers.{AnswersText, TakesImage, TakesNoIm
 ghost use Rattle.program_image.specs.Blocks.{HasGap, IsBlock, class_at};
 ghost use Rattle.program_image.specs.Runs.{IsRunLength};
 
-use crate::block::{Block, end_at};
+use crate::block::{Block, BlockEnd, end_at};
 use crate::draft::Draft;
 use crate::fault::{ImageFault, ImageWhy, LineFault};
-use crate::lookup::{class_at, part_at, word_at};
+use crate::lookup::{class_near, part_at, word_at};
 use crate::part::Part;
 use crate::run_table::{Runs, table};
 use crate::text::next_line;
@@ -93,20 +93,29 @@ impl Image {
         ensures few { result.plain < 2 ^ 62 }
         ensures gap { HasGap self.now }
     {
-        let plain = u64::from(self.run_at(pc).unwrap_or(0));
+        let Some((place, run)) = self.run_at(pc) else {
+            return Block {
+                plain: 0,
+                end: BlockEnd::NoCode(pc),
+            };
+        };
+        let plain = u64::from(run);
         let addr = pc.wrapping_add(plain * INSTRUCTION_BYTES);
-        let end = end_at(class_at(&self.parts, addr), addr);
+        let end = end_at(class_near(&self.parts, place, addr), addr);
         Block { plain, end }
     }
 
-    /// How many plain words there are from an address on: none where no word begins there.
-    fn run_at(&self, addr: u64) -> Option<u32>
+    /// Which part the word at an address is of, and how many plain words there are from it on: none
+    /// where no word begins there.
+    fn run_at(&self, addr: u64) -> Option<(usize, u32)>
         requires { addr % 4 ≡ 0 }
-        ensures { MatchOption result (class_at self.now addr ≡ None) (IsRunLength self.now addr) }
+        ensures run { MatchOption result (class_at self.now addr ≡ None) (λ run. IsRunLength self.now addr run.1) }
+        ensures within { IfSome result (λ run. run.0 < length self.now) }
     {
         let place = part_at(&self.parts, addr)?;
         let offset = addr - self.parts[place].start();
-        self.table[place].at((offset / INSTRUCTION_BYTES) as usize)
+        let run = self.table[place].at((offset / INSTRUCTION_BYTES) as usize);
+        run.map(|run| (place, run))
     }
 }
 

@@ -85,10 +85,10 @@ impl Part {
         ensures { result ≡ word_in self.now addr }
     {
         let offset = addr.checked_sub(self.start)? as usize;
-        if addr % INSTRUCTION_BYTES != 0 {
+        if addr % INSTRUCTION_BYTES != 0 || offset >= self.bytes.len() {
             return None;
         }
-        let bytes = self.bytes.get(offset..)?.get(..INSTRUCTION_BYTES as usize)?;
+        let bytes = &self.bytes[offset..offset + INSTRUCTION_BYTES as usize];
         Some(LittleEndian::read_u32(bytes))
     }
 }
