@@ -2,9 +2,10 @@
 ghost use Rattle.std.specs.Prelude.{◌≡◌, ◌≤◌, ◌+◌, ◌∷◌, ◌++◌, [], length, replicate, slice_get, All};
 ghost use Rattle.etm_types.specs.Atoms.{atoms_in, most_atoms};
 ghost use Rattle.path_elements.specs.Elements.{atoms};
-ghost use Rattle.path_elements.specs.Held.{IsElem, rest_in};
+ghost use Rattle.path_elements.specs.Held.{IsElem, elem_of, numbered, rest_in};
+ghost use Rattle.path_elements.specs.declared.elems.Values.{Values};
 
-use etm_types::{AtomRun, Elem, FewAtoms, P0};
+use etm_types::{AtomRun, Ctx, Elem, FewAtoms, P0};
 use std::marker::Model;
 
 /// No atoms.
@@ -14,18 +15,50 @@ const NO_ATOMS: AtomRun = AtomRun { count: 0, bits: 0 };
 const TWO_TAKEN: u32 = 0b11;
 
 /// The elements of one packet, in order, at most 24. Contracts see their list.
+///
+/// Each packet gives one, so it is kept small: of the elements after the atoms it has the kinds, and in
+/// [`Values`] what they say.
 #[derive(Debug, Drop)]
 pub struct Elems {
     atoms: AtomRun,
     rest: Rest,
+    values: Values,
 }
 
 /// What stands after the atoms.
 #[derive(Clone, Copy, Debug)]
 enum Rest {
     Nothing,
-    One(Elem),
-    Two(Elem, Elem),
+    One(Kind),
+    Two(Kind, Kind),
+}
+
+/// The kind of an element that is no atom.
+#[derive(Clone, Copy, Debug)]
+pub(crate) enum Kind {
+    Info,
+    On,
+    Ctx,
+    Addr,
+    Exc,
+    Commit,
+    Cancel,
+    Flip,
+    Overflow,
+    Discard,
+}
+
+/// What the elements of one packet say. No packet gives two that say different numbers, addresses or
+/// contexts, so they share these.
+#[derive(Clone, Copy, Debug)]
+pub(crate) struct Values {
+    /// So many P0 elements.
+    pub number: u32,
+    /// The type of an exception.
+    pub exception: u8,
+    /// An address, or the preferred return address of the exception.
+    pub addr: u64,
+    pub ctx: Ctx,
 }
 
 impl Model for Elems {
@@ -35,9 +68,9 @@ impl Model for Elems {
 
     ghost Value = { List Elem };
 
-    ghost view = { λ e. held e.atoms e.rest };
+    ghost view = { λ e. held e.atoms e.rest e.values };
 
-    ghost invariant = { λ e. AreElems (held e.atoms e.rest) };
+    ghost invariant = { λ e. AreElems (held e.atoms e.rest e.values) };
 }
 
 impl Elems {
@@ -57,30 +90,65 @@ impl Elems {
         if i < count {
             return Some(Elem::P0(P0::Atom((self.atoms.bits >> i) % 2 == 1)));
         }
-        self.rest.get(i - count)
+        self.rest.get(&self.values, i - count)
     }
 }
 
 impl Rest {
-    fn len(&self) -> usize
-        ensures value { result ≡ length (rest_in self.now) }
+    fn len(self) -> usize
+        ensures value { (values : Values) → result ≡ length (rest_in self values) }
         ensures most { result ≤ 2 }
     {
-        match *self {
+        match self {
             Rest::Nothing => 0,
             Rest::One(_) => 1,
             Rest::Two(_, _) => 2,
         }
     }
 
-    fn get(&self, i: usize) -> Option<Elem>
-        ensures { result ≡ slice_get (rest_in self.now) i }
+    fn get(self, values: &Values, i: usize) -> Option<Elem>
+        ensures { result ≡ slice_get (rest_in self values.now) i }
     {
-        match *self {
-            Rest::One(first) if i == 0 => Some(first),
-            Rest::Two(first, _) if i == 0 => Some(first),
-            Rest::Two(_, second) if i == 1 => Some(second),
+        match self {
+            Rest::One(only) if i == 0 => Some(values.elem(only)),
+            Rest::Two(first, _) if i == 0 => Some(values.elem(first)),
+            Rest::Two(_, second) if i == 1 => Some(values.elem(second)),
             _ => None,
+        }
+    }
+}
+
+impl Values {
+    /// For elements that say nothing, or a number alone.
+    pub(crate) fn number(number: u32) -> Values
+        ensures { result ≡ numbered number }
+    {
+        Values {
+            number,
+            exception: 0,
+            addr: 0,
+            ctx: Ctx::initial(),
+        }
+    }
+
+    /// The element of a kind.
+    fn elem(&self, kind: Kind) -> Elem
+        ensures { result ≡ elem_of self.now kind }
+    {
+        match kind {
+            Kind::Info => Elem::Info { spec: self.number },
+            Kind::On => Elem::On,
+            Kind::Ctx => Elem::Ctx(self.ctx),
+            Kind::Addr => Elem::Addr(self.addr),
+            Kind::Exc => Elem::P0(P0::Exc {
+                kind: self.exception,
+                ret: self.addr,
+            }),
+            Kind::Commit => Elem::Commit(self.number),
+            Kind::Cancel => Elem::Cancel(self.number),
+            Kind::Flip => Elem::Flip,
+            Kind::Overflow => Elem::Overflow,
+            Kind::Discard => Elem::Discard,
         }
     }
 }
@@ -95,26 +163,29 @@ impl Elems {
         Elems {
             atoms: NO_ATOMS,
             rest: Rest::Nothing,
+            values: Values::number(0),
         }
     }
 
-    pub(crate) fn one(only: Elem) -> Elems
-        requires { IsElem only }
-        ensures { result ≡ only ∷ [] }
+    pub(crate) fn one(only: Kind, values: Values) -> Elems
+        requires { IsElem (elem_of values only) }
+        ensures { result ≡ elem_of values only ∷ [] }
     {
         Elems {
             atoms: NO_ATOMS,
             rest: Rest::One(only),
+            values,
         }
     }
 
-    pub(crate) fn two(first: Elem, second: Elem) -> Elems
-        requires { IsElem first × IsElem second }
-        ensures { result ≡ first ∷ second ∷ [] }
+    pub(crate) fn two(first: Kind, second: Kind, values: Values) -> Elems
+        requires { IsElem (elem_of values first) × IsElem (elem_of values second) }
+        ensures { result ≡ elem_of values first ∷ elem_of values second ∷ [] }
     {
         Elems {
             atoms: NO_ATOMS,
             rest: Rest::Two(first, second),
+            values,
         }
     }
 
@@ -129,6 +200,7 @@ impl Elems {
                 bits: run.bits,
             },
             rest: Rest::Nothing,
+            values: Values::number(0),
         }
     }
 
@@ -139,7 +211,8 @@ impl Elems {
     {
         Elems {
             atoms: run_of(few),
-            rest: Rest::One(Elem::Flip),
+            rest: Rest::One(Kind::Flip),
+            values: Values::number(0),
         }
     }
 
@@ -150,7 +223,8 @@ impl Elems {
     {
         Elems {
             atoms: run_of(few),
-            rest: Rest::Two(Elem::Cancel(n), Elem::Flip),
+            rest: Rest::Two(Kind::Cancel, Kind::Flip),
+            values: Values::number(n),
         }
     }
 }

@@ -1,11 +1,11 @@
 //! From packets to elements, one packet after the other.
 ghost use Rattle.std.specs.Prelude.{◌≡◌, ◌≤◌, ◌<◌, ◌∷◌, ◌++◌, [], false, true, Some, None, IfOk, IfSome, OnErr, if◌then◌else◌};
 ghost use Rattle.path_elements.specs.Elements.{untold, elements_of, told_after, is_misplaced, may_follow_exception, tells};
-ghost use Rattle.path_elements.specs.Held.{AreElems, CanBeTaken, IsTold};
+ghost use Rattle.path_elements.specs.Held.{AreElems, CanBeTaken, IsTold, elem_of, numbered};
 
-use crate::Elems;
+use crate::elems::{Elems, Kind, Values};
 use address_history::History;
-use etm_types::{AddrForm, Ctx, CtxBits, Elem, FewAtoms, P0};
+use etm_types::{AddrForm, Ctx, CtxBits, FewAtoms};
 use packet_grammar::Packet;
 use std::marker::Model;
 
@@ -110,18 +110,23 @@ impl ElemMaker {
                 Elems::none()
             }
             Packet::Info { spec, .. } => self.begin(spec.unwrap_or(0)),
-            Packet::On => Elems::one(Elem::On),
+            Packet::On => Elems::one(Kind::On, Values::number(0)),
             Packet::Exc { kind } => self.await_address(kind),
-            Packet::Overflow => self.lose(Elem::Overflow),
-            Packet::Discard => self.lose(Elem::Discard),
-            Packet::Commit(n) => Elems::one(Elem::Commit(n)),
-            Packet::Cancel { n, flip: false } => Elems::one(Elem::Cancel(n)),
-            Packet::Cancel { n, flip: true } => Elems::two(Elem::Cancel(n), Elem::Flip),
+            Packet::Overflow => self.lose(Kind::Overflow),
+            Packet::Discard => self.lose(Kind::Discard),
+            Packet::Commit(n) => Elems::one(Kind::Commit, Values::number(n)),
+            Packet::Cancel { n, flip: false } => Elems::one(Kind::Cancel, Values::number(n)),
+            Packet::Cancel { n, flip: true } => {
+                Elems::two(Kind::Cancel, Kind::Flip, Values::number(n))
+            }
             Packet::Mispredict(ref few) => Elems::flipped(few),
             Packet::Cancel2(ref few) => Elems::cancelled(few, 1),
             Packet::Cancel3 { e, n } => Elems::cancelled(&one_if(e), u32::from(n)),
-            Packet::CtxSame => Elems::one(Elem::Ctx(self.context)),
-            Packet::CtxInfo(ref bits) => Elems::one(self.take_context(bits)),
+            Packet::CtxSame => self.context_alone(),
+            Packet::CtxInfo(ref bits) => {
+                self.take_context(bits);
+                self.context_alone()
+            }
             Packet::Addr { ref form, ref ctx } => self.take_place(form, ctx),
         }
     }
@@ -134,7 +139,7 @@ impl ElemMaker {
         self.history = History::reset();
         self.context = Ctx::initial();
         self.informed = true;
-        Elems::one(Elem::Info { spec })
+        Elems::one(Kind::Info, Values::number(spec))
     }
 
     /// An exception of a type was taken. Its address is still to come.
@@ -148,13 +153,13 @@ impl ElemMaker {
     }
 
     /// Trace is missing, as an element says: the address of an exception does not come.
-    fn lose(&mut self, gap: Elem) -> Elems
-        requires { IsElem gap }
+    fn lose(&mut self, gap: Kind) -> Elems
+        requires { IsElem (elem_of (numbered 0) gap) }
         ensures told { self.new ≡ record (self.old) { awaiting = None } }
-        ensures element { result ≡ gap ∷ [] }
+        ensures element { result ≡ elem_of (numbered 0) gap ∷ [] }
     {
         self.awaiting = None;
-        Elems::one(gap)
+        Elems::one(gap, Values::number(0))
     }
 
     /// Takes an address, and before it the context that comes with it.
@@ -165,36 +170,56 @@ impl ElemMaker {
         ensures elements { result ≡ elements_in self.old (packet.Addr form.now ctx.now) }
     {
         match *ctx {
-            None => Elems::one(self.take_address(form)),
+            None => {
+                let (place, values) = self.take_address(form);
+                Elems::one(place, values)
+            }
             Some(ref bits) => {
-                let context = self.take_context(bits);
-                Elems::two(context, self.take_address(form))
+                self.take_context(bits);
+                let (place, values) = self.take_address(form);
+                Elems::two(Kind::Ctx, place, values)
             }
         }
     }
 
     /// Takes a context.
-    fn take_context(&mut self, bits: &CtxBits) -> Elem
+    fn take_context(&mut self, bits: &CtxBits)
         requires { bits.now.el ≤ 3 }
-        ensures told { self.new ≡ record (self.old) { context = context_told bits.now self.old.context } }
-        ensures element { result ≡ elem.Ctx (context_told bits.now self.old.context) }
+        ensures { self.new ≡ record (self.old) { context = context_told bits.now self.old.context } }
     {
         self.context = bits.apply(&self.context);
-        Elem::Ctx(self.context)
     }
 
-    /// Takes an address. An exception that awaits it has it as its preferred return address.
-    fn take_address(&mut self, form: &AddrForm) -> Elem
+    /// The context as an element.
+    fn context_alone(&self) -> Elems
+        ensures { result ≡ elem.Ctx self.now.context ∷ [] }
+    {
+        let values = Values {
+            ctx: self.context,
+            ..Values::number(0)
+        };
+        Elems::one(Kind::Ctx, values)
+    }
+
+    /// Takes an address, and gives its element and the context. An exception that awaits the address has
+    /// it as its preferred return address.
+    fn take_address(&mut self, form: &AddrForm) -> (Kind, Values)
         requires { HasEntry form.now }
         ensures told { self.new ≡ after_address self.old form.now }
-        ensures element { result ≡ with_address self.old.awaiting (address_told self.old.history form.now) }
-        ensures within { IsElem result }
+        ensures element { elem_of result.1 result.0 ≡ with_address self.old.awaiting (address_told self.old.history form.now) }
+        ensures context { result.1.ctx ≡ self.old.context }
+        ensures within { IsElem (elem_of result.1 result.0) }
     {
         let addr = self.history.apply(form);
         self.history.push(addr);
+        let values = Values {
+            addr,
+            ctx: self.context,
+            ..Values::number(0)
+        };
         match self.awaiting.take() {
-            None => Elem::Addr(addr),
-            Some(kind) => Elem::P0(P0::Exc { kind, ret: addr }),
+            None => (Kind::Addr, values),
+            Some(exception) => (Kind::Exc, Values { exception, ..values }),
         }
     }
 }
