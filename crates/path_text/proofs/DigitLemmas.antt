@@ -4,7 +4,7 @@ use Rattle.std.specs.Prelude.{◌==◌, map}
 use Rattle.std.specs.Int.Digits.{digits_of}
 use Rattle.std.specs.Int.Count.{count_leading_zeros}
 use Rattle.std.proofs.lemmas.Bool.{eqb-true}
-use Rattle.std.proofs.lemmas.List.{length-map, length-append, length-take-le, map-append, drop-set, set_split, take-append-drop, take-take, take_at, drop_at}
+use Rattle.std.proofs.lemmas.List.{length-map, length-append, length-take-le, map-append, drop-set, set_split, take-take, take_at, drop_at}
 use Rattle.std.proofs.lemmas.Int.Digits.{digits_of_step, length-digits_of_step, length-digits_of-le}
 use Rattle.std.proofs.lemmas.Nat.{leading_top}
 use Rattle.std.proofs.Math.Nat.{zero-div, zero-mod, le-div_iff_mul-le, one-le-pow, pow-zero}
@@ -16,7 +16,7 @@ cases : (b : Bool) → (b ≡ true) ⊎ (b ≡ false)
 cases true = inl refl
 cases false = inr refl
 
-above_zero : (base n : ℕ) → 0 < n → in_base base n ≡ map digit (digits_of base n)
+pub above_zero : (base n : ℕ) → 0 < n → in_base base n ≡ map digit (digits_of base n)
 unfolding in_base
 above_zero base n some = elim (cases (n == 0)) [ inl t ↦ absurd (omega (arith, eqb-true n 0 t)) | inr f ↦ simp f ]
 
@@ -38,7 +38,7 @@ length-in_base base n two =
     let above = digits_of base (n / base) in
     omega (arith, ap length (in_base_step base n two), length-append (map digit above) (digit (n % base) ∷ []), length-map above digit)
 
-few_digits : (base most n : ℕ) → 2 ≤ base → 1 ≤ most → n < base ^ most → length (in_base base n) ≤ most
+pub few_digits : (base most n : ℕ) → 2 ≤ base → 1 ≤ most → n < base ^ most → length (in_base base n) ≤ most
 unfolding in_base
 few_digits base most zero two some fits = some
 few_digits base most (suc n) two some fits =
@@ -68,7 +68,7 @@ many_digits base (suc k) n two fits =
     omega (arith, many_digits base k (n / base) two above, more)
 
 -- where a number stands between two powers, the number of its digits is that of the upper one
-count_between : (base k n : ℕ) → 2 ≤ base → base ^ k ≤ n → n < base ^ (k + 1) → 0 < n → length (in_base base n) ≡ k + 1
+pub count_between : (base k n : ℕ) → 2 ≤ base → base ^ k ≤ n → n < base ^ (k + 1) → 0 < n → length (in_base base n) ≡ k + 1
 count_between base k n two above below some =
     omega (
       arith,
@@ -227,10 +227,6 @@ put_last base n at text two within =
 -- what stands before is as it was
 pub take_less : (k at : ℕ) (xs ys : List ℕ) → k ≤ at → take at xs ≡ take at ys → take k xs ≡ take k ys
 take_less k at xs ys less same = sym (take-take k at xs less) ∙ ap (take k) same ∙ take-take k at ys less
-
-pub put_all : (at start : ℕ) (text old new : List ℕ) → at ≡ start → take at text ≡ take at old → drop at text ≡ new → text ≡ take start old ++ new
-put_all at start text old new is before after =
-    sym (take-append-drop at text) ∙ ap (λ t. t ++ drop at text) (before ∙ ap (λ k. take k old) is) ∙ ap (λ t. take start old ++ t) after
 
 -- ---- the digits of a number in place of as many others
 

@@ -6,7 +6,7 @@ ghost use Rattle.std.specs.Prelude.{◌≡◌, ◌+◌, ◌≤◌, length};
 ghost use Rattle.path_text.specs.Lines.{hex};
 ghost use Rattle.path_text.specs.Writing.{Writes};
 
-use crate::digits::{change_hex, digit, hex_count, put_number};
+use crate::digits::{change_hex, digit, hex_count, put_hex};
 use etm_types::Id;
 use std::marker::Model;
 use trace_io::{Failed, Sink, write_all};
@@ -71,7 +71,7 @@ impl AddressLine {
         if self.len == end + 1 {
             change_hex(self.address, address, &mut self.bytes, end);
         } else {
-            put_number(16, address, &mut self.bytes, end);
+            put_hex(address, &mut self.bytes, end);
             self.bytes[end] = b'\n';
             self.len = end + 1;
         }

@@ -2,7 +2,7 @@
 //!
 //! How many digits a number has is found first, so that they need no place of their own. The last one is put first.
 ghost use Rattle.std.specs.Prelude.{◌≡◌, ◌+◌, ◌-◌, ◌/◌, ◌%◌, ◌∷◌, ◌++◌, ◌<◌, ◌≤◌, [], length, take, drop};
-ghost use Rattle.path_text.specs.Lines.{digit, in_base, hex, decimal};
+ghost use Rattle.path_text.specs.Lines.{digit, hex, decimal};
 
 /// The digits of the bases up to 16.
 static DIGITS: [u8; 16] = *b"0123456789abcdef";
@@ -88,24 +88,6 @@ pub fn decimal_count(n: u64) -> usize
     count + middle_count(rest)
 }
 
-/// Puts the digits of a number where they end at `end`.
-#[inline(always)]
-pub fn put_number(base: u64, n: u64, text: &mut [u8], end: usize)
-    requires base { (10 ≤ base) × (base ≤ 16) }
-    requires room { length (in_base base n) ≤ end }
-    requires within { end ≤ length text.old }
-    ensures { text.new ≡ take (end - length (in_base base n)) text.old ++ (in_base base n ++ drop end text.old) }
-{
-    let mut at = end - 1;
-    text[at] = digit((n % base) as u8);
-    let mut rest = n / base;
-    while rest > 0 {
-        at -= 1;
-        text[at] = digit((rest % base) as u8);
-        rest /= base;
-    }
-}
-
 /// The two digits of a number below 100.
 #[inline(always)]
 fn pair(n: u8) -> [u8; 2]
@@ -158,6 +140,47 @@ pub fn put_decimal(n: u64, text: &mut [u8], end: usize)
         rest /= 100;
     }
     put_short(rest as u8, text, at);
+}
+
+/// Puts the two hex digits of a byte.
+#[inline(always)]
+fn put_byte(n: u8, text: &mut [u8], at: usize)
+    requires { at + 2 ≤ length text.old }
+    ensures { text.new ≡ take at text.old ++ (digit (n / 16) ∷ digit (n % 16) ∷ drop (at + 2) text.old) }
+{
+    text[at] = digit(n / 16);
+    text[at + 1] = digit(n % 16);
+}
+
+/// Puts the hex digits of a number below 256 where they end at `end`.
+#[inline(always)]
+fn put_short_hex(n: u8, text: &mut [u8], end: usize)
+    requires room { length (hex n) ≤ end }
+    requires within { end ≤ length text.old }
+    ensures { text.new ≡ take (end - length (hex n)) text.old ++ (hex n ++ drop end text.old) }
+{
+    if n < 16 {
+        text[end - 1] = digit(n);
+    } else {
+        put_byte(n, text, end - 2);
+    }
+}
+
+/// Puts the hex digits of a number where they end at `end`, two at a time.
+#[inline(always)]
+pub fn put_hex(n: u64, text: &mut [u8], end: usize)
+    requires room { length (hex n) ≤ end }
+    requires within { end ≤ length text.old }
+    ensures { text.new ≡ take (end - length (hex n)) text.old ++ (hex n ++ drop end text.old) }
+{
+    let mut at = end;
+    let mut rest = n;
+    while rest >= 256 {
+        at -= 2;
+        put_byte((rest % 256) as u8, text, at);
+        rest /= 256;
+    }
+    put_short_hex(rest as u8, text, at);
 }
 
 /// Makes the hex digits of `old`, which end at `end`, those of `new`, which are as many. Only the last of them are

@@ -2,7 +2,7 @@
 ghost use Rattle.std.specs.Prelude.{◌≡◌, ◌+◌, ◌∷◌, ◌++◌, ◌<◌, ◌≤◌, [], length};
 ghost use Rattle.path_text.specs.Lines.{line_start, byte_text};
 
-use crate::digits::{decimal_count, digit, hex_count, put_decimal, put_number};
+use crate::digits::{decimal_count, digit, hex_count, put_decimal, put_hex};
 use crate::letters::put_atoms;
 use etm_types::{AtomRun, Id};
 use std::marker::Model;
@@ -80,7 +80,7 @@ impl Line {
         ensures len { length self.new ≡ length self.old + length (hex n) }
     {
         let end = self.len + hex_count(n);
-        put_number(16, n, &mut self.bytes, end);
+        put_hex(n, &mut self.bytes, end);
         self.len = end;
     }
 

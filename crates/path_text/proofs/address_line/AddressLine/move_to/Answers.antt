@@ -32,8 +32,8 @@ change_hex-requires-clause-there c =
     (ap (λ n. take n line.bytes) (sym c.if-self-end.true) ∙ c.self.invariant.1)
     ∙ ap (λ n. take n line.bytes ++ hex line.address) start
 
-pub put_number-requires-clause-within : goal.put_number-requires-clause-within
-put_number-requires-clause-within c = omega (arith, c.hex_count-end.ensures, few_hex_64 c.args.address (omega arith), c.self.told)
+pub put_hex-requires-clause-within : goal.put_hex-requires-clause-within
+put_hex-requires-clause-within c = omega (arith, c.hex_count-end.ensures, few_hex_64 c.args.address (omega arith), c.self.told)
 
 pub bounds-self-inside-end : goal.bounds-self-inside-end
 bounds-self-inside-end c = omega (arith, c.hex_count-end.ensures, few_hex_64 c.args.address (omega arith))
@@ -55,7 +55,7 @@ invariant_of-self c =
       )
       | else-self-end w ↦ rw w.self-inside-is (
         omega (arith, few, c.hex_count-end.ensures),
-        ap (λ t. take (end + 1) (set t end 10)) w.put_number.ensures
+        ap (λ t. take (end + 1) (set t end 10)) w.put_hex.ensures
             ∙ ap (λ n. take (end + 1) (set (take n bytes ++ (hex address ++ drop end bytes)) end 10)) start
             ∙ line_made id address end bytes (front_there id line.address line.len bytes (omega (arith, len)) c.self.invariant.1)
             (omega (arith, c.hex_count-end.ensures))
