@@ -9,6 +9,7 @@ use Rattle.program_image.specs.declared.image.Image.{Image}
 use Rattle.etm_types.specs.declared.element.P0.{P0}
 use Rattle.etm_types.specs.declared.element.P0.TheVariants.{Atom, Exc}
 use Rattle.etm_types.specs.declared.element.Entry.{Entry}
+use Rattle.etm_types.specs.Pre.{nothing_told}
 use Rattle.etm_types.specs.declared.walked.Walked.{Walked}
 use Rattle.etm_types.specs.declared.walked.ExcMark.{ExcMark}
 use Rattle.etm_types.specs.declared.walk_fault.WalkFault.{WalkFault}
@@ -75,6 +76,10 @@ Halts image (Some address) (Exc kind ret) f =
 abbrev pub mark_of : P0 → Option ExcMark
 mark_of (Atom taken) = None
 mark_of (Exc kind ret) = Some (record { kind = kind; ret = ret })
+
+-- an atom before which nothing was given
+abbrev pub bare_atom : Bool → Entry
+bare_atom taken = record { pre = nothing_told; p0 = Atom taken }
 
 -- the entry is walked
 pub record Shows (image : Image) (s : State) (entry : Entry) (walked : Walked) (after : State) : Type 0 where

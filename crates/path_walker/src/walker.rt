@@ -1,8 +1,8 @@
 //! The walk of one entry after the other.
-ghost use Rattle.std.specs.Prelude.{◌≡◌, IfOk, IsOk, IsErr};
+ghost use Rattle.std.specs.Prelude.{◌≡◌, IfOk, IsOk, IsErr, true};
 ghost use Rattle.etm_types.specs.declared.walk_fault.WalkFault.{WalkFault};
 
-use crate::leg::{Leg, leg_of};
+use crate::leg::{Leg, leg_of, leg_of_atom};
 use crate::pc::Pc;
 use crate::start::{StackUse, Start, at_given, at_known};
 use etm_types::{Ctx, Entry, ExcMark, P0, Pre, WalkFault, Walked};
@@ -35,8 +35,9 @@ impl Model for Walker {
 impl Walker {
     ghost use Rattle.path_walker.specs.State.{IsState, IsPc, first_state};
     ghost use Rattle.path_walker.specs.Start.{StartsAs, context_of, mismatch_of, pc_before, start_of, used};
+    ghost use Rattle.path_walker.specs.declared.pc.Pc.TheVariants.{Known};
     ghost use Rattle.path_walker.specs.Steps.{linked};
-    ghost use Rattle.path_walker.specs.Walk.{HasAlignedAddresses, Shows, Stops, ToldIsAligned, mark_of};
+    ghost use Rattle.path_walker.specs.Walk.{HasAlignedAddresses, Shows, Stops, ToldIsAligned, bare_atom, mark_of};
 
     /// A walk that begins at no known address. This is the one call that takes memory, and the error
     /// means want of it.
@@ -56,6 +57,44 @@ impl Walker {
     ///
     /// The addresses in the entry are multiples of 4.
     pub fn walk(&mut self, image: &Image, entry: &Entry) -> Result<Walked, WalkFault>
+        requires { HasAlignedAddresses entry.now }
+        ensures shows { IfOk result (λ walked. Shows image.now self.old entry.now walked self.new) }
+        ensures stops { (fault : WalkFault) → result ≡ Err fault → Stops image.now self.old entry.now fault }
+        ensures unchanged { IsErr result → self.new ≡ self.old }
+        ensures state { IsState self.new }
+    {
+        match (self.pc, entry.p0) {
+            (Pc::Known(pc), P0::Atom(taken)) if nothing_given(&entry.pre) => {
+                self.walk_atom(image, pc, taken)
+            }
+            _ => self.walk_any(image, entry),
+        }
+    }
+
+    /// Walks an atom before which nothing was given, from a known address.
+    fn walk_atom(&mut self, image: &Image, pc: u64, taken: bool) -> Result<Walked, WalkFault>
+        requires { self.old.pc ≡ Known pc }
+        ensures shows { IfOk result (λ walked. Shows image.now self.old (bare_atom taken) walked self.new) }
+        ensures stops { (fault : WalkFault) → result ≡ Err fault → Stops image.now self.old (bare_atom taken) fault }
+        ensures unchanged { IsErr result → self.new ≡ self.old }
+        ensures state { IsState self.new }
+    {
+        let ctx = self.ctx;
+        let leg = leg_of_atom(image, pc, taken)?;
+        self.go_on(StackUse::Keep, &leg, ctx);
+        Ok(Walked {
+            on: false,
+            unknown: false,
+            ctx,
+            start: pc,
+            count: leg.count,
+            exc: None,
+        })
+    }
+
+    /// Walks any entry. Most are atoms before which nothing was given, and [`Walker::walk`] answers those
+    /// without it.
+    fn walk_any(&mut self, image: &Image, entry: &Entry) -> Result<Walked, WalkFault>
         requires { HasAlignedAddresses entry.now }
         ensures shows { IfOk result (λ walked. Shows image.now self.old entry.now walked self.new) }
         ensures stops { (fault : WalkFault) → result ≡ Err fault → Stops image.now self.old entry.now fault }
@@ -110,6 +149,23 @@ impl Walker {
 }
 
 ghost use Rattle.path_walker.specs.Walk.{mark_of};
+ghost use Rattle.etm_types.specs.Pre.{nothing_told};
+
+/// Whether nothing was given.
+fn nothing_given(pre: &Pre) -> bool
+    ensures { result ≡ true → pre.now ≡ nothing_told }
+{
+    matches!(
+        *pre,
+        Pre {
+            flush: false,
+            on: false,
+            lost: false,
+            ctx: None,
+            addr: None,
+        }
+    )
+}
 
 /// The exception of a P0 element, where it is one.
 fn mark_of(p0: P0) -> Option<ExcMark>
