@@ -1,7 +1,6 @@
 //! The reader: the search for the first A-sync, and the packets from there on (Arm IHI 0064, "Alignment
 //! Synchronization packet", "Descriptions of Trace Packets").
-ghost use Rattle.std.specs.Prelude.{◌≡◌, ◌≤◌, ◌<◌, ◌+◌, ◌-◌, ◌^◌, ◌++◌, ◌∷◌, [], ◌↔◌, length, List, ℕ, IsTrue, IfSome, None, All};
-ghost use Rattle.etm_types.specs.Atoms.{IsAtomRun};
+ghost use Rattle.std.specs.Prelude.{◌≡◌, ◌≤◌, ◌<◌, ◌+◌, ◌-◌, ◌^◌, ◌++◌, ◌∷◌, [], ◌↔◌, length, List, ℕ, IsTrue, All};
 ghost use Rattle.etm_types.specs.Settings.{AreSettings};
 ghost use Rattle.packet_grammar.specs.Ranges.{IsPacket};
 ghost use Rattle.packet_reader.specs.States.{FitsAfter, HeadsBy};
@@ -13,7 +12,7 @@ use crate::phase::Phase;
 use crate::state::Progress;
 use crate::step::Step;
 use crate::sync::{LENGTH_OF_SYNC, ends_sync};
-use etm_types::{AtomRun, Settings};
+use etm_types::Settings;
 use packet_grammar::{Packet, PacketFault};
 use std::marker::Model;
 
@@ -55,6 +54,7 @@ impl PacketReader {
     }
 
     /// Takes the next byte.
+    #[inline(always)]
     pub fn take(&mut self, byte: u8) -> Step
         requires { self.old.taken < 2 ^ 62 }
         ensures settings { self.new.settings ≡ self.old.settings }
@@ -72,30 +72,6 @@ impl PacketReader {
             self.taken,
             byte,
         )
-    }
-
-    /// Takes the next byte where it is an atom packet, and answers the packet's offset and its atoms. Every other byte is
-    /// left to [`take`](PacketReader::take), and nothing changes. So a caller can go a short way with atom packets, which
-    /// most packets are, without a [`Step`].
-    #[inline(always)]
-    pub fn take_atoms(&mut self, byte: u8) -> Option<(u64, AtomRun)>
-        requires { self.old.taken < 2 ^ 62 }
-        ensures none { result ≡ None → self.new ≡ self.old }
-        ensures settings { self.new.settings ≡ self.old.settings }
-        ensures taken { IfSome result (λ atoms. self.new.taken ≡ self.old.taken + 1) }
-        ensures stands { (bytes : List ℕ) → StandsAt self.old bytes → IfSome result (λ atoms. StandsAt self.new (bytes ++ byte ∷ [])) }
-        ensures gains { (bytes : List ℕ) → StandsAt self.old bytes
-            → IfSome result (λ atoms. Gains self.old.settings bytes byte (Step.Whole atoms.0 (Packet.Atoms atoms.1))) }
-        ensures values { IfSome result (λ atoms. IsAtomRun atoms.1) }
-    {
-        match &self.phase {
-            Phase::Between if byte >= FIRST_OF_ATOMS => {
-                let (at, after) = (self.start, self.taken + 1);
-                (self.start, self.taken) = (after, after);
-                Some((at, run_of(byte)))
-            }
-            _ => None,
-        }
     }
 
     /// How many bytes were taken.
@@ -124,8 +100,30 @@ impl PacketReader {
     }
 }
 
-/// What a byte makes of a reader, which with it has taken so many.
+/// What a byte makes of a reader, which with it has taken so many. Most bytes are atom packets, which leave
+/// the phase as it is: these go the short way, and the answer stays where it is used.
+#[inline(always)]
 fn step(settings: &Settings, phase: &mut Phase, start: &mut u64, taken: u64, byte: u8) -> Step
+    requires { FitsPhase phase.old × (start.old ≤ taken) × (zeros_in phase.old < taken) }
+    ensures moves { Moves settings.now phase.old start.old taken byte (record { phase = phase.new; start = start.new; step = result }) }
+    ensures fits { FitsPhase phase.new × (start.new ≤ taken) × (zeros_in phase.new ≤ taken) }
+{
+    match phase {
+        Phase::Between if byte >= FIRST_OF_ATOMS => {
+            let at = *start;
+            *start = taken;
+            Step::Whole {
+                at,
+                packet: Packet::Atoms(run_of(byte)),
+            }
+        }
+        _ => any_step(settings, phase, start, taken, byte),
+    }
+}
+
+/// The same, of any byte.
+#[inline(never)]
+fn any_step(settings: &Settings, phase: &mut Phase, start: &mut u64, taken: u64, byte: u8) -> Step
     requires { FitsPhase phase.old × (start.old ≤ taken) × (zeros_in phase.old < taken) }
     ensures moves { Moves settings.now phase.old start.old taken byte (record { phase = phase.new; start = start.new; step = result }) }
     ensures fits { FitsPhase phase.new × (start.new ≤ taken) × (zeros_in phase.new ≤ taken) }

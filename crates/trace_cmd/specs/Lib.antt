@@ -1,5 +1,4 @@
 pub mod Words
-pub mod Reading
 pub mod PacketList
 pub mod Resolving
 pub mod Pending

@@ -1,16 +1,7 @@
 -- What is printed of a stream's packets.
-use Rattle.std.specs.Prelude.{◌≡◌, ℕ, ◌==◌, Bool, true, false, if◌then◌else◌, List, [], ◌∷◌, ◌++◌, length, Option, None, Result, Err, IfOk}
+use Rattle.std.specs.Prelude.{◌≡◌, ℕ, ◌==◌, Bool, true, false, if◌then◌else◌, List, [], ◌∷◌, ◌++◌, length}
 use Rattle.etm_types.specs.Settings.{Sizes}
 use Rattle.packet_grammar.specs.declared.packet.Packet.{Packet}
-use Rattle.packet_grammar.specs.declared.fault.PacketFault.{PacketFault}
-use Rattle.packet_reader.specs.Answered.{fault_after, told}
-use Rattle.packet_reader.specs.Stands.{Standing}
-use Rattle.packet_reader.specs.declared.step.Step.{Step}
-use Rattle.packet_reader.specs.declared.step.Step.TheVariants.{Whole}
-use Rattle.path_text.specs.Writing.{Writes}
-use Rattle.trace_cmd.specs.Reading.{TakesByte}
-use Rattle.trace_io.specs.State.{IoState}
-use Rattle.trace_io.specs.declared.traits.Failed.{Failed}
 use Rattle.packet_grammar.specs.declared.stream_fault.Fault.TheVariants as stream
 use Rattle.packet_grammar.specs.Parsed.{Ending, no_sync, clean, cut, fault, IsStream}
 use Rattle.path_text.specs.declared.end.End.{End}
@@ -45,11 +36,3 @@ pub record IsPacketList (s : Sizes) (id : ℕ) (bytes text : List ℕ) (faulty :
   pub stream : IsStream s bytes packets ending
   pub printed : text ≡ list_text id bytes packets ending
   pub fault : faulty ≡ is_faulty ending
-
--- A byte was taken: the line of the packet that it ends is written, or the fault that it shows is given.
-pub record ByteListed (id byte : ℕ) (r after : Standing) (old new : IoState) (result : Result (Option (ℕ × PacketFault)) Failed) : Type 0 where
-  pub step : Step
-  pub takes : TakesByte r after byte step
-  pub lines : Writes old new result (packet_lines id (told step))
-  pub fault : IfOk result (λ fault. fault ≡ fault_after None step)
-  pub failed : (e : Failed) → result ≡ Err e → (at : ℕ) × (packet : Packet) × (step ≡ Whole at packet)

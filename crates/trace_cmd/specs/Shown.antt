@@ -7,7 +7,6 @@ use Rattle.packet_grammar.specs.declared.packet.Packet.{Packet}
 use Rattle.packet_grammar.specs.declared.stream_fault.Fault.{Fault}
 use Rattle.packet_grammar.specs.declared.stream_fault.Fault.TheVariants as fault
 use Rattle.packet_reader.specs.Answered.{fault_of}
-use Rattle.packet_reader.specs.Stands.{Standing}
 use Rattle.packet_reader.specs.declared.step.Step.{Step}
 use Rattle.packet_reader.specs.declared.step.Step.TheVariants.{Whole, Bad}
 use Rattle.path_elements.specs.Elements.{elements_of, told_after, is_misplaced, placed}
@@ -18,7 +17,6 @@ use Rattle.path_text.specs.declared.end.End.TheVariants as end
 use Rattle.program_image.specs.declared.image.Image.{Image}
 use Rattle.trace_cmd.specs.declared.trail.Trail.{Trail}
 use Rattle.trace_cmd.specs.PacketList.{end_of}
-use Rattle.trace_cmd.specs.Reading.{TakesByte}
 use Rattle.trace_cmd.specs.Path.{IsPath}
 use Rattle.trace_cmd.specs.Trail.{Runs, Shows}
 use Rattle.trace_io.specs.State.{IoState}
@@ -41,12 +39,6 @@ abbrev pub StepShows : Image → ℕ → Step → Trail → Trail → IoState �
 StepShows image id (Whole at packet) trail trail' old new result = PacketShows image id at packet trail trail' old new result
 StepShows image id (Bad at f) trail trail' old new result = (result ≡ Ok (Some (at, fault.Packet f))) × (new ≡ old)
 StepShows image id step trail trail' old new result = (result ≡ Ok None) × (trail' ≡ trail) × (new ≡ old)
-
--- a byte was taken, and what it shows was written
-pub record ByteShown (image : Image) (id byte : ℕ) (r after : Standing) (trail trail' : Trail) (old new : IoState) (result : Answer) : Type 0 where
-  pub step : Step
-  pub takes : TakesByte r after byte step
-  pub shows : StepShows image id step trail trail' old new result
 
 -- a path ends with the fault that was met, and where none was, as the stream does
 abbrev pub EndsAs : Sizes → List ℕ → End → Option (ℕ × Fault) → Type 0

@@ -1,5 +1,5 @@
 //! The packets of one stream that is not framed: a line each, and then the line of how it ends.
-ghost use Rattle.std.specs.Prelude.{◌≡◌, ℕ, ◌^◌, ◌<◌, ◌≤◌, List, [], Bool, length, None, Ok, Err, IfOk};
+ghost use Rattle.std.specs.Prelude.{◌≡◌, ℕ, ◌^◌, ◌≤◌, List, [], Bool, length, None, Ok, Err, IfOk};
 ghost use Rattle.etm_types.specs.Settings.{AreSettings};
 ghost use Rattle.packet_grammar.specs.declared.packet.Packet.{Packet};
 ghost use Rattle.packet_grammar.specs.Parsed.{Ending, IsStream};
@@ -7,11 +7,10 @@ ghost use Rattle.packet_reader.specs.Stands.{StandsAt};
 ghost use Rattle.packet_reader.specs.Answered.{told, fault_after, fault_of};
 ghost use Rattle.path_text.specs.PacketLines.{HasText};
 ghost use Rattle.path_text.specs.Writing.{Writes};
-ghost use Rattle.trace_cmd.specs.PacketList.{packet_lines, end_of, ByteListed, IsPacketList};
-ghost use Rattle.trace_cmd.specs.Reading.{Reads};
+ghost use Rattle.trace_cmd.specs.PacketList.{packet_lines, end_of, IsPacketList};
 
 use etm_types::{Id, Settings};
-use packet_grammar::{Fault, Packet, PacketFault};
+use packet_grammar::{Fault, PacketFault};
 use packet_reader::{PacketReader, Step};
 use path_text::{End, write_end, write_packet_line};
 use trace_io::{Failed, Sink};
@@ -39,28 +38,6 @@ fn write_step<K: Sink>(
     }
 }
 
-/// Takes a byte, and writes the line of the packet that it ends, or gives the fault that it shows, with its offset. Most
-/// bytes are atom packets, which go a short way.
-fn take_byte<K: Sink>(
-    id: Id,
-    reader: &mut PacketReader,
-    byte: u8,
-    sink: &mut K,
-) -> Result<Option<(u64, PacketFault)>, Failed>
-    requires settings { AreSettings reader.old.settings }
-    requires reads { Reads reader.old }
-    requires few { reader.old.taken < 2 ^ 62 }
-    ensures { ByteListed id byte reader.old reader.new (K.state sink.old) (K.state sink.new) result }
-{
-    match reader.take_atoms(byte) {
-        Some((at, run)) => match write_packet_line(id, at, &Packet::Atoms(run), sink) {
-            Ok(()) => Ok(None),
-            Err(failed) => Err(failed),
-        },
-        None => write_step(id, &reader.take(byte), sink),
-    }
-}
-
 /// Writes the line of each packet as the reader comes to its end, up to the first fault, and gives that with
 /// its offset.
 fn write_packets<K: Sink>(
@@ -79,7 +56,7 @@ fn write_packets<K: Sink>(
         × IfOk result (λ fault. fault_of ending ≡ fault) }
 {
     for byte in bytes {
-        let fault = take_byte(id, reader, *byte, sink)?;
+        let fault = write_step(id, &reader.take(*byte), sink)?;
         if fault.is_some() {
             return Ok(fault);
         }

@@ -1,6 +1,6 @@
 //! The path of one stream that is not framed, where nothing is speculated: what each packet shows, and then
 //! the line of how the stream ends.
-ghost use Rattle.std.specs.Prelude.{◌≡◌, ℕ, ◌^◌, ◌<◌, ◌≤◌, List, [], Bool, length, None, Ok, IfOk};
+ghost use Rattle.std.specs.Prelude.{◌≡◌, ℕ, ◌^◌, ◌≤◌, List, [], Bool, length, None, Ok, IfOk};
 ghost use Rattle.etm_types.specs.Settings.{AreSettings};
 ghost use Rattle.packet_grammar.specs.declared.packet.Packet.{Packet};
 ghost use Rattle.packet_reader.specs.Stands.{StandsAt};
@@ -12,14 +12,13 @@ ghost use Rattle.path_walker.specs.State.{first_state};
 ghost use Rattle.program_image.specs.Part.{IsImage};
 ghost use Rattle.trace_cmd.specs.Path.{IsPathText};
 ghost use Rattle.trace_cmd.specs.Pending.{at_first};
-ghost use Rattle.trace_cmd.specs.Shown.{ByteShown, EndsAs, PathShows, StepShows};
-ghost use Rattle.trace_cmd.specs.Reading.{Reads};
+ghost use Rattle.trace_cmd.specs.Shown.{EndsAs, PathShows, StepShows};
 ghost use Rattle.trace_cmd.specs.Trail.{IsPlace};
 
 use crate::packet_list::end_without_fault;
 use crate::trail::Trail;
 use etm_types::{Id, Settings};
-use packet_grammar::{Fault, Packet};
+use packet_grammar::Fault;
 use packet_reader::{PacketReader, Step};
 use path_text::{End, write_end};
 use path_walker::Walker;
@@ -49,29 +48,6 @@ fn take_step<K: Sink>(
     }
 }
 
-/// Takes a byte, and writes what it shows. A fault is given with its offset. Most bytes are atom packets, which go a
-/// short way.
-fn take_byte<K: Sink>(
-    trail: &mut Trail,
-    reader: &mut PacketReader,
-    image: &Image,
-    id: Id,
-    byte: u8,
-    sink: &mut K,
-) -> Result<Option<(u64, Fault)>, Failed>
-    requires image { IsImage image.now }
-    requires reads { Reads reader.old }
-    requires few { reader.old.taken < 2 ^ 62 }
-    requires place { IsPlace (trail.old.pending, trail.old.walker) }
-    ensures place { IsPlace (trail.new.pending, trail.new.walker) }
-    ensures shows { ByteShown image.now id byte reader.old reader.new trail.old trail.new (K.state sink.old) (K.state sink.new) result }
-{
-    match reader.take_atoms(byte) {
-        Some((at, run)) => trail.take_packet(image, id, at, &Packet::Atoms(run), sink),
-        None => take_step(trail, image, id, &reader.take(byte), sink),
-    }
-}
-
 /// Writes what the packets show as the reader comes to their ends, up to the first fault.
 fn write_shown<K: Sink>(
     id: Id,
@@ -91,7 +67,7 @@ fn write_shown<K: Sink>(
     ensures path { PathShows image.now reader.old.settings id bytes.now (K.state sink.old) (K.state sink.new) result }
 {
     for byte in bytes {
-        let fault = take_byte(trail, reader, image, id, *byte, sink)?;
+        let fault = take_step(trail, image, id, &reader.take(*byte), sink)?;
         if fault.is_some() {
             return Ok(fault);
         }

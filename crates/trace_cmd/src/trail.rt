@@ -45,7 +45,6 @@ impl Trail {
 
     /// Takes a packet that begins at an offset, and writes what its elements show. Where it may not come
     /// there, or one of its elements has a fault, that is given with the offset.
-    #[inline(always)]
     pub fn take_packet<K: Sink>(
         &mut self,
         image: &Image,
@@ -72,7 +71,6 @@ impl Trail {
     }
 
     /// Takes the elements of a packet that begins at an offset, up to the first that has a fault.
-    #[inline(always)]
     fn take_elements<K: Sink>(
         &mut self,
         image: &Image,
@@ -102,7 +100,6 @@ impl Trail {
     }
 
     /// Takes an element, and writes what it shows; or gives its fault.
-    #[inline(always)]
     fn take<K: Sink>(
         &mut self,
         image: &Image,
@@ -125,7 +122,6 @@ impl Trail {
     }
 
     /// Walks a thing that was committed, and writes what the walk shows; or gives the fault of the walk.
-    #[inline(always)]
     fn take_thing<K: Sink>(
         &mut self,
         image: &Image,
@@ -156,7 +152,6 @@ impl Trail {
     }
 
     /// Walks an entry, and writes what the walk shows; or gives the fault of the walk.
-    #[inline(never)]
     fn take_entry<K: Sink>(
         &mut self,
         image: &Image,
