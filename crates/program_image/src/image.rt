@@ -9,10 +9,10 @@ ghost use Rattle.program_image.specs.Answers.{AnswersText, TakesImage, TakesNoIm
 ghost use Rattle.program_image.specs.Blocks.{HasGap, IsBlock, class_at};
 ghost use Rattle.program_image.specs.Runs.{IsRunLength};
 
-use crate::block::{Block, BlockEnd, end_at};
+use crate::block::{Block, BlockEnd, end_near};
 use crate::draft::Draft;
 use crate::fault::{ImageFault, ImageWhy, LineFault};
-use crate::lookup::{class_near, part_at, word_at};
+use crate::lookup::{part_at, word_at};
 use crate::part::Part;
 use crate::run_table::{Runs, table};
 use crate::text::next_line;
@@ -101,7 +101,7 @@ impl Image {
         };
         let plain = u64::from(run);
         let addr = pc.wrapping_add(plain * INSTRUCTION_BYTES);
-        let end = end_at(class_near(&self.parts, place, addr), addr);
+        let end = end_near(&self.parts, place, addr);
         Block { plain, end }
     }
 

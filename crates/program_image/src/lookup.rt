@@ -42,15 +42,3 @@ pub fn class_at(parts: &[Part], addr: u64) -> Option<Class>
 {
     word_at(parts, addr).map(|word| class_of(word))
 }
-
-/// The class of the word at an address, where one begins there: it is looked for in this part first.
-pub fn class_near(parts: &[Part], place: usize, addr: u64) -> Option<Class>
-    requires image { IsImage parts.now }
-    requires place { place < length parts.now }
-    ensures { result ≡ class_at parts.now addr }
-{
-    match parts[place].word_at(addr) {
-        Some(word) => Some(class_of(word)),
-        None => class_at(parts, addr),
-    }
-}

@@ -84,8 +84,11 @@ impl Part {
         requires whole { length self.now.bytes % 4 ≡ 0 }
         ensures { result ≡ word_in self.now addr }
     {
-        let offset = addr.checked_sub(self.start)? as usize;
-        if addr % INSTRUCTION_BYTES != 0 || offset >= self.bytes.len() {
+        if addr < self.start || addr % INSTRUCTION_BYTES != 0 {
+            return None;
+        }
+        let offset = (addr - self.start) as usize;
+        if offset >= self.bytes.len() {
             return None;
         }
         let bytes = &self.bytes[offset..offset + INSTRUCTION_BYTES as usize];
