@@ -1,5 +1,6 @@
 -- The bytes of the longest runs first: what is found first is longest.
-use Rattle.std.proofs.Common.{◌≡◌, ℕ, suc, ◌+◌, ◌<◌, ◌≤◌, List, [], ◌∷◌, length, take, get_or, length-take, Bool, true, false, ◌||◌, ◌==◌, nat_lt, nat_le, refl, sym, ap, ◌∙◌, arith, inl, inr, if◌then◌else◌}
+use Rattle.std.proofs.Common.{◌≡◌, ℕ, suc, ◌+◌, ◌<◌, ◌≤◌, List, [], ◌∷◌, length, take, get_or, length-take, Bool}
+use Rattle.std.proofs.Common.{true, false, ◌||◌, ◌==◌, nat_lt, nat_le, refl, sym, ap, ◌∙◌, arith, inl, inr, if◌then◌else◌}
 use Rattle.std.proofs.lemmas.Bool.{agree_below_at, eqb-true, leb-true, ltb-true, or_cases, cases_lt}
 use Rattle.etm_types.specs.declared.atoms.AtomRun.{AtomRun}
 use Rattle.etm_types.specs.Atoms.{atoms_in}
@@ -31,14 +32,16 @@ at_place byte atoms spells =
 
 place_of : (i : ℕ) → i < 64 → place (get_or LONGEST_FIRST i 0) ≡ i
 unfolding place
-place_of i below = eqb-true (place (get_or LONGEST_FIRST i 0)) i (agree_below_at (λ (j : ℕ). place (get_or LONGEST_FIRST j 0) == j) (λ _. true) 64 i refl below)
+place_of i below = eqb-true (place (get_or LONGEST_FIRST i 0)) i
+    (agree_below_at (λ (j : ℕ). place (get_or LONGEST_FIRST j 0) == j) (λ _. true) 64 i refl below)
 
 -- what stands later tells no longer run
 no_longer : (byte other : ℕ) (atoms others : List Bool) → Spells byte atoms → Spells other others → place byte ≤ place other → length others ≤ length atoms
 unfolding place atom_formats
 no_longer byte other atoms others spells spells_other before =
     elim (or_cases (nat_lt (place other) (place byte)) (nat_le (length others) (length atoms))
-    (every_two_rows (λ (b : ℕ) (xs : List Bool) (c : ℕ) (ys : List Bool). nat_lt (place c) (place b) || nat_le (length ys) (length xs)) refl byte other atoms others spells spells_other)) [
+    (every_two_rows (λ (b : ℕ) (xs : List Bool) (c : ℕ) (ys : List Bool). nat_lt (place c) (place b) || nat_le (length ys) (length xs)) refl byte other atoms
+    others spells spells_other)) [
       | inl later ↦ let earlier = ltb-true (place other) (place byte) later in absurd (omega (arith, earlier, before))
       | inr no_more ↦ leb-true (length others) (length atoms) no_more
     ]

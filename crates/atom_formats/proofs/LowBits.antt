@@ -1,5 +1,6 @@
 -- The low bits of a number, one by one.
-use Rattle.std.proofs.Common.{drop, ◌≡◌, ℕ, zero, suc, ◌+◌, ◌*◌, ◌/◌, ◌%◌, ◌^◌, ◌<◌, ◌==◌, List, length, get_or, Bool, true, false, not, inl, inr, refl, sym, ap, ◌∙◌, arith}
+use Rattle.std.proofs.Common.{drop, ◌≡◌, ℕ, zero, suc, ◌+◌, ◌*◌, ◌/◌, ◌%◌, ◌^◌, ◌<◌, ◌==◌, List}
+use Rattle.std.proofs.Common.{length, get_or, Bool, true, false, not, inl, inr, refl, sym, ap, ◌∙◌, arith}
 use Rattle.std.proofs.lemmas.Nat.{mod_below, shr-shr}
 use Rattle.std.proofs.lemmas.List.{get_or_default, same_lists}
 use Rattle.std.proofs.lemmas.Bool.{cases_lt}
@@ -45,7 +46,8 @@ bits_match atoms bits each =
 pub bit_differs : (atoms : List Bool) (bits part k : ℕ) → k < length atoms → part ≡ bits / 2 ^ k → not (beq (get_or atoms k false) (part % 2 == 1)) ≡ true
     → atoms ≡ low_bits (length atoms) bits → ⊥
 bit_differs atoms bits part k inside is other same =
-    let there : get_or atoms k false ≡ (bits / 2 ^ k % 2 == 1) = ap (λ (xs : List Bool). get_or xs k false) same ∙ low_bits-at (length atoms) bits k false inside in
+    let there : get_or atoms k false ≡ (bits / 2 ^ k % 2 == 1) =
+    ap (λ (xs : List Bool). get_or xs k false) same ∙ low_bits-at (length atoms) bits k false inside in
     unequal (get_or atoms k false) (part % 2 == 1) other (there ∙ ap (λ (b : ℕ). b % 2 == 1) (sym is))
 
 -- one bit more
@@ -87,5 +89,6 @@ pub runs_differ : RunsDiffer
 runs_differ run other is_run is_other same =
     let counts : run.count ≡ other.count = sym (low_bits-length run.count run.bits) ∙ ap length same ∙ low_bits-length other.count other.bits in
     let fits : other.bits < 2 ^ run.count = rw counts is_other.bits in
-    let bits : run.bits ≡ other.bits = number_known run.count run.bits other.bits is_run.bits fits (same ∙ ap (λ (n : ℕ). low_bits n other.bits) (sym counts)) in
+    let bits : run.bits ≡ other.bits =
+    number_known run.count run.bits other.bits is_run.bits fits (same ∙ ap (λ (n : ℕ). low_bits n other.bits) (sym counts)) in
     same_run run.count run.bits other.count other.bits counts bits

@@ -1,5 +1,6 @@
 -- The table of atom packets, tested row by row.
-use Rattle.std.proofs.Common.{◌≡◌, ℕ, suc, ◌+◌, ◌-◌, ◌*◌, ◌%◌, ◌^◌, ◌≤◌, List, [], ◌∷◌, Bool, true, false, ◌&&◌, ◌||◌, ◌==◌, Option, Some, nat_lt, refl, sym, ap, ◌∙◌, arith, inl, inr}
+use Rattle.std.proofs.Common.{◌≡◌, ℕ, suc, ◌+◌, ◌-◌, ◌*◌, ◌%◌, ◌^◌, ◌≤◌, List, [], ◌∷◌, Bool, true}
+use Rattle.std.proofs.Common.{false, ◌&&◌, ◌||◌, ◌==◌, Option, Some, nat_lt, refl, sym, ap, ◌∙◌, arith, inl, inr}
 use Rattle.std.specs.Prelude.{IfSome, Contains}
 use Rattle.std.specs.List.{list_all}
 use Rattle.std.proofs.lemmas.Bool.{agree_below, agree_below_at, and_parts, eqb-true, or_cases}
@@ -73,7 +74,8 @@ run_told byte count bits r is told =
     rw is (row_found atom_formats byte (low_bits count bits) (and_parts (nat_lt bits (2 ^ count)) (has_row atom_formats byte (low_bits count bits)) told).1)
 
 -- a test of each number from low to high
-pub each_from : (low more : ℕ) (test : ℕ → Bool) → agree_below (λ j. test (low + j)) (λ _. true) (suc more) ≡ true → (b : ℕ) → low ≤ b → b ≤ low + more → test b ≡ true
+pub each_from : (low more : ℕ) (test : ℕ → Bool) → agree_below (λ j. test (low + j)) (λ _. true) (suc more) ≡ true → (b : ℕ) → low ≤ b → b ≤ low + more
+    → test b ≡ true
 each_from low more test all b least most =
     let there : low + (b - low) ≡ b = omega (arith, least) in
     ap test (sym there) ∙ agree_below_at (λ (j : ℕ). test (low + j)) (λ _. true) (suc more) (b - low) all (omega (arith, least, most))
@@ -99,12 +101,14 @@ pub long_told_n : (b : ℕ) → 224 ≤ b → b ≤ 244 → tells b (b - 224 + 4
 unfolding atom_formats
 long_told_n b least most = each_from 224 20 (λ (b : ℕ). tells b (b - 224 + 4) (2 ^ (b - 224 + 3) - 1)) refl b least most
 
-pub fixed_told : (known byte count bits : ℕ) (r : Option AtomRun) → r ≡ Some (record { count = count; bits = bits }) → byte ≡ known → tells known count bits ≡ true
+pub fixed_told : (known byte count bits : ℕ) (r : Option AtomRun) → r ≡ Some (record { count = count; bits = bits }) → byte ≡ known
+    → tells known count bits ≡ true
     → IfSome r (λ run. Spells byte (atoms_in run))
 fixed_told known byte count bits r is same told = run_told byte count bits r is (ap (λ (b : ℕ). tells b count bits) same ∙ told)
 
 -- E so many times and three times more, and then N, is a run
-pub long_within : (more : ℕ) (r : Option AtomRun) → r ≡ Some (record { count = more + 4; bits = 2 ^ (more + 3) - 1 }) → more ≤ 20 → IfSome r (λ run. IsAtomRun run)
+pub long_within : (more : ℕ) (r : Option AtomRun) → r ≡ Some (record { count = more + 4; bits = 2 ^ (more + 3) - 1 }) → more ≤ 20
+    → IfSome r (λ run. IsAtomRun run)
 long_within more r is few =
     let doubled : 2 ^ suc (more + 3) ≡ 2 ^ (more + 3) * 2 = pow-suc 2 (more + 3) in
     let same : suc (more + 3) ≡ more + 4 = omega arith in

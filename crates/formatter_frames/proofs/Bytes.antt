@@ -1,5 +1,6 @@
 -- Frames are bytes.
-use Rattle.std.proofs.Common.{ℕ, zero, suc, ◌-◌, ◌*◌, ◌/◌, ◌<◌, ◌≤◌, List, [], ◌∷◌, ◌++◌, length, take, drop, arith, lit<, inl, inr, length-take, length-append}
+use Rattle.std.proofs.Common.{ℕ, zero, suc, ◌-◌, ◌*◌, ◌/◌, ◌<◌, ◌≤◌, List, []}
+use Rattle.std.proofs.Common.{◌∷◌, ◌++◌, length, take, drop, arith, lit<, inl, inr, length-take, length-append}
 use Rattle.std.specs.Prelude.{Option, Some, None, All, flat_map, replicate, ◌==◌}
 use Rattle.std.proofs.lemmas.Bool.{cases_Bool}
 use Rattle.std.proofs.lemmas.List.Elements.{All-nil, All-cons, All-head, All-tail, All-append, All-take, All-drop, All-replicate}
@@ -60,13 +61,15 @@ frame_fits xs few fit =
 frames_fit : (n : ℕ) (xs : List Symbol) → All IsSymbol xs → All IsByte (flat_map frame_of (pieces 15 n xs))
 frames_fit zero xs fit = All-nil IsByte
 frames_fit (suc n) xs fit =
-    All-append IsByte (frame_of (take 15 xs)) (flat_map frame_of (pieces 15 n (drop 15 xs))) (frame_fits (take 15 xs) (omega (arith, length-take 15 xs)) (All-take IsSymbol 15 xs fit)) (frames_fit n (drop 15 xs) (All-drop IsSymbol 15 xs fit))
+    All-append IsByte (frame_of (take 15 xs)) (flat_map frame_of (pieces 15 n (drop 15 xs)))
+    (frame_fits (take 15 xs) (omega (arith, length-take 15 xs)) (All-take IsSymbol 15 xs fit)) (frames_fit n (drop 15 xs) (All-drop IsSymbol 15 xs fit))
 
 filled_fits : (xs : List Symbol) → length xs < 15 → All IsSymbol xs → All IsByte (filled xs)
 filled_fits [] few fit = All-nil IsByte
 filled_fits (x ∷ xs) few fit =
     let zeros = replicate (14 - length (x ∷ xs)) (Data 0) in
-    let size : length ((x ∷ xs) ++ filling (length (x ∷ xs))) ≤ 15 = omega (arith, length-append (x ∷ xs) (filling (length (x ∷ xs))), length-replicate (14 - length (x ∷ xs)) (Data 0)) in
+    let size : length ((x ∷ xs) ++ filling (length (x ∷ xs))) ≤ 15 =
+    omega (arith, length-append (x ∷ xs) (filling (length (x ∷ xs))), length-replicate (14 - length (x ∷ xs)) (Data 0)) in
     frame_fits ((x ∷ xs) ++ filling (length (x ∷ xs))) size
     (All-append IsSymbol (x ∷ xs) (NewId 0 ∷ zeros) fit
     (All-cons IsSymbol (NewId 0) zeros (lit< tt) (All-replicate IsSymbol (14 - length (x ∷ xs)) (Data 0) (lit< tt))))

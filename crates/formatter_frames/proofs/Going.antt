@@ -11,11 +11,13 @@ use Rattle.formatter_frames.proofs.Pieces.{whole_pieces-append, left_over-append
 
 module _ (bytes more : List ℕ) where
   symbols_more : symbols_of_frames (bytes ++ more) ≡ symbols_of_frames bytes ++ symbols_of_frames (left_over 16 bytes ++ more)
-  symbols_more = ap (flat_map symbols_in) (whole_pieces-append 16 bytes more (lit< tt)) ∙ flat_map-append symbols_in (whole_pieces 16 bytes) (whole_pieces 16 (left_over 16 bytes ++ more))
+  symbols_more = ap (flat_map symbols_in) (whole_pieces-append 16 bytes more (lit< tt))
+      ∙ flat_map-append symbols_in (whole_pieces 16 bytes) (whole_pieces 16 (left_over 16 bytes ++ more))
 
   module _ (few : length (left_over 16 bytes ++ more) < 16) where
     same_symbols : symbols_of_frames (bytes ++ more) ≡ symbols_of_frames bytes
-    same_symbols = symbols_more ∙ ap (λ ps. symbols_of_frames bytes ++ flat_map symbols_in ps) (few_whole 16 (left_over 16 bytes ++ more) few) ∙ append-nil (symbols_of_frames bytes)
+    same_symbols = symbols_more ∙ ap (λ ps. symbols_of_frames bytes ++ flat_map symbols_in ps) (few_whole 16 (left_over 16 bytes ++ more) few)
+        ∙ append-nil (symbols_of_frames bytes)
 
     pub begun_pairs : unframed (bytes ++ more) ≡ unframed bytes
     begun_pairs = ap (pairs_of None) same_symbols
@@ -28,7 +30,8 @@ module _ (bytes more : List ℕ) where
 
   module _ (full : length (left_over 16 bytes ++ more) ≡ 16) where
     frame_symbols : symbols_of_frames (bytes ++ more) ≡ symbols_of_frames bytes ++ symbols_in (left_over 16 bytes ++ more)
-    frame_symbols = symbols_more ∙ ap (λ ps. symbols_of_frames bytes ++ flat_map symbols_in ps) (one_whole 16 (left_over 16 bytes ++ more) (lit< tt) full) ∙ ap (λ xs. symbols_of_frames bytes ++ xs) (append-nil (symbols_in (left_over 16 bytes ++ more)))
+    frame_symbols = symbols_more ∙ ap (λ ps. symbols_of_frames bytes ++ flat_map symbols_in ps) (one_whole 16 (left_over 16 bytes ++ more) (lit< tt) full)
+        ∙ ap (λ xs. symbols_of_frames bytes ++ xs) (append-nil (symbols_in (left_over 16 bytes ++ more)))
 
     pub frame_pairs : unframed (bytes ++ more) ≡ unframed bytes ++ pairs_of (id_after_frames bytes) (symbols_in (left_over 16 bytes ++ more))
     frame_pairs = ap (pairs_of None) frame_symbols ∙ pairs_of-append None (symbols_of_frames bytes) (symbols_in (left_over 16 bytes ++ more))

@@ -1,5 +1,6 @@
 -- A list cut into pieces, and what joins it at its end.
-use Rattle.std.proofs.Common.{◌≡◌, ℕ, zero, suc, ◌+◌, ◌*◌, ◌/◌, ◌%◌, ◌<◌, ◌≤◌, List, [], ◌∷◌, ◌++◌, length, take, drop, refl, ap, sym, ◌∙◌, arith, length-append, length-drop, zero-add, zero-mul}
+use Rattle.std.proofs.Common.{◌≡◌, ℕ, zero, suc, ◌+◌, ◌*◌, ◌/◌, ◌%◌, ◌<◌, ◌≤◌, List, [], ◌∷◌}
+use Rattle.std.proofs.Common.{◌++◌, length, take, drop, refl, ap, sym, ◌∙◌, arith, length-append, length-drop, zero-add, zero-mul}
 use Rattle.std.proofs.lemmas.List.{take-append-le, drop-append-le, drop-drop}
 use Rattle.std.proofs.lemmas.Nat.{div-add-mod'}
 use Rattle.std.proofs.Math.Nat.{mul-add-div_right, div-mul-le_self, div_self}
@@ -20,7 +21,8 @@ pieces-add size zero n xs = rw (zero-add, zero-mul) refl
 pieces-add size (suc m) n xs =
     let e : suc m + n ≡ suc (m + n) = omega arith in
     let further : size + m * size ≡ suc m * size = grind arith in
-    rw e (ap (λ ps. take size xs ∷ ps) (pieces-add size m n (drop size xs) ∙ ap (λ ys. pieces size m (drop size xs) ++ pieces size n ys) (drop-drop (m * size) size xs ∙ ap (λ k. drop k xs) further)))
+    rw e (ap (λ ps. take size xs ∷ ps) (pieces-add size m n (drop size xs)
+    ∙ ap (λ ys. pieces size m (drop size xs) ++ pieces size n ys) (drop-drop (m * size) size xs ∙ ap (λ k. drop k xs) further)))
 
 -- how many pieces there are then
 count_more : (size long more : ℕ) → 0 < size → (long + more) / size ≡ long / size + (long % size + more) / size
@@ -33,12 +35,14 @@ length-left_over size xs = omega (arith, length-drop (length xs / size * size) x
 
 -- how many pieces there are in all
 count_all : {A : Type 0} (size : ℕ) (xs ys : List A) → 0 < size → length (xs ++ ys) / size ≡ length xs / size + length (left_over size xs ++ ys) / size
-count_all size xs ys some = rw (length-append xs ys, length-append (left_over size xs) ys, length-left_over size xs) (count_more size (length xs) (length ys) some)
+count_all size xs ys some = rw (length-append xs ys, length-append (left_over size xs) ys, length-left_over size xs)
+    (count_more size (length xs) (length ys) some)
 
 within : {A : Type 0} (size : ℕ) (xs : List A) → length xs / size * size ≤ length xs
 within size xs = div-mul-le_self (length xs) size
 
-pub whole_pieces-append : {A : Type 0} (size : ℕ) (xs ys : List A) → 0 < size → whole_pieces size (xs ++ ys) ≡ whole_pieces size xs ++ whole_pieces size (left_over size xs ++ ys)
+pub whole_pieces-append : {A : Type 0} (size : ℕ) (xs ys : List A) → 0 < size
+    → whole_pieces size (xs ++ ys) ≡ whole_pieces size xs ++ whole_pieces size (left_over size xs ++ ys)
 whole_pieces-append size xs ys some =
     let q = length xs / size in
     let j = length (left_over size xs ++ ys) / size in

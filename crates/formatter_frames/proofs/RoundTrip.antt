@@ -1,5 +1,6 @@
 -- Frames taken apart again.
-use Rattle.std.proofs.Common.{◌≡◌, ℕ, zero, suc, ◌+◌, ◌-◌, ◌*◌, ◌/◌, ◌%◌, ◌<◌, ◌≤◌, List, [], ◌∷◌, ◌++◌, length, take, drop, get_or, refl, ap, sym, ◌∙◌, arith, lit<, inl, inr, append_assoc, length-append, length-take, length-drop}
+use Rattle.std.proofs.Common.{◌≡◌, ℕ, zero, suc, ◌+◌, ◌-◌, ◌*◌, ◌/◌, ◌%◌, ◌<◌, ◌≤◌, List, [], ◌∷◌, ◌++◌}
+use Rattle.std.proofs.Common.{length, take, drop, get_or, refl, ap, sym, ◌∙◌, arith, lit<, inl, inr, append_assoc, length-append, length-take, length-drop}
 use Rattle.std.specs.Prelude.{Option, Some, None, flat_map, replicate, ◌==◌}
 use Rattle.std.proofs.Math.Seq.{take-append_seam, drop-append_seam, take-add, get_or-append_seam}
 use Rattle.std.proofs.Math.Nat.{mul-div_cancel}
@@ -102,12 +103,15 @@ length-frame_of xs long = omega (arith, length-append (bytes_of xs) (bits_of xs 
 frame_back : (xs : List Symbol) → length xs ≡ 15 → IsSpaced xs → symbols_in (frame_of xs) ≡ xs
 frame_back xs long s =
     let count : length (bytes_of xs) ≡ 15 = length-bytes_of xs ∙ long in
-    let last : get_or (bytes_of xs ++ bits_of xs ∷ []) 15 0 ≡ bits_of xs = ap (λ k. get_or (bytes_of xs ++ bits_of xs ∷ []) k 0) (sym count) ∙ get_or-append_seam (bytes_of xs) (bits_of xs) [] 0 in
-    let front : take 15 (bytes_of xs ++ bits_of xs ∷ []) ≡ bytes_of xs = ap (λ k. take k (bytes_of xs ++ bits_of xs ∷ [])) (sym count) ∙ take-append_seam (bytes_of xs) (bits_of xs ∷ []) in
+    let last : get_or (bytes_of xs ++ bits_of xs ∷ []) 15 0 ≡ bits_of xs =
+    ap (λ k. get_or (bytes_of xs ++ bits_of xs ∷ []) k 0) (sym count) ∙ get_or-append_seam (bytes_of xs) (bits_of xs) [] 0 in
+    let front : take 15 (bytes_of xs ++ bits_of xs ∷ []) ≡ bytes_of xs =
+    ap (λ k. take k (bytes_of xs ++ bits_of xs ∷ [])) (sym count) ∙ take-append_seam (bytes_of xs) (bits_of xs ∷ []) in
     symbols_in_is (frame_of xs) (length-frame_of xs long) ∙ rw (last, front) (symbols_back xs s)
 
 -- so many frames are read as they were laid out
-frames_back : (n : ℕ) (xs : List Symbol) → n * 15 ≤ length xs → IsSpaced xs → flat_map symbols_in (pieces 16 n (flat_map frame_of (pieces 15 n xs))) ≡ take (n * 15) xs
+frames_back : (n : ℕ) (xs : List Symbol) → n * 15 ≤ length xs → IsSpaced xs
+    → flat_map symbols_in (pieces 16 n (flat_map frame_of (pieces 15 n xs))) ≡ take (n * 15) xs
 frames_back zero xs long s = refl
 frames_back (suc n) xs long s =
     let front = take 15 xs in
@@ -116,7 +120,8 @@ frames_back (suc n) xs long s =
     let more : n * 15 ≤ length (drop 15 xs) = omega (arith, length-drop 15 xs) in
     let count : 15 + n * 15 ≡ suc n * 15 = omega arith in
     let whole = length-frame_of front size in
-    let first : take 16 (frame_of front ++ rest) ≡ frame_of front = ap (λ k. take k (frame_of front ++ rest)) (sym whole) ∙ take-append_seam (frame_of front) rest in
+    let first : take 16 (frame_of front ++ rest) ≡ frame_of front =
+    ap (λ k. take k (frame_of front ++ rest)) (sym whole) ∙ take-append_seam (frame_of front) rest in
     let others : drop 16 (frame_of front ++ rest) ≡ rest = ap (λ k. drop k (frame_of front ++ rest)) (sym whole) ∙ drop-append_seam (frame_of front) rest in
     rw (first, others)
     (ap (λ ys. ys ++ flat_map symbols_in (pieces 16 n rest)) (frame_back front size (spaced-take 15 xs s))
@@ -129,7 +134,13 @@ length-frames zero xs long = refl
 length-frames (suc n) xs long =
     let size : length (take 15 xs) ≡ 15 = omega (arith, length-take 15 xs) in
     let more : n * 15 ≤ length (drop 15 xs) = omega (arith, length-drop 15 xs) in
-    omega (arith, length-append (frame_of (take 15 xs)) (flat_map frame_of (pieces 15 n (drop 15 xs))), length-frame_of (take 15 xs) size, length-frames n (drop 15 xs) more)
+    omega (
+      arith,
+      length-append (frame_of (take 15 xs)) (flat_map frame_of (pieces 15 n (drop 15 xs))),
+      length-frame_of (take 15 xs) size,
+      length-frames n
+          (drop 15 xs) more,
+    )
 
 -- symbols that fill frames to the last place
 module _ (xs : List Symbol) (filled_up : length xs % 15 ≡ 0) where
@@ -157,13 +168,15 @@ length-filling count few = omega (arith, length-replicate (14 - count) (Data 0))
 length-fill : (xs : List Symbol) → length xs < 15 → length (xs ++ fill xs) % 15 ≡ 0
 length-fill [] few = refl
 length-fill (x ∷ xs) few =
-    let whole : length ((x ∷ xs) ++ filling (length (x ∷ xs))) ≡ 15 = omega (arith, length-append (x ∷ xs) (filling (length (x ∷ xs))), length-filling (length (x ∷ xs)) few) in
+    let whole : length ((x ∷ xs) ++ filling (length (x ∷ xs))) ≡ 15 =
+    omega (arith, length-append (x ∷ xs) (filling (length (x ∷ xs))), length-filling (length (x ∷ xs)) few) in
     ap (λ n. n % 15) whole
 
 frames_of-filled : (xs : List Symbol) → length xs < 15 → frames_of (xs ++ fill xs) ≡ filled xs
 frames_of-filled [] few = refl
 frames_of-filled (x ∷ xs) few =
-    frames_of_full ((x ∷ xs) ++ filling (length (x ∷ xs))) (omega (arith, length-append (x ∷ xs) (filling (length (x ∷ xs))), length-filling (length (x ∷ xs)) few))
+    frames_of_full ((x ∷ xs) ++ filling (length (x ∷ xs)))
+    (omega (arith, length-append (x ∷ xs) (filling (length (x ∷ xs))), length-filling (length (x ∷ xs)) few))
 
 spaced_zeros : (k : ℕ) → IsSpaced (replicate k (Data 0))
 spaced_zeros zero = tt
@@ -178,7 +191,8 @@ spaced_fill [] = tt
 spaced_fill (x ∷ xs) = spaced_filling (14 - length (x ∷ xs))
 
 -- what the symbols of pairs carry, and what the filling carries
-pairs_told : (current : Option ℕ) (id byte : ℕ) (rest : List Symbol) → pairs_of current (told current id ++ Data byte ∷ rest) ≡ (id, byte) ∷ pairs_of (Some id) rest
+pairs_told : (current : Option ℕ) (id byte : ℕ) (rest : List Symbol)
+    → pairs_of current (told current id ++ Data byte ∷ rest) ≡ (id, byte) ∷ pairs_of (Some id) rest
 pairs_told None id byte rest = refl
 pairs_told (Some current) id byte rest = elim (cases_Bool (current == id)) [
   | inl same ↦ rw same (ap (λ n. (n, byte) ∷ pairs_of (Some n) rest) (eqb-true current id same))
@@ -210,10 +224,18 @@ module _ (pairs : List (ℕ × ℕ)) where
   all_symbols = symbols_of None pairs ++ fill (begun pairs)
 
   framed_is : framed pairs ≡ frames_of all_symbols
-  framed_is = ap (λ bytes. whole_frames pairs ++ bytes) (sym (frames_of-filled (begun pairs) few)) ∙ sym (frames_of-append (symbols_of None pairs) (fill (begun pairs)))
+  framed_is = ap (λ bytes. whole_frames pairs ++ bytes) (sym (frames_of-filled (begun pairs) few))
+      ∙ sym (frames_of-append (symbols_of None pairs) (fill (begun pairs)))
 
   filled_up : length all_symbols % 15 ≡ 0
-  filled_up = omega (arith, length-append (symbols_of None pairs) (fill (begun pairs)), length-append (begun pairs) (fill (begun pairs)), length-fill (begun pairs) few, length-left_over 15 (symbols_of None pairs))
+  filled_up = omega (
+    arith,
+    length-append (symbols_of None pairs) (fill (begun pairs)),
+    length-append (begun pairs) (fill (begun pairs)),
+    length-fill
+        (begun pairs) few,
+    length-left_over 15 (symbols_of None pairs),
+  )
 
   spaced : IsSpaced all_symbols
   spaced = spaced_pairs None pairs (fill (begun pairs)) (spaced_fill (begun pairs))

@@ -21,7 +21,14 @@ module _ (s : Sizes) (are : AreSettings s) where
       told_apart s are outcome other text text' rest rest' (told_back s outcome text is) (told_back s other text' is') e
 
   either_way : (bytes : List ℕ) → Begun (Told s) bytes ⊎ Stands (Told s) bytes → Begins s bytes ⊎ BeginsWithOne s bytes
-  either_way bytes (inl x) = inl (record { outcome = x.outcome; more = x.more; some = x.some; small = x.small; spells = told_to s x.outcome (bytes ++ x.more) x.is })
+  either_way bytes (inl x) = inl (record {
+    outcome = x.outcome;
+    more = x.more;
+    some = x.some;
+    small = x.small;
+    spells = told_to s x.outcome (bytes ++ x.more)
+        x.is;
+  })
   either_way bytes (inr x) = inr (record { outcome = x.outcome; text = x.text; rest = x.rest; parts = x.parts; spells = told_to s x.outcome x.text x.is })
 
   pub spells_covers : (bytes : List ℕ) → All (λ b. b < 256) bytes → Begins s bytes ⊎ BeginsWithOne s bytes

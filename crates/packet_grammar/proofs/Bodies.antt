@@ -1,5 +1,6 @@
 -- Each part of the grammar is a code.
-use Rattle.std.proofs.Common.{ℕ, zero, suc, ◌+◌, ◌-◌, ◌*◌, ◌≤◌, ◌^◌, ◌/◌, ◌%◌, ◌==◌, ◌&&◌, ◌||◌, not, Bool, Some, None, Ok, Err, inl, inr, arith, IsTrue, nat_lt}
+use Rattle.std.proofs.Common.{ℕ, zero, suc, ◌+◌, ◌-◌, ◌*◌, ◌≤◌, ◌^◌, ◌/◌, ◌%◌, ◌==◌, ◌&&◌}
+use Rattle.std.proofs.Common.{◌||◌, not, Bool, Some, None, Ok, Err, inl, inr, arith, IsTrue, nat_lt}
 use Rattle.std.specs.Prelude.{if◌then◌else◌}
 use Rattle.std.proofs.lemmas.Bool.{eqb-true, or_cases}
 use Rattle.etm_types.specs.Settings.{Sizes, AreSettings, is_vmid_size, is_cid_size}
@@ -20,10 +21,12 @@ known_within : {A : Type 0} (n : ℕ) (known : Outcome A) → Code n (Known know
 known_within n known = loosen 0 n (omega arith) (known_code known)
 
 number_within : (more : ℕ) → Code (suc more) (NumberWithin more)
-number_within zero = byte_code 0 (λ b. Where (nat_lt b 16) (Known (Ok b)) (Known (Err NumberTooLong))) (λ b. where_code 0 (nat_lt b 16) (known_code (Ok b)) (known_code (Err NumberTooLong)))
+number_within zero = byte_code 0 (λ b. Where (nat_lt b 16) (Known (Ok b)) (Known (Err NumberTooLong)))
+    (λ b. where_code 0 (nat_lt b 16) (known_code (Ok b)) (known_code (Err NumberTooLong)))
 number_within (suc more) =
     byte_code (suc more) (λ b. Where (nat_lt b 128) (Known (Ok b)) (As (NumberWithin more) (λ high. b - 128 + 128 * high)))
-    (λ b. where_code (suc more) (nat_lt b 128) (known_within (suc more) (Ok b)) (as_code (suc more) (NumberWithin more) (λ high. b - 128 + 128 * high) (number_within more)))
+    (λ b. where_code (suc more) (nat_lt b 128) (known_within (suc more) (Ok b))
+    (as_code (suc more) (NumberWithin more) (λ high. b - 128 + 128 * high) (number_within more)))
 
 pub number_code : Code 5 Number
 number_code = number_within 4
@@ -32,7 +35,8 @@ stamp_within : (more : ℕ) → Code (suc more) (StampWithin more)
 stamp_within zero = byte_code 0 (λ b. Known (Ok (record { bits = 8; low = b }))) (λ b. known_code (Ok (record { bits = 8; low = b })))
 stamp_within (suc more) =
     byte_code (suc more)
-    (λ b. Where (nat_lt b 128) (Known (Ok (record { bits = 7; low = b }))) (As (StampWithin more) (λ high. record { bits = 7 + high.bits; low = b - 128 + 128 * high.low })))
+    (λ b. Where (nat_lt b 128) (Known (Ok (record { bits = 7; low = b })))
+    (As (StampWithin more) (λ high. record { bits = 7 + high.bits; low = b - 128 + 128 * high.low })))
     (λ b. where_code (suc more) (nat_lt b 128) (known_within (suc more) (Ok (record { bits = 7; low = b })))
     (as_code (suc more) (StampWithin more) (λ high. record { bits = 7 + high.bits; low = b - 128 + 128 * high.low }) (stamp_within more)))
 
@@ -47,13 +51,15 @@ context_within : (s : Sizes) → Code (suc (s.vmid_bytes + s.cid_bytes)) (Contex
 context_within s =
     byte_code (s.vmid_bytes + s.cid_bytes)
     (λ info. Where (bit 4 info)
-    (Then (Field (bit 6 info) s.vmid_bytes) (λ vmid. As (Field (bit 7 info) s.cid_bytes) (λ cid. record { el = info % 4; ns = bit 5 info; vmid = vmid; cid = cid })))
+    (Then (Field (bit 6 info) s.vmid_bytes)
+    (λ vmid. As (Field (bit 7 info) s.cid_bytes) (λ cid. record { el = info % 4; ns = bit 5 info; vmid = vmid; cid = cid })))
     (Known (Err (Aarch32Context info))))
     (λ info. where_code (s.vmid_bytes + s.cid_bytes) (bit 4 info)
     (then_code s.vmid_bytes s.cid_bytes (Field (bit 6 info) s.vmid_bytes)
     (λ vmid. As (Field (bit 7 info) s.cid_bytes) (λ cid. record { el = info % 4; ns = bit 5 info; vmid = vmid; cid = cid }))
     (field_code (bit 6 info) s.vmid_bytes)
-    (λ vmid. as_code s.cid_bytes (Field (bit 7 info) s.cid_bytes) (λ cid. record { el = info % 4; ns = bit 5 info; vmid = vmid; cid = cid }) (field_code (bit 7 info) s.cid_bytes)))
+    (λ vmid. as_code s.cid_bytes (Field (bit 7 info) s.cid_bytes) (λ cid. record { el = info % 4; ns = bit 5 info; vmid = vmid; cid = cid })
+    (field_code (bit 7 info) s.cid_bytes)))
     (known_within (s.vmid_bytes + s.cid_bytes) (Err (Aarch32Context info))))
 
 small_vmid : (n : ℕ) → IsTrue (is_vmid_size n) → n ≤ 4
@@ -75,7 +81,8 @@ small_cid n h = elim (or_cases (n == 0) (n == 4) h) [
 ]
 
 pub context_code : (s : Sizes) → AreSettings s → Code 9 (Context s)
-context_code s are = loosen (suc (s.vmid_bytes + s.cid_bytes)) 9 (omega (arith, small_vmid s.vmid_bytes are.vmid, small_cid s.cid_bytes are.cid)) (context_within s)
+context_code s are = loosen (suc (s.vmid_bytes + s.cid_bytes)) 9 (omega (arith, small_vmid s.vmid_bytes are.vmid, small_cid s.cid_bytes are.cid))
+    (context_within s)
 
 pub short_code : Code 2 ShortAddress
 short_code =
@@ -102,7 +109,8 @@ sections_code : (control : ℕ) → Code 20
     Then (Section (bit 2 control) Number) (λ spec. As (Section (bit 3 control) Number) (λ cyct. Info info key spec cyct)))))
 sections_code control =
     then_code 5 15 (Section (bit 0 control) Mode)
-    (λ info. Then (Section (bit 1 control) Number) (λ key. Then (Section (bit 2 control) Number) (λ spec. As (Section (bit 3 control) Number) (λ cyct. Info info key spec cyct))))
+    (λ info. Then (Section (bit 1 control) Number)
+    (λ key. Then (Section (bit 2 control) Number) (λ spec. As (Section (bit 3 control) Number) (λ cyct. Info info key spec cyct))))
     (section_code (bit 0 control) Mode mode_code)
     (λ info. then_code 5 10 (Section (bit 1 control) Number)
     (λ key. Then (Section (bit 2 control) Number) (λ spec. As (Section (bit 3 control) Number) (λ cyct. Info info key spec cyct)))

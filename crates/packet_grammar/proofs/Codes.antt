@@ -1,5 +1,6 @@
 -- A part that is a code: a reader that goes from left to right knows where a spelling ends and what it spells.
-use Rattle.std.proofs.Common.{◌≡◌, ◌⊎◌, ℕ, suc, ◌+◌, ◌-◌, ◌<◌, ◌≤◌, Bool, true, false, List, [], ◌∷◌, ◌++◌, length, take, drop, Ok, Err, refl, sym, ap, subst, ◌∙◌, append_assoc, inl, inr, arith, length-append, length-take}
+use Rattle.std.proofs.Common.{◌≡◌, ◌⊎◌, ℕ, suc, ◌+◌, ◌-◌, ◌<◌, ◌≤◌, Bool, true, false, List, [], ◌∷◌, ◌++◌}
+use Rattle.std.proofs.Common.{length, take, drop, Ok, Err, refl, sym, ap, subst, ◌∙◌, append_assoc, inl, inr, arith, length-append, length-take}
 use Rattle.std.specs.Prelude.{All, replicate}
 use Rattle.std.proofs.lemmas.Bool.{cases_lt}
 use Rattle.std.proofs.lemmas.List.{take-append-drop, length-replicate}
@@ -95,7 +96,9 @@ module _ {A : Type 0} (most : ℕ) (next : ℕ → Part A) where
   byte_apart each outcome other (b ∷ text) [] rest rest' is is' e = absurd is'
   byte_apart each outcome other (b ∷ text) (c ∷ text') rest rest' is is' e =
       let first : b ≡ c = first_same b c (text ++ rest) (text' ++ rest') e in
-      let same = each b outcome other text text' rest rest' is (subst (λ x. next x other text') (sym first) is') (others_same b c (text ++ rest) (text' ++ rest') e) in
+      let same =
+      each b outcome other text text' rest rest' is (subst (λ x. next x other text') (sym first) is')
+      (others_same b c (text ++ rest) (text' ++ rest') e) in
       record { outcomes = same.outcomes; texts = (λ i. first i ∷ same.texts i); rests = same.rests }
 
   pub byte_short : ((b : ℕ) → AtMost most (next b)) → AtMost (suc most) (Byte next)
@@ -103,7 +106,15 @@ module _ {A : Type 0} (most : ℕ) (next : ℕ → Part A) where
   byte_short each outcome (b ∷ text) is = omega (arith, each b outcome text is)
 
   byte_covers : ((b : ℕ) → Code most (next b)) → Covers (Byte next)
-  byte_covers each [] = let has = has_one (each 0) in inl (record { outcome = has.outcome; more = 0 ∷ has.text; some = omega arith; small = All-cons (λ (b : ℕ). b < 256) 0 has.text (omega arith) has.small; is = has.is })
+  byte_covers each [] = let has = has_one (each 0) in inl
+      (record {
+        outcome = has.outcome;
+        more = 0 ∷ has.text;
+        some = omega arith;
+        small = All-cons (λ (b : ℕ). b < 256) 0 has.text (omega arith) has.small;
+        is =
+            has.is;
+      })
   byte_covers each (b ∷ bytes) = elim ((each b).covers bytes) [
     | inl begun ↦ inl (record { outcome = begun.outcome; more = begun.more; some = begun.some; small = begun.small; is = begun.is })
     | inr stands ↦ inr (record { outcome = stands.outcome; text = b ∷ stands.text; rest = stands.rest; parts = ap (λ t. b ∷ t) stands.parts; is = stands.is })
@@ -131,7 +142,8 @@ where_short true P Q n p q outcome text is = p outcome text is
 where_short false P Q n p q outcome text is = q outcome text is
 
 pub where_code : {A : Type 0} {P Q : Part A} (n : ℕ) (test : Bool) → Code n P → Code n Q → Code n (Where test P Q)
-where_code {P = P} {Q = Q} n test p q = record { apart = where_apart test P Q p.apart q.apart; covers = where_covers test P Q p.covers q.covers; short = where_short test P Q n p.short q.short }
+where_code {P = P} {Q = Q} n test p q = record
+    { apart = where_apart test P Q p.apart q.apart; covers = where_covers test P Q p.covers q.covers; short = where_short test P Q n p.short q.short }
 
 abbrev fine : {A : Type 0} → A → Outcome A
 fine x = Ok x
@@ -173,7 +185,8 @@ module _ {A B : Type 0} (m n : ℕ) (first : Part A) (next : A → Part B) (is_f
   then_short outcome text (inr (f, fails, is)) = omega (arith, is_first.short (Err f) text is)
 
   -- the first part is at its end
-  goes_on : (bytes : List ℕ) (x : A) (front back : List ℕ) → bytes ≡ front ++ back → first (Ok x) front → Begun (Then first next) bytes ⊎ Stands (Then first next) bytes
+  goes_on : (bytes : List ℕ) (x : A) (front back : List ℕ) → bytes ≡ front ++ back → first (Ok x) front → Begun (Then first next) bytes ⊎ Stands
+      (Then first next) bytes
   goes_on bytes x front back parts is = elim ((each x).covers back) [
     | inl begun ↦ inl (record {
       outcome = begun.outcome;
@@ -191,7 +204,8 @@ module _ {A B : Type 0} (m n : ℕ) (first : Part A) (next : A → Part B) (is_f
     })
   ]
 
-  stops : (bytes : List ℕ) (outcome : Outcome A) (text rest : List ℕ) → bytes ≡ text ++ rest → first outcome text → Begun (Then first next) bytes ⊎ Stands (Then first next) bytes
+  stops : (bytes : List ℕ) (outcome : Outcome A) (text rest : List ℕ) → bytes ≡ text ++ rest → first outcome text → Begun (Then first next) bytes ⊎ Stands
+      (Then first next) bytes
   stops bytes (Ok x) text rest parts is = goes_on bytes x text rest parts is
   stops bytes (Err f) text rest parts is = inr (record { outcome = Err f; text = text; rest = rest; parts = parts; is = inr (f, refl, is) })
 
@@ -244,15 +258,30 @@ bytes_covers n bytes = elim (cases_lt (length bytes) n) [
   | inl short ↦
       let pad : List ℕ = replicate (n - length bytes) 0 in
       let padded : length pad ≡ n - length bytes = length-replicate {A = ℕ} (n - length bytes) 0 in
-      inl (record { outcome = Ok (bytes ++ pad); more = pad; some = omega (arith, padded, short); small = All-replicate (λ (b : ℕ). b < 256) (n - length bytes) 0 (omega arith); is = (refl, omega (arith, padded, short, length-append bytes pad)) })
-  | inr long ↦ inr (record { outcome = Ok (take n bytes); text = take n bytes; rest = drop n bytes; parts = sym (take-append-drop n bytes); is = (refl, omega (arith, long, length-take n bytes)) })
+      inl (record {
+        outcome = Ok (bytes ++ pad);
+        more = pad;
+        some = omega (arith, padded, short);
+        small = All-replicate (λ (b : ℕ). b < 256)
+            (n - length bytes) 0 (omega arith);
+        is = (refl, omega (arith, padded, short, length-append bytes pad));
+      })
+  | inr long ↦ inr (record {
+    outcome = Ok (take n bytes);
+    text = take n bytes;
+    rest = drop n bytes;
+    parts = sym (take-append-drop n bytes);
+    is =
+        (refl, omega (arith, long, length-take n bytes));
+  })
 ]
 
 pub bytes_code : (n : ℕ) → Code n (Bytes n)
 bytes_code n = record { apart = bytes_apart n; covers = bytes_covers n; short = bytes_short n }
 
 -- a part that has the same spellings as a code
-module _ {A : Type 0} (n : ℕ) (P Q : Part A) (to : (outcome : Outcome A) (text : List ℕ) → P outcome text → Q outcome text) (back : (outcome : Outcome A) (text : List ℕ) → Q outcome text → P outcome text) where
+module _ {A : Type 0} (n : ℕ) (P Q : Part A) (to : (outcome : Outcome A) (text : List ℕ) → P outcome text → Q outcome text)
+    (back : (outcome : Outcome A) (text : List ℕ) → Q outcome text → P outcome text) where
   same_covers : Covers P → Covers Q
   same_covers covers bytes = elim (covers bytes) [
     | inl x ↦ inl (record { outcome = x.outcome; more = x.more; some = x.some; small = x.small; is = to x.outcome (bytes ++ x.more) x.is })

@@ -63,7 +63,15 @@ reserved_begins_none s are begun =
 
 -- an INFO of 5 is refused at its last byte, and before it begins a spelling that is no packet's
 pub mode_shown : (s : Sizes) → Spells s (Err (InfoMode 5)) (1 ∷ 1 ∷ 133 ∷ 0 ∷ [])
-mode_shown s = (in_info, (1 ∷ 133 ∷ 0 ∷ [], refl, inr (InfoMode 5, refl, inr (InfoMode 5, refl, inl (5, 133 ∷ 0 ∷ [], [], refl, inl (0, 0 ∷ [], [], refl, refl, refl), refl)))))
+mode_shown s = (
+  in_info,
+  (
+    1 ∷ 133 ∷ 0 ∷ [],
+    refl,
+    inr
+        (InfoMode 5, refl, inr (InfoMode 5, refl, inl (5, 133 ∷ 0 ∷ [], [], refl, inl (0, 0 ∷ [], [], refl, refl, refl), refl))),
+  ),
+)
 
 pub mode_begins : (s : Sizes) → Begins s (1 ∷ 1 ∷ 133 ∷ [])
 mode_begins s = record { outcome = Err (InfoMode 5); more = 0 ∷ []; some = omega arith; small = one_small 0 (omega arith); spells = mode_shown s }
@@ -71,7 +79,15 @@ mode_begins s = record { outcome = Err (InfoMode 5); more = 0 ∷ []; some = ome
 -- A trace info packet with all sections in five bytes each has 22 bytes. So 22 bytes are enough, and 21 are not.
 zero_in_five : Number (Ok 0) (128 ∷ 128 ∷ 128 ∷ 128 ∷ 0 ∷ [])
 zero_in_five =
-    inl (0, 128 ∷ 128 ∷ 128 ∷ 0 ∷ [], [], refl, inl (0, 128 ∷ 128 ∷ 0 ∷ [], [], refl, inl (0, 128 ∷ 0 ∷ [], [], refl, inl (0, 0 ∷ [], [], refl, refl, refl), refl), refl), refl)
+    inl (
+      0,
+      128 ∷ 128 ∷ 128 ∷ 0 ∷ [],
+      [],
+      refl,
+      inl
+          (0, 128 ∷ 128 ∷ 0 ∷ [], [], refl, inl (0, 128 ∷ 0 ∷ [], [], refl, inl (0, 0 ∷ [], [], refl, refl, refl), refl), refl),
+      refl,
+    )
 
 abbrev long_zero : List ℕ
 long_zero = 128 ∷ 128 ∷ 128 ∷ 128 ∷ 0 ∷ []
@@ -123,7 +139,8 @@ stream_parses s =
     inl (1, record { here = refl; none_before = none_before }, (sync, 4 ∷ [], refl, refl, sync_spells s, (4 ∷ [], [], refl, refl, on_spells s, refl)))
 
 pub stream_is_not_cut : (s : Sizes) → AreSettings s → IsStream s stream ((1, Async) ∷ []) (cut 1) → ⊥
-stream_is_not_cut s are is = absurd (let same = one_stream s are stream ((1, Async) ∷ (13, On) ∷ []) ((1, Async) ∷ []) clean (cut 1) (stream_parses s) is in let e = same.1 in cc)
+stream_is_not_cut s are is = absurd (let same = one_stream s are stream ((1, Async) ∷ (13, On) ∷ []) ((1, Async) ∷ []) clean (cut 1) (stream_parses s) is in
+    let e = same.1 in cc)
 
 -- a commit has a number below 2^32, and so no bytes spell one of 2^32
 pub too_large : (s : Sizes) (bytes : List ℕ) → All (λ b. b < 256) bytes → Spells s (Ok (Commit 4294967296)) bytes → ⊥

@@ -4,7 +4,8 @@ use Rattle.std.specs.Prelude.{map}
 use Rattle.std.specs.List.{range_with_len}
 use Rattle.etm_types.specs.Settings.{Sizes}
 use Rattle.packet_grammar.specs.declared.fault.PacketFault.{PacketFault}
-use Rattle.packet_grammar.specs.declared.fault.PacketFault.TheVariants.{Reserved, Refused, Extension, BrokenSync, InfoControl, InfoMode, NumberTooLong, ExceptionTwoByte, ExceptionForm, Aarch32Context}
+use Rattle.packet_grammar.specs.declared.fault.PacketFault.TheVariants.{Reserved, Refused, Extension, BrokenSync, InfoControl}
+use Rattle.packet_grammar.specs.declared.fault.PacketFault.TheVariants.{InfoMode, NumberTooLong, ExceptionTwoByte, ExceptionForm, Aarch32Context}
 use Rattle.packet_grammar.specs.declared.fault.RefusedKind.TheVariants.{CycleCount, TimeCycle, DataSync, Conditional, Q, MProfile, Aarch32Address}
 use Rattle.packet_grammar.specs.Headers.{refused_headers, fault_in}
 use Rattle.packet_grammar.specs.Faults.{in_sync, in_info, in_exception, in_number, in_context, in_context_of_32, in_context_of_64}
@@ -83,7 +84,16 @@ broken_at_once s = (
   (
     0x00 ∷ 0x01 ∷ [],
     refl,
-    record { zeros = 1; last = 0x01; whole = refl; some = omega arith; most = omega arith; early = λ few same. absurd (omega (arith, few, same)); late = λ all same. absurd (omega (arith, all, same)) },
+    record {
+      zeros = 1;
+      last = 0x01;
+      whole = refl;
+      some = omega arith;
+      most = omega arith;
+      early = λ few same. absurd (omega (arith, few, same));
+      late = λ all
+          same. absurd (omega (arith, all, same));
+    },
   ),
 )
 
@@ -93,7 +103,16 @@ broken_by_80_early s = (
   (
     0x00 ∷ 0x00 ∷ 0x00 ∷ 0x00 ∷ 0x00 ∷ 0x00 ∷ 0x00 ∷ 0x00 ∷ 0x00 ∷ 0x80 ∷ [],
     refl,
-    record { zeros = 9; last = 0x80; whole = refl; some = omega arith; most = omega arith; early = λ few same. absurd (omega (arith, few, same)); late = λ all same. absurd (omega (arith, all, same)) },
+    record {
+      zeros = 9;
+      last = 0x80;
+      whole = refl;
+      some = omega arith;
+      most = omega arith;
+      early = λ few same. absurd (omega (arith, few, same));
+      late = λ all
+          same. absurd (omega (arith, all, same));
+    },
   ),
 )
 
@@ -103,7 +122,16 @@ broken_at_the_end s = (
   (
     0x00 ∷ 0x00 ∷ 0x00 ∷ 0x00 ∷ 0x00 ∷ 0x00 ∷ 0x00 ∷ 0x00 ∷ 0x00 ∷ 0x00 ∷ 0x81 ∷ [],
     refl,
-    record { zeros = 10; last = 0x81; whole = refl; some = omega arith; most = omega arith; early = λ few same. absurd (omega (arith, few, same)); late = λ all same. absurd (omega (arith, all, same)) },
+    record {
+      zeros = 10;
+      last = 0x81;
+      whole = refl;
+      some = omega arith;
+      most = omega arith;
+      early = λ few same. absurd (omega (arith, few, same));
+      late = λ
+          all same. absurd (omega (arith, all, same));
+    },
   ),
 )
 
@@ -113,7 +141,16 @@ broken_by_a_twelfth_zero s = (
   (
     0x00 ∷ 0x00 ∷ 0x00 ∷ 0x00 ∷ 0x00 ∷ 0x00 ∷ 0x00 ∷ 0x00 ∷ 0x00 ∷ 0x00 ∷ 0x00 ∷ [],
     refl,
-    record { zeros = 10; last = 0x00; whole = refl; some = omega arith; most = omega arith; early = λ few same. absurd (omega (arith, few, same)); late = λ all same. absurd (omega (arith, all, same)) },
+    record {
+      zeros = 10;
+      last = 0x00;
+      whole = refl;
+      some = omega arith;
+      most = omega arith;
+      early = λ few same. absurd (omega (arith, few, same));
+      late = λ
+          all same. absurd (omega (arith, all, same));
+    },
   ),
 )
 

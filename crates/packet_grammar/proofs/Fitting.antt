@@ -1,5 +1,6 @@
 -- The values of what is spelled are in their ranges.
-use Rattle.std.proofs.Common.{take, drop, ◌≡◌, ◌⊎◌, ℕ, zero, suc, ◌+◌, ◌-◌, ◌*◌, ◌^◌, ◌<◌, ◌≤◌, Bool, true, false, List, [], ◌∷◌, ◌++◌, length, Ok, Err, nat_lt, refl, sym, ap, subst, ◌∙◌, inl, inr, arith}
+use Rattle.std.proofs.Common.{take, drop, ◌≡◌, ◌⊎◌, ℕ, zero, suc, ◌+◌, ◌-◌, ◌*◌, ◌^◌, ◌<◌, ◌≤◌, Bool, true, false}
+use Rattle.std.proofs.Common.{List, [], ◌∷◌, ◌++◌, length, Ok, Err, nat_lt, refl, sym, ap, subst, ◌∙◌, inl, inr, arith}
 use Rattle.std.specs.Prelude.{All}
 use Rattle.std.proofs.lemmas.Bool.{ltb-false, ltb-true}
 use Rattle.std.proofs.lemmas.List.Elements.{All-head, All-tail, All-drop, All-take}
@@ -45,7 +46,8 @@ number_last b n (c ∷ bytes) true low is = absurd is
 number_last b n [] false high is = absurd cc
 number_last b n (c ∷ bytes) false high is = absurd is
 
-number_next : (more b n : ℕ) (bytes : List ℕ) (test : Bool) → nat_lt b 128 ≡ test → b < 256 → ((high : ℕ) → NumberWithin more (Ok high) bytes → high < limit more)
+number_next : (more b n : ℕ) (bytes : List ℕ) (test : Bool) → nat_lt b 128 ≡ test → b < 256
+    → ((high : ℕ) → NumberWithin more (Ok high) bytes → high < limit more)
     → Where test (Known (Ok b)) (As (NumberWithin more) (λ high. b - 128 + 128 * high)) (Ok n) bytes → n < 128 * limit more
 number_next more b n [] true low small later is = let e = value_of n b is in omega (arith, e, ltb-true b 128 low, limit_some more)
 number_next more b n (c ∷ bytes) true low small later is = absurd is
@@ -71,11 +73,14 @@ StampFits more x = (x.low < 2 ^ x.bits) × ((x.bits ≡ 7 * more + 8) ⊎ ((grou
 larger : (bits b low : ℕ) → b < 256 → 128 ≤ b → low < 2 ^ bits → b - 128 + 128 * low < 2 ^ (7 + bits)
 larger bits b low small big fits = let e : 2 ^ (7 + bits) ≡ 2 ^ 7 * 2 ^ bits = pow-add 2 7 bits in omega (arith, e, small, big, fits)
 
-stamp_grows : (more b : ℕ) (high : Stamp) → b < 256 → 128 ≤ b → StampFits more high → StampFits (suc more) (record { bits = 7 + high.bits; low = b - 128 + 128 * high.low })
+stamp_grows : (more b : ℕ) (high : Stamp) → b < 256 → 128 ≤ b → StampFits more high
+    → StampFits (suc more) (record { bits = 7 + high.bits; low = b - 128 + 128 * high.low })
 stamp_grows more b high small big (fits, inl all) = (larger high.bits b high.low small big fits, inl (omega (arith, all)))
-stamp_grows more b high small big (fits, inr (groups, some, most, e)) = (larger high.bits b high.low small big fits, inr (suc groups, omega arith, omega (arith, most), omega (arith, e)))
+stamp_grows more b high small big (fits, inr (groups, some, most, e)) =
+    (larger high.bits b high.low small big fits, inr (suc groups, omega arith, omega (arith, most), omega (arith, e)))
 
-stamp_next : (more b : ℕ) (x : Stamp) (bytes : List ℕ) (test : Bool) → nat_lt b 128 ≡ test → b < 256 → ((high : Stamp) → StampWithin more (Ok high) bytes → StampFits more high)
+stamp_next : (more b : ℕ) (x : Stamp) (bytes : List ℕ) (test : Bool) → nat_lt b 128 ≡ test → b < 256
+    → ((high : Stamp) → StampWithin more (Ok high) bytes → StampFits more high)
     → Where {A = Stamp} test (Known (Ok (record { bits = 7; low = b }))) (As (StampWithin more) (λ high. record { bits = 7 + high.bits; low = b - 128 + 128 * high.low })) (Ok x) bytes
     → StampFits (suc more) x
 stamp_next more b x [] true low small later is =

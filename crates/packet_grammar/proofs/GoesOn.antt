@@ -1,5 +1,6 @@
 -- How the parse of a stream goes on by the bytes behind it.
-use Rattle.std.proofs.Common.{◌≡◌, ℕ, ◌+◌, ◌<◌, ◌≤◌, List, [], ◌∷◌, ◌++◌, length, take, drop, refl, sym, ap, subst, ◌∙◌, inl, inr, arith, length-append, append_assoc, append-nil, nat_eq}
+use Rattle.std.proofs.Common.{◌≡◌, ℕ, ◌+◌, ◌<◌, ◌≤◌, List, [], ◌∷◌, ◌++◌, length, take, drop}
+use Rattle.std.proofs.Common.{refl, sym, ap, subst, ◌∙◌, inl, inr, arith, length-append, append_assoc, append-nil, nat_eq}
 use Rattle.std.specs.List.{starts_with}
 use Rattle.std.proofs.lemmas.Bool.Decides.{Decides-eqb}
 use Rattle.std.proofs.lemmas.List.{drop_at, drop-append-le, take-append-drop, length-drop, length-take-le}
@@ -19,9 +20,16 @@ pub record SyncIn (at : ℕ) (bytes : List ℕ) : Type 0 where
 
 pub sync_in : (at : ℕ) (bytes : List ℕ) → SyncAt at bytes → SyncIn at bytes
 sync_in at bytes here =
-    let e : drop at bytes ≡ sync ++ drop 12 (drop at bytes) = (starts_is Decides-eqb (drop at bytes) sync (starts_with nat_eq (drop at bytes) sync) refl).0 here in
+    let e : drop at bytes ≡ sync ++ drop 12 (drop at bytes) =
+    (starts_is Decides-eqb (drop at bytes) sync (starts_with nat_eq (drop at bytes) sync) refl).0 here in
     let some : at ≤ length bytes = omega (arith, ap length e, length-drop at bytes) in
-    record { front = take at bytes; rest = drop 12 (drop at bytes); parts = sym (take-append-drop at bytes) ∙ ap (λ t. take at bytes ++ t) e; place = length-take-le at bytes some }
+    record {
+      front = take at bytes;
+      rest = drop 12 (drop at bytes);
+      parts = sym (take-append-drop at bytes)
+          ∙ ap (λ t. take at bytes ++ t) e;
+      place = length-take-le at bytes some;
+    }
 
 pub sync_out : (at : ℕ) (bytes : List ℕ) → SyncIn at bytes → SyncAt at bytes
 sync_out at bytes is =
@@ -61,7 +69,8 @@ sync_before : (at x : ℕ) (bytes front rest : List ℕ) → bytes ++ x ∷ [] �
 sync_before at x bytes front [] parts place some = absurd (omega (arith, some))
 sync_before at x bytes front (b ∷ rest) parts place some =
     let l = last_of b rest in
-    let whole : front ++ (sync ++ (l.init ++ l.last ∷ [])) ≡ (front ++ (sync ++ l.init)) ++ l.last ∷ [] = sym (append_assoc front (sync ++ l.init) (l.last ∷ [])) in
+    let whole : front ++ (sync ++ (l.init ++ l.last ∷ [])) ≡ (front ++ (sync ++ l.init)) ++ l.last ∷ [] =
+    sym (append_assoc front (sync ++ l.init) (l.last ∷ [])) in
     let same = strip bytes (front ++ (sync ++ l.init)) x l.last (parts ∙ ap (λ t. front ++ (sync ++ t)) l.parts ∙ whole) in
     record { front = front; rest = l.init; parts = same.0; place = place }
 
@@ -76,12 +85,24 @@ first_on_byte at x bytes first = record {
       let old = sync_in at bytes first.here in
       let new = sync_in before (bytes ++ x ∷ []) there in
       first.none_before before lt (sync_out before bytes (sync_earlier before x bytes new
-      (omega (arith, lt, ap length old.parts, ap length new.parts, length-append bytes (x ∷ []), length-append old.front (sync ++ old.rest), length-append new.front (sync ++ new.rest), old.place, new.place))));
+      (omega (
+        arith,
+        lt,
+        ap length old.parts,
+        ap length new.parts,
+        length-append bytes (x ∷ []),
+        length-append old.front (sync ++ old.rest),
+        length-append
+            new.front (sync ++ new.rest),
+        old.place,
+        new.place,
+      ))));
 }
 
 pub first_on : (at : ℕ) (bytes more : List ℕ) → FirstSync at bytes → FirstSync at (bytes ++ more)
 first_on at bytes [] first = subst (λ t. FirstSync at t) (sym (append-nil bytes)) first
-first_on at bytes (x ∷ more) first = subst (λ t. FirstSync at t) (append_assoc bytes (x ∷ []) more) (first_on at (bytes ++ x ∷ []) more (first_on_byte at x bytes first))
+first_on at bytes (x ∷ more) first = subst (λ t. FirstSync at t) (append_assoc bytes (x ∷ []) more)
+    (first_on at (bytes ++ x ∷ []) more (first_on_byte at x bytes first))
 
 module _ (s : Sizes) where
   goes_on : (at place : ℕ) (bytes more : List ℕ) (packets others : List (ℕ × Packet)) (ending : Ending) → place ≡ at + length bytes
@@ -98,8 +119,10 @@ module _ (s : Sizes) where
     goes_on (at + length text) place rest more packets others ending (omega (arith, here, ap length parts, length-append text rest)) is later,
   )
 
-  fault_on : (at : ℕ) (bytes more : List ℕ) (packets : List (ℕ × Packet)) (place : ℕ) (f : PacketFault) → Parses s at bytes packets (fault place f) → Parses s at (bytes ++ more) packets (fault place f)
-  fault_on at bytes more [] place f (text, rest, starts, parts, spells) = (text, rest ++ more, starts, ap (λ t. t ++ more) parts ∙ append_assoc text rest more, spells)
+  fault_on : (at : ℕ) (bytes more : List ℕ) (packets : List (ℕ × Packet)) (place : ℕ) (f : PacketFault) → Parses s at bytes packets (fault place f) → Parses s
+      at (bytes ++ more) packets (fault place f)
+  fault_on at bytes more [] place f (text, rest, starts, parts, spells) =
+      (text, rest ++ more, starts, ap (λ t. t ++ more) parts ∙ append_assoc text rest more, spells)
   fault_on at bytes more (p ∷ packets) place f (text, rest, starts, parts, spells, is) =
       (text, rest ++ more, starts, ap (λ t. t ++ more) parts ∙ append_assoc text rest more, spells, fault_on (at + length text) rest more packets place f is)
 
@@ -107,7 +130,8 @@ module _ (s : Sizes) where
   within at bytes first = let old = sync_in at bytes first.here in omega (arith, ap length old.parts, length-append old.front (sync ++ old.rest), old.place)
 
   -- what whole packets and the bytes behind them are
-  pub stream_on : (bytes more : List ℕ) (packets others : List (ℕ × Packet)) (ending : Ending) → IsStream s bytes packets clean → Parses s (length bytes) more others ending
+  pub stream_on : (bytes more : List ℕ) (packets others : List (ℕ × Packet)) (ending : Ending) → IsStream s bytes packets clean → Parses s (length bytes) more
+      others ending
       → IsStream s (bytes ++ more) (packets ++ others) ending
   stream_on bytes more packets others ending (inl (at, first, is)) later =
       let fits = within at bytes first in
@@ -119,10 +143,16 @@ module _ (s : Sizes) where
       )
   stream_on bytes more packets others ending (inr (none, nothing, e)) later = absurd cc
 
-  pub fault_stays : (bytes more : List ℕ) (packets : List (ℕ × Packet)) (place : ℕ) (f : PacketFault) → IsStream s bytes packets (fault place f) → IsStream s (bytes ++ more) packets (fault place f)
+  pub fault_stays : (bytes more : List ℕ) (packets : List (ℕ × Packet)) (place : ℕ) (f : PacketFault) → IsStream s bytes packets (fault place f) → IsStream s
+      (bytes ++ more) packets (fault place f)
   fault_stays bytes more packets place f (inl (at, first, is)) =
       let fits = within at bytes first in
-      inl (at, first_on at bytes more first, subst (λ t. Parses s at t packets (fault place f)) (sym (drop-append-le at bytes more fits)) (fault_on at (drop at bytes) more packets place f is))
+      inl (
+        at,
+        first_on at bytes more first,
+        subst (λ t. Parses s at t packets (fault place f)) (sym (drop-append-le at bytes more fits))
+            (fault_on at (drop at bytes) more packets place f is),
+      )
   fault_stays bytes more packets place f (inr (none, nothing, e)) = absurd cc
 
 pub goes_on_by_a_packet : GoesOnByAPacket

@@ -1,5 +1,6 @@
 -- Each packet that is spelled has values in their ranges.
-use Rattle.std.proofs.Common.{◌≡◌, ℕ, zero, suc, ◌+◌, ◌-◌, ◌*◌, ◌/◌, ◌%◌, ◌^◌, ◌<◌, ◌≤◌, ◌==◌, ◌&&◌, not, Bool, true, false, List, [], ◌∷◌, ◌++◌, length, Option, Some, None, Ok, Err, nat_lt, refl, sym, ap, subst, ◌∙◌, inl, inr, arith}
+use Rattle.std.proofs.Common.{◌≡◌, ℕ, zero, suc, ◌+◌, ◌-◌, ◌*◌, ◌/◌, ◌%◌, ◌^◌, ◌<◌, ◌≤◌, ◌==◌, ◌&&◌, not, Bool, true, false}
+use Rattle.std.proofs.Common.{List, [], ◌∷◌, ◌++◌, length, Option, Some, None, Ok, Err, nat_lt, refl, sym, ap, subst, ◌∙◌, inl, inr, arith}
 use Rattle.std.specs.Prelude.{IfSome, if◌then◌else◌}
 use Rattle.std.proofs.lemmas.Bool.{and_parts, eqb-true, ltb-true}
 use Rattle.std.proofs.lemmas.Nat.{mod_below}
@@ -10,7 +11,8 @@ use Rattle.etm_types.specs.declared.address.AddrForm.{AddrForm}
 use Rattle.etm_types.specs.declared.address.AddrForm.TheVariants.{Match, Short1, Short2, Long32, Long64}
 use Rattle.etm_types.specs.declared.context.CtxBits.{CtxBits}
 use Rattle.packet_grammar.specs.declared.packet.Packet.{Packet}
-use Rattle.packet_grammar.specs.declared.packet.Packet.TheVariants.{Async, Discard, Overflow, Info, On, Ignore, Event, Time, Exc, Commit, Cancel, Mispredict, Cancel2, Cancel3, CtxSame, CtxInfo, Addr, Atoms}
+use Rattle.packet_grammar.specs.declared.packet.Packet.TheVariants.{Async, Discard, Overflow, Info, On, Ignore, Event, Time, Exc}
+use Rattle.packet_grammar.specs.declared.packet.Packet.TheVariants.{Commit, Cancel, Mispredict, Cancel2, Cancel3, CtxSame, CtxInfo, Addr, Atoms}
 use Rattle.packet_grammar.specs.declared.fault.PacketFault.TheVariants.{InfoMode, InfoControl, Aarch32Context}
 use Rattle.packet_grammar.specs.Parts.{Outcome, Part, Known, Byte, Bytes, Where, Then, As}
 use Rattle.packet_grammar.specs.Numbers.{Number, Stamp, little}
@@ -55,7 +57,9 @@ context_next : (s : Sizes) (info : ℕ) (ctx : CtxBits) (bytes : List ℕ) (test
     As (Field (bit 7 info) s.cid_bytes) (λ cid. record { el = info % 4; ns = bit 5 info; vmid = vmid; cid = cid })))
     (Known (Err (Aarch32Context info))) (Ok ctx) bytes → IsContext s ctx
 context_next s info ctx bytes true small is =
-    let a = then_ok {B = CtxBits} (Field (bit 6 info) s.vmid_bytes) (λ vmid. As (Field (bit 7 info) s.cid_bytes) (λ cid. record { el = info % 4; ns = bit 5 info; vmid = vmid; cid = cid })) ctx bytes is in
+    let a =
+    then_ok {B = CtxBits} (Field (bit 6 info) s.vmid_bytes)
+    (λ vmid. As (Field (bit 7 info) s.cid_bytes) (λ cid. record { el = info % 4; ns = bit 5 info; vmid = vmid; cid = cid })) ctx bytes is in
     let b = as_ok {B = CtxBits} (Field (bit 7 info) s.cid_bytes) (λ cid. record { el = info % 4; ns = bit 5 info; vmid = a.0; cid = cid }) ctx a.2 a.5 in
     let vmid = field_fits (bit 6 info) s.vmid_bytes a.0 a.1 (small_front bytes a.1 a.2 a.3 small) a.4 in
     let cid = field_fits (bit 7 info) s.cid_bytes b.0 a.2 (small_back bytes a.1 a.2 a.3 small) b.1 in
@@ -75,7 +79,8 @@ section_none : (P : ℕ → Type 0) (v : Option ℕ) (bytes : List ℕ) → Know
 section_none P v [] is = subst (λ x. IfSome x P) (sym (value_of v None is)) tt
 section_none P v (b ∷ bytes) is = absurd is
 
-section_fits : (P : ℕ → Type 0) (part : Part ℕ) (there : Bool) (v : Option ℕ) (bytes : List ℕ) → ((n : ℕ) → part (Ok n) bytes → P n) → Section there part (Ok v) bytes → IfSome v P
+section_fits : (P : ℕ → Type 0) (part : Part ℕ) (there : Bool) (v : Option ℕ) (bytes : List ℕ) → ((n : ℕ) → part (Ok n) bytes → P n)
+    → Section there part (Ok v) bytes → IfSome v P
 section_fits P part true v bytes each is =
     let x = as_ok part (λ n. Some n) v bytes is in
     subst (λ y. IfSome y P) (sym x.2) (each x.0 x.1)
@@ -103,8 +108,11 @@ info_next : (s : Sizes) (control : ℕ) (p : Packet) (bytes : List ℕ) (test : 
     (Known (Err (InfoControl control))) (Ok p) bytes → IsPacket s p
 info_next s control p bytes true small is =
     let a = then_ok (Section (bit 0 control) Mode)
-    (λ info. Then (Section (bit 1 control) Number) (λ key. Then (Section (bit 2 control) Number) (λ spec. As (Section (bit 3 control) Number) (λ cyct. Info info key spec cyct)))) p bytes is in
-    let b = then_ok (Section (bit 1 control) Number) (λ key. Then (Section (bit 2 control) Number) (λ spec. As (Section (bit 3 control) Number) (λ cyct. Info a.0 key spec cyct))) p a.2 a.5 in
+    (λ info. Then (Section (bit 1 control) Number)
+    (λ key. Then (Section (bit 2 control) Number) (λ spec. As (Section (bit 3 control) Number) (λ cyct. Info info key spec cyct)))) p bytes is in
+    let b =
+    then_ok (Section (bit 1 control) Number)
+    (λ key. Then (Section (bit 2 control) Number) (λ spec. As (Section (bit 3 control) Number) (λ cyct. Info a.0 key spec cyct))) p a.2 a.5 in
     let c = then_ok (Section (bit 2 control) Number) (λ spec. As (Section (bit 3 control) Number) (λ cyct. Info a.0 b.0 spec cyct)) p b.2 b.5 in
     let d = as_ok (Section (bit 3 control) Number) (λ cyct. Info a.0 b.0 c.0 cyct) p c.2 c.5 in
     let small_a = small_back bytes a.1 a.2 a.3 small in
@@ -122,7 +130,8 @@ info_fits : (s : Sizes) (p : Packet) (bytes : List ℕ) → Small bytes → Trac
 info_fits s p [] small is = absurd is
 info_fits s p (control ∷ bytes) small is = info_next s control p bytes (nat_lt control 16) (small_tail control bytes small) is
 
-few_cases : (a b c : Bool) → IsFewAtoms (if a then record { count = 0; first = false } else if b then record { count = 1; first = true } else if c then record { count = 2; first = true } else record { count = 1; first = false })
+few_cases : (a b c : Bool)
+    → IsFewAtoms (if a then record { count = 0; first = false } else if b then record { count = 1; first = true } else if c then record { count = 2; first = true } else record { count = 1; first = false })
 few_cases true b c = inl refl
 few_cases false true c = inr (inl refl)
 few_cases false false true = inr (inr (inl refl))
@@ -196,8 +205,11 @@ packet_fits s (Event n) bytes small (h, (least, most, e), f) = (omega (arith, f,
 packet_fits s CtxSame bytes small is = tt
 packet_fits s (CtxInfo ctx) bytes small (rest, e, is) = context_fits s ctx rest (small_rest bytes 129 rest e small) is
 packet_fits s (Addr (Long32 a) (Some ctx)) bytes small (given, rest, e, is, goes) =
-    let both = small_rest bytes 130 (given ++ rest) e small in
-    (long_32_fits (Long32 a) given (small_front (given ++ rest) given rest refl both) is, context_fits s ctx rest (small_back (given ++ rest) given rest refl both) goes)
+    let both = small_rest bytes 130 (given ++ rest) e small in (
+      long_32_fits (Long32 a) given (small_front (given ++ rest) given rest refl both) is,
+      context_fits s ctx rest
+          (small_back (given ++ rest) given rest refl both) goes,
+    )
 packet_fits s (Addr (Long64 a) (Some ctx)) bytes small (given, rest, e, is, goes) =
     let both = small_rest bytes 133 (given ++ rest) e small in
     (long_64_fits (Long64 a) given is, context_fits s ctx rest (small_back (given ++ rest) given rest refl both) goes)

@@ -1,5 +1,6 @@
 -- The spellings of a packet by its own section, and by the table of headers.
-use Rattle.std.proofs.Common.{◌⊎◌, ◌≡◌, ℕ, zero, suc, ◌+◌, ◌-◌, ◌*◌, ◌^◌, ◌/◌, ◌%◌, ◌<◌, ◌≤◌, ◌==◌, ◌&&◌, ◌||◌, not, Bool, true, false, List, [], ◌∷◌, ◌++◌, Option, Some, None, Ok, Err, nat_le, nat_lt, refl, sym, ap, subst, ◌∙◌, append-nil, inl, inr, arith}
+use Rattle.std.proofs.Common.{◌⊎◌, ◌≡◌, ℕ, zero, suc, ◌+◌, ◌-◌, ◌*◌, ◌^◌, ◌/◌, ◌%◌, ◌<◌, ◌≤◌, ◌==◌, ◌&&◌, ◌||◌, not, Bool, true, false}
+use Rattle.std.proofs.Common.{List, [], ◌∷◌, ◌++◌, Option, Some, None, Ok, Err, nat_le, nat_lt, refl, sym, ap, subst, ◌∙◌, append-nil, inl, inr, arith}
 use Rattle.std.specs.Prelude.{if◌then◌else◌, replicate}
 use Rattle.std.specs.List.{list_all}
 use Rattle.std.proofs.Math.Bool.{beq}
@@ -12,7 +13,8 @@ use Rattle.etm_types.specs.declared.atoms.FewAtoms.{FewAtoms}
 use Rattle.atom_formats.specs.Formats.{Spells as TellsAtoms}
 use Rattle.atom_formats.proofs.Table.{each_from}
 use Rattle.packet_grammar.specs.declared.packet.Packet.{Packet}
-use Rattle.packet_grammar.specs.declared.packet.Packet.TheVariants.{Async, Discard, Overflow, Info, On, Ignore, Event, Time, Exc, Commit, Cancel, Mispredict, Cancel2, Cancel3, CtxSame, CtxInfo, Addr, Atoms}
+use Rattle.packet_grammar.specs.declared.packet.Packet.TheVariants.{Async, Discard, Overflow, Info, On, Ignore, Event, Time, Exc}
+use Rattle.packet_grammar.specs.declared.packet.Packet.TheVariants.{Commit, Cancel, Mispredict, Cancel2, Cancel3, CtxSame, CtxInfo, Addr, Atoms}
 use Rattle.packet_grammar.specs.declared.fault.PacketFault.{PacketFault}
 use Rattle.packet_grammar.specs.declared.fault.PacketFault.TheVariants.{ExceptionTwoByte, ExceptionForm, InfoControl}
 use Rattle.packet_grammar.specs.Parts.{Outcome, Part, Known, Byte, Bytes, Where, Then, As}
@@ -20,9 +22,11 @@ use Rattle.packet_grammar.specs.Numbers.{Number, Stamp, StampWithin, TimeStamp}
 use Rattle.packet_grammar.specs.Fields.{bit}
 use Rattle.packet_grammar.specs.Contexts.{Context, ShortAddress, LongAddress32, LongAddress64, address_of}
 use Rattle.packet_grammar.specs.Headers.{few_atoms, refused_headers, fault_in}
-use Rattle.packet_grammar.proofs.Table.{Body, alone, atoms, extension, trace_info, time_stamp, exception, commit, cancel, context, short_address, long_32, long_64, long_32_with_context, long_64_with_context, headers, body_in, body_of, pick, whole, Follows, Told, AfterZero, AtomsOf, Exception}
+use Rattle.packet_grammar.proofs.Table.{Body, alone, atoms, extension, trace_info, time_stamp, exception, commit, cancel, context, short_address, long_32}
+use Rattle.packet_grammar.proofs.Table.{long_64, long_32_with_context, long_64_with_context, headers, body_in, body_of, pick, whole, Follows, Told, AfterZero, AtomsOf, Exception}
 use Rattle.packet_grammar.specs.Spelling.{Section, Mode, TraceInfo, SpellsPacket, OneOf}
-use Rattle.packet_grammar.specs.Faults.{SpellsFault, ShowsAt, Place, in_header, in_sync, in_info, in_exception, in_number, in_context, in_context_of_32, in_context_of_64}
+use Rattle.packet_grammar.specs.Faults.{SpellsFault, ShowsAt, Place, in_header, in_sync}
+use Rattle.packet_grammar.specs.Faults.{in_info, in_exception, in_number, in_context, in_context_of_32, in_context_of_64}
 use Rattle.packet_grammar.specs.Parsed.{Spells}
 
 -- a value of another value's part
@@ -74,11 +78,20 @@ packet_back s Discard bytes is = record { header = 0; rest = 3 ∷ []; body = ex
 packet_back s Overflow bytes is = record { header = 0; rest = 5 ∷ []; body = extension; whole = is; says = refl; follows = refl }
 packet_back s (Info info key spec cyct) bytes (rest, e, is) = record { header = 1; rest = rest; body = trace_info; whole = e; says = refl; follows = is }
 packet_back s (Time bits low) bytes (rest, e, is) =
-    record { header = 2; rest = rest; body = time_stamp; whole = e; says = refl; follows = as_back TimeStamp (λ stamp. Time stamp.bits stamp.low) (record { bits = bits; low = low }) rest is }
+    record {
+      header = 2;
+      rest = rest;
+      body = time_stamp;
+      whole = e;
+      says = refl;
+      follows = as_back TimeStamp (λ stamp. Time stamp.bits stamp.low)
+          (record { bits = bits; low = low }) rest is;
+    }
 packet_back s On bytes is = record { header = 4; rest = []; body = whole On; whole = is; says = refl; follows = refl }
 packet_back s (Exc kind) bytes (b, e, b7, b6, b0, k) =
     record { header = 6; rest = b ∷ []; body = exception; whole = e; says = refl; follows = exc_known (bit 7 b) (bit 6 b) (bit 0 b) b kind b7 b6 b0 k }
-packet_back s (Commit n) bytes (rest, e, is) = record { header = 45; rest = rest; body = commit; whole = e; says = refl; follows = as_back Number (λ m. Commit m) n rest is }
+packet_back s (Commit n) bytes (rest, e, is) = record
+    { header = 45; rest = rest; body = commit; whole = e; says = refl; follows = as_back Number (λ m. Commit m) n rest is }
 packet_back s (Cancel n true) bytes (rest, e, is) =
     record { header = 47; rest = rest; body = cancel true; whole = e; says = refl; follows = as_back Number (λ m. Cancel m true) n rest is }
 packet_back s (Cancel n false) bytes (rest, e, is) =
@@ -94,24 +107,72 @@ packet_back s (Cancel3 one n) bytes (h, (least, most, e), f, g) =
     record { header = h; rest = []; body = whole (Cancel3 one n); whole = e; says = row ∙ (λ i. Some (whole (Cancel3 (sym f i) (sym g i)))); follows = refl }
 packet_back s Ignore bytes is = record { header = 112; rest = []; body = whole Ignore; whole = is; says = refl; follows = refl }
 packet_back s (Event n) bytes (h, (least, most, e), f) =
-    record { header = h; rest = []; body = whole (Event n); whole = e; says = event_row h least most ∙ ap (λ x. Some (whole (Event x))) (sym f); follows = refl }
+    record {
+      header = h;
+      rest = [];
+      body = whole (Event n);
+      whole = e;
+      says = event_row h least most
+          ∙ ap (λ x. Some (whole (Event x))) (sym f);
+      follows = refl;
+    }
 packet_back s CtxSame bytes is = record { header = 128; rest = []; body = whole CtxSame; whole = is; says = refl; follows = refl }
 packet_back s (CtxInfo ctx) bytes (rest, e, is) =
     record { header = 129; rest = rest; body = context; whole = e; says = refl; follows = as_back (Context s) (λ c. CtxInfo c) ctx rest is }
 packet_back s (Addr (Long32 a) (Some ctx)) bytes (given, rest, e, is, is_context) =
-    record { header = 130; rest = given ++ rest; body = long_32_with_context; whole = e; says = refl; follows = inl (Long32 a, given, rest, refl, is, as_back (Context s) (λ c. Addr (Long32 a) (Some c)) ctx rest is_context) }
+    record {
+      header = 130;
+      rest = given ++ rest;
+      body = long_32_with_context;
+      whole = e;
+      says = refl;
+      follows = inl
+          (Long32 a, given, rest, refl, is, as_back (Context s) (λ c. Addr (Long32 a) (Some c)) ctx rest is_context);
+    }
 packet_back s (Addr (Long64 a) (Some ctx)) bytes (given, rest, e, is, is_context) =
-    record { header = 133; rest = given ++ rest; body = long_64_with_context; whole = e; says = refl; follows = inl (Long64 a, given, rest, refl, is, as_back (Context s) (λ c. Addr (Long64 a) (Some c)) ctx rest is_context) }
+    record {
+      header = 133;
+      rest = given ++ rest;
+      body = long_64_with_context;
+      whole = e;
+      says = refl;
+      follows = inl
+          (Long64 a, given, rest, refl, is, as_back (Context s) (λ c. Addr (Long64 a) (Some c)) ctx rest is_context);
+    }
 packet_back s (Addr (Match index) (Some ctx)) bytes is = absurd is
 packet_back s (Addr (Short1 a) (Some ctx)) bytes is = absurd is
 packet_back s (Addr (Short2 a) (Some ctx)) bytes is = absurd is
 packet_back s (Addr (Match index) None) bytes (h, (least, most, e), f) =
     let row = in_row 17 h (each_from 144 2 (λ (b : ℕ). index_in headers b == 17) refl h least most) in
-    record { header = h; rest = []; body = whole (Addr (Match index) None); whole = e; says = row ∙ ap (λ x. Some (whole (Addr (Match x) None))) (sym f); follows = refl }
+    record {
+      header = h;
+      rest = [];
+      body = whole (Addr (Match index) None);
+      whole = e;
+      says = row
+          ∙ ap (λ x. Some (whole (Addr (Match x) None))) (sym f);
+      follows = refl;
+    }
 packet_back s (Addr (Short1 a) None) bytes (rest, e, is) =
-    record { header = 149; rest = rest; body = short_address; whole = e; says = refl; follows = as_back ShortAddress (λ form. Addr form None) (Short1 a) rest is }
+    record {
+      header = 149;
+      rest = rest;
+      body = short_address;
+      whole = e;
+      says = refl;
+      follows = as_back ShortAddress (λ form. Addr form None) (Short1 a) rest
+          is;
+    }
 packet_back s (Addr (Short2 a) None) bytes (rest, e, is) =
-    record { header = 149; rest = rest; body = short_address; whole = e; says = refl; follows = as_back ShortAddress (λ form. Addr form None) (Short2 a) rest is }
+    record {
+      header = 149;
+      rest = rest;
+      body = short_address;
+      whole = e;
+      says = refl;
+      follows = as_back ShortAddress (λ form. Addr form None) (Short2 a) rest
+          is;
+    }
 packet_back s (Addr (Long32 a) None) bytes (rest, e, is) =
     record { header = 154; rest = rest; body = long_32; whole = e; says = refl; follows = as_back LongAddress32 (λ form. Addr form None) (Long32 a) rest is }
 packet_back s (Addr (Long64 a) None) bytes (rest, e, is) =
@@ -177,7 +238,8 @@ fits_below : (h : ℕ) → h < 256 → fits_found h (body_of h) ≡ true
 unfolding headers refused_headers
 fits_below h below = agree_below_at (λ (j : ℕ). fits_found j (body_of j)) (λ _. true) 256 h refl below
 
-row_below : (row : ℕ × ℕ × (ℕ → Body)) (rows : List (ℕ × ℕ × (ℕ → Body))) (h : ℕ) (body : Body) (test : Bool) → (nat_le row.0 h && nat_le h row.1) ≡ test → nat_lt row.1 256 ≡ true
+row_below : (row : ℕ × ℕ × (ℕ → Body)) (rows : List (ℕ × ℕ × (ℕ → Body))) (h : ℕ) (body : Body) (test : Bool) → (nat_le row.0 h && nat_le h row.1) ≡ test
+    → nat_lt row.1 256 ≡ true
     → (body_in rows h ≡ Some body → h < 256) → (if test then Some (row.2 h) else body_in rows h) ≡ Some body → h < 256
 row_below row rows h body true inside low later e =
     let upper = leb-true h row.1 (and_parts (nat_le row.0 h) (nat_le h row.1) inside).1 in
@@ -194,14 +256,16 @@ all_below : list_all (λ row. nat_lt row.1 256) headers ≡ true
 unfolding headers
 all_below = refl
 
-fault_below : (row : ℕ × ℕ × (ℕ → PacketFault)) (rows : List (ℕ × ℕ × (ℕ → PacketFault))) (h : ℕ) (f : PacketFault) (test : Bool) → (nat_le row.0 h && nat_le h row.1) ≡ test
+fault_below : (row : ℕ × ℕ × (ℕ → PacketFault)) (rows : List (ℕ × ℕ × (ℕ → PacketFault))) (h : ℕ) (f : PacketFault) (test : Bool)
+    → (nat_le row.0 h && nat_le h row.1) ≡ test
     → nat_lt row.1 256 ≡ true → (fault_in rows h ≡ Some f → h < 256) → (if test then Some (row.2 h) else fault_in rows h) ≡ Some f → h < 256
 fault_below row rows h f true inside low later e =
     let upper = leb-true h row.1 (and_parts (nat_le row.0 h) (nat_le h row.1) inside).1 in
     omega (arith, upper, ltb-true row.1 256 low)
 fault_below row rows h f false outside low later e = later e
 
-faults_below : (rows : List (ℕ × ℕ × (ℕ → PacketFault))) → list_all (λ row. nat_lt row.1 256) rows ≡ true → (h : ℕ) (f : PacketFault) → fault_in rows h ≡ Some f → h < 256
+faults_below : (rows : List (ℕ × ℕ × (ℕ → PacketFault))) → list_all (λ row. nat_lt row.1 256) rows ≡ true → (h : ℕ) (f : PacketFault)
+    → fault_in rows h ≡ Some f → h < 256
 faults_below [] all h f e = absurd cc
 faults_below (row ∷ rows) all h f e =
     let parts = and_parts (nat_lt row.1 256) (list_all (λ (r : ℕ × ℕ × (ℕ → PacketFault)). nat_lt r.1 256) rows) all in
@@ -211,7 +275,8 @@ all_faults_below : list_all (λ row. nat_lt row.1 256) refused_headers ≡ true
 unfolding refused_headers
 all_faults_below = refl
 
-pick_below : (h : ℕ) (body : Body) (found : Option Body) (shown : Option PacketFault) → body_in headers h ≡ found → fault_in refused_headers h ≡ shown → pick found shown ≡ Some body → h < 256
+pick_below : (h : ℕ) (body : Body) (found : Option Body) (shown : Option PacketFault) → body_in headers h ≡ found → fault_in refused_headers h ≡ shown
+    → pick found shown ≡ Some body → h < 256
 pick_below h body (Some b) shown e f is = rows_below headers all_below h b e
 pick_below h body None (Some g) e f is = faults_below refused_headers all_faults_below h g f
 pick_below h body None None e f is = absurd cc
@@ -231,8 +296,10 @@ one_of low high h e = let parts = and_parts (nat_le low h) (nat_le h high) e in 
 -- a packet of one byte
 alone_to : (s : Sizes) (p : Packet) (h : ℕ) → fits_packet h p ≡ true → SpellsPacket s p (h ∷ [])
 alone_to s On h e = let z = eqb-true h 4 e in (λ i. z i ∷ [])
-alone_to s (Mispredict few) h e = let parts = and_parts (between 48 51 h) (same_few few (few_atoms h)) e in (h, one_of 48 51 h parts.0, few_same few (few_atoms h) parts.1)
-alone_to s (Cancel2 few) h e = let parts = and_parts (between 52 55 h) (same_few few (few_atoms h)) e in (h, one_of 52 55 h parts.0, few_same few (few_atoms h) parts.1)
+alone_to s (Mispredict few) h e = let parts = and_parts (between 48 51 h) (same_few few (few_atoms h)) e in
+    (h, one_of 48 51 h parts.0, few_same few (few_atoms h) parts.1)
+alone_to s (Cancel2 few) h e = let parts = and_parts (between 52 55 h) (same_few few (few_atoms h)) e in
+    (h, one_of 52 55 h parts.0, few_same few (few_atoms h) parts.1)
 alone_to s (Cancel3 one n) h e =
     let parts = and_parts (between 56 63 h) (beq one (h % 2 == 1) && (n == h / 2 % 4 + 2)) e in
     let fields = and_parts (beq one (h % 2 == 1)) (n == h / 2 % 4 + 2) parts.1 in
@@ -240,13 +307,15 @@ alone_to s (Cancel3 one n) h e =
 alone_to s Ignore h e = let z = eqb-true h 112 e in (λ i. z i ∷ [])
 alone_to s (Event n) h e = let parts = and_parts (between 113 127 h) (n == h % 16) e in (h, one_of 113 127 h parts.0, eqb-true n (h % 16) parts.1)
 alone_to s CtxSame h e = let z = eqb-true h 128 e in (λ i. z i ∷ [])
-alone_to s (Addr (Match index) None) h e = let parts = and_parts (between 144 146 h) (index == h - 144) e in (h, one_of 144 146 h parts.0, eqb-true index (h - 144) parts.1)
+alone_to s (Addr (Match index) None) h e = let parts = and_parts (between 144 146 h) (index == h - 144) e in
+    (h, one_of 144 146 h parts.0, eqb-true index (h - 144) parts.1)
 alone_to s p h e = absurd cc
 
 same_packet : (p q : Packet) → ◌≡◌ {A = Outcome Packet} (Ok p) (Ok q) → p ≡ q
 same_packet p q e = cc
 
-known_to : (s : Sizes) (p : Packet) (h : ℕ) (rest : List ℕ) (outcome : Outcome Packet) → fits h (alone outcome) ≡ true → Known outcome (Ok p) rest → SpellsPacket s p (h ∷ rest)
+known_to : (s : Sizes) (p : Packet) (h : ℕ) (rest : List ℕ) (outcome : Outcome Packet) → fits h (alone outcome) ≡ true → Known outcome (Ok p) rest
+    → SpellsPacket s p (h ∷ rest)
 known_to s p h [] (Ok q) e known = let same = same_packet p q known in by_packet s p q (h ∷ []) same (alone_to s q h e)
 known_to s p h [] (Err f) e known = absurd cc
 known_to s p h (b ∷ rest) outcome e known = absurd known
@@ -275,8 +344,11 @@ sections_to : (control : ℕ) (p : Packet) (bytes : List ℕ)
     Then (Section (bit 2 control) Number) (λ spec. As (Section (bit 3 control) Number) (λ cyct. Info info key spec cyct)))) (Ok p) bytes → IsInfo p
 sections_to control p bytes is =
     let a = then_ok (Section (bit 0 control) Mode)
-    (λ info. Then (Section (bit 1 control) Number) (λ key. Then (Section (bit 2 control) Number) (λ spec. As (Section (bit 3 control) Number) (λ cyct. Info info key spec cyct)))) p bytes is in
-    let b = then_ok (Section (bit 1 control) Number) (λ key. Then (Section (bit 2 control) Number) (λ spec. As (Section (bit 3 control) Number) (λ cyct. Info a.0 key spec cyct))) p a.2 a.5 in
+    (λ info. Then (Section (bit 1 control) Number)
+    (λ key. Then (Section (bit 2 control) Number) (λ spec. As (Section (bit 3 control) Number) (λ cyct. Info info key spec cyct)))) p bytes is in
+    let b =
+    then_ok (Section (bit 1 control) Number)
+    (λ key. Then (Section (bit 2 control) Number) (λ spec. As (Section (bit 3 control) Number) (λ cyct. Info a.0 key spec cyct))) p a.2 a.5 in
     let c = then_ok (Section (bit 2 control) Number) (λ spec. As (Section (bit 3 control) Number) (λ cyct. Info a.0 b.0 spec cyct)) p b.2 b.5 in
     let d = as_ok (Section (bit 3 control) Number) (λ cyct. Info a.0 b.0 c.0 cyct) p c.2 c.5 in
     record { info = a.0; key = b.0; spec = c.0; cyct = d.0; is = d.2 }
@@ -326,14 +398,16 @@ is_short : (form : AddrForm) (bytes : List ℕ) → ShortAddress (Ok form) bytes
 is_short form [] is = absurd is
 is_short form (a ∷ bytes) is = short_kind form a bytes (nat_lt a 128) is
 
-short_to : (s : Sizes) (form : AddrForm) (h : ℕ) (rest : List ℕ) → h ≡ 149 → IsShort form → ShortAddress (Ok form) rest → SpellsPacket s (Addr form None) (h ∷ rest)
+short_to : (s : Sizes) (form : AddrForm) (h : ℕ) (rest : List ℕ) → h ≡ 149 → IsShort form → ShortAddress (Ok form) rest
+    → SpellsPacket s (Addr form None) (h ∷ rest)
 short_to s (Short1 a) h rest z short is = (rest, (λ i. z i ∷ rest), is)
 short_to s (Short2 a) h rest z short is = (rest, (λ i. z i ∷ rest), is)
 short_to s (Match index) h rest z short is = absurd short
 short_to s (Long32 a) h rest z short is = absurd short
 short_to s (Long64 a) h rest z short is = absurd short
 
-cancel_to : (s : Sizes) (flip : Bool) (n h : ℕ) (rest : List ℕ) → h ≡ (if flip then 47 else 46) → Number (Ok n) rest → SpellsPacket s (Cancel n flip) (h ∷ rest)
+cancel_to : (s : Sizes) (flip : Bool) (n h : ℕ) (rest : List ℕ) → h ≡ (if flip then 47 else 46) → Number (Ok n) rest
+    → SpellsPacket s (Cancel n flip) (h ∷ rest)
 cancel_to s flip n h rest z is = (rest, (λ i. z i ∷ rest), is)
 
 module _ (s : Sizes) (p : Packet) (h : ℕ) (rest : List ℕ) where
@@ -343,7 +417,8 @@ module _ (s : Sizes) (p : Packet) (h : ℕ) (rest : List ℕ) where
       let parts = and_parts (between 192 255 h) (k == h) e in
       let same : k ≡ h = eqb-true k h parts.1 in
       let one = one_of 192 255 h parts.0 in
-      by_packet s p (Atoms run) (h ∷ rest) (same_packet p (Atoms run) told) (h, (one.0, one.1, λ i. h ∷ none i), within, subst (λ n. TellsAtoms n (atoms_in run)) same tells)
+      by_packet s p (Atoms run) (h ∷ rest) (same_packet p (Atoms run) told)
+      (h, (one.0, one.1, λ i. h ∷ none i), within, subst (λ n. TellsAtoms n (atoms_in run)) same tells)
   body_to extension e is = zero_to s p h rest (eqb-true h 0 e) is
   body_to trace_info e is =
       let z = eqb-true h 1 e in
@@ -372,12 +447,14 @@ module _ (s : Sizes) (p : Packet) (h : ℕ) (rest : List ℕ) where
       let z = eqb-true h 154 e in
       let x = as_ok LongAddress32 (λ form. Addr form None) p rest is in
       let y = as_ok (Bytes 4) (λ given. Long32 (address_of given)) x.0 rest x.1 in
-      by_packet s p (Addr (Long32 (address_of y.0)) None) (h ∷ rest) (x.2 ∙ ap (λ f. Addr f None) y.2) (rest, (λ i. z i ∷ rest), subst (λ f. LongAddress32 (Ok f) rest) y.2 x.1)
+      by_packet s p (Addr (Long32 (address_of y.0)) None) (h ∷ rest) (x.2 ∙ ap (λ f. Addr f None) y.2)
+      (rest, (λ i. z i ∷ rest), subst (λ f. LongAddress32 (Ok f) rest) y.2 x.1)
   body_to long_64 e is =
       let z = eqb-true h 157 e in
       let x = as_ok LongAddress64 (λ form. Addr form None) p rest is in
       let y = as_ok (Bytes 8) (λ given. Long64 (address_of given)) x.0 rest x.1 in
-      by_packet s p (Addr (Long64 (address_of y.0)) None) (h ∷ rest) (x.2 ∙ ap (λ f. Addr f None) y.2) (rest, (λ i. z i ∷ rest), subst (λ f. LongAddress64 (Ok f) rest) y.2 x.1)
+      by_packet s p (Addr (Long64 (address_of y.0)) None) (h ∷ rest) (x.2 ∙ ap (λ f. Addr f None) y.2)
+      (rest, (λ i. z i ∷ rest), subst (λ f. LongAddress64 (Ok f) rest) y.2 x.1)
   body_to long_32_with_context e is =
       let z = eqb-true h 130 e in
       let w = then_ok LongAddress32 (λ form. As (Context s) (λ ctx. Addr form (Some ctx))) p rest is in
@@ -394,7 +471,8 @@ module _ (s : Sizes) (p : Packet) (h : ℕ) (rest : List ℕ) where
       (w.1, w.2, (λ i. z i ∷ w.3 i), subst (λ f. LongAddress64 (Ok f) w.1) y.2 w.4, x.1)
 
 pub packet_to : (s : Sizes) (p : Packet) (bytes : List ℕ) → Told s (Ok p) bytes → SpellsPacket s p bytes
-packet_to s p bytes is = subst (λ t. SpellsPacket s p t) (sym is.whole) (body_to s p is.header is.rest is.body (body_fits is.header is.body is.says) is.follows)
+packet_to s p bytes is = subst (λ t. SpellsPacket s p t) (sym is.whole)
+    (body_to s p is.header is.rest is.body (body_fits is.header is.body is.says) is.follows)
 
 -- no header stands in both tables, and the packets' headers show no fault
 abbrev clash : Option Body → Option PacketFault → Bool
@@ -413,7 +491,8 @@ all_packets : (h : ℕ) → h < 256 → is_packet (body_in headers h) ≡ true
 unfolding headers
 all_packets h below = agree_below_at (λ (j : ℕ). is_packet (body_in headers j)) (λ _. true) 256 h refl below
 
-pick_back : (f : PacketFault) (found : Option Body) (shown : Option PacketFault) → shown ≡ Some f → clash found shown ≡ true → pick found shown ≡ Some (alone (Err f))
+pick_back : (f : PacketFault) (found : Option Body) (shown : Option PacketFault) → shown ≡ Some f → clash found shown ≡ true
+    → pick found shown ≡ Some (alone (Err f))
 pick_back f (Some body) (Some g) e apart = absurd cc
 pick_back f None (Some g) e apart = let same : g ≡ f = cc in ap (λ x. Some (alone (Err x))) same
 pick_back f found None e apart = absurd cc
@@ -424,7 +503,8 @@ fault_row h f e = pick_back f (body_in headers h) (fault_in refused_headers h) e
 alone_fault : (f g : PacketFault) → ◌≡◌ {A = Option Body} (Some (alone (Err f))) (Some (alone (Err g))) → f ≡ g
 alone_fault f g e = cc
 
-pick_to : (f : PacketFault) (found : Option Body) (shown : Option PacketFault) → is_packet found ≡ true → pick found shown ≡ Some (alone (Err f)) → shown ≡ Some f
+pick_to : (f : PacketFault) (found : Option Body) (shown : Option PacketFault) → is_packet found ≡ true → pick found shown ≡ Some (alone (Err f))
+    → shown ≡ Some f
 pick_to f (Some body) shown packets e = let bad : is_packet (Some (alone (Err f))) ≡ true = ap is_packet (sym e) ∙ packets in absurd cc
 pick_to f None (Some g) packets e = ap (λ x. Some x) (alone_fault g f e)
 pick_to f None None packets e = absurd cc
@@ -441,7 +521,8 @@ stamp_more : (more b : ℕ) (f : PacketFault) (bytes : List ℕ) (test : Bool) �
     → Where {A = Stamp} test (Known (Ok (record { bits = 7; low = b }))) (As (StampWithin more) (λ high. record { bits = 7 + high.bits; low = b - 128 + 128 * high.low })) (Err f) bytes → ⊥
 stamp_more more b f [] true later is = absurd cc
 stamp_more more b f (c ∷ bytes) true later is = absurd is
-stamp_more more b f bytes false later is = later (as_err (StampWithin more) (λ high. record { bits = 7 + high.bits; low = b - 128 + 128 * high.low }) f bytes is)
+stamp_more more b f bytes false later is = later
+    (as_err (StampWithin more) (λ high. record { bits = 7 + high.bits; low = b - 128 + 128 * high.low }) f bytes is)
 
 stamp_fault : (more : ℕ) (f : PacketFault) (bytes : List ℕ) → StampWithin more (Err f) bytes → ⊥
 stamp_fault zero f [] is = absurd is
@@ -484,7 +565,8 @@ exception_fault s f h (b ∷ []) z is =
     (in_exception, (b, (λ i. z i ∷ b ∷ []), x.0, x.1))
 exception_fault s f h (b ∷ c ∷ rest) z is = absurd is
 
-known_fault : (s : Sizes) (f : PacketFault) (h : ℕ) (rest : List ℕ) (outcome : Outcome Packet) → body_of h ≡ Some (alone outcome) → Known outcome (Err f) rest → SpellsFault s f (h ∷ rest)
+known_fault : (s : Sizes) (f : PacketFault) (h : ℕ) (rest : List ℕ) (outcome : Outcome Packet) → body_of h ≡ Some (alone outcome)
+    → Known outcome (Err f) rest → SpellsFault s f (h ∷ rest)
 known_fault s f h [] (Err g) says is = let same : g ≡ f = cc in (in_header, (h, refl, row_fault h g says ∙ ap (λ k. Some k) same))
 known_fault s f h [] (Ok p) says is = absurd cc
 known_fault s f h (b ∷ rest) outcome says is = absurd is
@@ -526,13 +608,16 @@ module _ (s : Sizes) (f : PacketFault) (h : ℕ) (rest : List ℕ) where
       number_fault s f h rest within.0 within.1 (as_err Number (λ n. Cancel n flip) f rest is)
   body_fault context says e is = let z = eqb-true h 129 e in (in_context, (rest, (λ i. z i ∷ rest), as_err (Context s) (λ ctx. CtxInfo ctx) f rest is))
   body_fault short_address says e is = absurd (short_fault f rest (as_err ShortAddress (λ form. Addr form None) f rest is))
-  body_fault long_32 says e is = absurd (as_err (Bytes 4) (λ given. Long32 (address_of given)) f rest (as_err LongAddress32 (λ form. Addr form None) f rest is))
-  body_fault long_64 says e is = absurd (as_err (Bytes 8) (λ given. Long64 (address_of given)) f rest (as_err LongAddress64 (λ form. Addr form None) f rest is))
+  body_fault long_32 says e is = absurd (as_err (Bytes 4) (λ given. Long32 (address_of given)) f rest
+      (as_err LongAddress32 (λ form. Addr form None) f rest is))
+  body_fault long_64 says e is = absurd (as_err (Bytes 8) (λ given. Long64 (address_of given)) f rest
+      (as_err LongAddress64 (λ form. Addr form None) f rest is))
   body_fault long_32_with_context says e is = context_32_fault (eqb-true h 130 e) is
   body_fault long_64_with_context says e is = context_64_fault (eqb-true h 133 e) is
 
 fault_to : (s : Sizes) (f : PacketFault) (bytes : List ℕ) → Told s (Err f) bytes → SpellsFault s f bytes
-fault_to s f bytes is = subst (λ t. SpellsFault s f t) (sym is.whole) (body_fault s f is.header is.rest is.body is.says (body_fits is.header is.body is.says) is.follows)
+fault_to s f bytes is = subst (λ t. SpellsFault s f t) (sym is.whole)
+    (body_fault s f is.header is.rest is.body is.says (body_fits is.header is.body is.says) is.follows)
 
 three : (h : ℕ) → 45 ≤ h → h ≤ 47 → (h ≡ 45) ⊎ ((h ≡ 46) ⊎ (h ≡ 47))
 three h least most = elim (cases_lt h 46) [
@@ -547,8 +632,10 @@ module _ (s : Sizes) (f : PacketFault) (bytes : List ℕ) where
   number_back : (h : ℕ) (rest : List ℕ) → (h ≡ 45) ⊎ ((h ≡ 46) ⊎ (h ≡ 47)) → bytes ≡ h ∷ rest → Number (Err f) rest → Told s (Err f) bytes
   unfolding headers refused_headers
   number_back h rest (inl z) e is = record { header = 45; rest = rest; body = commit; whole = e ∙ (λ i. z i ∷ rest); says = refl; follows = inr (f, refl, is) }
-  number_back h rest (inr (inl z)) e is = record { header = 46; rest = rest; body = cancel false; whole = e ∙ (λ i. z i ∷ rest); says = refl; follows = inr (f, refl, is) }
-  number_back h rest (inr (inr z)) e is = record { header = 47; rest = rest; body = cancel true; whole = e ∙ (λ i. z i ∷ rest); says = refl; follows = inr (f, refl, is) }
+  number_back h rest (inr (inl z)) e is = record
+      { header = 46; rest = rest; body = cancel false; whole = e ∙ (λ i. z i ∷ rest); says = refl; follows = inr (f, refl, is) }
+  number_back h rest (inr (inr z)) e is = record
+      { header = 47; rest = rest; body = cancel true; whole = e ∙ (λ i. z i ∷ rest); says = refl; follows = inr (f, refl, is) }
 
   fault_back : (place : Place) → ShowsAt s place f bytes → Told s (Err f) bytes
   unfolding headers refused_headers

@@ -7,7 +7,8 @@ use Rattle.etm_types.specs.declared.address.AddrForm.TheVariants.{Match, Short1,
 use Rattle.etm_types.specs.declared.atoms.FewAtoms.{FewAtoms}
 use Rattle.atom_formats.specs.Formats.{atom_formats}
 use Rattle.atom_formats.proofs.Table.{row_found}
-use Rattle.packet_grammar.specs.declared.packet.Packet.TheVariants.{Async, Discard, Overflow, Info, On, Ignore, Event, Time, Exc, Commit, Cancel, Mispredict, Cancel2, Cancel3, CtxSame, CtxInfo, Addr, Atoms}
+use Rattle.packet_grammar.specs.declared.packet.Packet.TheVariants.{Async, Discard, Overflow, Info, On, Ignore, Event, Time, Exc}
+use Rattle.packet_grammar.specs.declared.packet.Packet.TheVariants.{Commit, Cancel, Mispredict, Cancel2, Cancel3, CtxSame, CtxInfo, Addr, Atoms}
 use Rattle.packet_grammar.specs.Numbers.{Number}
 use Rattle.packet_grammar.specs.Ranges.{IsPacket}
 use Rattle.packet_grammar.specs.Parsed.{Spells}
@@ -457,7 +458,8 @@ address_32_context = (
   inl (Some 7, 0x07 ∷ [], [], refl, inl (0x07 ∷ [], 0x07 ∷ [], [], refl, (refl, refl), refl), inl (None, [], [], refl, refl, refl)),
 )
 
-pub address_64_context : (s : Sizes) → Spells s (Ok (Addr (Long64 0x1000) (Some (record { el = 0; ns = false; vmid = None; cid = None })))) (0x85 ∷ 0x00 ∷ 0x08 ∷ 0x00 ∷ 0x00 ∷ 0x00 ∷ 0x00 ∷ 0x00 ∷ 0x00 ∷ 0x10 ∷ [])
+pub address_64_context : (s : Sizes)
+    → Spells s (Ok (Addr (Long64 0x1000) (Some (record { el = 0; ns = false; vmid = None; cid = None })))) (0x85 ∷ 0x00 ∷ 0x08 ∷ 0x00 ∷ 0x00 ∷ 0x00 ∷ 0x00 ∷ 0x00 ∷ 0x00 ∷ 0x10 ∷ [])
 address_64_context s = (
   0x00 ∷ 0x08 ∷ 0x00 ∷ 0x00 ∷ 0x00 ∷ 0x00 ∷ 0x00 ∷ 0x00 ∷ [],
   0x10 ∷ [],

@@ -38,7 +38,11 @@ long_address_begins s =
 
 pub stream_is_cut : (s : Sizes) → IsStream s (a_sync ++ 0x9d ∷ 0x00 ∷ []) ((0, Async) ∷ []) (cut 2)
 stream_is_cut s =
-    inl (0, record { here = refl; none_before = none_before_0 (a_sync ++ 0x9d ∷ 0x00 ∷ []) }, (a_sync, 0x9d ∷ 0x00 ∷ [], refl, refl, refl, (refl, omega arith, long_address_begins s)))
+    inl (
+      0,
+      record { here = refl; none_before = none_before_0 (a_sync ++ 0x9d ∷ 0x00 ∷ []) },
+      (a_sync, 0x9d ∷ 0x00 ∷ [], refl, refl, refl, (refl, omega arith, long_address_begins s)),
+    )
 
 -- a commit stands at 12, a fault behind it at 14, and what follows that one is not read
 abbrev stream_with_a_fault : List ℕ

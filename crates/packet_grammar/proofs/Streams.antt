@@ -1,5 +1,6 @@
 -- Each list of bytes is a stream, in one way alone.
-use Rattle.std.proofs.Common.{IsTrue, ◌≡◌, ◌⊎◌, ℕ, zero, suc, ◌+◌, ◌<◌, ◌≤◌, Bool, true, false, List, [], ◌∷◌, ◌++◌, length, drop, Ok, Err, refl, sym, ap, subst, ◌∙◌, inl, inr, arith, length-append, nat_eq}
+use Rattle.std.proofs.Common.{IsTrue, ◌≡◌, ◌⊎◌, ℕ, zero, suc, ◌+◌, ◌<◌, ◌≤◌, Bool, true, false, List, [], ◌∷◌}
+use Rattle.std.proofs.Common.{◌++◌, length, drop, Ok, Err, refl, sym, ap, subst, ◌∙◌, inl, inr, arith, length-append, nat_eq}
 use Rattle.std.specs.Prelude.{All}
 use Rattle.std.specs.List.{starts_with}
 use Rattle.std.proofs.lemmas.Bool.{both_ways, cases_lt}
@@ -36,7 +37,8 @@ module _ (s : Sizes) (are : AreSettings s) where
 
   -- bytes that begin a spelling have none at their front
   only_begun : (bytes text rest : List ℕ) (outcome : Outcome Packet) → Begins s bytes → bytes ≡ text ++ rest → Spells s outcome text → ⊥
-  only_begun bytes text rest outcome begun parts is = not_both s are bytes begun (record { outcome = outcome; text = text; rest = rest; parts = parts; spells = is })
+  only_begun bytes text rest outcome begun parts is = not_both s are bytes begun
+      (record { outcome = outcome; text = text; rest = rest; parts = parts; spells = is })
 
   one_parse : (at at' : ℕ) (bytes bytes' : List ℕ) (packets others : List (ℕ × Packet)) (ending other : Ending) → at ≡ at' → bytes ≡ bytes'
       → Parses s at bytes packets ending → Parses s at' bytes' others other → (packets ≡ others) × (ending ≡ other)
@@ -44,30 +46,39 @@ module _ (s : Sizes) (are : AreSettings s) where
   one_parse at at' bytes bytes' [] [] clean no_sync e f is is' = absurd is'
   one_parse at at' bytes bytes' [] [] clean clean e f is is' = (refl, refl)
   one_parse at at' bytes bytes' [] [] clean (cut n) e f is is' = absurd (omega (arith, ap length is, ap length f, is'.0, is'.1))
-  one_parse at at' bytes bytes' [] [] clean (fault place g) e f is (text, rest, here, parts, spells) = absurd (nothing_whole bytes text rest (Err g) is (f ∙ parts) spells)
+  one_parse at at' bytes bytes' [] [] clean (fault place g) e f is (text, rest, here, parts, spells) = absurd
+      (nothing_whole bytes text rest (Err g) is (f ∙ parts) spells)
   one_parse at at' bytes bytes' [] [] (cut n) no_sync e f is is' = absurd is'
   one_parse at at' bytes bytes' [] [] (cut n) clean e f is is' = absurd (omega (arith, ap length is', ap length f, is.0, is.1))
   one_parse at at' bytes bytes' [] [] (cut n) (cut m) e f is is' = (refl, ap (λ k. cut k) (sym is.0 ∙ ap length f ∙ is'.0))
-  one_parse at at' bytes bytes' [] [] (cut n) (fault place g) e f is (text, rest, here, parts, spells) = absurd (only_begun bytes text rest (Err g) is.2 (f ∙ parts) spells)
+  one_parse at at' bytes bytes' [] [] (cut n) (fault place g) e f is (text, rest, here, parts, spells) = absurd
+      (only_begun bytes text rest (Err g) is.2 (f ∙ parts) spells)
   one_parse at at' bytes bytes' [] [] (fault place g) no_sync e f is is' = absurd is'
-  one_parse at at' bytes bytes' [] [] (fault place g) clean e f (text, rest, here, parts, spells) is' = absurd (nothing_whole bytes' text rest (Err g) is' (sym f ∙ parts) spells)
-  one_parse at at' bytes bytes' [] [] (fault place g) (cut n) e f (text, rest, here, parts, spells) is' = absurd (only_begun bytes' text rest (Err g) is'.2 (sym f ∙ parts) spells)
+  one_parse at at' bytes bytes' [] [] (fault place g) clean e f (text, rest, here, parts, spells) is' = absurd
+      (nothing_whole bytes' text rest (Err g) is' (sym f ∙ parts) spells)
+  one_parse at at' bytes bytes' [] [] (fault place g) (cut n) e f (text, rest, here, parts, spells) is' = absurd
+      (only_begun bytes' text rest (Err g) is'.2 (sym f ∙ parts) spells)
   one_parse at at' bytes bytes' [] [] (fault place g) (fault place' h) e f (text, rest, here, parts, spells) (text', rest', here', parts', spells') =
       let same = spells_apart s are (Err g) (Err h) text text' rest rest' spells spells' (sym parts ∙ f ∙ parts') in
       let places : place ≡ place' = here ∙ e ∙ sym here' in
       let faults : g ≡ h = same_fault g h same.outcomes in
       (refl, λ i. fault (places i) (faults i))
   one_parse at at' bytes bytes' [] (q ∷ others) no_sync other e f is is' = absurd is
-  one_parse at at' bytes bytes' [] (q ∷ others) clean other e f is (text, rest, here, parts, spells, later) = absurd (nothing_whole bytes text rest (Ok q.1) is (f ∙ parts) spells)
-  one_parse at at' bytes bytes' [] (q ∷ others) (cut n) other e f is (text, rest, here, parts, spells, later) = absurd (only_begun bytes text rest (Ok q.1) is.2 (f ∙ parts) spells)
+  one_parse at at' bytes bytes' [] (q ∷ others) clean other e f is (text, rest, here, parts, spells, later) = absurd
+      (nothing_whole bytes text rest (Ok q.1) is (f ∙ parts) spells)
+  one_parse at at' bytes bytes' [] (q ∷ others) (cut n) other e f is (text, rest, here, parts, spells, later) = absurd
+      (only_begun bytes text rest (Ok q.1) is.2 (f ∙ parts) spells)
   one_parse at at' bytes bytes' [] (q ∷ others) (fault place g) other e f (text, rest, here, parts, spells) (text', rest', here', parts', spells', later) =
       absurd (packet_or_fault q.1 g (sym (spells_apart s are (Err g) (Ok q.1) text text' rest rest' spells spells' (sym parts ∙ f ∙ parts')).outcomes))
   one_parse at at' bytes bytes' (p ∷ packets) [] ending no_sync e f is is' = absurd is'
-  one_parse at at' bytes bytes' (p ∷ packets) [] ending clean e f (text, rest, here, parts, spells, later) is' = absurd (nothing_whole bytes' text rest (Ok p.1) is' (sym f ∙ parts) spells)
-  one_parse at at' bytes bytes' (p ∷ packets) [] ending (cut n) e f (text, rest, here, parts, spells, later) is' = absurd (only_begun bytes' text rest (Ok p.1) is'.2 (sym f ∙ parts) spells)
+  one_parse at at' bytes bytes' (p ∷ packets) [] ending clean e f (text, rest, here, parts, spells, later) is' = absurd
+      (nothing_whole bytes' text rest (Ok p.1) is' (sym f ∙ parts) spells)
+  one_parse at at' bytes bytes' (p ∷ packets) [] ending (cut n) e f (text, rest, here, parts, spells, later) is' = absurd
+      (only_begun bytes' text rest (Ok p.1) is'.2 (sym f ∙ parts) spells)
   one_parse at at' bytes bytes' (p ∷ packets) [] ending (fault place g) e f (text, rest, here, parts, spells, later) (text', rest', here', parts', spells') =
       absurd (packet_or_fault p.1 g (spells_apart s are (Ok p.1) (Err g) text text' rest rest' spells spells' (sym parts ∙ f ∙ parts')).outcomes)
-  one_parse at at' bytes bytes' (p ∷ packets) (q ∷ others) ending other e f (text, rest, here, parts, spells, later) (text', rest', here', parts', spells', later') =
+  one_parse at at' bytes bytes' (p ∷ packets) (q ∷ others) ending other e f (text, rest, here, parts, spells, later)
+      (text', rest', here', parts', spells', later') =
       let same = spells_apart s are (Ok p.1) (Ok q.1) text text' rest rest' spells spells' (sym parts ∙ f ∙ parts') in
       let packet : p ≡ q = same_pair p q (here ∙ e ∙ sym here') (same_packet p.1 q.1 same.outcomes) in
       let places : at + length text ≡ at' + length text' = omega (arith, e, ap length same.texts) in
@@ -80,7 +91,8 @@ module _ (s : Sizes) (are : AreSettings s) where
     pub is : Parses s at bytes packets ending
 
   goes_on : (room at : ℕ) (bytes text rest : List ℕ) (outcome : Outcome Packet) → length bytes ≤ suc room → All (λ b. b < 256) bytes
-      → bytes ≡ text ++ rest → Spells s outcome text → ((at : ℕ) (others : List ℕ) → length others ≤ room → All (λ b. b < 256) others → Parsed at others) → Parsed at bytes
+      → bytes ≡ text ++ rest → Spells s outcome text → ((at : ℕ) (others : List ℕ) → length others ≤ room → All (λ b. b < 256) others → Parsed at others)
+      → Parsed at bytes
   goes_on room at bytes text rest (Err f) fits bounded parts is later = record { packets = []; ending = fault at f; is = (text, rest, refl, parts, is) }
   goes_on room at bytes text rest (Ok p) fits bounded parts is later =
       let shorter : length rest ≤ room = omega (arith, ap length parts, length-append text rest, some_byte s (Ok p) text is, fits) in
@@ -152,7 +164,8 @@ one_stream s are bytes packets others ending other (inl (at, first, parses)) (in
     one_parse s are at at' (drop at bytes) (drop at' bytes) packets others ending other place (ap (λ n. drop n bytes) place) parses parses'
 one_stream s are bytes packets others ending other (inl (at, first, parses)) (inr (none, nothing, unsynced)) = absurd (none at first.here)
 one_stream s are bytes packets others ending other (inr (none, nothing, unsynced)) (inl (at, first, parses)) = absurd (none at first.here)
-one_stream s are bytes packets others ending other (inr (none, nothing, unsynced)) (inr (none', nothing', unsynced')) = (nothing ∙ sym nothing', unsynced ∙ sym unsynced')
+one_stream s are bytes packets others ending other (inr (none, nothing, unsynced)) (inr (none', nothing', unsynced')) =
+    (nothing ∙ sym nothing', unsynced ∙ sym unsynced')
 
 -- an A-sync at the front, and what is behind it
 split_sync : (bytes : List ℕ) → IsTrue (starts_with nat_eq bytes sync) → bytes ≡ sync ++ drop 12 bytes

@@ -53,7 +53,8 @@ off_from : (b n : ℕ) (test : Bool) → (b == n) ≡ test → b ≢ n → (b ==
 off_from b n true is other = absurd (other (eqb-true b n is))
 off_from b n false is other = is
 
-sync_last : (b : ℕ) (test : Bool) (outcome : Outcome Packet) → (b == 128) ≡ test → outcome ≡ (if test then Ok Async else Err BrokenSync) → SyncIs 0 outcome (b ∷ [])
+sync_last : (b : ℕ) (test : Bool) (outcome : Outcome Packet) → (b == 128) ≡ test → outcome ≡ (if test then Ok Async else Err BrokenSync)
+    → SyncIs 0 outcome (b ∷ [])
 sync_last b true outcome is told = let last : b ≡ 128 = eqb-true b 128 is in subst (λ o. SyncIs 0 o (b ∷ [])) (sym told) (λ i. last i ∷ [])
 sync_last b false outcome off told =
     subst (λ o. SyncIs 0 o (b ∷ [])) (sym told)
@@ -71,13 +72,15 @@ zero_more room b bytes (Err BrokenSync) none is = record {
 }
 zero_more room b bytes outcome none is = absurd is
 
-sync_broken : (room b : ℕ) (bytes : List ℕ) (outcome : Outcome Packet) → (b == 0) ≡ false → Known (Err BrokenSync) outcome bytes → SyncIs (suc room) outcome (b ∷ bytes)
+sync_broken : (room b : ℕ) (bytes : List ℕ) (outcome : Outcome Packet) → (b == 0) ≡ false → Known (Err BrokenSync) outcome bytes
+    → SyncIs (suc room) outcome (b ∷ bytes)
 sync_broken room b [] outcome off told =
     subst (λ o. SyncIs (suc room) o (b ∷ [])) (sym told)
     (record { zeros = 0; last = b; whole = refl; most = omega arith; early = λ lt. apart_from b 0 off; late = λ e. absurd (omega (arith, e)) })
 sync_broken room b (c ∷ bytes) outcome off told = absurd told
 
-sync_next : (room b : ℕ) (bytes : List ℕ) (test : Bool) (outcome : Outcome Packet) → (b == 0) ≡ test → ((o : Outcome Packet) → Sync room o bytes → SyncIs room o bytes)
+sync_next : (room b : ℕ) (bytes : List ℕ) (test : Bool) (outcome : Outcome Packet) → (b == 0) ≡ test
+    → ((o : Outcome Packet) → Sync room o bytes → SyncIs room o bytes)
     → Where test (Sync room) (Known (Err BrokenSync)) outcome bytes → SyncIs (suc room) outcome (b ∷ bytes)
 sync_next room b bytes true outcome is later goes = zero_more room b bytes outcome (eqb-true b 0 is) (later outcome goes)
 sync_next room b bytes false outcome off later goes = sync_broken room b bytes outcome off goes
@@ -93,11 +96,13 @@ whole_sync : (room : ℕ) → Sync room (Ok Async) (replicate room 0 ++ 128 ∷ 
 whole_sync zero = refl
 whole_sync (suc room) = whole_sync room
 
-broken_sync : (room count last : ℕ) → count ≤ room → (count < room → last ≢ 0) → (count ≡ room → last ≢ 128) → Sync room (Err BrokenSync) (replicate count 0 ++ last ∷ [])
+broken_sync : (room count last : ℕ) → count ≤ room → (count < room → last ≢ 0) → (count ≡ room → last ≢ 128)
+    → Sync room (Err BrokenSync) (replicate count 0 ++ last ∷ [])
 broken_sync zero zero last most early late = let off = off_from last 128 (last == 128) refl (late refl) in rw off refl
 broken_sync zero (suc count) last most early late = absurd (omega (arith, most))
 broken_sync (suc room) zero last most early late = let off = off_from last 0 (last == 0) refl (early (omega arith)) in rw off refl
-broken_sync (suc room) (suc count) last most early late = broken_sync room count last (omega (arith, most)) (λ lt. early (omega (arith, lt))) (λ e. late (omega (arith, e)))
+broken_sync (suc room) (suc count) last most early late = broken_sync room count last (omega (arith, most)) (λ lt. early (omega (arith, lt)))
+    (λ e. late (omega (arith, e)))
 
 -- the first byte behind 00 is another 00
 again_zero : (b : ℕ) (bytes : List ℕ) (outcome : Outcome Packet) → b ≡ 0 → SyncIs 9 outcome bytes → AfterZero outcome (b ∷ bytes)
@@ -124,7 +129,8 @@ other_byte : (b : ℕ) (bytes : List ℕ) (outcome : Outcome Packet) → (b == 0
 other_byte b [] outcome off told = third_kind b (b == 3) (b == 5) outcome off refl refl told
 other_byte b (c ∷ bytes) outcome off told = absurd told
 
-after_byte : (b : ℕ) (bytes : List ℕ) (test : Bool) (outcome : Outcome Packet) → (b == 0) ≡ test → Where test (Sync 9) (Known (one_more b)) outcome bytes → AfterZero outcome (b ∷ bytes)
+after_byte : (b : ℕ) (bytes : List ℕ) (test : Bool) (outcome : Outcome Packet) → (b == 0) ≡ test → Where test (Sync 9) (Known (one_more b)) outcome bytes
+    → AfterZero outcome (b ∷ bytes)
 after_byte b bytes true outcome is goes = again_zero b bytes outcome (eqb-true b 0 is) (sync_to 9 outcome bytes goes)
 after_byte b bytes false outcome off goes = other_byte b bytes outcome off goes
 
@@ -132,9 +138,11 @@ pub after_to : (outcome : Outcome Packet) (bytes : List ℕ) → After outcome b
 after_to outcome [] is = absurd is
 after_to outcome (b ∷ bytes) is = after_byte b bytes (b == 0) outcome refl is
 
-broken_back : (count last : ℕ) → 1 ≤ count → count ≤ 10 → (count < 10 → last ≢ 0) → (count ≡ 10 → last ≢ 128) → After (Err BrokenSync) (replicate count 0 ++ last ∷ [])
+broken_back : (count last : ℕ) → 1 ≤ count → count ≤ 10 → (count < 10 → last ≢ 0) → (count ≡ 10 → last ≢ 128)
+    → After (Err BrokenSync) (replicate count 0 ++ last ∷ [])
 broken_back zero last some most early late = absurd (omega (arith, some))
-broken_back (suc count) last some most early late = broken_sync 9 count last (omega (arith, most)) (λ lt. early (omega (arith, lt))) (λ e. late (omega (arith, e)))
+broken_back (suc count) last some most early late = broken_sync 9 count last (omega (arith, most)) (λ lt. early (omega (arith, lt)))
+    (λ e. late (omega (arith, e)))
 
 extension_back : (b : ℕ) → b ≢ 0 → b ≢ 3 → b ≢ 5 → After (Err (Extension b)) (b ∷ [])
 extension_back b other second third =

@@ -7,7 +7,8 @@ use Rattle.packet_grammar.specs.declared.packet.Packet.TheVariants.{Time, Commit
 use Rattle.packet_grammar.specs.Parts.{As}
 use Rattle.packet_grammar.specs.Numbers.{Number, TimeStamp}
 use Rattle.packet_grammar.specs.Contexts.{Context, ShortAddress, LongAddress32, LongAddress64}
-use Rattle.packet_grammar.proofs.Table.{Follows, Told, body_of, Body, alone, atoms, extension, trace_info, time_stamp, exception, commit, cancel, context, short_address, long_32, long_64, long_32_with_context, long_64_with_context}
+use Rattle.packet_grammar.proofs.Table.{Follows, Told, body_of, Body, alone, atoms, extension, trace_info, time_stamp}
+use Rattle.packet_grammar.proofs.Table.{exception, commit, cancel, context, short_address, long_32, long_64, long_32_with_context, long_64_with_context}
 use Rattle.packet_grammar.proofs.Codes.{Apart, AtMost, Begun, Code, Stands, has_one, loosen, known_code, as_code, then_code, first_same, others_same}
 use Rattle.packet_grammar.proofs.Bodies.{number_code, stamp_code, context_code, short_code, long_32_code, long_64_code, info_code, exception_code}
 use Rattle.packet_grammar.proofs.Syncs.{zero_code}
@@ -36,9 +37,11 @@ module _ (s : Sizes) (are : AreSettings s) where
   body_code long_32 e = loosen 4 21 (omega arith) (as_code 4 LongAddress32 (λ form. Addr form None) long_32_code)
   body_code long_64 e = loosen 8 21 (omega arith) (as_code 8 LongAddress64 (λ form. Addr form None) long_64_code)
   body_code long_32_with_context e =
-      loosen 13 21 (omega arith) (then_code 4 9 LongAddress32 (λ form. As (Context s) (λ ctx. Addr form (Some ctx))) long_32_code (λ form. as_code 9 (Context s) (λ ctx. Addr form (Some ctx)) (context_code s are)))
+      loosen 13 21 (omega arith) (then_code 4 9 LongAddress32 (λ form. As (Context s) (λ ctx. Addr form (Some ctx))) long_32_code
+      (λ form. as_code 9 (Context s) (λ ctx. Addr form (Some ctx)) (context_code s are)))
   body_code long_64_with_context e =
-      loosen 17 21 (omega arith) (then_code 8 9 LongAddress64 (λ form. As (Context s) (λ ctx. Addr form (Some ctx))) long_64_code (λ form. as_code 9 (Context s) (λ ctx. Addr form (Some ctx)) (context_code s are)))
+      loosen 17 21 (omega arith) (then_code 8 9 LongAddress64 (λ form. As (Context s) (λ ctx. Addr form (Some ctx))) long_64_code
+      (λ form. as_code 9 (Context s) (λ ctx. Addr form (Some ctx)) (context_code s are)))
 
   -- the same of all bodies, but that each has a spelling
   body_apart : (body : Body) → Apart (Follows s body)
@@ -90,11 +93,24 @@ module _ (s : Sizes) (are : AreSettings s) where
   told_covers [] bounded =
       let has = has_body 0 (omega arith) in
       let one = has_one (body_code has.0 has.2) in
-      inl (record { outcome = one.outcome; more = 0 ∷ one.text; some = omega arith; small = All-cons (λ (b : ℕ). b < 256) 0 one.text (omega arith) one.small; is = record { header = 0; rest = one.text; body = has.0; whole = refl; says = has.1; follows = one.is } })
+      inl (record {
+        outcome = one.outcome;
+        more = 0 ∷ one.text;
+        some = omega arith;
+        small = All-cons (λ (b : ℕ). b < 256) 0 one.text (omega arith) one.small;
+        is = record { header = 0; rest = one.text; body = has.0; whole = refl; says = has.1; follows = one.is };
+      })
   told_covers (h ∷ bytes) bounded =
       let has = has_body h (All-head (λ (b : ℕ). b < 256) h bytes bounded) in
       elim ((body_code has.0 has.2).covers bytes) [
-        | inl x ↦ inl (record { outcome = x.outcome; more = x.more; some = x.some; small = x.small; is = record { header = h; rest = bytes ++ x.more; body = has.0; whole = refl; says = has.1; follows = x.is } })
+        | inl x ↦ inl (record {
+          outcome = x.outcome;
+          more = x.more;
+          some = x.some;
+          small = x.small;
+          is = record
+              { header = h; rest = bytes ++ x.more; body = has.0; whole = refl; says = has.1; follows = x.is };
+        })
         | inr x ↦ inr (record {
           outcome = x.outcome;
           text = h ∷ x.text;

@@ -39,7 +39,8 @@ Parses s at bytes [] (cut n) = (length bytes ≡ n) × (0 < n) × Begins s bytes
 Parses s at bytes [] (fault place f) =
     (text : List ℕ) × (rest : List ℕ) × (place ≡ at) × (bytes ≡ text ++ rest) × Spells s (Err f) text
 Parses s at bytes (packet ∷ packets) ending =
-    (text : List ℕ) × (rest : List ℕ) × (packet.0 ≡ at) × (bytes ≡ text ++ rest) × Spells s (Ok packet.1) text × Parses s (at + length text) rest packets ending
+    (text : List ℕ) × (rest : List ℕ) × (packet.0 ≡ at) × (bytes ≡ text ++ rest) × Spells s (Ok packet.1) text × Parses s (at + length text) rest packets
+    ending
 
 -- Alignment Synchronization packet: eleven bytes 00, and 80
 abbrev pub sync : List ℕ

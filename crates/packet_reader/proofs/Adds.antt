@@ -1,5 +1,6 @@
 -- What the answers to bytes add up to.
-use Rattle.std.proofs.Common.{◌≡◌, ℕ, zero, suc, ◌+◌, ◌<◌, List, [], ◌∷◌, ◌++◌, length, drop, Option, None, refl, sym, ap, subst, ◌∙◌, inl, inr, append-nil, append_assoc}
+use Rattle.std.proofs.Common.{◌≡◌, ℕ, zero, suc, ◌+◌, ◌<◌, List, [], ◌∷◌, ◌++◌, length}
+use Rattle.std.proofs.Common.{drop, Option, None, refl, sym, ap, subst, ◌∙◌, inl, inr, append-nil, append_assoc}
 use Rattle.std.proofs.lemmas.List.Elements.{All-append, All-cons, All-nil, All-drop}
 use Rattle.etm_types.specs.Settings.{Sizes, AreSettings}
 use Rattle.packet_grammar.specs.declared.packet.Packet.{Packet}
@@ -32,7 +33,8 @@ module _ (s : Sizes) (are : AreSettings s) (bytes : List ℕ) (byte : ℕ) where
   more = bytes ++ byte ∷ []
 
   -- a packet does not come behind a fault
-  no_fault_before : (packets others : List (ℕ × Packet)) (ending : Ending) → IsStream s bytes packets ending → IsStream s more others clean → fault_of ending ≡ None
+  no_fault_before : (packets others : List (ℕ × Packet)) (ending : Ending) → IsStream s bytes packets ending → IsStream s more others clean → fault_of ending
+      ≡ None
   no_fault_before packets others no_sync is now = refl
   no_fault_before packets others clean is now = refl
   no_fault_before packets others (cut n) is now = refl
@@ -81,7 +83,8 @@ adds_on s are front [] [] packets last is answered =
 adds_on s are front (byte ∷ bytes) (step ∷ steps) packets last is (gains, later) =
     subst (λ b. Told s b (packets ++ (told step ++ packets_in steps)) (fault_in (fault_after last step) steps)) (append_assoc front (byte ∷ []) bytes)
     (subst (λ p. Told s ((front ++ byte ∷ []) ++ bytes) p (fault_in (fault_after last step) steps)) (append_assoc packets (told step) (packets_in steps))
-    (adds_on s are (front ++ byte ∷ []) bytes steps (packets ++ told step) (fault_after last step) (gains_more s are front byte packets last step is gains) later))
+    (adds_on s are (front ++ byte ∷ []) bytes steps (packets ++ told step) (fault_after last step) (gains_more s are front byte packets last step is gains)
+    later))
 adds_on s are front [] (step ∷ steps) packets last is answered = absurd answered
 adds_on s are front (byte ∷ bytes) [] packets last is answered = absurd answered
 
@@ -105,11 +108,13 @@ add_up s are bytes steps answered =
 
 last_in_range : (s : Sizes) (from : ℕ) (bytes : List ℕ) (packets : List (ℕ × Packet)) (at : ℕ) (packet : Packet) (ending : Ending) → Small bytes
     → Parses s from bytes (packets ++ (at, packet) ∷ []) ending → IsPacket s packet
-last_in_range s from bytes [] at packet ending small (text, rest, starts, parts, spells, is) = values_fit s packet text (small_front bytes text rest parts small) spells
+last_in_range s from bytes [] at packet ending small (text, rest, starts, parts, spells, is) = values_fit s packet text
+    (small_front bytes text rest parts small) spells
 last_in_range s from bytes (p ∷ packets) at packet ending small (text, rest, starts, parts, spells, is) =
     last_in_range s (from + length text) rest packets at packet ending (small_back bytes text rest parts small) is
 
-pub packet_in_range : (s : Sizes) (bytes : List ℕ) (byte at : ℕ) (packet : Packet) → Small bytes → byte < 256 → Gains s bytes byte (Whole at packet) → IsPacket s packet
+pub packet_in_range : (s : Sizes) (bytes : List ℕ) (byte at : ℕ) (packet : Packet) → Small bytes → byte < 256 → Gains s bytes byte (Whole at packet)
+    → IsPacket s packet
 packet_in_range s bytes byte at packet small fits (others, ending, before, inl (from, first, is)) =
     let all = All-append (λ (b : ℕ). b < 256) bytes (byte ∷ []) small (All-cons (λ (b : ℕ). b < 256) byte [] fits (All-nil (λ (b : ℕ). b < 256))) in
     last_in_range s from (drop from (bytes ++ byte ∷ [])) others at packet clean (All-drop (λ (b : ℕ). b < 256) from (bytes ++ byte ∷ []) all) is

@@ -11,7 +11,8 @@ use Rattle.packet_reader.specs.Stands.{FitsPhase, InPhase, is_synced, rest_in, r
 use Rattle.packet_grammar.proofs.GoesOn.{first_on}
 use Rattle.packet_reader.proofs.Steps.{At, state_open, is_cut}
 
-is_found : (s : Sizes) (bytes : List ℕ) (packets : List (ℕ × Packet)) (ending : Ending) → (ending ≡ no_sync → ⊥) → IsStream s bytes packets ending → (at : ℕ) × FirstSync at bytes
+is_found : (s : Sizes) (bytes : List ℕ) (packets : List (ℕ × Packet)) (ending : Ending) → (ending ≡ no_sync → ⊥) → IsStream s bytes packets ending
+    → (at : ℕ) × FirstSync at bytes
 is_found s bytes packets ending goes (inl (at, first, is)) = (at, first)
 is_found s bytes packets ending goes (inr (none, nothing, e)) = absurd (goes e)
 
@@ -21,7 +22,8 @@ not_clean e = absurd cc
 not_fault : (at : ℕ) (f : _) → fault at f ≡ no_sync → ⊥
 not_fault at f e = absurd cc
 
-pub synced_when : (s : Sizes) (phase : Phase) (start : ℕ) (bytes : List ℕ) → InPhase s phase start bytes → IsTrue (is_synced phase) ↔ ((at : ℕ) × FirstSync at bytes)
+pub synced_when : (s : Sizes) (phase : Phase) (start : ℕ) (bytes : List ℕ) → InPhase s phase start bytes
+    → IsTrue (is_synced phase) ↔ ((at : ℕ) × FirstSync at bytes)
 synced_when s (Hunting zeros) start bytes is = ((λ e. absurd cc), (λ found. absurd (is.0 found.0 found.1.here)))
 synced_when s Between start bytes is = ((λ e. is_found s bytes is.1.0 clean not_clean is.1.1), (λ found. refl))
 synced_when s (Within state) start bytes is =
@@ -35,6 +37,12 @@ pub rest_when : (s : Sizes) (phase : Phase) (start taken : ℕ) (bytes : List �
 rest_when s (Hunting zeros) start taken bytes fits all is = (_, no_sync, inr (is.0, refl, refl), refl)
 rest_when s Between start taken bytes fits all is = (is.1.0, clean, is.1.1, refl)
 rest_when s (Within state) start taken bytes fits all is =
-    let a : At s (tree_of s state) start is.packets bytes = record { front = is.front; text = is.text; parts = is.parts; starts = is.starts; some = is.some; whole = is.whole; follows = is.follows } in
-    (is.packets, cut (length is.text), is_cut s start is.packets bytes (tree_of s state) (state_open s state fits) a, omega (arith, all, ap length is.parts, length-append is.front is.text, is.starts))
+    let a : At s (tree_of s state) start is.packets bytes =
+    record { front = is.front; text = is.text; parts = is.parts; starts = is.starts; some = is.some; whole = is.whole; follows = is.follows } in (
+      is.packets,
+      cut (length is.text),
+      is_cut s start is.packets bytes (tree_of s state) (state_open s state fits) a,
+      omega
+          (arith, all, ap length is.parts, length-append is.front is.text, is.starts),
+    )
 rest_when s Failed start taken bytes fits all is = (is.0, fault is.1 is.2, is.3, refl)

@@ -10,7 +10,8 @@ use Rattle.etm_types.specs.declared.atoms.AtomRun.{AtomRun}
 use Rattle.packet_grammar.specs.Parts.{Outcome, Part, Known, Bytes, Where, Then, As}
 use Rattle.packet_grammar.specs.Numbers.{Number, TimeStamp}
 use Rattle.packet_grammar.specs.Contexts.{Context, ShortAddress, LongAddress32, LongAddress64, address_of}
-use Rattle.packet_grammar.proofs.Table.{Told, body_of, Body, Follows, AtomsOf, AfterZero, Exception, alone, atoms, extension, trace_info, time_stamp, exception, commit, cancel, context, short_address, long_32, long_64, long_32_with_context, long_64_with_context}
+use Rattle.packet_grammar.proofs.Table.{Told, body_of, Body, Follows, AtomsOf, AfterZero, Exception, alone, atoms, extension}
+use Rattle.packet_grammar.proofs.Table.{trace_info, time_stamp, exception, commit, cancel, context, short_address, long_32, long_64, long_32_with_context, long_64_with_context}
 use Rattle.packet_grammar.specs.Spelling.{TraceInfo}
 use Rattle.packet_grammar.specs.Parsed.{Spells}
 use Rattle.packet_grammar.proofs.Inverse.{told_to, told_back}
@@ -37,7 +38,8 @@ agree P tree meets = record { to = whole_back P tree meets; back = whole_to P tr
 
 meets_sync : (left : ℕ) → Meets (Sync left) End (sync_tree left)
 unfolding sync_tree
-meets_sync zero = meets_byte (λ b. Known (if b == 128 then Ok Async else Err BrokenSync)) End (λ b. known (if b == 128 then Ok Async else Err BrokenSync)) (λ b. meets_known (if b == 128 then Ok Async else Err BrokenSync))
+meets_sync zero = meets_byte (λ b. Known (if b == 128 then Ok Async else Err BrokenSync)) End (λ b. known (if b == 128 then Ok Async else Err BrokenSync))
+    (λ b. meets_known (if b == 128 then Ok Async else Err BrokenSync))
 meets_sync (suc left) =
     meets_byte (λ b. Where (b == 0) (Sync left) (Known (Err BrokenSync))) End (λ b. if b == 0 then sync_tree left else known (Err BrokenSync))
     (λ b. meets_where (b == 0) (Sync left) (Known (Err BrokenSync)) End (sync_tree left) (known (Err BrokenSync)) (meets_sync left) (meets_err BrokenSync End))
@@ -50,18 +52,24 @@ meets_extension =
 agree_extension : Agree AfterZero extension_tree
 agree_extension =
     let all = agree After extension_tree meets_extension in
-    record { to = λ outcome bytes is. all.to outcome bytes (after_back outcome bytes is); back = λ outcome bytes leads. after_to outcome bytes (all.back outcome bytes leads) }
+    record {
+      to = λ outcome bytes is. all.to outcome bytes (after_back outcome bytes is);
+      back = λ outcome bytes leads. after_to outcome bytes
+          (all.back outcome bytes leads);
+    }
 
 known_agrees : (outcome : Outcome Packet) → Agree (Known outcome) (known outcome)
 known_agrees outcome = agree (Known outcome) (known outcome) (meets_known outcome)
 
-run_to : (s : Sizes) (h : ℕ) (run : AtomRun) (outcome : Outcome Packet) (bytes : List ℕ) → AtomsOf h (Ok (Atoms run)) [] → AtomsOf h outcome bytes → Leads (known (Ok (Atoms run))) outcome bytes
+run_to : (s : Sizes) (h : ℕ) (run : AtomRun) (outcome : Outcome Packet) (bytes : List ℕ) → AtomsOf h (Ok (Atoms run)) [] → AtomsOf h outcome bytes
+    → Leads (known (Ok (Atoms run))) outcome bytes
 run_to s h run outcome bytes here is =
     let none : bytes ≡ [] = is.4 in
     let same = run_apart h outcome (Ok (Atoms run)) bytes [] [] [] is here (append-nil bytes ∙ none) in
     subst (λ t. Leads (known (Ok (Atoms run))) outcome t) (sym none) same.outcomes
 
-run_back : (h : ℕ) (run : AtomRun) (outcome : Outcome Packet) (bytes : List ℕ) → AtomsOf h (Ok (Atoms run)) [] → Leads (known (Ok (Atoms run))) outcome bytes → AtomsOf h outcome bytes
+run_back : (h : ℕ) (run : AtomRun) (outcome : Outcome Packet) (bytes : List ℕ) → AtomsOf h (Ok (Atoms run)) []
+    → Leads (known (Ok (Atoms run))) outcome bytes → AtomsOf h outcome bytes
 run_back h run outcome [] here is = subst (λ o. AtomsOf h o []) (sym is) here
 run_back h run outcome (b ∷ bytes) here is = absurd is
 
@@ -79,17 +87,21 @@ module _ (s : Sizes) where
   follows_agree trace_info progress heads = subst (λ p. Agree TraceInfo (tree_after s p)) (sym heads) (agree TraceInfo control_tree meets_info)
   follows_agree time_stamp progress heads =
       subst (λ p. Agree (As TimeStamp (λ stamp. Time stamp.bits stamp.low)) (tree_after s p)) (sym heads)
-      (agree (As TimeStamp (λ stamp. Time stamp.bits stamp.low)) (stamp_tree 8 0 0) (meets_as TimeStamp (λ stamp. Time stamp.bits stamp.low) End (stamp_tree 8 0 0) meets_time))
+      (agree (As TimeStamp (λ stamp. Time stamp.bits stamp.low)) (stamp_tree 8 0 0)
+      (meets_as TimeStamp (λ stamp. Time stamp.bits stamp.low) End (stamp_tree 8 0 0) meets_time))
   follows_agree exception progress heads = subst (λ p. Agree Exception (tree_after s p)) (sym heads) (agree Exception exception_tree meets_exception)
   follows_agree commit progress heads =
       let tree = number_tree 4 0 0 (λ n. End (Commit n)) in
-      subst (λ p. Agree (As Number (λ n. Commit n)) (tree_after s p)) (sym heads) (agree (As Number (λ n. Commit n)) tree (meets_as Number (λ n. Commit n) End tree (meets_whole_number (λ n. End (Commit n)))))
+      subst (λ p. Agree (As Number (λ n. Commit n)) (tree_after s p)) (sym heads)
+      (agree (As Number (λ n. Commit n)) tree (meets_as Number (λ n. Commit n) End tree (meets_whole_number (λ n. End (Commit n)))))
   follows_agree (cancel flip) progress heads =
       let tree = number_tree 4 0 0 (λ n. End (Cancel n flip)) in
-      subst (λ p. Agree (As Number (λ n. Cancel n flip)) (tree_after s p)) (sym heads) (agree (As Number (λ n. Cancel n flip)) tree (meets_as Number (λ n. Cancel n flip) End tree (meets_whole_number (λ n. End (Cancel n flip)))))
+      subst (λ p. Agree (As Number (λ n. Cancel n flip)) (tree_after s p)) (sym heads)
+      (agree (As Number (λ n. Cancel n flip)) tree (meets_as Number (λ n. Cancel n flip) End tree (meets_whole_number (λ n. End (Cancel n flip)))))
   follows_agree context progress heads =
       subst (λ p. Agree (As (Context s) (λ ctx. CtxInfo ctx)) (tree_after s p)) (sym heads)
-      (agree (As (Context s) (λ ctx. CtxInfo ctx)) (context_tree s None) (meets_as (Context s) (λ ctx. CtxInfo ctx) End (context_tree s None) (meets_context s None)))
+      (agree (As (Context s) (λ ctx. CtxInfo ctx)) (context_tree s None)
+      (meets_as (Context s) (λ ctx. CtxInfo ctx) End (context_tree s None) (meets_context s None)))
   follows_agree short_address progress heads =
       subst (λ p. Agree (As ShortAddress (λ form. Addr form None)) (tree_after s p)) (sym heads)
       (agree (As ShortAddress (λ form. Addr form None)) short_tree (meets_as ShortAddress (λ form. Addr form None) End short_tree meets_short))
@@ -97,25 +109,29 @@ module _ (s : Sizes) where
       let tree = long_tree s (record { wide = false; with_context = false }) in
       subst (λ p. Agree (As LongAddress32 (λ form. Addr form None)) (tree_after s p)) (sym heads)
       (agree (As LongAddress32 (λ form. Addr form None)) tree (meets_as LongAddress32 (λ form. Addr form None) End tree
-      (meets_as (Bytes 4) (λ given. Long32 (address_of given)) (λ form. End (Addr form None)) tree (meets_address 2 (λ value. End (Addr (Long32 value) None))))))
+      (meets_as (Bytes 4) (λ given. Long32 (address_of given)) (λ form. End (Addr form None)) tree
+      (meets_address 2 (λ value. End (Addr (Long32 value) None))))))
   follows_agree long_64 progress heads =
       let tree = long_tree s (record { wide = true; with_context = false }) in
       subst (λ p. Agree (As LongAddress64 (λ form. Addr form None)) (tree_after s p)) (sym heads)
       (agree (As LongAddress64 (λ form. Addr form None)) tree (meets_as LongAddress64 (λ form. Addr form None) End tree
-      (meets_as (Bytes 8) (λ given. Long64 (address_of given)) (λ form. End (Addr form None)) tree (meets_address 6 (λ value. End (Addr (Long64 value) None))))))
+      (meets_as (Bytes 8) (λ given. Long64 (address_of given)) (λ form. End (Addr form None)) tree
+      (meets_address 6 (λ value. End (Addr (Long64 value) None))))))
   follows_agree long_32_with_context progress heads =
       let tree = long_tree s (record { wide = false; with_context = true }) in
       subst (λ p. Agree (Then LongAddress32 (λ form. As (Context s) (λ ctx. Addr form (Some ctx)))) (tree_after s p)) (sym heads)
       (agree (Then LongAddress32 (λ form. As (Context s) (λ ctx. Addr form (Some ctx)))) tree
       (meets_then LongAddress32 (λ form. As (Context s) (λ ctx. Addr form (Some ctx))) (λ form. context_tree s (Some form)) End tree
-      (meets_as (Bytes 4) (λ given. Long32 (address_of given)) (λ form. context_tree s (Some form)) tree (meets_address 2 (λ value. context_tree s (Some (Long32 value)))))
+      (meets_as (Bytes 4) (λ given. Long32 (address_of given)) (λ form. context_tree s (Some form)) tree
+      (meets_address 2 (λ value. context_tree s (Some (Long32 value)))))
       (λ form. meets_as (Context s) (λ ctx. Addr form (Some ctx)) End (context_tree s (Some form)) (meets_context s (Some form)))))
   follows_agree long_64_with_context progress heads =
       let tree = long_tree s (record { wide = true; with_context = true }) in
       subst (λ p. Agree (Then LongAddress64 (λ form. As (Context s) (λ ctx. Addr form (Some ctx)))) (tree_after s p)) (sym heads)
       (agree (Then LongAddress64 (λ form. As (Context s) (λ ctx. Addr form (Some ctx)))) tree
       (meets_then LongAddress64 (λ form. As (Context s) (λ ctx. Addr form (Some ctx))) (λ form. context_tree s (Some form)) End tree
-      (meets_as (Bytes 8) (λ given. Long64 (address_of given)) (λ form. context_tree s (Some form)) tree (meets_address 6 (λ value. context_tree s (Some (Long64 value)))))
+      (meets_as (Bytes 8) (λ given. Long64 (address_of given)) (λ form. context_tree s (Some form)) tree
+      (meets_address 6 (λ value. context_tree s (Some (Long64 value)))))
       (λ form. meets_as (Context s) (λ ctx. Addr form (Some ctx)) End (context_tree s (Some form)) (meets_context s (Some form)))))
 
   same_some : (a b : Body) → ◌≡◌ {A = Option Body} (Some a) (Some b) → a ≡ b

@@ -1,6 +1,7 @@
 -- What the row of a header says of what the header makes of a packet.
 use Rattle.std.proofs.Common.{◌≡◌, true, false, None}
-use Rattle.packet_grammar.proofs.Table.{Body, alone, atoms, extension, trace_info, time_stamp, exception, commit, cancel, context, short_address, long_32, long_64, long_32_with_context, long_64_with_context}
+use Rattle.packet_grammar.proofs.Table.{Body, alone, atoms, extension, trace_info, time_stamp, exception}
+use Rattle.packet_grammar.proofs.Table.{commit, cancel, context, short_address, long_32, long_64, long_32_with_context, long_64_with_context}
 use Rattle.packet_reader.specs.declared.state.Progress.{Progress}
 use Rattle.packet_reader.specs.declared.state.Progress.TheVariants.{Next, Done}
 use Rattle.packet_reader.specs.declared.state.State.TheVariants.{Extension as AtExtension, Control, Number, Stamp, Exception, Short, LongFirst, Context}

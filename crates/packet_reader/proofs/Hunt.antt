@@ -1,5 +1,6 @@
 -- The hunt for the first A-sync, and each byte of a reader.
-use Rattle.std.proofs.Common.{◌≡◌, ℕ, zero, suc, ◌+◌, ◌-◌, ◌<◌, ◌==◌, ◌&&◌, Bool, true, false, List, [], ◌∷◌, ◌++◌, length, drop, Ok, Err, refl, sym, ap, subst, ◌∙◌, inl, inr, arith, length-append, append_assoc, append-nil, nat_lt, eq-eqb}
+use Rattle.std.proofs.Common.{◌≡◌, ℕ, zero, suc, ◌+◌, ◌-◌, ◌<◌, ◌==◌, ◌&&◌, Bool, true, false, List, [], ◌∷◌, ◌++◌}
+use Rattle.std.proofs.Common.{length, drop, Ok, Err, refl, sym, ap, subst, ◌∙◌, inl, inr, arith, length-append, append_assoc, append-nil, nat_lt, eq-eqb}
 use Rattle.std.specs.Prelude.{◌↔◌, replicate, if◌then◌else◌}
 use Rattle.std.proofs.lemmas.Bool.{both_ways, eqb-true, and_parts, cases_lt, ltb-true}
 use Rattle.std.proofs.lemmas.List.{drop_at}
@@ -23,7 +24,8 @@ use Rattle.packet_grammar.proofs.GoesOn.{sync_in, sync_out, strip, sync_earlier,
 use Rattle.packet_reader.proofs.Steps.{Open, state_open, At, StreamAfter, stream_after, phase_after, is_cut}
 
 module _ (s : Sizes) where
-  gains_after : (start x : ℕ) (packets : List (ℕ × Packet)) (bytes : List ℕ) (ending : Ending) (progress : Progress) (taken : ℕ) → Goes ending → IsStream s bytes packets ending
+  gains_after : (start x : ℕ) (packets : List (ℕ × Packet)) (bytes : List ℕ) (ending : Ending) (progress : Progress) (taken : ℕ) → Goes ending → IsStream s
+      bytes packets ending
       → StreamAfter s start packets (bytes ++ x ∷ []) progress → Gains s bytes x (settled progress start taken).step
   gains_after start x packets bytes ending (Next state) taken goes old new = (packets, ending, new.0, goes, old, new.1)
   gains_after start x packets bytes ending (Done (Ok p)) taken goes old new = (packets, ending, old, new)
@@ -32,7 +34,8 @@ module _ (s : Sizes) where
   one_more : (bytes : List ℕ) (x taken : ℕ) → length bytes + 1 ≡ taken → length (bytes ++ x ∷ []) ≡ taken
   one_more bytes x taken all = omega (arith, all, length-append bytes (x ∷ []))
 
-  settles : (start x : ℕ) (packets : List (ℕ × Packet)) (bytes : List ℕ) (ending : Ending) (progress : Progress) (taken : ℕ) → length bytes + 1 ≡ taken → FitsAfter progress
+  settles : (start x : ℕ) (packets : List (ℕ × Packet)) (bytes : List ℕ) (ending : Ending) (progress : Progress) (taken : ℕ) → length bytes + 1 ≡ taken
+      → FitsAfter progress
       → Goes ending → IsStream s bytes packets ending → At s (tree_after s progress) start packets (bytes ++ x ∷ [])
       → InPhase s (settled progress start taken).phase (settled progress start taken).start (bytes ++ x ∷ []) × Gains s bytes x (settled progress start taken).step
   settles start x packets bytes ending progress taken all fits goes old a = (
@@ -40,7 +43,8 @@ module _ (s : Sizes) where
     gains_after start x packets bytes ending progress taken goes old (stream_after s start packets (bytes ++ x ∷ []) progress fits a),
   )
 
-  pub between_moves : (start taken x : ℕ) (progress : Progress) (m : Moved) → FitsAfter progress → HeadsBy x progress → m ≡ settled progress start taken → Moves s Between start taken x m
+  pub between_moves : (start taken x : ℕ) (progress : Progress) (m : Moved) → FitsAfter progress → HeadsBy x progress → m ≡ settled progress start taken
+      → Moves s Between start taken x m
   between_moves start taken x progress m fits heads is bytes all (place, (packets, whole)) =
       let agrees = headed s x progress heads in
       let a : At s (tree_after s progress) start packets (bytes ++ x ∷ []) = record {
@@ -52,17 +56,21 @@ module _ (s : Sizes) where
         whole = whole;
         follows = λ outcome more. (agrees.to outcome more, agrees.back outcome more);
       } in
-      subst (λ (k : Moved). InPhase s k.phase k.start (bytes ++ x ∷ []) × Gains s bytes x k.step) (sym is) (settles start x packets bytes clean progress taken all fits tt whole a)
+      subst (λ (k : Moved). InPhase s k.phase k.start (bytes ++ x ∷ []) × Gains s bytes x k.step) (sym is)
+      (settles start x packets bytes clean progress taken all fits tt whole a)
 
-  leads_after : (tree : Tree) (x : ℕ) → Open tree → (outcome : Outcome Packet) (more : List ℕ) → Leads tree outcome (x ∷ more) ↔ Leads (after tree x) outcome more
+  leads_after : (tree : Tree) (x : ℕ) → Open tree → (outcome : Outcome Packet) (more : List ℕ) → Leads tree outcome (x ∷ more) ↔ Leads (after tree x) outcome
+      more
   leads_after tree x (next, e) outcome more =
       subst (λ (t : Tree). Leads t outcome (x ∷ more) ↔ Leads (after t x) outcome more) (sym e) ((λ l. l), (λ l. l))
 
-  pub within_moves : (state : State) (start taken x : ℕ) (progress : Progress) (m : Moved) → Fits state → FitsAfter progress → tree_after s progress ≡ after (tree_of s state) x
+  pub within_moves : (state : State) (start taken x : ℕ) (progress : Progress) (m : Moved) → Fits state → FitsAfter progress → tree_after s progress ≡ after
+      (tree_of s state) x
       → m ≡ settled progress start taken → Moves s (Within state) start taken x m
   within_moves state start taken x progress m was fits tree is bytes all b =
       let o = state_open s state was in
-      let old : At s (tree_of s state) start b.packets bytes = record { front = b.front; text = b.text; parts = b.parts; starts = b.starts; some = b.some; whole = b.whole; follows = b.follows } in
+      let old : At s (tree_of s state) start b.packets bytes =
+      record { front = b.front; text = b.text; parts = b.parts; starts = b.starts; some = b.some; whole = b.whole; follows = b.follows } in
       let regroup : (more : List ℕ) → (b.text ++ x ∷ []) ++ more ≡ b.text ++ (x ∷ more) = λ more. append_assoc b.text (x ∷ []) more in
       let a : At s (tree_after s progress) start b.packets (bytes ++ x ∷ []) = record {
         front = b.front;
@@ -72,8 +80,10 @@ module _ (s : Sizes) where
         some = omega (arith, length-append b.text (x ∷ []));
         whole = b.whole;
         follows = λ outcome more. (
-          (λ is. subst (λ t. Leads t outcome more) (sym tree) ((leads_after (tree_of s state) x o outcome more).0 ((b.follows outcome (x ∷ more)).0 (subst (λ t. Spells s outcome t) (regroup more) is)))),
-          (λ leads. subst (λ t. Spells s outcome t) (sym (regroup more)) ((b.follows outcome (x ∷ more)).1 ((leads_after (tree_of s state) x o outcome more).1 (subst (λ t. Leads t outcome more) tree leads)))),
+          (λ is. subst (λ t. Leads t outcome more) (sym tree)
+              ((leads_after (tree_of s state) x o outcome more).0 ((b.follows outcome (x ∷ more)).0 (subst (λ t. Spells s outcome t) (regroup more) is)))),
+          (λ leads. subst (λ t. Spells s outcome t) (sym (regroup more))
+              ((b.follows outcome (x ∷ more)).1 ((leads_after (tree_of s state) x o outcome more).1 (subst (λ t. Leads t outcome more) tree leads)))),
         );
       } in
       subst (λ (k : Moved). InPhase s k.phase k.start (bytes ++ x ∷ []) × Gains s bytes x k.step) (sym is)
@@ -132,7 +142,8 @@ module _ (z x : ℕ) (bytes : List ℕ) (zeros : Zeros z bytes) where
       let below : z < 11 = ltb-true z 11 lt in
       let up : z + 1 ≡ suc z = omega arith in
       let grown : bytes ++ x ∷ [] ≡ zeros.front ++ replicate (suc z) 0 =
-      ap (λ t. bytes ++ t ∷ []) zero_is ∙ ap (λ t. t ++ 0 ∷ []) zeros.whole ∙ append_assoc zeros.front (replicate z 0) (0 ∷ []) ∙ ap (λ t. zeros.front ++ t) (sym (zeros_end z)) in
+      ap (λ t. bytes ++ t ∷ []) zero_is ∙ ap (λ t. t ++ 0 ∷ []) zeros.whole ∙ append_assoc zeros.front (replicate z 0) (0 ∷ [])
+      ∙ ap (λ t. zeros.front ++ t) (sym (zeros_end z)) in
       subst (λ n. Zeros n (bytes ++ x ∷ [])) (sym up) (record {
         front = zeros.front;
         whole = grown;
@@ -142,9 +153,11 @@ module _ (z x : ℕ) (bytes : List ℕ) (zeros : Zeros z bytes) where
       })
   more_zeros true false e least =
       let zero_is : x ≡ 0 = eqb-true x 0 e in
-      let eleven : z ≡ 11 = elim (cases_lt z 11) [ inl lt ↦ absurd (both_ways (nat_lt z 11) least (grind arith)) | inr most ↦ omega (arith, most, zeros.most) ] in
+      let eleven : z ≡ 11 =
+      elim (cases_lt z 11) [ inl lt ↦ absurd (both_ways (nat_lt z 11) least (grind arith)) | inr most ↦ omega (arith, most, zeros.most) ] in
       let whole : bytes ++ x ∷ [] ≡ (zeros.front ++ 0 ∷ []) ++ replicate 11 0 =
-      ap (λ t. bytes ++ t ∷ []) zero_is ∙ ap (λ t. t ++ 0 ∷ []) (zeros.whole ∙ ap (λ n. zeros.front ++ replicate n 0) eleven) ∙ append_assoc zeros.front (replicate 11 0) (0 ∷ []) ∙ sym (append_assoc zeros.front (0 ∷ []) (replicate 11 0)) in
+      ap (λ t. bytes ++ t ∷ []) zero_is ∙ ap (λ t. t ++ 0 ∷ []) (zeros.whole ∙ ap (λ n. zeros.front ++ replicate n 0) eleven)
+      ∙ append_assoc zeros.front (replicate 11 0) (0 ∷ []) ∙ sym (append_assoc zeros.front (0 ∷ []) (replicate 11 0)) in
       record { front = zeros.front ++ 0 ∷ []; whole = whole; most = omega arith; all = λ lt. absurd (omega (arith, lt)) }
   more_zeros false few off lt =
       record {
@@ -154,24 +167,40 @@ module _ (z x : ℕ) (bytes : List ℕ) (zeros : Zeros z bytes) where
         all = λ lt other is. both_ways (x == 0) off (eq-eqb x 0 (strip bytes other x 0 is).1);
       }
 
-module _ (s : Sizes) (z x start taken : ℕ) (bytes : List ℕ) (all : length bytes + 1 ≡ taken) (none : (at : ℕ) → SyncAt at bytes → ⊥) (zeros : Zeros z bytes) where
-  found_moves : z ≡ 11 → x ≡ 128 → ((length (bytes ++ x ∷ []) ≡ taken) × ((packets : List (ℕ × Packet)) × IsStream s (bytes ++ x ∷ []) packets clean)) × Gains s bytes x (Whole (taken - 12) Async)
-  found_moves eleven last =
-      let at : ℕ = length zeros.front in
-      let old : bytes ≡ zeros.front ++ replicate 11 0 = zeros.whole ∙ ap (λ n. zeros.front ++ replicate n 0) eleven in
-      let parts : bytes ++ x ∷ [] ≡ zeros.front ++ (sync ++ []) = ap (λ t. bytes ++ t ∷ []) last ∙ ap (λ t. t ++ 128 ∷ []) old ∙ append_assoc zeros.front (replicate 11 0) (128 ∷ []) in
-      let here : SyncAt (length zeros.front) (bytes ++ x ∷ []) = sync_out (length zeros.front) (bytes ++ x ∷ []) (record { front = zeros.front; rest = []; parts = parts; place = refl }) in
-      let place : taken - 12 ≡ length zeros.front = omega (arith, all, ap length parts, length-append zeros.front (sync ++ []), length-append bytes (x ∷ [])) in
-      let first : FirstSync (length zeros.front) (bytes ++ x ∷ []) = record {
-        here = here;
-        none_before = λ before lt there.
-            let is = sync_in before (bytes ++ x ∷ []) there in
-            none before (sync_out before bytes (sync_earlier before x bytes is
-            (omega (arith, lt, ap length is.parts, is.place, ap length parts, length-append zeros.front (sync ++ []), length-append is.front (sync ++ is.rest)))));
-      } in
-      let behind : drop (length zeros.front) (bytes ++ x ∷ []) ≡ sync ++ [] = ap (λ t. drop (length zeros.front) t) parts ∙ drop_at zeros.front (sync ++ []) (length zeros.front) refl in
-      let stream : IsStream s (bytes ++ x ∷ []) ((taken - 12, Async) ∷ []) clean = inl (length zeros.front, first, (sync, [], place, behind, sync_spells s, refl)) in
-      ((one_more s bytes x taken all, ((taken - 12, Async) ∷ [], stream)), ([], no_sync, inr (none, refl, refl), stream))
+module _ (s : Sizes) (z x start taken : ℕ) (bytes : List ℕ) (all : length bytes + 1 ≡ taken) (none : (at : ℕ) → SyncAt at bytes → ⊥) (zeros : Zeros z bytes)
+  where
+    found_moves : z ≡ 11 → x ≡ 128 → ((length (bytes ++ x ∷ []) ≡ taken) × ((packets : List (ℕ × Packet)) × IsStream s (bytes ++ x ∷ []) packets clean)) × Gains
+        s bytes x (Whole (taken - 12) Async)
+    found_moves eleven last =
+        let at : ℕ = length zeros.front in
+        let old : bytes ≡ zeros.front ++ replicate 11 0 = zeros.whole ∙ ap (λ n. zeros.front ++ replicate n 0) eleven in
+        let parts : bytes ++ x ∷ [] ≡ zeros.front ++ (sync ++ []) =
+        ap (λ t. bytes ++ t ∷ []) last ∙ ap (λ t. t ++ 128 ∷ []) old ∙ append_assoc zeros.front (replicate 11 0) (128 ∷ []) in
+        let here : SyncAt (length zeros.front) (bytes ++ x ∷ []) =
+        sync_out (length zeros.front) (bytes ++ x ∷ []) (record { front = zeros.front; rest = []; parts = parts; place = refl }) in
+        let place : taken - 12 ≡ length zeros.front =
+        omega (arith, all, ap length parts, length-append zeros.front (sync ++ []), length-append bytes (x ∷ [])) in
+        let first : FirstSync (length zeros.front) (bytes ++ x ∷ []) = record {
+          here = here;
+          none_before = λ before lt there.
+              let is = sync_in before (bytes ++ x ∷ []) there in
+              none before (sync_out before bytes (sync_earlier before x bytes is
+              (omega (
+                arith,
+                lt,
+                ap length is.parts,
+                is.place,
+                ap length parts,
+                length-append zeros.front (sync ++ []),
+                length-append is.front
+                    (sync ++ is.rest),
+              ))));
+        } in
+        let behind : drop (length zeros.front) (bytes ++ x ∷ []) ≡ sync ++ [] =
+        ap (λ t. drop (length zeros.front) t) parts ∙ drop_at zeros.front (sync ++ []) (length zeros.front) refl in
+        let stream : IsStream s (bytes ++ x ∷ []) ((taken - 12, Async) ∷ []) clean =
+        inl (length zeros.front, first, (sync, [], place, behind, sync_spells s, refl)) in
+        ((one_more s bytes x taken all, ((taken - 12, Async) ∷ [], stream)), ([], no_sync, inr (none, refl, refl), stream))
 
 pub hunting_finds : (s : Sizes) (z x start taken : ℕ) → ((z == zeros_of_sync) && (x == 0x80)) ≡ true
     → Moves s (Hunting z) start taken x (record { phase = Between; start = taken; step = Whole (taken - length sync) Async })

@@ -21,10 +21,12 @@ module _ {A : Type 0} where
   err_same : (f g : PacketFault) → ◌≡◌ {A = Outcome A} (Err f) (Err g) → f ≡ g
   err_same f g e = cc
 
-  ok_to : (v : A) (more : A → Tree) (outcome : Outcome Packet) (bytes : List ℕ) → Leads (more v) outcome bytes → Then (Known (Ok v)) (λ w. Leads (more w)) outcome bytes
+  ok_to : (v : A) (more : A → Tree) (outcome : Outcome Packet) (bytes : List ℕ) → Leads (more v) outcome bytes → Then (Known (Ok v)) (λ w. Leads (more w))
+      outcome bytes
   ok_to v more outcome bytes x = inl (v, [], bytes, refl, refl, x)
 
-  ok_back : (v : A) (more : A → Tree) (outcome : Outcome Packet) (bytes : List ℕ) → Then (Known (Ok v)) (λ w. Leads (more w)) outcome bytes → Leads (more v) outcome bytes
+  ok_back : (v : A) (more : A → Tree) (outcome : Outcome Packet) (bytes : List ℕ) → Then (Known (Ok v)) (λ w. Leads (more w)) outcome bytes → Leads (more v)
+      outcome bytes
   ok_back v more outcome bytes (inl (w, [], back, parts, e, x)) =
       subst (λ t. Leads (more v) outcome t) (sym parts) (subst (λ u. Leads (more u) outcome back) (ok_same w v e) x)
   ok_back v more outcome bytes (inl (w, b ∷ front, back, parts, e, x)) = absurd e
@@ -34,11 +36,13 @@ module _ {A : Type 0} where
   pub meets_ok : (v : A) (more : A → Tree) → Meets (Known (Ok v)) more (more v)
   meets_ok v more = record { to = ok_to v more; back = ok_back v more }
 
-  err_to : (f : PacketFault) (more : A → Tree) (outcome : Outcome Packet) (bytes : List ℕ) → Leads (known (Err f)) outcome bytes → Then (Known (Err f)) (λ w. Leads (more w)) outcome bytes
+  err_to : (f : PacketFault) (more : A → Tree) (outcome : Outcome Packet) (bytes : List ℕ) → Leads (known (Err f)) outcome bytes → Then (Known (Err f))
+      (λ w. Leads (more w)) outcome bytes
   err_to f more outcome [] x = inr (f, x, refl)
   err_to f more outcome (b ∷ bytes) x = absurd x
 
-  err_back : (f : PacketFault) (more : A → Tree) (outcome : Outcome Packet) (bytes : List ℕ) → Then (Known (Err f)) (λ w. Leads (more w)) outcome bytes → Leads (known (Err f)) outcome bytes
+  err_back : (f : PacketFault) (more : A → Tree) (outcome : Outcome Packet) (bytes : List ℕ) → Then (Known (Err f)) (λ w. Leads (more w)) outcome bytes
+      → Leads (known (Err f)) outcome bytes
   err_back f more outcome bytes (inl (w, [], back, parts, e, x)) = absurd (ok_or_err w f e)
   err_back f more outcome bytes (inl (w, b ∷ front, back, parts, e, x)) = absurd e
   err_back f more outcome [] (inr (g, o, e)) = o ∙ ap (λ (k : PacketFault). Err k) (err_same g f e)
@@ -66,7 +70,8 @@ module _ {A : Type 0} where
   pub meets_byte : (next : ℕ → Part A) (more : A → Tree) (tree : ℕ → Tree) → ((b : ℕ) → Meets (next b) more (tree b)) → Meets (Byte next) more (byte tree)
   meets_byte next more tree each = record { to = byte_to next more tree each; back = byte_back next more tree each }
 
-  pub meets_where : (test : Bool) (P Q : Part A) (more : A → Tree) (t u : Tree) → Meets P more t → Meets Q more u → Meets (Where test P Q) more (if test then t else u)
+  pub meets_where : (test : Bool) (P Q : Part A) (more : A → Tree) (t u : Tree) → Meets P more t → Meets Q more u → Meets (Where test P Q) more
+      (if test then t else u)
   meets_where true P Q more t u p q = record { to = p.to; back = p.back }
   meets_where false P Q more t u p q = record { to = q.to; back = q.back }
 
@@ -106,13 +111,15 @@ pub meets_as : {A B : Type 0} (P : Part A) (made : A → B) (more : B → Tree) 
 meets_as P made more tree first = meets_then P (λ v. Known (Ok (made v))) (λ v. more (made v)) more tree first (λ v. meets_ok (made v) more)
 
 -- a tree that ends behind a part reads that part
-pub whole_to : (P : Part Packet) (tree : Tree) → Meets P (λ v. known (Ok v)) tree → (outcome : Outcome Packet) (bytes : List ℕ) → Leads tree outcome bytes → P outcome bytes
+pub whole_to : (P : Part Packet) (tree : Tree) → Meets P (λ v. known (Ok v)) tree → (outcome : Outcome Packet) (bytes : List ℕ) → Leads tree outcome bytes
+    → P outcome bytes
 whole_to P tree meets outcome bytes x = elim (meets.to outcome bytes x) [
   | inl (v, front, [], parts, p, q) ↦ subst (λ o. P o bytes) (sym q) (subst (λ t. P (Ok v) t) (sym (parts ∙ append-nil front)) p)
   | inl (v, front, b ∷ back, parts, p, q) ↦ absurd q
   | inr (f, o, p) ↦ subst (λ o. P o bytes) (sym o) p
 ]
 
-pub whole_back : (P : Part Packet) (tree : Tree) → Meets P (λ v. known (Ok v)) tree → (outcome : Outcome Packet) (bytes : List ℕ) → P outcome bytes → Leads tree outcome bytes
+pub whole_back : (P : Part Packet) (tree : Tree) → Meets P (λ v. known (Ok v)) tree → (outcome : Outcome Packet) (bytes : List ℕ) → P outcome bytes
+    → Leads tree outcome bytes
 whole_back P tree meets (Ok v) bytes p = meets.back (Ok v) bytes (inl (v, bytes, [], sym (append-nil bytes), p, refl))
 whole_back P tree meets (Err f) bytes p = meets.back (Err f) bytes (inr (f, refl, p))

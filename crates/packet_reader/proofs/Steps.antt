@@ -7,7 +7,8 @@ use Rattle.packet_grammar.specs.declared.packet.Packet.{Packet}
 use Rattle.packet_grammar.specs.Parts.{Outcome}
 use Rattle.packet_grammar.specs.Parsed.{Spells, Begins, clean, cut, fault, IsStream}
 use Rattle.packet_reader.specs.declared.state.State.{State}
-use Rattle.packet_reader.specs.declared.state.State.TheVariants.{Extension as AtExtension, Zeros as AtZeros, Control, Number, Stamp, Exception, Short, ShortHigh, LongFirst, LongSecond, LongHigh, Context, Vmid, Cid}
+use Rattle.packet_reader.specs.declared.state.State.TheVariants.{Extension as AtExtension, Zeros as AtZeros, Control, Number, Stamp, Exception, Short}
+use Rattle.packet_reader.specs.declared.state.State.TheVariants.{ShortHigh, LongFirst, LongSecond, LongHigh, Context, Vmid, Cid}
 use Rattle.packet_reader.specs.declared.state.Progress.{Progress}
 use Rattle.packet_reader.specs.declared.state.Progress.TheVariants.{Next, Done}
 use Rattle.packet_reader.specs.Trees.{Tree, known, byte, Leads, number_tree, stamp_tree, bytes_tree, sync_tree}
@@ -68,7 +69,8 @@ leads_on (byte next) =
     let on = leads_on (next 0) in
     record { outcome = on.outcome; bytes = 0 ∷ on.bytes; small = All-cons (λ (b : ℕ). b < 256) 0 on.bytes (omega arith) on.small; leads = on.leads }
 
-begins : (s : Sizes) (text : List ℕ) (tree : Tree) → Open tree → ((outcome : Outcome Packet) (more : List ℕ) → Spells s outcome (text ++ more) ↔ Leads tree outcome more) → Begins s text
+begins : (s : Sizes) (text : List ℕ) (tree : Tree) → Open tree
+    → ((outcome : Outcome Packet) (more : List ℕ) → Spells s outcome (text ++ more) ↔ Leads tree outcome more) → Begins s text
 begins s text tree (next, e) same =
     let on = leads_on (next 0) in
     record {
@@ -116,6 +118,7 @@ module _ (s : Sizes) (start : ℕ) (packets : List (ℕ × Packet)) (bytes : Lis
 
   pub phase_after : (progress : Progress) (taken : ℕ) → length bytes ≡ taken → FitsAfter progress → At s (tree_after s progress) start packets bytes
       → InPhase s (settled progress start taken).phase (settled progress start taken).start bytes
-  phase_after (Next state) taken all fits a = record { front = a.front; text = a.text; parts = a.parts; starts = a.starts; some = a.some; packets = packets; whole = a.whole; follows = a.follows }
+  phase_after (Next state) taken all fits a = record
+      { front = a.front; text = a.text; parts = a.parts; starts = a.starts; some = a.some; packets = packets; whole = a.whole; follows = a.follows }
   phase_after (Done (Ok p)) taken all fits a = (all, (packets ++ (start, p) ∷ [], stream_after (Done (Ok p)) fits a))
   phase_after (Done (Err f)) taken all fits a = (packets, start, f, stream_after (Done (Err f)) fits a)

@@ -43,7 +43,8 @@ from_end : (id address end : ℕ) (bytes : List ℕ) → end ≡ 3 + length (hex
 from_end id address end bytes place is =
     let front = line_start id ++ hex address in let rest = drop (end + 1) bytes in
     let whole : bytes ≡ front ++ (10 ∷ rest) =
-    sym (take-append-drop (end + 1) bytes) ∙ ap (λ t. t ++ rest) (is ∙ sym (append_assoc (line_start id) (hex address) (10 ∷ []))) ∙ append_assoc front (10 ∷ []) rest in
+    sym (take-append-drop (end + 1) bytes) ∙ ap (λ t. t ++ rest) (is ∙ sym (append_assoc (line_start id) (hex address) (10 ∷ [])))
+    ∙ append_assoc front (10 ∷ []) rest in
     let len : end ≡ length front = omega (arith, place, length-append (line_start id) (hex address)) in
     ap (drop end) whole ∙ ap (λ k. drop k (front ++ (10 ∷ rest))) len ∙ drop-append_seam front (10 ∷ rest)
 

@@ -1,5 +1,6 @@
 -- Lines of several items.
-use Rattle.std.proofs.Common.{◌≡◌, ℕ, zero, suc, ◌+◌, ◌-◌, ◌%◌, ◌^◌, ◌<◌, Bool, true, false, List, [], ◌∷◌, ◌++◌, Option, Some, None, refl, sym, ap, ◌∙◌, arith, append_assoc}
+use Rattle.std.proofs.Common.{◌≡◌, ℕ, zero, suc, ◌+◌, ◌-◌, ◌%◌, ◌^◌, ◌<◌, Bool, true, false}
+use Rattle.std.proofs.Common.{List, [], ◌∷◌, ◌++◌, Option, Some, None, refl, sym, ap, ◌∙◌, arith, append_assoc}
 use Rattle.std.specs.Prelude.{if◌then◌else◌}
 use Rattle.std.proofs.lemmas.Bool.{eq-eqb}
 use Rattle.etm_types.specs.Walked.{instructions, exception, items_of}
@@ -9,9 +10,11 @@ use Rattle.etm_types.specs.declared.item.Item.TheVariants.{On}
 use Rattle.etm_types.specs.declared.walked.ExcMark.{ExcMark}
 use Rattle.etm_types.specs.declared.walked.Walked.{Walked}
 use Rattle.path_text.specs.Lines.{line_of, hex}
-use Rattle.path_text.specs.PathLines.{instruction_lines, lines_of, item_lines, context_line, same_context, same_security, shown_after, shown_after_all, on_line, block_items}
+use Rattle.path_text.specs.PathLines.{instruction_lines, lines_of, item_lines, context_line, same_context}
+use Rattle.path_text.specs.PathLines.{same_security, shown_after, shown_after_all, on_line, block_items}
 
-pub instruction_lines-next : (id address left : ℕ) → 0 < left → instruction_lines id address left ≡ line_of id (hex address) ++ instruction_lines id ((address + 4) % 2 ^ 64) (left - 1)
+pub instruction_lines-next : (id address left : ℕ) → 0 < left
+    → instruction_lines id address left ≡ line_of id (hex address) ++ instruction_lines id ((address + 4) % 2 ^ 64) (left - 1)
 instruction_lines-next id address zero some = absurd (omega arith)
 instruction_lines-next id address (suc n) some = ap (λ k. line_of id (hex address) ++ instruction_lines id ((address + 4) % 2 ^ 64) k) (omega arith)
 
@@ -44,10 +47,12 @@ lines_of-run id shown ctx address (suc n) some =
 
 -- ---- lines of items, one list after another
 
-pub lines_of-append : (id : ℕ) (shown : Option Ctx) (xs ys : List Item) → lines_of id shown (xs ++ ys) ≡ lines_of id shown xs ++ lines_of id (shown_after_all shown xs) ys
+pub lines_of-append : (id : ℕ) (shown : Option Ctx) (xs ys : List Item)
+    → lines_of id shown (xs ++ ys) ≡ lines_of id shown xs ++ lines_of id (shown_after_all shown xs) ys
 lines_of-append id shown [] ys = refl
 lines_of-append id shown (x ∷ xs) ys =
-    ap (λ t. item_lines id shown x ++ t) (lines_of-append id (shown_after shown x) xs ys) ∙ sym (append_assoc (item_lines id shown x) (lines_of id (shown_after shown x) xs) _)
+    ap (λ t. item_lines id shown x ++ t) (lines_of-append id (shown_after shown x) xs ys)
+    ∙ sym (append_assoc (item_lines id shown x) (lines_of id (shown_after shown x) xs) _)
 
 pub shown_after_all-append : (shown : Option Ctx) (xs ys : List Item) → shown_after_all shown (xs ++ ys) ≡ shown_after_all (shown_after_all shown xs) ys
 shown_after_all-append shown [] ys = refl
@@ -70,7 +75,8 @@ shown_after_all-exception shown (Some mark) = refl
 
 -- ---- what a walk shows
 
-rest_lines : (id : ℕ) (shown : Option Ctx) (w : Walked) → lines_of id shown (block_items w) ++ lines_of id None (exception w.exc) ≡ lines_of id shown (block_items w ++ exception w.exc)
+rest_lines : (id : ℕ) (shown : Option Ctx) (w : Walked)
+    → lines_of id shown (block_items w) ++ lines_of id None (exception w.exc) ≡ lines_of id shown (block_items w ++ exception w.exc)
 rest_lines id shown w =
     ap (λ t. lines_of id shown (block_items w) ++ t) (lines_of-exception id (shown_after_all shown (block_items w)) w.exc)
     ∙ sym (lines_of-append id shown (block_items w) (exception w.exc))
@@ -78,7 +84,8 @@ rest_lines id shown w =
 on_items : Bool → List Item
 on_items on = if on then On ∷ [] else []
 
-lines_of-on : (id : ℕ) (shown : Option Ctx) (on : Bool) (items : List Item) → on_line id on ++ lines_of id shown items ≡ lines_of id shown (on_items on ++ items)
+lines_of-on : (id : ℕ) (shown : Option Ctx) (on : Bool) (items : List Item)
+    → on_line id on ++ lines_of id shown items ≡ lines_of id shown (on_items on ++ items)
 unfolding on_items
 lines_of-on id shown true items = refl
 lines_of-on id shown false items = refl

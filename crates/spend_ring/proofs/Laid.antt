@@ -1,5 +1,6 @@
 -- What each step of a ring does to the cells does the same to its items.
-use Rattle.std.proofs.Common.{◌≡◌, ℕ, zero, suc, ◌+◌, ◌-◌, ◌^◌, ◌<◌, ◌≤◌, inl, inr, List, [], ◌∷◌, ◌++◌, map, length, take, drop, set, get_or, replicate, slice_get, Option, Some, None, refl, sym, ap, ◌∙◌, subst, arith, length-append, length-set, get_or-set_same, ext_get_or, append-nil}
+use Rattle.std.proofs.Common.{◌≡◌, ℕ, zero, suc, ◌+◌, ◌-◌, ◌^◌, ◌<◌, ◌≤◌, inl, inr, List, [], ◌∷◌, ◌++◌, map, length, take}
+use Rattle.std.proofs.Common.{drop, set, get_or, replicate, slice_get, Option, Some, None, refl, sym, ap, ◌∙◌, subst, arith, length-append, length-set, get_or-set_same, ext_get_or, append-nil}
 use Rattle.std.proofs.lemmas.List.{append_assoc, map-append, length-map, length-replicate, replicate-append-replicate, set-append_left}
 use Rattle.std.proofs.lemmas.Bool.{cases_lt}
 use Rattle.std.proofs.Math.Seq.{set-append_seam, take-append_seam}
@@ -40,7 +41,13 @@ module _ {X : Type 0} where
 
   length-filled : (items : List X) (n : ℕ) → length (filled items n) ≡ length items + (n - length items)
   unfolding filled
-  length-filled items n = omega (arith, length-append (map Some items) (replicate (n - length items) empty), length-map items Some, length-replicate (n - length items) empty)
+  length-filled items n = omega (
+    arith,
+    length-append (map Some items) (replicate (n - length items) empty),
+    length-map items Some,
+    length-replicate
+        (n - length items) empty,
+  )
 
   -- ---- one write to cells that are filled
   filled-gap : (items : List X) (n k : ℕ) → n - length items ≡ suc k → filled items n ≡ map Some items ++ None ∷ replicate k None
@@ -67,7 +74,8 @@ module _ {X : Type 0} where
   filled-front : (x : X) (items : List X) (n : ℕ) → length items < n → drop 1 (set (filled (x ∷ items) n) 0 None) ++ None ∷ [] ≡ filled items n
   unfolding filled
   filled-front x items n room = let k = n - suc (length items) in let e : k + 1 ≡ n - length items = omega arith in
-      append_assoc (map Some items) (replicate k None) (None ∷ []) ∙ ap (λ l. map Some items ++ l) (replicate-append-replicate k 1 None ∙ ap (λ j. replicate j None) e)
+      append_assoc (map Some items) (replicate k None) (None ∷ [])
+      ∙ ap (λ l. map Some items ++ l) (replicate-append-replicate k 1 None ∙ ap (λ j. replicate j None) e)
 
   map-set : (items : List X) (i : ℕ) (w : X) → set (map Some items) i (Some w) ≡ map Some (set items i w)
   map-set [] i w = refl
@@ -77,7 +85,8 @@ module _ {X : Type 0} where
   filled-set : (items : List X) (n i : ℕ) (w : X) → i < length items → set (filled items n) i (Some w) ≡ filled (set items i w) n
   unfolding filled
   filled-set items n i w lt =
-      set-append_left (map Some items) (replicate (n - length items) None) i (Some w) (omega (arith, length-map items Some)) ∙ (λ j. map-set items i w j ++ replicate (n - sym (length-set items i w) j) None)
+      set-append_left (map Some items) (replicate (n - length items) None) i (Some w) (omega (arith, length-map items Some))
+      ∙ (λ j. map-set items i w j ++ replicate (n - sym (length-set items i w) j) None)
 
   -- ---- one item, and an end of the items
   get_some : (items : List X) (i : ℕ) → i < length items → (x : X) × (slice_get items i ≡ Some x)
@@ -104,7 +113,8 @@ pub without_last : {X : Type 0} (rest : List X) (x : X) (items : List X) → ite
 without_last rest x items e = let few : length items - 1 ≡ length rest = omega (arith, ap length e, length-append rest (x ∷ [])) in
     sym (ap (take (length items - 1)) e ∙ ap (λ k. take k (rest ++ x ∷ [])) few ∙ take-append_seam rest (x ∷ []))
 
-pub newest-full : {X : Type 0} (items rest : List X) (oldest item : X) (n : ℕ) → items ≡ oldest ∷ rest → length items ≡ n → rest ++ item ∷ [] ≡ newest n (items ++ item ∷ [])
+pub newest-full : {X : Type 0} (items rest : List X) (oldest item : X) (n : ℕ) → items ≡ oldest ∷ rest → length items ≡ n
+    → rest ++ item ∷ [] ≡ newest n (items ++ item ∷ [])
 newest-full items rest oldest item n e full = let one : length (items ++ item ∷ []) - n ≡ 1 = omega (arith, length-append items (item ∷ [])) in
     sym (ap (λ k. drop k (items ++ item ∷ [])) one ∙ ap (λ l. drop 1 (l ++ item ∷ [])) e)
 
@@ -116,7 +126,8 @@ around p start n lt begins = elim (cases_lt p start) [
 ]
 
 module _ {X : Type 0} (start count n : ℕ) (held : List (Option X)) where
-  pub relaid : (items : List X) → length held ≡ n → n < 2 ^ 63 → (0 < n → start < n) → length items ≡ count → turned start held ≡ filled items n → IsLaid start count n held × (items_from start held ≡ items)
+  pub relaid : (items : List X) → length held ≡ n → n < 2 ^ 63 → (0 < n → start < n) → length items ≡ count → turned start held ≡ filled items n → IsLaid
+      start count n held × (items_from start held ≡ items)
   unfolding items_from
   relaid items cells small within counted laid =
       let same : items_from start held ≡ items = ap values laid ∙ values-filled items n in
@@ -132,7 +143,8 @@ pub record Popped {X : Type 0} (items : List X) (held : List (Option X)) (p : �
 
 pub laid-empty : (X : Type 0) (n : ℕ) → n < 2 ^ 63 → IsLaid {X = X} 0 0 n (replicate n None) × (items_from {X = X} 0 (replicate n None) ≡ [])
 unfolding turned filled
-laid-empty X n small = let none : Option X = None in let all : n ≡ n - 0 = omega arith in relaid 0 0 n (replicate n none) [] (length-replicate n none) small (λ some. some) refl (append-nil (replicate n none) ∙ ap (λ k. replicate k none) all)
+laid-empty X n small = let none : Option X = None in let all : n ≡ n - 0 = omega arith in relaid 0 0 n (replicate n none) [] (length-replicate n none) small
+    (λ some. some) refl (append-nil (replicate n none) ∙ ap (λ k. replicate k none) all)
 
 module _ {X : Type 0} (start count n : ℕ) (held : List (Option X)) (h : IsLaid start count n held) where
   abbrev items : List X
@@ -152,7 +164,8 @@ module _ {X : Type 0} (start count n : ℕ) (held : List (Option X)) (h : IsLaid
 
   pub item_at : (i p : ℕ) → i < n → IsPlace start i n p → get_or held p None ≡ slice_get items i
   item_at i p lt at =
-      sym (turned-get start held i p None (omega (arith, begins i p at)) (omega (arith, h.cells)) (placed i p at)) ∙ ap (λ l. get_or l i None) h.laid ∙ get-filled items n i
+      sym (turned-get start held i p None (omega (arith, begins i p at)) (omega (arith, h.cells)) (placed i p at)) ∙ ap (λ l. get_or l i None) h.laid
+      ∙ get-filled items n i
 
   pub full_at : (i p : ℕ) → i < count → IsPlace start i n p → IsFull held p
   full_at i p lt at = let within = count-within in let item = get_some items i (omega (arith, h.counted)) in (item.0, item_at i p (omega arith) at ∙ item.1)
@@ -164,42 +177,55 @@ module _ {X : Type 0} (start count n : ℕ) (held : List (Option X)) (h : IsLaid
   as_long : (p : ℕ) (c : Option X) → length (set held p c) ≡ n
   as_long p c = length-set held p c ∙ h.cells
 
-  pub pushed : (p : ℕ) (x : X) → count < n → IsPlace start count n p → IsLaid start (count + 1) n (set held p (Some x)) × (items_from start (set held p (Some x)) ≡ items ++ x ∷ [])
+  pub pushed : (p : ℕ) (x : X) → count < n → IsPlace start count n p → IsLaid start (count + 1) n (set held p (Some x)) ×
+      (items_from start (set held p (Some x)) ≡ items ++ x ∷ [])
   pushed p x room at = let counted = h.counted in
-      relaid start (count + 1) n (set held p (Some x)) (items ++ x ∷ []) (as_long p (Some x)) h.small h.start_within (omega (arith, length-append items (x ∷ [])))
+      relaid start (count + 1) n (set held p (Some x)) (items ++ x ∷ []) (as_long p (Some x)) h.small h.start_within
+      (omega (arith, length-append items (x ∷ [])))
       (wrote count p (Some x) room at ∙ ap (λ k. set (filled items n) k (Some x)) (sym counted) ∙ filled-push items x n (omega arith))
 
   -- the newest item leaves its cell, which lies at p
-  pub popped_back : (p : ℕ) → 0 < count → IsPlace start (count - 1) n p → Popped items held p (λ rest x. rest ++ x ∷ []) (λ rest. IsLaid start (count - 1) n (set held p None) × (items_from start (set held p None) ≡ rest))
+  pub popped_back : (p : ℕ) → 0 < count → IsPlace start (count - 1) n p → Popped items held p (λ rest x. rest ++ x ∷ [])
+      (λ rest. IsLaid start (count - 1) n (set held p None) × (items_from start (set held p None) ≡ rest))
   popped_back p some at =
       let e = back_of items (omega (arith, h.counted)) in let rest = e.0 in let x = e.1 in
       let few : length rest ≡ count - 1 = omega (arith, h.counted, ap length e.2, length-append rest (x ∷ [])) in let within = count-within in
-      let taken : set (filled items n) (count - 1) None ≡ filled rest n = ap (λ l. set (filled l n) (count - 1) None) e.2 ∙ ap (λ k. set (filled (rest ++ x ∷ []) n) k None) (sym few) ∙ filled-pop rest x n (omega arith) in
+      let taken : set (filled items n) (count - 1) None ≡ filled rest n =
+      ap (λ l. set (filled l n) (count - 1) None) e.2 ∙ ap (λ k. set (filled (rest ++ x ∷ []) n) k None) (sym few) ∙ filled-pop rest x n (omega arith) in
       record {
         rest = rest;
         item = x;
         is = e.2;
         was = item_at (count - 1) p (omega arith) at ∙ ap (λ l. slice_get l (count - 1)) e.2 ∙ get-last rest x (count - 1) (sym few);
-        now = relaid start (count - 1) n (set held p None) rest (as_long p None) h.small h.start_within few (wrote (count - 1) p None (omega arith) at ∙ taken);
+        now = relaid start (count - 1) n (set held p None) rest (as_long p None) h.small h.start_within few
+            (wrote (count - 1) p None (omega arith) at ∙ taken);
       }
 
   -- the oldest item leaves the start, and the next place is the start
-  pub popped_front : (t : ℕ) → 0 < count → IsPlace start 1 n t → Popped items held start (λ rest x. x ∷ rest) (λ rest. IsLaid t (count - 1) n (set held start None) × (items_from t (set held start None) ≡ rest))
+  pub popped_front : (t : ℕ) → 0 < count → IsPlace start 1 n t → Popped items held start (λ rest x. x ∷ rest)
+      (λ rest. IsLaid t (count - 1) n (set held start None) × (items_from t (set held start None) ≡ rest))
   popped_front t some at =
       let e = front_of items (omega (arith, h.counted)) in let x = e.0 in let rest = e.1 in
-      let few : length rest ≡ count - 1 = omega (arith, h.counted, ap length e.2) in let within = count-within in let lt = begins 1 t at in let inside = at.0 in
-      let here : IsPlace start 0 n start = (omega (arith, h.cells), inl (omega arith)) in let next : IsPlace start 1 (length (set held start None)) t = subst (λ k. IsPlace start 1 k t) (sym (as_long start None)) at in
-      let taken = turned-next start (set held start None) t None (omega (arith, as_long start None, h.cells)) next ∙ ap (λ c. drop 1 (turned start (set held start None)) ++ c ∷ []) (get_or-set_same held start None None lt) in
+      let few : length rest ≡ count - 1 =
+      omega (arith, h.counted, ap length e.2) in let within = count-within in let lt = begins 1 t at in let inside = at.0 in
+      let here : IsPlace start 0 n start =
+      (omega (arith, h.cells), inl (omega arith)) in let next : IsPlace start 1 (length (set held start None)) t = subst (λ k. IsPlace start 1 k t)
+      (sym (as_long start None)) at in
+      let taken =
+      turned-next start (set held start None) t None (omega (arith, as_long start None, h.cells)) next
+      ∙ ap (λ c. drop 1 (turned start (set held start None)) ++ c ∷ []) (get_or-set_same held start None None lt) in
       let left = ap (λ l. drop 1 l ++ None ∷ []) (wrote 0 start None (omega (arith, h.cells)) here ∙ ap (λ l. set (filled l n) 0 None) e.2) in
       record {
         rest = rest;
         item = x;
         is = e.2;
         was = item_at 0 start (omega (arith, h.cells)) here ∙ ap (λ l. slice_get l 0) e.2;
-        now = relaid t (count - 1) n (set held start None) rest (as_long start None) h.small (λ _. inside) few (taken ∙ left ∙ filled-front x rest n (omega arith));
+        now = relaid t (count - 1) n (set held start None) rest (as_long start None) h.small (λ _. inside) few
+            (taken ∙ left ∙ filled-front x rest n (omega arith));
       }
 
-  pub changed : (i p : ℕ) (w : X) → i < count → IsPlace start i n p → IsLaid start count n (set held p (Some w)) × (items_from start (set held p (Some w)) ≡ set items i w)
+  pub changed : (i p : ℕ) (w : X) → i < count → IsPlace start i n p → IsLaid start count n (set held p (Some w)) ×
+      (items_from start (set held p (Some w)) ≡ set items i w)
   changed i p w lt at = let within = count-within in
       relaid start count n (set held p (Some w)) (set items i w) (as_long p (Some w)) h.small h.start_within (length-set items i w ∙ h.counted)
       (wrote i p (Some w) (omega arith) at ∙ filled-set items n i w (omega (arith, h.counted)))

@@ -58,7 +58,8 @@ module _ (E : El) {M : Type 1} {𝓤 : Ura M} (𝓛 : Logic 𝓤) (b : ℕ) wher
       → ent 𝓤 (sep 𝓤 (sem 𝓛 (cell (R E) b (i * s + o) c)) (sem 𝓛 (others E b o held i))) (sem 𝓛 (row (R E) b o (set held i c)))
   cell_in [] i o c lt = absurd (omega arith)
   cell_in (d ∷ held) zero o c lt =
-      qed 𝓛 (‵ (cell (R E) b (zero * s + o) c) ∷ ‵ (others E b o (d ∷ held) zero) ∷ []) ∵ rewrite ! 0 (λ (k : ℕ). ‵ (cell (R E) b k c)) (at_first o) refl $ fjoin ! $ done !
+      qed 𝓛 (‵ (cell (R E) b (zero * s + o) c) ∷ ‵ (others E b o (d ∷ held) zero) ∷ []) ∵ rewrite ! 0 (λ (k : ℕ). ‵ (cell (R E) b k c)) (at_first o) refl $
+      fjoin ! $ done !
   cell_in (d ∷ held) (suc i) o c lt =
       qed 𝓛 (‵ (cell (R E) b (suc i * s + o) c) ∷ ‵ (others E b o (d ∷ held) (suc i)) ∷ []) ∵
       rewrite ! 0 (λ (k : ℕ). ‵ (cell (R E) b k c)) (sym (at_next i o)) refl $ move ! (1 ∷ []) $ fsplit ! $ move ! (2 ∷ 1 ∷ []) $
@@ -68,7 +69,8 @@ module _ (E : El) {M : Type 1} {𝓤 : Ura M} (𝓛 : Logic 𝓤) (b : ℕ) wher
       → ent 𝓤 (sem 𝓛 (row_lent (R E) b o held κ)) (sem 𝓛 (cell_lent (R E) b (i * s + o) (get_or held i None) κ))
   cell_seen κ [] i o lt = absurd (omega arith)
   cell_seen κ (c ∷ held) zero o lt =
-      qed 𝓛 (‵ (row_lent (R E) b o (c ∷ held) κ) ∷ []) ∵ fsplit ! $ rewrite ! 0 (λ (k : ℕ). ‵ (cell_lent (R E) b k c κ)) (sym (at_first o)) refl $ keep ! (0 ∷ []) $ done !
+      qed 𝓛 (‵ (row_lent (R E) b o (c ∷ held) κ) ∷ []) ∵ fsplit ! $ rewrite ! 0 (λ (k : ℕ). ‵ (cell_lent (R E) b k c κ)) (sym (at_first o)) refl $ keep !
+      (0 ∷ []) $ done !
   cell_seen κ (c ∷ held) (suc i) o lt =
       qed 𝓛 (‵ (row_lent (R E) b o (c ∷ held) κ) ∷ []) ∵ fsplit ! $ keep ! (1 ∷ []) $
       use1 𝓛 (‵ (cell_lent (R E) b (i * s + (o + s)) (get_or held i None) κ)) (cell_seen κ held i (o + s) (omega arith)) $
@@ -84,5 +86,6 @@ module _ (E : El) {M : Type 1} {𝓤 : Ura M} (𝓛 : Logic 𝓤) (b : ℕ) wher
   pub room_of_row : (n o : ℕ) → ent 𝓤 (sem 𝓛 (row (R E) b o (replicate n None))) (H.room (ty_array (elτ E) n) b o)
   room_of_row zero o = 𝓛.laws.room_nil (elτ E) b o
   room_of_row (suc n) o =
-      qed 𝓛 (‵ (cell (R E) b o None) ∷ ‵ (row (R E) b (o + s) (replicate n None)) ∷ []) ∵ use1 𝓛 (‵ (froom (elτ E) b o)) (𝓛.laws.raw-room (elτ E) b o) $ move ! (1 ∷ []) $
+      qed 𝓛 (‵ (cell (R E) b o None) ∷ ‵ (row (R E) b (o + s) (replicate n None)) ∷ []) ∵ use1 𝓛 (‵ (froom (elτ E) b o)) (𝓛.laws.raw-room (elτ E) b o) $ move
+      ! (1 ∷ []) $
       use1 𝓛 (‵ (froom (ty_array (elτ E) n) b (o + s))) (room_of_row n (o + s)) $ move ! (1 ∷ 0 ∷ []) $ by ! (𝓛.laws.room_cons (elτ E) n b o)

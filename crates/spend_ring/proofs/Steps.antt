@@ -17,9 +17,76 @@ pub use mir.Val.{Val, vptr, vint, vunit, vstruct, vcons, vnil}
 pub use prog.Wp.{Env, WpFn}
 pub use types.Logic.{Logic, sem}
 pub use types.SemTy.{Body as Borrowed}
-pub use types.Kit.{Item, Goal, Seq, Step, step, prop, ‵, raw, ◌⊛◌, some, later, given, at_ret, ◌$◌, ◌∵◌, !, qed, by, move, keep, drop, use0, use1, use2, use3, split, join, group, fsplit, fsplit3, fjoin, fjoin3, fpick, fpack, feq_i, feq_l, flt_i, flt_l, pick, await, learn, rewrite, regoal, done}
+pub use types.Kit.{
+  Item,
+  Goal,
+  Seq,
+  Step,
+  step,
+  prop,
+  ‵,
+  raw,
+  ◌⊛◌,
+  some,
+  later,
+  given,
+  at_ret,
+  ◌$◌,
+  ◌∵◌,
+  !,
+  qed,
+  by,
+  move,
+  keep,
+  drop,
+  use0,
+  use1,
+  use2,
+  use3,
+  split,
+  join,
+  group,
+  fsplit,
+  fsplit3,
+  fjoin,
+  fjoin3,
+  fpick,
+  fpack,
+  feq_i,
+  feq_l,
+  flt_i,
+  flt_l,
+  pick,
+  await,
+  learn,
+  rewrite,
+  regoal,
+  done,
+}
 pub use types.Part.{whole, sub, agg}
-pub use types.Run.{enter, of_opd, lit, unit_lit, bin, size_lit, size_word, align_word, addr, load, look, init, stop, fld, and_then, no_more, assigns_last, first as first_of, blocks, exec, returns}
+pub use types.Run.{
+  enter,
+  of_opd,
+  lit,
+  unit_lit,
+  bin,
+  size_lit,
+  size_word,
+  align_word,
+  addr,
+  load,
+  look,
+  init,
+  stop,
+  fld,
+  and_then,
+  no_more,
+  assigns_last,
+  first as first_of,
+  blocks,
+  exec,
+  returns,
+}
 pub use types.ByLocal.{alloc_all, pass_all, free_all, look_at, get, get_in, through, sets, sets_last, take_at, give_at, is as is_so, env}
 pub use contract.Monad.{fact, fact_i}
 pub use contract.Running.{tables}
@@ -68,7 +135,8 @@ abbrev pub mark : Val
 mark = vstruct (vcons (vstruct vnil) vnil)
 
 pub mark_made : (E : El) {M : Type 1} {𝓤 : Ura M} (𝓛 : Logic 𝓤) → ent 𝓤 (emp 𝓤) (sem 𝓛 ((Mark E).own_val (tt, tt) (mark ∷ [])))
-mark_made E 𝓛 = makes_shadow 𝓛 ((Mark E).own_val (tt, tt) (mark ∷ [])) (λ vss. (tt, ((λ uss. (tt, tt)), tt))) ((vstruct vnil ∷ [], tt), (refl, ((tt, (refl, tt)), tt)))
+mark_made E 𝓛 = makes_shadow 𝓛 ((Mark E).own_val (tt, tt) (mark ∷ [])) (λ vss. (tt, ((λ uss. (tt, tt)), tt)))
+    ((vstruct vnil ∷ [], tt), (refl, ((tt, (refl, tt)), tt)))
 
 module _ (E : El) {M : Type 1} {𝓤 : Ura M} {𝓛 : Logic 𝓤} {K : Type 0} {Γ : List (Item 𝓤)} {G : Goal 𝓤 𝓛.H} where
   pub first_had : K → (p : Ptr) (vs : List Val) → (vs ≡ word p ∷ [] → Seq K 𝓛 Γ G) → Seq K 𝓛 (‵ ((First E).own_val (record { cell = p }) vs) ∷ Γ) G
@@ -80,9 +148,11 @@ module _ (E : El) {M : Type 1} {𝓤 : Ura M} {𝓛 : Logic 𝓤} {K : Type 0} {
       fpack t (Valss (RawPtr ∷ [])) (within pointer (p, tt) (word p ∷ [])) (ptr_val p ∷ [], tt) $ s)
 
   pub mark_had : K → (vs : List Val) → (vs ≡ mark ∷ [] → Seq K 𝓛 Γ G) → Seq K 𝓛 (‵ ((Mark E).own_val (tt, tt) vs) ∷ Γ) G
-  mark_had t vs k = fpick t (λ vss. fsplit t $ feq_l t (λ all. fsplit t $ fpick t (λ uss. fsplit t $ feq_l t (λ e. drop t $ drop t $ k (all ∙ (λ j. vstruct (of_list (e j ++ [])) ∷ []))))))
+  mark_had t vs k = fpick t (λ vss. fsplit t $ feq_l t
+      (λ all. fsplit t $ fpick t (λ uss. fsplit t $ feq_l t (λ e. drop t $ drop t $ k (all ∙ (λ j. vstruct (of_list (e j ++ [])) ∷ []))))))
 
-  pub value_had : K → (x : el_x E) (vs : List Val) → ((v : Val) → vs ≡ v ∷ [] → Good E v → Seq K 𝓛 (‵ ((R E).own_val x (v ∷ [])) ∷ Γ) G) → Seq K 𝓛 (‵ ((R E).own_val x vs) ∷ Γ) G
+  pub value_had : K → (x : el_x E) (vs : List Val) → ((v : Val) → vs ≡ v ∷ [] → Good E v → Seq K 𝓛 (‵ ((R E).own_val x (v ∷ [])) ∷ Γ) G) → Seq K 𝓛
+      (‵ ((R E).own_val x vs) ∷ Γ) G
   value_had t x vs k =
       peeks t (R E) (Is (R E)) (shows 𝓛 (R E)) x vs (λ told. let v = one E vs ((lawful E 𝓛).typed x vs told) in
       rewrite t 0 (λ (us : List Val). ‵ ((R E).own_val x us)) v.1 refl $ k v.0 v.1 v.2)

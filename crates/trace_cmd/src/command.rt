@@ -5,7 +5,8 @@ ghost use Rattle.trace_io.specs.Bytes.{ShowsAsBefore};
 ghost use Rattle.trace_io.specs.Causes.{KeepsFaults};
 ghost use Rattle.trace_cmd.specs.Words.{meaning, image_of, texts};
 ghost use Rattle.path_text.specs.Writing.{Writes};
-ghost use Rattle.trace_cmd.specs.Answers.{usage_line, image_line, call, IsPathCall, IsPacketsCall, NoReadFailed, ReadsImage, ReadsFirst, IsAnswer, AnswersSo, Answers};
+ghost use Rattle.trace_cmd.specs.Answers.{usage_line, image_line, call, IsPathCall, IsPacketsCall, NoReadFailed};
+ghost use Rattle.trace_cmd.specs.Answers.{ReadsImage, ReadsFirst, IsAnswer, AnswersSo, Answers};
 
 use crate::input::{answer_packets, answer_path};
 use crate::status::Status;
@@ -38,8 +39,10 @@ fn answer_path_call<I: Source, J: Source, K: Sink>(
     out: &mut K,
 ) -> Result<Status, Failed>
     ensures answer { (words : List (List ℕ)) → IsPathCall words
-        → AnswersSo (IsAnswer (call words (I.state image.old) (I.state image.new) (J.state input.old) (J.state input.new))) (K.state out.old) (K.state out.new) result }
-    ensures kept { (result ≡ Ok Status.ReadFault) ⊎ (KeepsFaults (I.state image.old) (I.state image.new) × KeepsFaults (J.state input.old) (J.state input.new)) }
+        → AnswersSo (IsAnswer (call words (I.state image.old) (I.state image.new) (J.state input.old) (J.state input.new)))
+        (K.state out.old) (K.state out.new) result }
+    ensures kept { (result ≡ Ok Status.ReadFault)
+        ⊎ (KeepsFaults (I.state image.old) (I.state image.new) × KeepsFaults (J.state input.old) (J.state input.new)) }
     ensures order { (input.new ≡ input.old) ⊎ ReadsImage (I.state image.old) (I.state image.new) }
     ensures image_failed { KeepsFaults (I.state image.old) (I.state image.new) ⊎ (input.new ≡ input.old) }
     ensures image_first { (line : ℕ) (why : ImageWhy) → result ≡ Ok (Status.ImageBad line why) → input.new ≡ input.old }
@@ -67,7 +70,8 @@ fn answer_without_image<J: Source, K: Sink>(
     out: &mut K,
 ) -> Result<Status, Failed>
     requires { image_of (meaning (texts words.now)) ≡ None }
-    ensures answer { (image image' : IoState) → AnswersSo (IsAnswer (call (texts words.now) image image' (J.state input.old) (J.state input.new))) (K.state out.old) (K.state out.new) result }
+    ensures answer { (image image' : IoState)
+        → AnswersSo (IsAnswer (call (texts words.now) image image' (J.state input.old) (J.state input.new))) (K.state out.old) (K.state out.new) result }
     ensures kept { (result ≡ Ok Status.ReadFault) ⊎ KeepsFaults (J.state input.old) (J.state input.new) }
     ensures order { (input.new ≡ input.old) ⊎ IsPacketsCall (texts words.now) }
     ensures words_first { meaning (texts words.now) ≡ None → input.new ≡ input.old }
@@ -92,9 +96,12 @@ fn answer_words<I: Source, J: Source, K: Sink>(
     input: &mut J,
     out: &mut K,
 ) -> Result<Status, Failed>
-    ensures answer { AnswersSo (IsAnswer (call (texts words.now) (I.state image.old) (I.state image.new) (J.state input.old) (J.state input.new))) (K.state out.old) (K.state out.new) result }
-    ensures kept { (result ≡ Ok Status.ReadFault) ⊎ (KeepsFaults (I.state image.old) (I.state image.new) × KeepsFaults (J.state input.old) (J.state input.new)) }
-    ensures order { (input.new ≡ input.old) ⊎ ReadsFirst (call (texts words.now) (I.state image.old) (I.state image.new) (J.state input.old) (J.state input.new)) }
+    ensures answer { AnswersSo (IsAnswer (call (texts words.now) (I.state image.old) (I.state image.new) (J.state input.old) (J.state input.new)))
+        (K.state out.old) (K.state out.new) result }
+    ensures kept { (result ≡ Ok Status.ReadFault)
+        ⊎ (KeepsFaults (I.state image.old) (I.state image.new) × KeepsFaults (J.state input.old) (J.state input.new)) }
+    ensures order { (input.new ≡ input.old)
+        ⊎ ReadsFirst (call (texts words.now) (I.state image.old) (I.state image.new) (J.state input.old) (J.state input.new)) }
     ensures words_first { meaning (texts words.now) ≡ None → (image.new ≡ image.old) × (input.new ≡ input.old) }
     ensures image_untouched { IsPacketsCall (texts words.now) → image.new ≡ image.old }
     ensures image_failed { KeepsFaults (I.state image.old) (I.state image.new) ⊎ (input.new ≡ input.old) }
@@ -123,7 +130,8 @@ pub fn run<I: Source, J: Source, K: Sink>(
     out: &mut K,
 ) -> Status
     // The answer has its cause, and its text was written; of WriteFault, a front of the text that was due.
-    ensures answer { Answers (call (texts words.now) (I.state image.old) (I.state image.new) (J.state input.old) (J.state input.new)) (K.state out.old) (K.state out.new) result }
+    ensures answer { Answers (call (texts words.now) (I.state image.old) (I.state image.new) (J.state input.old) (J.state input.new))
+        (K.state out.old) (K.state out.new) result }
     ensures meaningless { meaning (texts words.now) ≡ None → (result ≡ Status.Usage) ⊎ (result ≡ Status.WriteFault) }
     ensures flushed { (result ≡ Status.WriteFault) ⊎ IsTrue (K.flushed out.new) }
 
@@ -132,7 +140,8 @@ pub fn run<I: Source, J: Source, K: Sink>(
     ensures image_untouched { IsPacketsCall (texts words.now) → image.new ≡ image.old }
     ensures image_first { (line : ℕ) (why : ImageWhy) → result ≡ Status.ImageBad line why → input.new ≡ input.old }
     ensures image_failed { KeepsFaults (I.state image.old) (I.state image.new) ⊎ (input.new ≡ input.old) }
-    ensures order { (input.new ≡ input.old) ⊎ ReadsFirst (call (texts words.now) (I.state image.old) (I.state image.new) (J.state input.old) (J.state input.new)) }
+    ensures order { (input.new ≡ input.old)
+        ⊎ ReadsFirst (call (texts words.now) (I.state image.old) (I.state image.new) (J.state input.old) (J.state input.new)) }
 
     // No call that failed is passed over.
     ensures reads { (result ≡ Status.ReadFault) ⊎ (result ≡ Status.WriteFault)

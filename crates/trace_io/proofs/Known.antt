@@ -1,5 +1,6 @@
 -- Lemmas on bytes that a source gives and a sink takes, for this crate and for its callers.
-use Rattle.std.proofs.Common.{◌≡◌, ℕ, ◌+◌, ◌-◌, ◌<◌, ◌≤◌, List, [], ◌++◌, length, take, drop, sym, ap, ◌∙◌, subst, append_assoc, append-nil, add-zero, arith, length-append}
+use Rattle.std.proofs.Common.{◌≡◌, ℕ, ◌+◌, ◌-◌, ◌<◌, ◌≤◌, List, [], ◌++◌, length}
+use Rattle.std.proofs.Common.{take, drop, sym, ap, ◌∙◌, subst, append_assoc, append-nil, add-zero, arith, length-append}
 use Rattle.std.proofs.lemmas.List.{take-append-drop, drop-drop, take_rest}
 use Rattle.std.proofs.Math.Seq.{take-add}
 use Rattle.std.proofs.KnownBytes.{Appends-trans, Appends-kept, Consumes-trans}
@@ -54,13 +55,16 @@ pub given : (bytes all buf : List ℕ) (at n : ℕ) → bytes ≡ all → take n
     → (drop at all ≡ take n buf ++ drop (at + n) all) × (n ≡ 0 → 0 < length buf → drop (at + n) all ≡ [])
 given bytes all buf at n e front none =
     let rest : take (length bytes - at) (drop at bytes) ≡ drop at all = take_rest bytes at ∙ ap (drop at) e in (
-      sym (take-append-drop n (drop at all)) ∙ ap (λ xs. xs ++ drop n (drop at all)) (sym (front ∙ ap (take n) rest)) ∙ ap (λ xs. take n buf ++ xs) (drop-drop n at all),
+      sym (take-append-drop n (drop at all)) ∙ ap (λ xs. xs ++ drop n (drop at all)) (sym (front ∙ ap (take n) rest))
+          ∙ ap (λ xs. take n buf ++ xs) (drop-drop n at all),
       λ zero_given room. ap (λ m. drop m all) (ap (λ m. at + m) zero_given ∙ add-zero at) ∙ sym rest ∙ none zero_given room,
     )
 
 -- the next bytes that a sink took
-pub taken_more : (a b c : Option (List ℕ)) (bytes : List ℕ) (m n : ℕ) → Appends a b (take m bytes) → Appends b c (take n (take (length bytes - m) (drop m bytes))) → Appends a c (take (m + n) bytes)
-taken_more a b c bytes m n p q = subst (Appends a c) (sym (take-add m n bytes ∙ ap (λ xs. take m bytes ++ take n xs) (sym (take_rest bytes m)))) (Appends-trans a b c _ _ p q)
+pub taken_more : (a b c : Option (List ℕ)) (bytes : List ℕ) (m n : ℕ) → Appends a b (take m bytes)
+    → Appends b c (take n (take (length bytes - m) (drop m bytes))) → Appends a c (take (m + n) bytes)
+taken_more a b c bytes m n p q = subst (Appends a c) (sym (take-add m n bytes ∙ ap (λ xs. take m bytes ++ take n xs) (sym (take_rest bytes m))))
+    (Appends-trans a b c _ _ p q)
 
 -- what a source gave in all the reads before and in the last one
 pub taken_within : (a b c : Option (List ℕ)) (xs ys : List ℕ) (most : ℕ) → Consumes a b xs → Consumes b c ys → length xs + length ys ≤ most

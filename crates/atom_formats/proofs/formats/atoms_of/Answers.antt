@@ -36,19 +36,23 @@ unfolding atom_formats
 returns-in-215-clause-run c = fixed_told 215 c.args.byte 5 21 c.run-in-215.result c.run-in-215.ensures c.in-215.is refl
 
 pub returns-in-246-to-247-clause-run : goal.returns-in-246-to-247-clause-run
-returns-in-246-to-247-clause-run c = run_told c.args.byte 1 _ c.run-in-246-to-247.result c.run-in-246-to-247.ensures (one_told c.args.byte (search rules) (search rules))
+returns-in-246-to-247-clause-run c = run_told c.args.byte 1 _ c.run-in-246-to-247.result c.run-in-246-to-247.ensures
+    (one_told c.args.byte (search rules) (search rules))
 
 pub returns-in-216-to-219-clause-run : goal.returns-in-216-to-219-clause-run
-returns-in-216-to-219-clause-run c = run_told c.args.byte 2 _ c.run-in-216-to-219.result c.run-in-216-to-219.ensures (two_told c.args.byte (search rules) (search rules))
+returns-in-216-to-219-clause-run c = run_told c.args.byte 2 _ c.run-in-216-to-219.result c.run-in-216-to-219.ensures
+    (two_told c.args.byte (search rules) (search rules))
 
 pub returns-in-248-to-255-clause-run : goal.returns-in-248-to-255-clause-run
-returns-in-248-to-255-clause-run c = run_told c.args.byte 3 _ c.run-in-248-to-255.result c.run-in-248-to-255.ensures (three_told c.args.byte (search rules) (search rules))
+returns-in-248-to-255-clause-run c = run_told c.args.byte 3 _ c.run-in-248-to-255.result c.run-in-248-to-255.ensures
+    (three_told c.args.byte (search rules) (search rules))
 
 pub returns-in-192-to-212-clause-run : goal.returns-in-192-to-212-clause-run
 returns-in-192-to-212-clause-run c = run_told c.args.byte _ _ c.format_6.result c.format_6.ensures (long_told_e c.args.byte (search rules) (search rules))
 
 pub returns-in-224-to-244-clause-run : goal.returns-in-224-to-244-clause-run
-returns-in-224-to-244-clause-run c = run_told c.args.byte _ _ c.format_6-in-224-to-244.result c.format_6-in-224-to-244.ensures (long_told_n c.args.byte (search rules) (search rules))
+returns-in-224-to-244-clause-run c = run_told c.args.byte _ _ c.format_6-in-224-to-244.result c.format_6-in-224-to-244.ensures
+    (long_told_n c.args.byte (search rules) (search rules))
 
 pub returns-in-224-to-244-clause-within : goal.returns-in-224-to-244-clause-within
 returns-in-224-to-244-clause-within c = long_within (c.args.byte - 224) c.format_6-in-224-to-244.result c.format_6-in-224-to-244.ensures (search rules)

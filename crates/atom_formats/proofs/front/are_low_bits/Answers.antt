@@ -5,13 +5,15 @@ use Rattle.atom_formats.proofs.front.are_low_bits.Goals as goal
 pub returns-then-atom-rest : goal.returns-then-atom-rest
 returns-then-atom-rest c = (
   λ is_true. absurd (cc),
-  λ same. absurd (bit_differs c.args.atoms.now c.args.bits c.loop-atom.rest c.loop-atom.atom-index c.loop-atom-test.true c.loop-atom.invariant.0 c.if-atom-rest.true same),
+  λ same. absurd (bit_differs c.args.atoms.now c.args.bits c.loop-atom.rest c.loop-atom.atom-index c.loop-atom-test.true c.loop-atom.invariant.0
+      c.if-atom-rest.true same),
 )
 
 pub loop-atom-preserved : goal.loop-atom-preserved
 loop-atom-preserved c = (
   halved c.loop-atom.rest c.args.bits c.loop-atom.atom-index c.loop-atom.invariant.0,
-  bit_more c.args.atoms.now c.args.bits c.loop-atom.rest c.loop-atom.atom-index c.loop-atom-test.true c.loop-atom.invariant.0 c.if-atom-rest.false c.loop-atom.invariant.1,
+  bit_more c.args.atoms.now c.args.bits c.loop-atom.rest c.loop-atom.atom-index c.loop-atom-test.true c.loop-atom.invariant.0 c.if-atom-rest.false
+      c.loop-atom.invariant.1,
 )
 
 pub returns : goal.returns

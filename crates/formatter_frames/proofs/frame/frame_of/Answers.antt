@@ -10,10 +10,16 @@ grown : (c : After-pair_of-pair) → 2 * c.loop-n.auxiliary + c.pair_of-pair.res
 grown c =
     let more : c.loop-n.n ≡ c.loop-n.n - 1 + 1 = omega arith in
     let within : 2 * (c.loop-n.n - 1) + 1 < length c.args.symbols.now = omega arith in
-    bit_more c.args.symbols.now c.loop-n.auxiliary c.loop-n.n (c.loop-n.n - 1) _ _ c.pair_of-pair.result more c.pair_of-pair.ensures.value (next_two c.args.symbols.now (c.loop-n.n - 1) _ _ within) c.loop-n.invariant.bits
+    bit_more c.args.symbols.now c.loop-n.auxiliary c.loop-n.n (c.loop-n.n - 1) _ _ c.pair_of-pair.result more c.pair_of-pair.ensures.value
+    (next_two c.args.symbols.now (c.loop-n.n - 1) _ _ within) c.loop-n.invariant.bits
 
 small : (c : After-pair_of-pair) → 2 * c.loop-n.auxiliary + c.pair_of-pair.result.bit < 256
-small c = omega (arith, grown c, bits_fit (drop (2 * (c.loop-n.n - 1)) c.args.symbols.now) 8 (omega (arith, length-drop (2 * (c.loop-n.n - 1)) c.args.symbols.now)))
+small c = omega (
+  arith,
+  grown c,
+  bits_fit (drop (2 * (c.loop-n.n - 1)) c.args.symbols.now) 8
+      (omega (arith, length-drop (2 * (c.loop-n.n - 1)) c.args.symbols.now)),
+)
 
 pub overflow_mul-auxiliary : goal.overflow_mul-auxiliary
 overflow_mul-auxiliary c = omega (arith, small c)
@@ -28,8 +34,10 @@ loop-n-preserved c =
     let within : 2 * (c.loop-n.n - 1) + 1 < length c.args.symbols.now = omega arith in
     let room : 2 * (c.loop-n.n - 1) + 1 < length c.loop-n.frame = omega arith in
     record {
-      size = length-set (set c.loop-n.frame (2 * m) c.pair_of-pair.result.mixed) (2 * m + 1) c.pair_of-pair.result.data ∙ length-set c.loop-n.frame (2 * m) c.pair_of-pair.result.mixed ∙ c.loop-n.invariant.size;
-      bytes = laid c.loop-n.frame c.args.symbols.now c.loop-n.n m _ _ c.pair_of-pair.result more c.pair_of-pair.ensures.value (next_two c.args.symbols.now m _ _ within) room c.loop-n.invariant.bytes;
+      size = length-set (set c.loop-n.frame (2 * m) c.pair_of-pair.result.mixed) (2 * m + 1) c.pair_of-pair.result.data
+          ∙ length-set c.loop-n.frame (2 * m) c.pair_of-pair.result.mixed ∙ c.loop-n.invariant.size;
+      bytes = laid c.loop-n.frame c.args.symbols.now c.loop-n.n m _ _ c.pair_of-pair.result more c.pair_of-pair.ensures.value
+          (next_two c.args.symbols.now m _ _ within) room c.loop-n.invariant.bytes;
       bits = grown (goal.at.loop-n-preserved c).After-pair_of-pair;
     }
 

@@ -19,7 +19,9 @@ loop-n-preserved c =
     let frame = c.args.frame.now in
     let rest = symbols_at (c.loop-n.auxiliary / 2) (drop (2 * (c.loop-n.n + 1)) (take 15 frame)) in
     let symbols = c.pair_symbols-first.result in
-    let read = two_read c.loop-n.auxiliary _ _ (drop (2 * c.loop-n.n) (take 15 frame)) _ symbols (next_pair frame c.loop-n.n c.told-frame c.loop-n-test.true) c.pair_symbols-first.ensures in
+    let read =
+    two_read c.loop-n.auxiliary _ _ (drop (2 * c.loop-n.n) (take 15 frame)) _ symbols (next_pair frame c.loop-n.n c.told-frame c.loop-n-test.true)
+    c.pair_symbols-first.ensures in
     record {
       few = omega arith;
       pairs =
@@ -29,7 +31,8 @@ loop-n-preserved c =
           c.take-in-loop-n.ensures.pairs c.take-in-loop-n.ensures.current;
       current =
           one_passed _ c.take.new.current _ symbols.1 rest
-          (one_passed _ c.loop-n.current _ symbols.0 (symbols.1 ∷ rest) (c.loop-n.invariant.current ∙ ap (id_after c.loop-n.current) read) c.take.ensures.current)
+          (one_passed _ c.loop-n.current _ symbols.0 (symbols.1 ∷ rest) (c.loop-n.invariant.current ∙ ap (id_after c.loop-n.current) read)
+          c.take.ensures.current)
           c.take-in-loop-n.ensures.current;
       within = c.take-in-loop-n.ensures.within (c.take.ensures.within c.loop-n.invariant.within);
     }

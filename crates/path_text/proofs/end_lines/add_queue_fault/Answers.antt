@@ -6,4 +6,5 @@ pub returns-in-CommitOverrun-clause-value : goal.returns-in-CommitOverrun-clause
 returns-in-CommitOverrun-clause-value c = c.add_two_counts.ensures.value ∙ ap (λ f. c.args.line.now ++ queue_fault_text f) (sym c.in-CommitOverrun.is)
 
 pub returns-in-CancelOverrun-clause-value : goal.returns-in-CancelOverrun-clause-value
-returns-in-CancelOverrun-clause-value c = c.add_two_counts-in-CancelOverrun.ensures.value ∙ ap (λ f. c.args.line.now ++ queue_fault_text f) (sym c.in-CancelOverrun.is)
+returns-in-CancelOverrun-clause-value c = c.add_two_counts-in-CancelOverrun.ensures.value
+    ∙ ap (λ f. c.args.line.now ++ queue_fault_text f) (sym c.in-CancelOverrun.is)

@@ -19,4 +19,5 @@ returns-clause-lines g c =
 pub returns-clause-shown : goal.returns-clause-shown
 returns-clause-shown g c =
     let w = c.args.walked.now in
-    if_ok c.write_instructions.result (c.in_ok-write_context_once.ensures.shown ∙ sym (shown_after_all-run c.args.shown.now w.ctx w.start w.count (omega arith)))
+    if_ok c.write_instructions.result (c.in_ok-write_context_once.ensures.shown
+    ∙ sym (shown_after_all-run c.args.shown.now w.ctx w.start w.count (omega arith)))

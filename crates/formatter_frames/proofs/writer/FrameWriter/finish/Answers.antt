@@ -15,7 +15,9 @@ use Rattle.formatter_frames.proofs.writer.FrameWriter.finish.Given.{Over}
 use Rattle.std.proofs.lemmas.Bool.{eqb-false}
 
 -- one place more is filled
-more_filled : (symbols front : List Symbol) (place : ℕ) → length symbols ≡ 15 → place < 15 → length front + 1 ≤ place → take place symbols ≡ front ++ NewId 0 ∷ replicate (place - (length front + 1)) (Data 0) → take (place + 1) (set symbols place (Data 0)) ≡ front ++ NewId 0 ∷ replicate (place + 1 - (length front + 1)) (Data 0)
+more_filled : (symbols front : List Symbol) (place : ℕ) → length symbols ≡ 15 → place < 15 → length front + 1 ≤ place
+    → take place symbols ≡ front ++ NewId 0 ∷ replicate (place - (length front + 1)) (Data 0)
+    → take (place + 1) (set symbols place (Data 0)) ≡ front ++ NewId 0 ∷ replicate (place + 1 - (length front + 1)) (Data 0)
 more_filled symbols front place long within past so_far =
     let inside : place < length symbols = omega arith in
     let count : place - (length front + 1) + 1 ≡ place + 1 - (length front + 1) = omega arith in
@@ -30,15 +32,18 @@ count_held symbols front begun is within long = omega (arith, sym (ap length is)
 
 pub loop-place-preserved : goal.loop-place-preserved
 loop-place-preserved g c =
-    let count = count_held c.self.inside.symbols c.args.self.symbols c.self.inside.begun (ap (λ v. v.symbols) c.self.view_is) c.self.invariant.0 c.self.invariant.1 in
+    let count =
+    count_held c.self.inside.symbols c.args.self.symbols c.self.inside.begun (ap (λ v. v.symbols) c.self.view_is) c.self.invariant.0 c.self.invariant.1 in
     let past : length c.args.self.symbols + 1 ≤ c.loop-place.place = omega (arith, count) in
     record {
       size = length-set c.loop-place.symbols c.loop-place.place (Data 0) ∙ c.loop-place.invariant.size;
-      filled = more_filled c.loop-place.symbols c.args.self.symbols c.loop-place.place c.loop-place.invariant.size c.loop-place-test.true past c.loop-place.invariant.filled;
+      filled = more_filled c.loop-place.symbols c.args.self.symbols c.loop-place.place c.loop-place.invariant.size c.loop-place-test.true past
+          c.loop-place.invariant.filled;
     }
 
 -- all places are filled
-all_filled : (symbols front : List Symbol) (place : ℕ) → length symbols ≡ 15 → place ≡ 15 → 0 < length front → take place symbols ≡ front ++ NewId 0 ∷ replicate (place - (length front + 1)) (Data 0) → frame_of symbols ≡ filled front
+all_filled : (symbols front : List Symbol) (place : ℕ) → length symbols ≡ 15 → place ≡ 15 → 0 < length front
+    → take place symbols ≡ front ++ NewId 0 ∷ replicate (place - (length front + 1)) (Data 0) → frame_of symbols ≡ filled front
 all_filled symbols front place long end some are =
     let count : place - (length front + 1) ≡ 14 - length front = omega arith in
     let whole : length symbols ≡ place = omega arith in
@@ -48,14 +53,17 @@ all_filled symbols front place long end some are =
 -- the frame that is written
 last_frame : (g : Over) (c : After-write_all g) → c.frame_of.result ≡ filled c.args.self.symbols
 last_frame g c =
-    let count = count_held c.self.inside.symbols c.args.self.symbols c.self.inside.begun (ap (λ v. v.symbols) c.self.view_is) c.self.invariant.0 c.self.invariant.1 in
+    let count =
+    count_held c.self.inside.symbols c.args.self.symbols c.self.inside.begun (ap (λ v. v.symbols) c.self.view_is) c.self.invariant.0 c.self.invariant.1 in
     let within : c.self.inside.begun ≤ 15 = c.self.invariant.0 in
     let not_full = eqb-false c.self.inside.begun 15 (ap (λ v. v.failed) c.self.view_is ∙ c.requires) in
     let some : 0 < length c.args.self.symbols = omega (arith, count) in
     let end : c.loop-place.place ≡ 15 = omega (arith, not_full, within) in
-    c.frame_of.ensures ∙ all_filled c.loop-place.symbols c.args.self.symbols c.loop-place.place c.loop-place.invariant.size end some c.loop-place.invariant.filled
+    c.frame_of.ensures ∙ all_filled c.loop-place.symbols c.args.self.symbols c.loop-place.place c.loop-place.invariant.size end some
+    c.loop-place.invariant.filled
 
-grows : (g : Over) (c : After-write_all g) (pairs : List (ℕ × ℕ)) → StandsAt c.args.self pairs → framed pairs ≡ whole_frames pairs ++ filled c.args.self.symbols
+grows : (g : Over) (c : After-write_all g) (pairs : List (ℕ × ℕ)) → StandsAt c.args.self pairs
+    → framed pairs ≡ whole_frames pairs ++ filled c.args.self.symbols
 grows g c pairs at = ap (λ xs. whole_frames pairs ++ filled xs) (sym at.symbols)
 
 pub returns-clause-written : goal.returns-clause-written

@@ -25,7 +25,8 @@ returns-in_err-tell-clause-written g c = λ pairs at.
 pub returns-clause-stands : goal.returns-clause-stands
 returns-clause-stands g c = λ pairs at.
     stands c.put.result c.put.new.self (pairs ++ (c.args.id, c.args.byte) ∷ [])
-    (on_ok_weaker c.put.result (begun-push c.args.self.now pairs c.args.id c.args.byte c.tell.new.self.symbols c.put.new.self.symbols at c.in_ok-tell.ensures.puts.begun) c.put.ensures.puts.begun)
+    (on_ok_weaker c.put.result (begun-push c.args.self.now pairs c.args.id c.args.byte c.tell.new.self.symbols c.put.new.self.symbols at
+    c.in_ok-tell.ensures.puts.begun) c.put.ensures.puts.begun)
     (c.put.ensures.current ∙ c.in_ok-tell.ensures.current ∙ sym (id_after-push pairs (c.args.id, c.args.byte)))
     c.put.ensures.puts.fails
 

@@ -16,7 +16,8 @@ last g c =
     omega (arith, not_full, c.if-self-lt-SYMBOLS.false)
 
 -- and the frame was written that these symbols fill
-filled : (g : Over) (c : After-write_all g) → (c.frame_of.result ≡ frames_of (c.args.self.now.symbols ++ c.args.symbol ∷ [])) × (left_over 15 (c.args.self.now.symbols ++ c.args.symbol ∷ []) ≡ [])
+filled : (g : Over) (c : After-write_all g)
+    → (c.frame_of.result ≡ frames_of (c.args.self.now.symbols ++ c.args.symbol ∷ [])) × (left_over 15 (c.args.self.now.symbols ++ c.args.symbol ∷ []) ≡ [])
 filled g c =
     let front : take c.self.inside.begun c.self.inside.symbols ≡ c.args.self.now.symbols = ap (λ v. v.symbols) c.self.view_is in
     let both = frame_filled c.self.inside.symbols c.args.self.now.symbols c.self.inside.begun c.args.symbol front c.self.invariant.1 (last g c) in

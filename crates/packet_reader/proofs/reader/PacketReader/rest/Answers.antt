@@ -8,7 +8,9 @@ use Rattle.packet_reader.proofs.reader.PacketReader.rest.Goals as goal
 pub returns-clause-stream : goal.returns-clause-stream
 returns-clause-stream c bytes =
     let r = c.self.inside in
-    let P : Standing → Type 0 = λ v. StandsAt v bytes → (packets : List (ℕ × Packet)) × (ending : Ending) × IsStream v.settings bytes packets ending × (c.rest_in.result ≡ rest_of ending) in
+    let P : Standing → Type 0 =
+    λ v. StandsAt v bytes → (packets : List (ℕ × Packet)) × (ending : Ending) × IsStream v.settings bytes packets ending ×
+    (c.rest_in.result ≡ rest_of ending) in
     subst P c.self.view_is
     (λ stands.
     let w = rest_when r.settings r.phase r.start r.taken bytes c.self.invariant.0 stands.0 stands.1 in

@@ -10,4 +10,5 @@ returns-clause-found c bytes =
     let r = c.self.inside in
     let P : Standing → Type 0 = λ v. StandsAt v bytes → IsTrue c.is_synced.result ↔ ((at : ℕ) × FirstSync at bytes) in
     subst P c.self.view_is
-    (λ stands. subst (λ (b : Bool). IsTrue b ↔ ((at : ℕ) × FirstSync at bytes)) (sym c.is_synced.ensures) (synced_when r.settings r.phase r.start bytes stands.1))
+    (λ stands. subst (λ (b : Bool). IsTrue b ↔ ((at : ℕ) × FirstSync at bytes)) (sym c.is_synced.ensures)
+    (synced_when r.settings r.phase r.start bytes stands.1))

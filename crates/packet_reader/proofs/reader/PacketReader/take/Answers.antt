@@ -14,8 +14,10 @@ returns-clause-gains c bytes =
 
 pub returns-clause-values : goal.returns-clause-values
 returns-clause-values c bytes =
-    let P : Standing → Type 0 = λ v. StandsAt v bytes → All (λ b. b < 256) bytes → (at : ℕ) (packet : Packet) → c.step.result ≡ Whole at packet → IsPacket v.settings packet in
+    let P : Standing → Type 0 =
+    λ v. StandsAt v bytes → All (λ b. b < 256) bytes → (at : ℕ) (packet : Packet) → c.step.result ≡ Whole at packet → IsPacket v.settings packet in
     subst P c.self.view_is
     (λ stands small at packet e.
     let gains = (c.step.ensures.moves bytes (omega (arith, stands.0)) stands.1).1 in
-    packet_in_range c.self.inside.settings bytes c.args.byte at packet small (omega arith) (subst (λ step. Gains c.self.inside.settings bytes c.args.byte step) e gains))
+    packet_in_range c.self.inside.settings bytes c.args.byte at packet small (omega arith)
+    (subst (λ step. Gains c.self.inside.settings bytes c.args.byte step) e gains))

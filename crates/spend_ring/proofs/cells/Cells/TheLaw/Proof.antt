@@ -16,5 +16,6 @@ use Rattle.spend_ring.proofs.Sharing.{of_cells, cells_lends}
 pub shares : (R : RattleType) (L : Laws R) → statement R L
 shares R L =
     let mark_copied = copy_shared (marker.the_field RawPtr) (field_copy (marker.the_type RawPtr) tt) in
-    of_Lends (C.struct R) (C.the_codes R.Denot R.coded (marker.the_row RawPtr).coded) (C.the_heap R) (C.the_lent R) (λ c p. of_cells R L.shr_laws c.at c.held) (mark_copied, tt)
+    of_Lends (C.struct R) (C.the_codes R.Denot R.coded (marker.the_row RawPtr).coded) (C.the_heap R) (C.the_lent R) (λ c p. of_cells R L.shr_laws c.at c.held)
+    (mark_copied, tt)
     (λ M 𝓤 𝓛 c p. cells_lends 𝓛 (C.the_row R).lives R L (Incl-trans (meet_⊑_left (R.lives ++ []) _) (meet_⊑_left R.lives [])) c.at c.held)

@@ -1,5 +1,6 @@
 -- `get` shows the value of a cell.
-use Rattle.spend_ring.proofs.Steps.{◌≡◌, refl, ◌∙◌, ◌+◌, ◌*◌, ◌<◌, ◌^◌, arith, List, [], ◌∷◌, ◌++◌, length, get_or, full_share, never, SProp, id⊢, ftrue, fat, flft, Fn, inst_fn, Val, vptr, Env, WpFn, prop, ‵, raw, ◌⊛◌, at_ret, ◌$◌, ◌∵◌, !, qed, by, move, keep, drop, use0, use1, split, join, fsplit, fjoin, feq_i, feq_l, flt_l, rewrite, regoal, whole, sub, enter, of_opd, addr, bin, size_lit, stop, fld, first_of, blocks, exec, returns, alloc_all, pass_all, free_all, look_at, get, get_in, through, sets, sets_last, take_at, give_at, env, fact, fact_i, tables, yes, no, owns, layout, Ptr, in_a_block, usize, RefOf, plain, types_at, nothing, heard, Stays, stay_dropped, walk_of, Goes-dropped, Some, None, Option, proved_at, leaves, word, word-Good, after, El, R, args, el_x, Cells, First, first_had}
+use Rattle.spend_ring.proofs.Steps.{◌≡◌, refl, ◌∙◌, ◌+◌, ◌*◌, ◌<◌, ◌^◌, arith, List, [], ◌∷◌, ◌++◌, length, get_or, full_share, never, SProp, id⊢, ftrue, fat, flft, Fn, inst_fn, Val, vptr, Env, WpFn, prop, ‵, raw, ◌⊛◌, at_ret, ◌$◌, ◌∵◌, !, qed, by, move, keep, drop, use0, use1, split, join, fsplit, fjoin, feq_i, feq_l, flt_l, rewrite, regoal, whole, sub, enter, of_opd}
+use Rattle.spend_ring.proofs.Steps.{addr, bin, size_lit, stop, fld, first_of, blocks, exec, returns, alloc_all, pass_all, free_all, look_at, get, get_in, through, sets, sets_last, take_at, give_at, env, fact, fact_i, tables, yes, no, owns, layout, Ptr, in_a_block, usize, RefOf, plain, types_at, nothing, heard, Stays, stay_dropped, walk_of, Goes-dropped, Some, None, Option, proved_at, leaves, word, word-Good, after, El, R, args, el_x, Cells, First, first_had}
 use base.Logic.{emp}
 use contract.BorrowLft.{◌⊑◌}
 use denote.Opens.{hide, unhide}
@@ -17,7 +18,10 @@ get_spec 𝓤 𝓛 𝓜 𝓡 wired X LX =
     let E : El = record { row = X; laws = LX } in let T = f.ended X in let c = f.clauses X 𝓛 𝓜.mem 𝓡.returns in
     let 𝓣 = tables 𝓤 𝓛.H 𝓜 𝓡 𝓡.env in let fn : Fn = inst_fn (args E) code.function in
     let stayed : Stays T.signature.params T.kept = (stay_dropped _ yes, (stay_dropped _ no, (stay_dropped _ yes, tt))) in
-    proved_at 𝓛 T stayed c 𝓜 𝓡 (Goes-dropped 𝓛 2 (RefOf (0 ∷ []) tt (plain (λ _. Cells E)) (λ _. tt)) yes (λ κs x w. refl), (Goes-dropped 𝓛 2 (plain (λ _. First E)) no (λ κs x w. refl), (Goes-dropped 𝓛 2 (plain (λ _. usize)) yes (λ κs x w. refl), tt)))
+    proved_at 𝓛 T stayed c 𝓜 𝓡 (
+      Goes-dropped 𝓛 2 (RefOf (0 ∷ []) tt (plain (λ _. Cells E)) (λ _. tt)) yes (λ κs x w. refl),
+      (Goes-dropped 𝓛 2 (plain (λ _. First E)) no (λ κs x w. refl), (Goes-dropped 𝓛 2 (plain (λ _. usize)) yes (λ κs x w. refl), tt)),
+    )
     (f.Key.name (args E)) fn (code.unfolded 𝓤 𝓛.H 𝓜 𝓡 wired (X, tt)) (λ y are.
     let κs = y.0.0 in let qs = y.0.1 in let a = y.0.3 in let vss = y.0.4 in let Post : Val → SProp 𝓤 = (walk_of 𝓛 T stayed c).post y in
     let self = a.0 in let rb = self.ref_ptr.0 in let ro = self.ref_ptr.1 in let d = self.now in let p = a.1.0.cell in let place = a.1.1.0 in
@@ -40,7 +44,8 @@ get_spec 𝓤 𝓛 𝓜 𝓡 wired X LX =
     sets ! (bin ! (get_in ! (fld ! refl (stop !)) (sub ! 0 refl (whole !))) (get ! refl) tt) refl (tt, tt) $
     use1 𝓛 (‵ (cell_lent (R E) b (place * s + o) (get_or d.held place None) κs.0)) (cell_seen E 𝓛 b κs.0 d.held place o inside) $
     rewrite ! 0 (λ (k : Option (el_x E)). ‵ (cell_lent (R E) b (place * s + o) k κs.0)) full.1 refl $ hide ! $
-    sets_last ! (addr ! (through ! refl (stop !))) refl (tt, tt) $ exec ! 𝓣.C 𝓣.Λ En (after 1 fn.body) (at_ret En Post) $ sets ! (of_opd ! (get ! refl)) refl (tt, tt) $
+    sets_last ! (addr ! (through ! refl (stop !))) refl (tt, tt) $ exec ! 𝓣.C 𝓣.Λ En (after 1 fn.body) (at_ret En Post) $ sets ! (of_opd ! (get ! refl)) refl
+    (tt, tt) $
     let there : Val = vptr b (place * s + o) in feq_i ! (List Val) (there ∷ []) (there ∷ []) refl $ fjoin ! $
     returns ! (look_at ! 0 refl) $ free_all ! refl $
     -- [the `&` to the value; nothing; the token; the other token]

@@ -5,7 +5,9 @@ use Rattle.spend_ring.proofs.ring.SpendRing.pop_back.Goals as goal
 
 pub place_after-place-requires : goal.place_after-place-requires
 place_after-place-requires g c =
-    let r = c.self.inside in let h = c.self.invariant.1 in let within = count-within r.start r.count r.capacity r.cells.held h in let some : 0 < r.count = omega (arith, c.if-self-eq0.false) in
+    let r =
+    c.self.inside in let h = c.self.invariant.1 in let within = count-within r.start r.count r.capacity r.cells.held h in let some : 0 < r.count = omega
+    (arith, c.if-self-eq0.false) in
     (h.start_within (omega arith), omega arith, h.small)
 
 pub take-requires : goal.take-requires
@@ -32,7 +34,8 @@ pub returns-clause-rest : goal.returns-clause-rest
 returns-clause-rest g c =
     let r = c.self.inside in let some : 0 < r.count = omega (arith, c.if-self-eq0.false) in
     let popped = popped_back r.start r.count r.capacity r.cells.held c.self.invariant.1 c.place_after-place.result some c.place_after-place.ensures in
-    rw (← c.self.view_is) (ap (items_from r.start) c.take.ensures.held ∙ popped.now.1 ∙ without_last popped.rest popped.item (items_from r.start r.cells.held) popped.is)
+    rw (← c.self.view_is) (ap (items_from r.start) c.take.ensures.held ∙ popped.now.1
+    ∙ without_last popped.rest popped.item (items_from r.start r.cells.held) popped.is)
 
 pub returns-clause-bounded : goal.returns-clause-bounded
 returns-clause-bounded g c =
