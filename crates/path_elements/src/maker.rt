@@ -219,7 +219,13 @@ impl ElemMaker {
         };
         match self.awaiting.take() {
             None => (Kind::Addr, values),
-            Some(exception) => (Kind::Exc, Values { exception, ..values }),
+            Some(exception) => (
+                Kind::Exc,
+                Values {
+                    exception,
+                    ..values
+                },
+            ),
         }
     }
 }
