@@ -1,5 +1,6 @@
 -- Atoms as elements, and what stands after them.
-use Rattle.std.proofs.Common.{◌≡◌, ℕ, zero, suc, ◌+◌, ◌-◌, ◌/◌, ◌%◌, ◌^◌, ◌<◌, ◌≤◌, ◌==◌, Bool, List, [], ◌∷◌, ◌++◌, length, slice_get, Some, All, refl, sym, ap, ◌∙◌, arith}
+use Rattle.std.proofs.Common.{◌≡◌, ℕ, zero, suc, ◌+◌, ◌-◌, ◌/◌, ◌%◌, ◌^◌, ◌<◌, ◌≤◌, ◌==◌, Bool}
+use Rattle.std.proofs.Common.{List, [], ◌∷◌, ◌++◌, length, slice_get, Some, All, refl, sym, ap, ◌∙◌, arith}
 use Rattle.std.proofs.lemmas.Nat.{shr-shr}
 use Rattle.std.proofs.lemmas.List.Elements.{All-nil, All-cons}
 use Rattle.std.proofs.Math.Nat.{div-one}
@@ -12,7 +13,8 @@ use Rattle.path_elements.specs.Held.{IsElem}
 
 pub count_all : (n bits : ℕ) (rest : List Elem) → length (atoms (low_bits n bits) ++ rest) ≡ n + length rest
 count_all zero bits rest = omega arith
-count_all (suc n) bits rest = let upper : length (atoms (low_bits n (bits / 2)) ++ rest) ≡ n + length rest = count_all n (bits / 2) rest in omega (arith, upper)
+count_all (suc n) bits rest = let upper : length (atoms (low_bits n (bits / 2)) ++ rest) ≡ n + length rest = count_all n (bits / 2) rest in omega
+    (arith, upper)
 
 -- an atom is the bit at its place
 pub atom_at : (n bits i : ℕ) (rest : List Elem) → i < n

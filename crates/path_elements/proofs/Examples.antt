@@ -94,7 +94,8 @@ a_packet_comes_too_early = refl
 
 -- Atoms come first, the oldest of them before the others; then what is cancelled; then the wrong prediction.
 pub elements_come_in_order :
-    all_elements begun ((0, packet.Atoms (record { count = 3; bits = 1 })) ∷ (1, packet.Cancel 2 true) ∷ (3, packet.Mispredict (record { count = 1; first = false }))
+    all_elements begun ((0, packet.Atoms (record { count = 3; bits = 1 })) ∷ (1, packet.Cancel 2 true) ∷
+    (3, packet.Mispredict (record { count = 1; first = false }))
     ∷ (4, packet.Cancel2 (record { count = 2; first = true })) ∷ (5, packet.Cancel3 true 5) ∷ (6, packet.Cancel3 false 2) ∷ [])
     ≡ record {
       elements = (0, elem.P0 (p0.Atom true)) ∷ (0, elem.P0 (p0.Atom false)) ∷ (0, elem.P0 (p0.Atom false)) ∷ (1, elem.Cancel 2) ∷ (1, elem.Flip)

@@ -16,13 +16,15 @@ stopped told at = record { elements = []; awaited = Some at; told = told }
 
 gained_both : (here : List (ℕ × Elem)) (elements : List (ℕ × Elem)) (g : Gained) → with_gained here (with_gained elements g) ≡ with_gained (here ++ elements) g
 gained_both here elements g =
-    same_gained (here ++ (elements ++ g.elements)) (here ++ elements ++ g.elements) g.awaited g.awaited g.told (sym (append_assoc here elements g.elements)) refl
+    same_gained (here ++ (elements ++ g.elements)) (here ++ elements ++ g.elements) g.awaited g.awaited g.told (sym (append_assoc here elements g.elements))
+    refl
 
 goes_on : (b : Bool) (told : Told) (at : ℕ) (here : List (ℕ × Elem)) (front whole : Gained) (packets : List (ℕ × Packet))
     → (front.awaited ≡ None → whole ≡ with_gained front.elements (all_elements front.told packets))
     → (if b then stopped told at else with_gained here front).awaited ≡ None
     → (if b then stopped told at else with_gained here whole)
-    ≡ with_gained (if b then stopped told at else with_gained here front).elements (all_elements (if b then stopped told at else with_gained here front).told packets)
+    ≡ with_gained (if b then stopped told at else with_gained here front).elements
+    (all_elements (if b then stopped told at else with_gained here front).told packets)
 goes_on true told at here front whole packets later none = absurd (cc)
 goes_on false told at here front whole packets later none =
     ap (λ (g : Gained). with_gained here g) (later none) ∙ gained_both here front.elements (all_elements front.told packets)
@@ -55,7 +57,8 @@ one_more : (b : Bool) (g : Gained) (at : ℕ) (here : List (ℕ × Elem)) (after
     ≡ (if b then record g { awaited = Some at } else record g { elements = g.elements ++ here; told = after })
 one_more true g at here after none = same_gained (g.elements ++ []) g.elements (Some at) (Some at) g.told (append-nil g.elements) refl
 one_more false g at here after none =
-    same_gained (g.elements ++ (here ++ [])) (g.elements ++ here) None g.awaited after (ap (λ (xs : List (ℕ × Elem)). g.elements ++ xs) (append-nil here)) (sym none)
+    same_gained (g.elements ++ (here ++ [])) (g.elements ++ here) None g.awaited after (ap (λ (xs : List (ℕ × Elem)). g.elements ++ xs) (append-nil here))
+    (sym none)
 
 pub each_packet_adds : EachPacketAdds
 each_packet_adds told packets at packet none =

@@ -51,18 +51,24 @@ stack_is (Ind true) at stack aligned r = linked_returns (Some (behind at 1)) sta
 stack_is (Ind false) at stack aligned r = r
 stack_is Eret at stack aligned r = r
 
-leads_after : (image : Image) (at : Option ℕ) (stack : List ℕ) (p0 : P0) (count : ℕ) (pc : Pc) (after : List ℕ) → ToldIsAligned at → AreReturns stack → Leads image at stack p0 count pc after
+leads_after : (image : Image) (at : Option ℕ) (stack : List ℕ) (p0 : P0) (count : ℕ) (pc : Pc) (after : List ℕ) → ToldIsAligned at → AreReturns stack
+    → Leads image at stack p0 count pc after
     → IsPc pc × AreReturns after
 leads_after image None stack (Atom taken) count pc after aligned r l = (subst IsPc (sym l.1) tt, subst AreReturns (sym l.2) r)
 leads_after image None stack (Exc kind ret) count pc after aligned r l = (subst IsPc (sym l.1) tt, subst AreReturns (sym l.2) r)
 leads_after image (Some address) stack (Atom taken) count pc after aligned r l =
     let at = behind address l.plain in
-    let here = behind_aligned address l.plain aligned in
-    (next_is l.class at taken pc here (whole_class (word_of image at) l.class l.there) l.next, subst AreReturns (sym l.kept) (stack_is l.class at stack here r))
+    let here = behind_aligned address l.plain aligned in (
+      next_is l.class at taken pc here (whole_class (word_of image at) l.class l.there) l.next,
+      subst AreReturns (sym l.kept)
+          (stack_is l.class at stack here r),
+    )
 leads_after image (Some address) stack (Exc kind ret) count pc after aligned r l = (subst IsPc (sym l.2) tt, subst AreReturns (sym l.3) r)
 
-pub shows_state : (image : Image) (s : State) (entry : Entry) (walked : Walked) (after : State) → IsState s → HasAlignedAddresses entry → Shows image s entry walked after → IsState after
+pub shows_state : (image : Image) (s : State) (entry : Entry) (walked : Walked) (after : State) → IsState s → HasAlignedAddresses entry
+    → Shows image s entry walked after → IsState after
 shows_state image s entry walked after state aligned shows =
     let start = start_is s entry.pre state aligned.0 in
-    let next = leads_after image (start_of s entry.pre).at (start_of s entry.pre).stack entry.p0 walked.count after.pc after.stack start.at start.stack shows.leads in
+    let next =
+    leads_after image (start_of s entry.pre).at (start_of s entry.pre).stack entry.p0 walked.count after.pc after.stack start.at start.stack shows.leads in
     record { pc = next.0; stack = next.1.aligned; few = next.1.few }

@@ -27,7 +27,11 @@ ends_p0 (Some (Jump offset link)) at address class e =
     record {
       there = ap (λ k. Some k) kind;
       place = place;
-      refuses = λ taken none. (subst (λ a. next_of (Jump offset link) a taken ≡ None) place (subst (λ k. next_of k address taken ≡ None) (sym kind) none), ap (λ a. fault.BadAtom a) place);
+      refuses = λ taken none. (
+        subst (λ a. next_of (Jump offset link) a taken ≡ None) place (subst (λ k. next_of k address taken ≡ None) (sym kind) none),
+        ap
+            (λ a. fault.BadAtom a) place,
+      );
       misses = λ ret. ap (λ a. fault.ReturnMissed a ret) place;
     }
 ends_p0 (Some (Cond offset)) at address class e =
@@ -35,7 +39,11 @@ ends_p0 (Some (Cond offset)) at address class e =
     record {
       there = ap (λ k. Some k) kind;
       place = place;
-      refuses = λ taken none. (subst (λ a. next_of (Cond offset) a taken ≡ None) place (subst (λ k. next_of k address taken ≡ None) (sym kind) none), ap (λ a. fault.BadAtom a) place);
+      refuses = λ taken none. (
+        subst (λ a. next_of (Cond offset) a taken ≡ None) place (subst (λ k. next_of k address taken ≡ None) (sym kind) none),
+        ap
+            (λ a. fault.BadAtom a) place,
+      );
       misses = λ ret. ap (λ a. fault.ReturnMissed a ret) place;
     }
 ends_p0 (Some Isb) at address class e =
@@ -43,7 +51,11 @@ ends_p0 (Some Isb) at address class e =
     record {
       there = ap (λ k. Some k) kind;
       place = place;
-      refuses = λ taken none. (subst (λ a. next_of Isb a taken ≡ None) place (subst (λ k. next_of k address taken ≡ None) (sym kind) none), ap (λ a. fault.BadAtom a) place);
+      refuses = λ taken none. (
+        subst (λ a. next_of Isb a taken ≡ None) place (subst (λ k. next_of k address taken ≡ None) (sym kind) none),
+        ap
+            (λ a. fault.BadAtom a) place,
+      );
       misses = λ ret. ap (λ a. fault.ReturnMissed a ret) place;
     }
 ends_p0 (Some (Ind link)) at address class e =
@@ -51,7 +63,11 @@ ends_p0 (Some (Ind link)) at address class e =
     record {
       there = ap (λ k. Some k) kind;
       place = place;
-      refuses = λ taken none. (subst (λ a. next_of (Ind link) a taken ≡ None) place (subst (λ k. next_of k address taken ≡ None) (sym kind) none), ap (λ a. fault.BadAtom a) place);
+      refuses = λ taken none. (
+        subst (λ a. next_of (Ind link) a taken ≡ None) place (subst (λ k. next_of k address taken ≡ None) (sym kind) none),
+        ap
+            (λ a. fault.BadAtom a) place,
+      );
       misses = λ ret. ap (λ a. fault.ReturnMissed a ret) place;
     }
 ends_p0 (Some Eret) at address class e =
@@ -59,7 +75,11 @@ ends_p0 (Some Eret) at address class e =
     record {
       there = ap (λ k. Some k) kind;
       place = place;
-      refuses = λ taken none. (subst (λ a. next_of Eret a taken ≡ None) place (subst (λ k. next_of k address taken ≡ None) (sym kind) none), ap (λ a. fault.BadAtom a) place);
+      refuses = λ taken none. (
+        subst (λ a. next_of Eret a taken ≡ None) place (subst (λ k. next_of k address taken ≡ None) (sym kind) none),
+        ap
+            (λ a. fault.BadAtom a) place,
+      );
       misses = λ ret. ap (λ a. fault.ReturnMissed a ret) place;
     }
 

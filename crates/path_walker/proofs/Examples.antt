@@ -1,5 +1,6 @@
 -- Walks that were worked out by hand: what is shown and where the walk goes on, or with which fault it stops.
-use Rattle.std.proofs.Common.{◌≡◌, ◌≢◌, ℕ, zero, suc, ◌+◌, Bool, true, false, List, [], ◌∷◌, ◌++◌, map, length, Option, Some, None, is_none, Ok, Err, refl, ap, inl, inr, arith}
+use Rattle.std.proofs.Common.{◌≡◌, ◌≢◌, ℕ, zero, suc, ◌+◌, Bool, true, false, List, [], ◌∷◌, ◌++◌}
+use Rattle.std.proofs.Common.{map, length, Option, Some, None, is_none, Ok, Err, refl, ap, inl, inr, arith}
 use Rattle.std.specs.Prelude.{pos, take}
 use Rattle.std.specs.Option.{unwrap_or}
 use Rattle.a64_branches.specs.Classes.{class_of}
@@ -91,7 +92,15 @@ ran on ctx start count = record { on = on; unknown = false; ctx = ctx; start = s
 
 -- the same, begun by a trace on, and an interrupt after them
 abbrev ran_to : Ctx → ℕ → ℕ → ℕ → Walked
-ran_to ctx start count address = record { on = true; unknown = false; ctx = ctx; start = start; count = count; exc = Some (record { kind = 14; ret = address }) }
+ran_to ctx start count address = record {
+  on = true;
+  unknown = false;
+  ctx = ctx;
+  start = start;
+  count = count;
+  exc = Some
+      (record { kind = 14; ret = address });
+}
 
 abbrev unknown : Ctx → Option ExcMark → Walked
 unknown ctx exc = record { on = false; unknown = true; ctx = ctx; start = 0; count = 0; exc = exc }
@@ -116,14 +125,16 @@ one_before image ret address differs plain (suc k) below = absurd (omega (arith,
 goes : (image : Image) (address : ℕ) (stack : List ℕ) (taken : Bool) (plain : ℕ)
     (class : Class) (pc : Pc) → IsPlainRun image address plain → class_at image (behind address plain) ≡ Some class
     → next_of class (behind address plain) taken ≡ Some pc → GoesOn image address stack taken (plain + 1) pc (stack_after class (behind address plain) stack)
-goes image address stack taken plain class pc run there next = record { plain = plain; class = class; run = run; there = there; next = next; counted = refl; kept = refl }
+goes image address stack taken plain class pc run there next = record
+    { plain = plain; class = class; run = run; there = there; next = next; counted = refl; kept = refl }
 
 -- what an entry shows that leads somewhere
 shows : (image : Image) (s : State) (entry : Entry) (count : ℕ) (pc : Pc) (stack : List ℕ) → mismatch_of (pc_before s entry.pre) entry.pre.addr ≡ None
     → Leads image (start_of s entry.pre).at (start_of s entry.pre).stack entry.p0 count pc stack
     → Shows image s entry (record { on = entry.pre.on; unknown = is_none (start_of s entry.pre).at; ctx = context_of s entry.pre; start = unwrap_or (start_of s entry.pre).at 0; count = count; exc = mark_of entry.p0 })
     (at pc stack (context_of s entry.pre))
-shows image s entry count pc stack agrees leads = record { agrees = agrees; leads = leads; on = refl; unknown = refl; start = refl; ctx = refl; kept = refl; exc = refl }
+shows image s entry count pc stack agrees leads = record
+    { agrees = agrees; leads = leads; on = refl; unknown = refl; start = refl; ctx = refl; kept = refl; exc = refl }
 
 -- ---- how instructions go on
 
@@ -362,7 +373,15 @@ interrupted =
           after,
           at (Awaited false) [] kernel,
           (_, handled, refl),
-          inl ([], after, at (Awaited false) [] kernel, (refl, refl), inl (after, [], at (Known 0x100c) [] user, (_, back, refl), inr (fault.BadAtom 0x100c, not_b, refl, refl), refl), refl),
+          inl (
+            [],
+            after,
+            at (Awaited false) [] kernel,
+            (refl, refl),
+            inl
+                (after, [], at (Known 0x100c) [] user, (_, back, refl), inr (fault.BadAtom 0x100c, not_b, refl, refl), refl),
+            refl,
+          ),
           refl,
         ),
         refl,

@@ -30,7 +30,8 @@ both v w a b e = let same : (v, a) ≡ (w, b) = cc in (ap (λ (x : Walked × Sta
 same_stop : (f g : WalkFault) → stopped f ≡ stopped g → f ≡ g
 same_stop f g e = cc
 
-one_thing : (image : Image) (s : State) (t : Thing) (items others : List Item) (a b : State) → Gives image s t items a → Gives image s t others b → (items ≡ others) × (a ≡ b)
+one_thing : (image : Image) (s : State) (t : Thing) (items others : List Item) (a b : State) → Gives image s t items a → Gives image s t others b
+    → (items ≡ others) × (a ≡ b)
 one_thing image s (Seen entry) items others a b p q =
     let same = both p.0 q.0 a b (one_walk image s entry (walked p.0 a) (walked q.0 b) p.1 q.1) in (p.2 ∙ ap items_of same.0 ∙ sym q.2, same.1)
 one_thing image s Unseen items others a b p q = (p.0 ∙ sym q.0, p.1 ∙ sym q.1)
@@ -52,7 +53,8 @@ not_both image s Stop items a f p q = q
 abbrev Outcome : Type 0
 Outcome = Result State WalkFault
 
-pub one_trail : (image : Image) (s : State) (things : List Thing) (items others : List Item) (r q : Outcome) → Walks image s things items r → Walks image s things others q → (items ≡ others) × (r ≡ q)
+pub one_trail : (image : Image) (s : State) (things : List Thing) (items others : List Item) (r q : Outcome) → Walks image s things items r
+    → Walks image s things others q → (items ≡ others) × (r ≡ q)
 one_trail image s [] items others r q a b = (a.0 ∙ sym b.0, a.1 ∙ sym b.1)
 one_trail image s (t ∷ things) items others r q (inl a) (inl b) =
     let first = one_thing image s t a.0 b.0 a.2 b.2 a.3 b.3 in
@@ -77,7 +79,8 @@ gives_or_stops image s Unseen gap state aligned = inl ([], s, (refl, refl), stat
 gives_or_stops image s Gap gap state aligned = inl (item.Gap ∷ [], s, (refl, refl), state)
 gives_or_stops image s Stop gap state aligned = inl (item.Stop ∷ [], s, (refl, refl), state)
 
-pub some_trail : (image : Image) (s : State) (things : List Thing) → HasGap image → IsState s → All IsAlignedThing things → (items : List Item) × (r : Outcome) × Walks image s things items r
+pub some_trail : (image : Image) (s : State) (things : List Thing) → HasGap image → IsState s → All IsAlignedThing things
+    → (items : List Item) × (r : Outcome) × Walks image s things items r
 some_trail image s [] gap state aligned = ([], Ok s, (refl, refl))
 some_trail image s (t ∷ things) gap state aligned =
     elim (gives_or_stops image s t gap state (aligned 0 t (omega arith))) [

@@ -101,7 +101,8 @@ module _ (image : Image) (address : ℕ) where
         plain = g.plain;
         run = g.run;
         not = λ p. to.not (let x = sym g.there ∙ p in cc);
-        led = same_led o.0 (g.plain + 1) o.1 o.2 (stack_after g.class at stack) g.counted g.kept ∙ sym to.led ∙ ap (λ c. by_class c at g.plain taken stack) (sym g.there);
+        led = same_led o.0 (g.plain + 1) o.1 o.2 (stack_after g.class at stack) g.counted g.kept ∙ sym to.led
+            ∙ ap (λ c. by_class c at g.plain taken stack) (sym g.there);
       }
   by_atom taken stack (Err f) h =
       let at = behind address h.0 in
@@ -151,7 +152,8 @@ module _ (image : Image) (address : ℕ) where
         run = g.0;
         not = λ p. p.0 g.1;
         led = (ap (λ pc. Led-of o.0 pc o.2) g.2 ∙ ap (Led-of o.0 (Awaited false)) g.3)
-            ∙ ap (λ b. if b then Led-of o.0 (Awaited false) stack else by_miss (class_after o.0) (behind address o.0) ret) (sym (eq-eqb (behind address o.0) ret g.1));
+            ∙ ap (λ b. if b then Led-of o.0 (Awaited false) stack else by_miss (class_after o.0) (behind address o.0) ret)
+            (sym (eq-eqb (behind address o.0) ret g.1));
       }
   by_exception kind ret stack (Err f) h =
       let at = behind address h.0 in
@@ -193,7 +195,8 @@ abbrev walk_by : ℕ → Pc → List ℕ → Bool → Bool → ℕ → Option Ex
 walk_by count pc stack on unknown start exc ctx after =
     Ok (record { on = on; unknown = unknown; ctx = ctx; start = start; count = count; exc = exc }, record { pc = pc; stack = stack; ctx = after })
 
-same_walk : (w : Walked) (a : State) (on unknown : Bool) (start : ℕ) (exc : Option ExcMark) (ctx : Ctx) → w.on ≡ on → w.unknown ≡ unknown → w.start ≡ start → w.exc ≡ exc → w.ctx ≡ ctx → a.ctx ≡ ctx
+same_walk : (w : Walked) (a : State) (on unknown : Bool) (start : ℕ) (exc : Option ExcMark) (ctx : Ctx) → w.on ≡ on → w.unknown ≡ unknown → w.start ≡ start
+    → w.exc ≡ exc → w.ctx ≡ ctx → a.ctx ≡ ctx
     → walk_by w.count a.pc a.stack w.on w.unknown w.start w.exc w.ctx a.ctx ≡ walk_by w.count a.pc a.stack on unknown start exc ctx ctx
 same_walk w a on unknown start exc ctx e f g h i j =
     let by = walk_by w.count a.pc a.stack in

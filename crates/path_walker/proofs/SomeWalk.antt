@@ -49,13 +49,16 @@ goes_or_not None at taken not = inr (fault.NoCode at, refl)
 goes_or_not (Some Plain) at taken not = absurd (not refl)
 goes_or_not (Some Odd) at taken not = inr (fault.Odd at, refl)
 goes_or_not (Some (Jump offset link)) at taken not =
-    elim (some_or_none (next_of (Jump offset link) at taken)) [ inl p ↦ inl (Jump offset link, p.0, refl, p.1) | inr none ↦ inr (fault.BadAtom at, (none, refl)) ]
+    elim (some_or_none (next_of (Jump offset link) at taken))
+    [ inl p ↦ inl (Jump offset link, p.0, refl, p.1) | inr none ↦ inr (fault.BadAtom at, (none, refl)) ]
 goes_or_not (Some (Cond offset)) at taken not =
     elim (some_or_none (next_of (Cond offset) at taken)) [ inl p ↦ inl (Cond offset, p.0, refl, p.1) | inr none ↦ inr (fault.BadAtom at, (none, refl)) ]
-goes_or_not (Some Isb) at taken not = elim (some_or_none (next_of Isb at taken)) [ inl p ↦ inl (Isb, p.0, refl, p.1) | inr none ↦ inr (fault.BadAtom at, (none, refl)) ]
+goes_or_not (Some Isb) at taken not = elim (some_or_none (next_of Isb at taken))
+    [ inl p ↦ inl (Isb, p.0, refl, p.1) | inr none ↦ inr (fault.BadAtom at, (none, refl)) ]
 goes_or_not (Some (Ind link)) at taken not =
     elim (some_or_none (next_of (Ind link) at taken)) [ inl p ↦ inl (Ind link, p.0, refl, p.1) | inr none ↦ inr (fault.BadAtom at, (none, refl)) ]
-goes_or_not (Some Eret) at taken not = elim (some_or_none (next_of Eret at taken)) [ inl p ↦ inl (Eret, p.0, refl, p.1) | inr none ↦ inr (fault.BadAtom at, (none, refl)) ]
+goes_or_not (Some Eret) at taken not = elim (some_or_none (next_of Eret at taken))
+    [ inl p ↦ inl (Eret, p.0, refl, p.1) | inr none ↦ inr (fault.BadAtom at, (none, refl)) ]
 
 misses : (c : Option Class) (at ret : ℕ) → c ≢ Some Plain → (f : WalkFault) × Misses c at ret f
 misses None at ret not = (fault.NoCode at, refl)
@@ -79,10 +82,16 @@ module _ (image : Image) (address : ℕ) (gap : HasGap image) (aligned : IsAlign
 
   some_atom : (taken : Bool) → (led : Led) × IsLed image (Some address) stack (Atom taken) led
   some_atom taken =
-      let f : First IsPlain = first IsPlain (2 ^ 62) (λ k. plain_or_not (class_at image (behind address k))) (λ k run. run_short image address k aligned gap run) (2 ^ 62) 0 refl (nothing_below IsPlain) in
+      let f : First IsPlain =
+      first IsPlain (2 ^ 62) (λ k. plain_or_not (class_at image (behind address k))) (λ k run. run_short image address k aligned gap run) (2 ^ 62) 0 refl
+      (nothing_below IsPlain) in
       let at = behind address f.n in
       elim (goes_or_not (class_at image at) at taken f.not) [
-        | inl g ↦ (Ok (f.n + 1, g.1, stack_after g.0 at stack), record { plain = f.n; class = g.0; run = f.below; there = g.2; next = g.3; counted = refl; kept = refl })
+        | inl g ↦ (
+          Ok (f.n + 1, g.1, stack_after g.0 at stack),
+          record
+              { plain = f.n; class = g.0; run = f.below; there = g.2; next = g.3; counted = refl; kept = refl },
+        )
         | inr r ↦ (Err r.0, (f.n, f.below, r.1))
       ]
 
@@ -99,7 +108,8 @@ module _ (image : Image) (address : ℕ) (gap : HasGap image) (aligned : IsAlign
   some_exception : (kind ret : ℕ) → (led : Led) × IsLed image (Some address) stack (Exc kind ret) led
   some_exception kind ret =
       let f : First (IsBefore ret)
-      = first (IsBefore ret) (2 ^ 62) (before_or_not ret) (λ k run. run_short image address k aligned gap (λ j lt. (run j lt).1)) (2 ^ 62) 0 refl (nothing_below (IsBefore ret)) in
+      = first (IsBefore ret) (2 ^ 62) (before_or_not ret) (λ k run. run_short image address k aligned gap (λ j lt. (run j lt).1)) (2 ^ 62) 0 refl
+      (nothing_below (IsBefore ret)) in
       let at = behind address f.n in
       elim (cases (at == ret)) [
         | inl t ↦ (Ok (f.n, Awaited false, stack), (f.below, eqb-true _ _ t, refl, refl))
@@ -157,7 +167,8 @@ start_is s pre state aligned =
 
 is_shown : (image : Image) (s : State) (entry : Entry) (led : Led) → mismatch_of (pc_before s entry.pre) entry.pre.addr ≡ None
     → IsLed image (start_of s entry.pre).at (start_of s entry.pre).stack entry.p0 led → IsWalk image s entry (shown s entry led)
-is_shown image s entry (Ok o) agrees led = record { agrees = agrees; leads = led; on = refl; unknown = refl; start = refl; ctx = refl; kept = refl; exc = refl }
+is_shown image s entry (Ok o) agrees led = record
+    { agrees = agrees; leads = led; on = refl; unknown = refl; start = refl; ctx = refl; kept = refl; exc = refl }
 is_shown image s entry (Err f) agrees led = inr (agrees, led)
 
 pub some_walk : (image : Image) (s : State) (entry : Entry) → HasGap image → IsState s → HasAlignedAddresses entry → (walk : Walk) × IsWalk image s entry walk

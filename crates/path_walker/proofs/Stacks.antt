@@ -28,7 +28,11 @@ used_returns Clear stack r = nothing
 pub linked_returns : (link : Option ℕ) (stack : List ℕ) → ToldIsAligned link → AreReturns stack → AreReturns (linked link stack)
 linked_returns None stack at r = r
 linked_returns (Some address) stack at r =
-    record { aligned = All-take IsAligned most_addresses (address ∷ stack) (All-cons IsAligned address stack at r.aligned); few = omega (arith, length-take most_addresses (address ∷ stack)) }
+    record {
+      aligned = All-take IsAligned most_addresses (address ∷ stack) (All-cons IsAligned address stack at r.aligned);
+      few = omega
+          (arith, length-take most_addresses (address ∷ stack));
+    }
 
 pub state_after : (s : State) (u : StackUse) (link : Option ℕ) (pc : Pc) (ctx : Ctx) → IsState s → ToldIsAligned link → IsPc pc
     → IsState (record { pc = pc; stack = linked link (used u s.stack); ctx = ctx })
@@ -36,7 +40,9 @@ state_after s u link pc ctx state at known =
     let r = linked_returns link (used u s.stack) at (used_returns u s.stack (record { aligned = state.stack; few = state.few })) in
     record { pc = known; stack = r.aligned; few = r.few }
 
-pub state_by : (before : Pc) (stack : List ℕ) (ctx : Ctx) (u : StackUse) (link : Option ℕ) (pc : Pc) (new : Ctx) (after : List ℕ) → IsState (record { pc = before; stack = stack; ctx = ctx })
+pub state_by : (before : Pc) (stack : List ℕ) (ctx : Ctx) (u : StackUse) (link : Option ℕ) (pc : Pc) (new : Ctx) (after : List ℕ)
+    → IsState (record { pc = before; stack = stack; ctx = ctx })
     → ToldIsAligned link → IsPc pc → after ≡ linked link (used u stack) → IsState (record { pc = pc; stack = after; ctx = new })
 state_by before stack ctx u link pc new after state at known same =
-    subst (λ l. IsState (record { pc = pc; stack = l; ctx = new })) (sym same) (state_after (record { pc = before; stack = stack; ctx = ctx }) u link pc new state at known)
+    subst (λ l. IsState (record { pc = pc; stack = l; ctx = new })) (sym same)
+    (state_after (record { pc = before; stack = stack; ctx = ctx }) u link pc new state at known)

@@ -14,7 +14,8 @@ returns-then-i-count c =
     let e = c.self.inside in
     let below : c.args.i < e.atoms.count = omega (arith, c.if-i-count.true, c.from-count.ensures) in
     record {
-      value = sym (atom_at e.atoms.count e.atoms.bits c.args.i (rest_in e.rest e.values) below) ∙ ap (λ (xs : List Elem). slice_get xs c.args.i) c.self.view_is;
+      value = sym (atom_at e.atoms.count e.atoms.bits c.args.i (rest_in e.rest e.values) below)
+          ∙ ap (λ (xs : List Elem). slice_get xs c.args.i) c.self.view_is;
     }
 
 pub returns : goal.returns
@@ -24,5 +25,6 @@ returns c =
     record {
       value =
           c.get.ensures ∙ ap (λ (n : ℕ). slice_get (rest_in e.rest e.values) (c.args.i - n)) c.from-count.ensures
-          ∙ sym (after_atoms e.atoms.count e.atoms.bits c.args.i (rest_in e.rest e.values) past) ∙ ap (λ (xs : List Elem). slice_get xs c.args.i) c.self.view_is;
+          ∙ sym (after_atoms e.atoms.count e.atoms.bits c.args.i (rest_in e.rest e.values) past)
+          ∙ ap (λ (xs : List Elem). slice_get xs c.args.i) c.self.view_is;
     }
