@@ -41,7 +41,7 @@ pub fn class_of(word: u32) -> Class
     }
 }
 
-/// The class of a word by the encodings in the order of how often they are met.
+/// The class of a word of that group: the encodings that are met most often are tested first.
 #[inline(always)]
 fn class_in_group(word: u32) -> Class
     ensures { result ≡ class_by rows_as_tested word }
