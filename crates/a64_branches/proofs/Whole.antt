@@ -39,7 +39,8 @@ aligned_sum address (pos n) aligned = omega (arith, aligned)
 aligned_sum address (negsuc n) aligned =
     let m : ℕ = address + suc n * (2 ^ 64 - 4) in
     let sum : (pos address +ℤ bytes (negsuc n)) +ℤ pos (suc n * 2 ^ 64) ≡ pos m = omega (arith, ints) in
-    ap (λ z. unsigned_abs z % 4) (int_rem_euclid_is (pos address +ℤ bytes (negsuc n)) (pos (2 ^ 64)) (2 ^ 64) (suc n) m (omega arith) refl sum) ∙ omega (arith, aligned)
+    ap (λ z. unsigned_abs z % 4) (int_rem_euclid_is (pos address +ℤ bytes (negsuc n)) (pos (2 ^ 64)) (2 ^ 64) (suc n) m (omega arith) refl sum)
+    ∙ omega (arith, aligned)
 
 pub aligned_target : (address : ℕ) (offset : ℤ) → address % 4 ≡ 0 → IsWhole offset → target address offset % 4 ≡ 0
 aligned_target address offset aligned whole = ap (λ z. target address z % 4) whole.1 ∙ aligned_sum address whole.0 aligned

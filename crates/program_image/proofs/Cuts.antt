@@ -1,5 +1,6 @@
 -- The first line of a text, and the first word of a line.
-use Rattle.std.proofs.Common.{◌≡◌, ℕ, suc, ◌+◌, ◌<◌, ◌≤◌, List, [], ◌∷◌, length, take, drop, Bool, true, false, not, Some, None, nat_lt, refl, sym, ap, ◌∙◌, arith, cond, get_or, subst, inl, inr}
+use Rattle.std.proofs.Common.{◌≡◌, ℕ, suc, ◌+◌, ◌<◌, ◌≤◌, List, [], ◌∷◌, length, take, drop, Bool, true}
+use Rattle.std.proofs.Common.{false, not, Some, None, nat_lt, refl, sym, ap, ◌∙◌, arith, cond, get_or, subst, inl, inr}
 use Rattle.std.specs.Prelude.{filter, ◌==◌}
 use Rattle.std.specs.List.{All, position, position_or_len, slice_split, onto_first}
 use Rattle.std.specs.Option.{unwrap_or}
@@ -66,7 +67,8 @@ split_has_first p (byte ∷ text) =
     ]
 
 -- a line before the parts of a text
-pub before_parts : (line : List ℕ) (p : ℕ → Bool) (text : List ℕ) → lines_of_parts (line ∷ slice_split p text) ≡ strip_carriage_return line ∷ lines_of_parts (slice_split p text)
+pub before_parts : (line : List ℕ) (p : ℕ → Bool) (text : List ℕ)
+    → lines_of_parts (line ∷ slice_split p text) ≡ strip_carriage_return line ∷ lines_of_parts (slice_split p text)
 before_parts line p text = let cut = split_has_first p text in rw (cut.is) refl
 
 abbrev is_end : ℕ → Bool
@@ -134,7 +136,9 @@ word_first line some =
           let within : n < length line = ltb-true n (length line) inside in
           ap (filter (λ word. nat_lt 0 (length word))) (slice_split_first is_blank line 0 within)
           ∙ kept (take n line) (slice_split is_blank (drop (n + 1) line)) (omega (arith, before, some))
-          ∙ ap (λ (words : List (List ℕ)). take n line ∷ words) (sym (blank_first (get_or line n 0) (drop (n + 1) line) (passes_at_first is_blank line 0 within)) ∙ ap words_in (sym (drop_more line n 0 within)))
+          ∙ ap (λ (words : List (List ℕ)). take n line ∷ words)
+          (sym (blank_first (get_or line n 0) (drop (n + 1) line) (passes_at_first is_blank line 0 within))
+          ∙ ap words_in (sym (drop_more line n 0 within)))
       | inr outside ↦
           let end : n ≡ length line = omega (arith, ltb-false n (length line) outside, short) in
           let all : take n line ≡ line = take_all n line (omega (arith, end)) in
@@ -168,6 +172,7 @@ word_found line start e =
     subst (λ (m : ℕ). WordAt line (drop m line)) at.first here
 
 -- the word and what follows it
-pub word_cut : (line rest word after : List ℕ) (end : ℕ) → WordAt line rest → end ≡ position_or_len is_blank rest → word ≡ take end rest → after ≡ drop end rest
+pub word_cut : (line rest word after : List ℕ) (end : ℕ) → WordAt line rest → end ≡ position_or_len is_blank rest → word ≡ take end rest
+    → after ≡ drop end rest
     → words_in line ≡ word ∷ words_in after
 word_cut line rest word after end at is_end is_word is_after = rw (is_word, is_after, is_end) (at.words)

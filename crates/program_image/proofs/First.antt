@@ -1,5 +1,6 @@
 -- A fault is that of the first line that has one.
-use Rattle.std.proofs.Common.{◌≡◌, ◌⊎◌, ℕ, ◌+◌, ◌<◌, List, [], ◌∷◌, ◌++◌, length, Bool, true, false, Result, Ok, Err, nat_lt, refl, sym, ap, ◌∙◌, arith, cond, inl, inr}
+use Rattle.std.proofs.Common.{◌≡◌, ◌⊎◌, ℕ, ◌+◌, ◌<◌, List, [], ◌∷◌, ◌++◌, length, Bool, true}
+use Rattle.std.proofs.Common.{false, Result, Ok, Err, nat_lt, refl, sym, ap, ◌∙◌, arith, cond, inl, inr}
 use Rattle.std.specs.Str.Lines.{lines}
 use Rattle.std.proofs.lemmas.Bool.{ltb-true}
 use Rattle.program_image.specs.Part.{Part}
@@ -38,7 +39,8 @@ record Stops (number : ℕ) (parts : List Part) (all : List (List ℕ)) (line : 
   good : add_lines number parts before ≡ Ok told
   fault : add_line told bad ≡ Err why
 
-one_more : (number : ℕ) (parts next : List Part) (first : List ℕ) (all : List (List ℕ)) (line : ℕ) (why : ImageWhy) → add_line parts first ≡ Ok next → Stops (number + 1) next all line why
+one_more : (number : ℕ) (parts next : List Part) (first : List ℕ) (all : List (List ℕ)) (line : ℕ) (why : ImageWhy) → add_line parts first ≡ Ok next
+    → Stops (number + 1) next all line why
     → Stops number parts (first ∷ all) line why
 one_more number parts next first all line why is s = record {
   before = first ∷ s.before;
@@ -51,7 +53,8 @@ one_more number parts next first all line why is s = record {
   fault = s.fault;
 }
 
-first_or_later : (number : ℕ) (parts : List Part) (first : List ℕ) (all : List (List ℕ)) (line : ℕ) (why : ImageWhy) (r : Result (List Part) ImageWhy) → add_line parts first ≡ r
+first_or_later : (number : ℕ) (parts : List Part) (first : List ℕ) (all : List (List ℕ)) (line : ℕ) (why : ImageWhy) (r : Result (List Part) ImageWhy)
+    → add_line parts first ≡ r
     → ((next : List Part) → add_lines (number + 1) next all ≡ Err (line, why) → Stops (number + 1) next all line why)
     → then_lines number r (λ next. add_lines (number + 1) next all) ≡ Err (line, why) → Stops number parts (first ∷ all) line why
 first_or_later number parts first all line why (Ok next) is more e = one_more number parts next first all line why is (more next e)
@@ -60,7 +63,8 @@ first_or_later number parts first all line why (Err w) is more e =
     let y = same_why number line w why (Err (number, w)) (Err (line, why)) refl refl e in
     record { before = []; bad = first; rest = all; told = parts; all_is = refl; line_is = omega (arith, n); good = refl; fault = is ∙ ap Err y }
 
-stops : (number : ℕ) (parts : List Part) (all : List (List ℕ)) (line : ℕ) (why : ImageWhy) → add_lines number parts all ≡ Err (line, why) → Stops number parts all line why
+stops : (number : ℕ) (parts : List Part) (all : List (List ℕ)) (line : ℕ) (why : ImageWhy) → add_lines number parts all ≡ Err (line, why)
+    → Stops number parts all line why
 stops number parts [] line why e = cc
 stops number parts (first ∷ all) line why e =
     first_or_later number parts first all line why (add_line parts first) refl (λ next more. stops (number + 1) next all line why more) e

@@ -34,7 +34,14 @@ gap_from (part ∷ parts) a aligned each order from =
       | inl later ↦
           let here = ltb-true a part.start later in
           let rest = All-weaker (From (end_of part)) (Behind a) (λ next e. omega (arith, here, e)) parts order.0 in
-          record { address = a; from = omega arith; near = omega arith; aligned = aligned; none = rw (outside part a (λ low high. omega (arith, low, here))) (none_before parts a rest) }
+          record {
+            address = a;
+            from = omega arith;
+            near = omega arith;
+            aligned = aligned;
+            none = rw (outside part a (λ low high. omega (arith, low, here)))
+                (none_before parts a rest);
+          }
       | inr first ↦
           let low = ltb-false a part.start first in
           let high : a ≤ part.start = All-head (From a) part parts from in

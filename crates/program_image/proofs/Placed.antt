@@ -1,5 +1,6 @@
 -- Parts that were told, put by their addresses.
-use Rattle.std.proofs.Common.{◌≡◌, ℕ, suc, ◌+◌, ◌<◌, ◌≤◌, List, [], ◌∷◌, length, Bool, true, false, not, nat_lt, refl, sym, ap, ◌∙◌, arith, cond, get_or, subst, inl, inr, Result, Ok, Err}
+use Rattle.std.proofs.Common.{◌≡◌, ℕ, suc, ◌+◌, ◌<◌, ◌≤◌, List, [], ◌∷◌, length, Bool, true, false, not}
+use Rattle.std.proofs.Common.{nat_lt, refl, sym, ap, ◌∙◌, arith, cond, get_or, subst, inl, inr, Result, Ok, Err}
 use Rattle.std.specs.Prelude.{◌==◌, All, fold}
 use Rattle.std.specs.List.{insert, position_or_len}
 use Rattle.std.proofs.lemmas.Bool.{cases_Bool, eqb-false, ltb-true, ltb-false}
@@ -29,7 +30,8 @@ put_here part other others n false e =
 insert_is_put : (part : Part) (others : List Part) → insert others (position_or_len (is_behind part) others) part ≡ put part others
 unfolding put
 insert_is_put part [] = refl
-insert_is_put part (other ∷ others) = put_here part other others (position_or_len (is_behind part) others) (nat_lt part.start other.start) (insert_is_put part others)
+insert_is_put part (other ∷ others) = put_here part other others (position_or_len (is_behind part) others) (nat_lt part.start other.start)
+    (insert_is_put part others)
 
 all_put : (P : Part → Type 0) (part : Part) (others : List Part) → P part → All P others → All P (put part others)
 unfolding put
@@ -54,7 +56,8 @@ unfolding put
 total_put part [] = refl
 total_put part (other ∷ others) =
     let more = total_put part others in
-    elim (nat_lt part.start other.start) as (λ test. total (cond test (part ∷ other ∷ others) (other ∷ put part others)) ≡ length part.bytes + (length other.bytes + total others)) [
+    elim (nat_lt part.start other.start) as
+    (λ test. total (cond test (part ∷ other ∷ others) (other ∷ put part others)) ≡ length part.bytes + (length other.bytes + total others)) [
       | true ↦ refl
       | false ↦ omega (arith, more)
     ]
@@ -73,7 +76,8 @@ starts_after p q some apart order = ends_before q p some (λ a here there. apart
 abbrev Before : ℕ → Part → Type 0
 Before end next = end ≤ next.start
 
-order_put : (part : Part) (others : List Part) → 0 < length part.bytes → All IsPart others → All (Apart part) others → InOrder others → InOrder (put part others)
+order_put : (part : Part) (others : List Part) → 0 < length part.bytes → All IsPart others → All (Apart part) others → InOrder others
+    → InOrder (put part others)
 unfolding put
 order_put part [] some parts apart order = (All-nil (Before (end_of part)), tt)
 order_put part (other ∷ others) some parts apart order =
@@ -156,11 +160,13 @@ image_placed parts told = all_placed [] parts (record {
   small = omega (arith, told.small);
 })
 
-sorted_image : (r : Result (List Part) (ℕ × ImageWhy)) (image : List Part) → ((told : List Part) → r ≡ Ok told → AreTold told) → sorted r ≡ Ok image → IsImage image
+sorted_image : (r : Result (List Part) (ℕ × ImageWhy)) (image : List Part) → ((told : List Part) → r ≡ Ok told → AreTold told) → sorted r ≡ Ok image
+    → IsImage image
 sorted_image (Ok told) image are e = subst IsImage (let same : by_address told ≡ image = cc in same) (image_placed told (are told refl))
 sorted_image (Err fault) image are e = cc
 
-chosen_image : (long : Bool) (fault r : Result (List Part) (ℕ × ImageWhy)) (image : List Part) → (fault ≡ Ok image → ⊥) → (r ≡ Ok image → IsImage image) → cond long fault r ≡ Ok image → IsImage image
+chosen_image : (long : Bool) (fault r : Result (List Part) (ℕ × ImageWhy)) (image : List Part) → (fault ≡ Ok image → ⊥) → (r ≡ Ok image → IsImage image)
+    → cond long fault r ≡ Ok image → IsImage image
 chosen_image true fault r image none go e = absurd (none e)
 chosen_image false fault r image none go e = go e
 

@@ -1,5 +1,6 @@
 -- The text that spells parts is read to them.
-use Rattle.std.proofs.Common.{◌≡◌, ℕ, zero, suc, ◌+◌, ◌-◌, ◌*◌, ◌/◌, ◌%◌, ◌^◌, ◌<◌, ◌≤◌, List, [], ◌∷◌, ◌++◌, length, length-append, take, Bool, true, false, ◌&&◌, Option, Some, None, Result, Ok, nat_lt, nat_le, refl, sym, ap, ◌∙◌, arith, get_or, inl, inr, append-nil, codes}
+use Rattle.std.proofs.Common.{◌≡◌, ℕ, zero, suc, ◌+◌, ◌-◌, ◌*◌, ◌/◌, ◌%◌, ◌^◌, ◌<◌, ◌≤◌, List, [], ◌∷◌, ◌++◌, length, length-append, take, Bool}
+use Rattle.std.proofs.Common.{true, false, ◌&&◌, Option, Some, None, Result, Ok, nat_lt, nat_le, refl, sym, ap, ◌∙◌, arith, get_or, inl, inr, append-nil, codes}
 use Rattle.std.specs.Prelude.{◌==◌, ◌||◌, All, fold, filter, slice_index}
 use Rattle.std.specs.Int.{byte_at, bytes_high_first}
 use Rattle.std.specs.Option.{ok_or, option_map, option_and_then}
@@ -19,7 +20,8 @@ use Rattle.byteorder.specs.Endian.{big_bytes, big_number}
 use Rattle.byteorder.specs.Numbers.{big_number-reads_back, length-bytes_high_first}
 use Rattle.program_image.specs.Part.{InOrder, IsImage, IsPart, Part, end_of, most_bytes, most_parts, total}
 use Rattle.program_image.specs.Line.{bytes_of, is_blank, number_of, padded, words_in}
-use Rattle.program_image.specs.ImageText.{◌>>=◌, add_bytes, add_line, add_lines, add_words, growth_fault, has_between, image_of, most_text, placed, sorted, unless}
+use Rattle.program_image.specs.ImageText.{◌>>=◌, add_bytes, add_line, add_lines, add_words, growth_fault}
+use Rattle.program_image.specs.ImageText.{has_between, image_of, most_text, placed, sorted, unless}
 use Rattle.program_image.specs.Spelling.{address_line, bytes_line, text_of}
 use Rattle.program_image.specs.declared.fault.ImageWhy.{ImageWhy}
 use Rattle.program_image.specs.declared.fault.ImageWhy.TheVariants.{Syntax}
@@ -137,7 +139,8 @@ number_spelled digits bytes len decoded =
     let most = le-leb (length digits) 16 (omega (arith, len)) in
     let none : 16 - length digits ≡ 0 = omega (arith, len) in
     let whole : padded digits ≡ digits = ap (λ (n : ℕ). take n (codes "0000000000000000") ++ digits) none in
-    rw (least, most) (ap (λ (ds : List ℕ). option_map (big_number 8) (result_ok (decode_sized ds 8))) whole ∙ ap (λ (r : Result (List ℕ) FromHexError). option_map (big_number 8) (result_ok r)) decoded)
+    rw (least, most) (ap (λ (ds : List ℕ). option_map (big_number 8) (result_ok (decode_sized ds 8))) whole
+    ∙ ap (λ (r : Result (List ℕ) FromHexError). option_map (big_number 8) (result_ok r)) decoded)
 
 number_back : (start : ℕ) → start < 2 ^ 64 → number_of (encode_lower (big_bytes 8 start)) ≡ Some start
 number_back start fits =
@@ -151,7 +154,8 @@ number_back start fits =
 address_chars : (part : Part) → All IsOfWord (address_line part)
 address_chars part =
     let digits = digits_of (big_bytes 8 part.start) (bytes_fit 8 part.start) in
-    All-cons IsOfWord 64 (encode_lower (big_bytes 8 part.start)) (omega arith, omega arith) (All-weaker IsDigit IsOfWord digit_of_word (encode_lower (big_bytes 8 part.start)) digits)
+    All-cons IsOfWord 64 (encode_lower (big_bytes 8 part.start)) (omega arith, omega arith)
+    (All-weaker IsDigit IsOfWord digit_of_word (encode_lower (big_bytes 8 part.start)) digits)
 
 abbrev begun : Part → Part
 begun part = record { start = part.start; bytes = [] }
@@ -188,7 +192,10 @@ no_fault others part is before small =
     let count = length part.bytes in
     let whole = eq-eqb (count % 4) 0 is.whole in
     let within = le-ltb (2 ^ 64) (end_of (begun part) + count) (omega (arith, is.within)) in
-    let none = list_any_none (has_between (end_of (begun part)) (end_of (begun part) + count)) others (All-weaker (EndsBefore part) (λ other. has_between (end_of (begun part)) (end_of (begun part) + count) other ≡ false) (apart_from part) others before) in
+    let none =
+    list_any_none (has_between (end_of (begun part)) (end_of (begun part) + count)) others
+    (All-weaker (EndsBefore part) (λ other. has_between (end_of (begun part)) (end_of (begun part) + count) other ≡ false) (apart_from part) others
+    before) in
     let few = le-ltb most_bytes (total (begun part ∷ others) + count) (omega (arith, small)) in
     rw (whole, within, none, few) refl
 
@@ -201,7 +208,8 @@ first_of [] some fit = absurd (omega arith)
 first_of (byte ∷ bytes) some fit = first_digit byte bytes fit
 
 -- a word of digits is no comment and no address
-words_of_bytes : (parts : List Part) (word bytes : List ℕ) → IsDigit (slice_index word 0) → bytes_of (word ∷ []) ≡ Some bytes → add_words parts (word ∷ []) ≡ add_bytes parts bytes
+words_of_bytes : (parts : List Part) (word bytes : List ℕ) → IsDigit (slice_index word 0) → bytes_of (word ∷ []) ≡ Some bytes
+    → add_words parts (word ∷ []) ≡ add_bytes parts bytes
 words_of_bytes parts word bytes first read =
     let comment = digit_is_no (slice_index word 0) 35 first refl in
     let address = digit_is_no (slice_index word 0) 64 first refl in
@@ -211,7 +219,8 @@ grows : (others : List Part) (part : Part) → IsPart part → All (EndsBefore p
     → add_line (begun part ∷ others) (bytes_line part) ≡ Ok (part ∷ others)
 grows others part is before small =
     let digits = length-encode_with lower_digits part.bytes in
-    line_of_word (begun part ∷ others) (bytes_line part) (All-weaker IsDigit IsOfWord digit_of_word (bytes_line part) (bytes_chars part is)) (omega (arith, digits, is.some))
+    line_of_word (begun part ∷ others) (bytes_line part) (All-weaker IsDigit IsOfWord digit_of_word (bytes_line part) (bytes_chars part is))
+    (omega (arith, digits, is.some))
     ∙ words_of_bytes (begun part ∷ others) (bytes_line part) part.bytes (first_of part.bytes is.some is.bytes) (bytes_back part is)
     ∙ ap (λ (fault : Option ImageWhy). unless fault (part ∷ others)) (no_fault others part is before small)
 
@@ -242,7 +251,8 @@ follow_next told parts part f = record {
   small = omega (arith, f.small);
 }
 
-two_lines : (number : ℕ) (parts mid next : List Part) (line line' : List ℕ) (more : List (List ℕ)) → add_line parts line ≡ Ok mid → add_line mid line' ≡ Ok next
+two_lines : (number : ℕ) (parts mid next : List Part) (line line' : List ℕ) (more : List (List ℕ)) → add_line parts line ≡ Ok mid
+    → add_line mid line' ≡ Ok next
     → add_lines number parts (line ∷ line' ∷ more) ≡ add_lines (number + 1 + 1) next more
 two_lines number parts mid next line line' more one two = rw one (rw two refl)
 
@@ -254,7 +264,9 @@ lines_told number told (part ∷ parts) f =
     let digits = All-weaker IsDigit IsOfWord digit_of_word (bytes_line part) (bytes_chars part is) in
     let one = begins told part is (omega (arith, f.few)) in
     let two = grows told part is (All-head (Behind told) part parts f.behind) (omega (arith, f.small)) in
-    let cut = line_first (address_line part) (bytes_line part ++ 10 ∷ text_of parts) (address_chars part) ∙ ap (λ (ls : List (List ℕ)). address_line part ∷ ls) (line_first (bytes_line part) (text_of parts) digits) in
+    let cut =
+    line_first (address_line part) (bytes_line part ++ 10 ∷ text_of parts) (address_chars part)
+    ∙ ap (λ (ls : List (List ℕ)). address_line part ∷ ls) (line_first (bytes_line part) (text_of parts) digits) in
     ap (add_lines number told) cut
     ∙ two_lines number told (begun part ∷ told) (part ∷ told) (address_line part) (bytes_line part) (lines (text_of parts)) one two
     ∙ lines_told (number + 1 + 1) (part ∷ told) parts (follow_next told parts part f)

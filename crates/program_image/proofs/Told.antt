@@ -1,5 +1,6 @@
 -- What holds of the parts that lines tell, last first.
-use Rattle.std.proofs.Common.{◌≡◌, ℕ, suc, ◌+◌, ◌%◌, ◌^◌, ◌<◌, ◌≤◌, List, [], ◌∷◌, ◌++◌, length, length-append, Bool, true, false, not, ◌||◌, Option, Some, None, Result, Ok, Err, nat_lt, nat_le, refl, ap, arith, cond, inl, inr, subst, get_or, min, max, ◌⊎◌}
+use Rattle.std.proofs.Common.{◌≡◌, ℕ, suc, ◌+◌, ◌%◌, ◌^◌, ◌<◌, ◌≤◌, List, [], ◌∷◌, ◌++◌, length, length-append, Bool, true, false, not, ◌||◌}
+use Rattle.std.proofs.Common.{Option, Some, None, Result, Ok, Err, nat_lt, nat_le, refl, ap, arith, cond, inl, inr, subst, get_or, min, max, ◌⊎◌}
 use Rattle.std.specs.Prelude.{◌==◌, All, drop, slice_index, ⊤}
 use Rattle.std.specs.List.{list_any}
 use Rattle.std.specs.Option.{ok_or, option_map, option_and_then}
@@ -13,7 +14,8 @@ use Rattle.hex.specs.declared.error.FromHexError.{FromHexError}
 use Rattle.hex.proofs.HexLemmas.{decode_of-ok}
 use Rattle.program_image.specs.Part.{Part, end_of, most_bytes, most_parts, total}
 use Rattle.program_image.specs.Line.{bytes_of, words_in}
-use Rattle.program_image.specs.ImageText.{◌>>=◌, add_bytes, add_line, add_lines, add_words, address_of, begin_part, growth_fault, has_between, then_lines, unless}
+use Rattle.program_image.specs.ImageText.{◌>>=◌, add_bytes, add_line, add_lines, add_words}
+use Rattle.program_image.specs.ImageText.{address_of, begin_part, growth_fault, has_between, then_lines, unless}
 use Rattle.program_image.specs.declared.fault.ImageWhy.{ImageWhy}
 use Rattle.program_image.specs.declared.fault.ImageWhy.TheVariants.{Syntax, Unaligned, Overlap, Wraps, TooLarge}
 
@@ -56,7 +58,8 @@ two_tests true false v w x y e = (refl, refl, cc)
 two_tests true true v w x y e = cc
 two_tests false b v w x y e = cc
 
-begun_told : (parts : List Part) (start : ℕ) → AreTold parts → start % 4 ≡ 0 → length parts < most_parts → AreTold (record { start = start; bytes = [] } ∷ parts)
+begun_told : (parts : List Part) (start : ℕ) → AreTold parts → start % 4 ≡ 0 → length parts < most_parts
+    → AreTold (record { start = start; bytes = [] } ∷ parts)
 begun_told parts start told aligned room =
     let part : Part = record { start = start; bytes = [] } in
     let is : IsToldPart part = record { aligned = aligned; whole = refl; within = λ some. absurd (omega arith); bytes = All-nil IsByte } in
@@ -89,7 +92,8 @@ none_of p (x ∷ xs) e =
 abbrev grown : Part → List ℕ → Part
 grown part bytes = record { start = part.start; bytes = part.bytes ++ bytes }
 
-grown_apart : (part other : Part) (bytes : List ℕ) → Apart part other → has_between (end_of part) (end_of part + length bytes) other ≡ false → Apart (grown part bytes) other
+grown_apart : (part other : Part) (bytes : List ℕ) → Apart part other → has_between (end_of part) (end_of part + length bytes) other ≡ false
+    → Apart (grown part bytes) other
 grown_apart part other bytes apart none = λ a here there.
     elim (cases_Bool (nat_lt a (end_of part))) [
       | inl before ↦ apart a (here.0, ltb-true a (end_of part) before) there
@@ -115,10 +119,13 @@ no_fault : {A : Type 0} (fault : Option ImageWhy) (x y : A) → unless fault x �
 no_fault None x y e = (refl, cc)
 no_fault (Some why) x y e = cc
 
-grown_told : (part : Part) (others : List Part) (bytes : List ℕ) → AreTold (part ∷ others) → All IsByte bytes → growth_fault others part (length bytes) ≡ None → AreTold (grown part bytes ∷ others)
+grown_told : (part : Part) (others : List Part) (bytes : List ℕ) → AreTold (part ∷ others) → All IsByte bytes
+    → growth_fault others part (length bytes) ≡ None → AreTold (grown part bytes ∷ others)
 grown_told part others bytes told are_bytes e =
     let count = length bytes in
-    let tests = four_tests (count % 4 == 0) (nat_lt (2 ^ 64) (end_of part + count)) (list_any (has_between (end_of part) (end_of part + count)) others) (nat_lt most_bytes (total (part ∷ others) + count)) e in
+    let tests =
+    four_tests (count % 4 == 0) (nat_lt (2 ^ 64) (end_of part + count)) (list_any (has_between (end_of part) (end_of part + count)) others)
+    (nat_lt most_bytes (total (part ∷ others) + count)) e in
     let none = none_of (has_between (end_of part) (end_of part + count)) others tests.2 in
     let old = All-head IsToldPart part others told.each in
     let len = length-append part.bytes bytes in
@@ -150,11 +157,13 @@ all_bytes : (xs : List ℕ) → IsBytes xs → All IsByte xs
 all_bytes [] fit = All-nil IsByte
 all_bytes (x ∷ xs) fit = All-cons IsByte x xs (fit 0) (all_bytes xs (λ k. fit (suc k)))
 
-joined_bytes : (front bytes : List ℕ) (more : Option (List ℕ)) → All IsByte front → ((b : List ℕ) → more ≡ Some b → All IsByte b) → option_map (λ more. front ++ more) more ≡ Some bytes → All IsByte bytes
+joined_bytes : (front bytes : List ℕ) (more : Option (List ℕ)) → All IsByte front → ((b : List ℕ) → more ≡ Some b → All IsByte b)
+    → option_map (λ more. front ++ more) more ≡ Some bytes → All IsByte bytes
 joined_bytes front bytes (Some more) fit fits e = subst (All IsByte) (same_Some (front ++ more) bytes e) (All-append IsByte front more fit (fits more refl))
 joined_bytes front bytes None fit fits e = absurd (none-some bytes e)
 
-word_bytes : (word bytes : List ℕ) (r : Result (List ℕ) FromHexError) (more : Option (List ℕ)) → decode_of word ≡ r → ((b : List ℕ) → more ≡ Some b → All IsByte b)
+word_bytes : (word bytes : List ℕ) (r : Result (List ℕ) FromHexError) (more : Option (List ℕ)) → decode_of word ≡ r
+    → ((b : List ℕ) → more ≡ Some b → All IsByte b)
     → option_and_then (λ front. option_map (λ more. front ++ more) more) (result_ok r) ≡ Some bytes → All IsByte bytes
 word_bytes word bytes (Ok front) more decoded fits e = joined_bytes front bytes more (all_bytes front (decode_of-ok word front decoded).3) fits e
 word_bytes word bytes (Err fault) more decoded fits e = absurd (none-some bytes e)
@@ -204,7 +213,8 @@ words_added parts next (word ∷ words) told e =
           bytes_added parts next b.from told (words_bytes (word ∷ words) b.from (was_some (bytes_of (word ∷ words)) b.from b.was)) b.then
     ]
 
-line_added : (parts next : List Part) (line : List ℕ) (test : Bool) → AreTold parts → cond test (add_words parts (words_in line)) (Err Syntax) ≡ Ok next → AreTold next
+line_added : (parts next : List Part) (line : List ℕ) (test : Bool) → AreTold parts → cond test (add_words parts (words_in line)) (Err Syntax) ≡ Ok next
+    → AreTold next
 line_added parts next line true told e = words_added parts next (words_in line) told e
 line_added parts next line false told e = cc
 

@@ -1,5 +1,6 @@
 -- The words of an image are those of its parts.
-use Rattle.std.proofs.Common.{◌≡◌, ℕ, zero, suc, ◌+◌, ◌-◌, ◌%◌, ◌^◌, ◌<◌, ◌≤◌, List, [], ◌∷◌, length, take, drop, Bool, true, false, ◌&&◌, Option, Some, None, nat_lt, nat_le, refl, ap, ◌∙◌, arith, cond, get_or, subst}
+use Rattle.std.proofs.Common.{◌≡◌, ℕ, zero, suc, ◌+◌, ◌-◌, ◌%◌, ◌^◌, ◌<◌, ◌≤◌, List, [], ◌∷◌, length, take, drop}
+use Rattle.std.proofs.Common.{Bool, true, false, ◌&&◌, Option, Some, None, nat_lt, nat_le, refl, ap, ◌∙◌, arith, cond, get_or, subst}
 use Rattle.std.specs.Prelude.{◌==◌, Contains, slice_range}
 use Rattle.std.specs.Option.{option_or}
 use Rattle.std.proofs.lemmas.Bool.{and_parts, eqb-true, leb-true, ltb-true}
@@ -25,7 +26,9 @@ tested false x y e = absurd (none-some y e)
 
 pub has_word : (part : Part) (a word : ℕ) → word_in part a ≡ Some word → HasWord part a word
 has_word part a word e =
-    let t = tested ((a % 4 == 0) && (nat_le part.start a && nat_lt a (end_of part))) (little_number 4 (slice_range part.bytes (a - part.start) (a - part.start + 4))) word e in
+    let t =
+    tested ((a % 4 == 0) && (nat_le part.start a && nat_lt a (end_of part)))
+    (little_number 4 (slice_range part.bytes (a - part.start) (a - part.start + 4))) word e in
     let both = and_parts (a % 4 == 0) (nat_le part.start a && nat_lt a (end_of part)) t.0 in
     let range = and_parts (nat_le part.start a) (nat_lt a (end_of part)) both.1 in
     record { aligned = eqb-true (a % 4) 0 both.0; from = leb-true part.start a range.0; to = ltb-true a (end_of part) range.1; is = t.1 }
@@ -37,7 +40,8 @@ IsOfPart image a word = (part : Part) × Contains image part × (word_in part a 
 later_part : (part : Part) (parts : List Part) (a word : ℕ) → IsOfPart parts a word → IsOfPart (part ∷ parts) a word
 later_part part parts a word of = (of.0, (suc of.1.0, omega (arith, of.1.1), of.1.2), of.2)
 
-first_or_later : (part : Part) (parts : List Part) (a word : ℕ) (here : Option ℕ) → word_in part a ≡ here → (word_of parts a ≡ Some word → IsOfPart parts a word)
+first_or_later : (part : Part) (parts : List Part) (a word : ℕ) (here : Option ℕ) → word_in part a ≡ here
+    → (word_of parts a ≡ Some word → IsOfPart parts a word)
     → option_or here (word_of parts a) ≡ Some word → IsOfPart (part ∷ parts) a word
 first_or_later part parts a word (Some found) is more e = (part, (0, omega arith, refl), is ∙ e)
 first_or_later part parts a word None is more e = later_part part parts a word (more e)
@@ -46,7 +50,8 @@ pub part_of_word : (parts : List Part) (a word : ℕ) → word_of parts a ≡ So
 part_of_word [] a word e = absurd (none-some word e)
 part_of_word (part ∷ parts) a word e = first_or_later part parts a word (word_in part a) refl (part_of_word parts a word) e
 
-word_at_place : (parts : List Part) (part : Part) (k a word : ℕ) → InOrder parts → k < length parts → get_or parts k part ≡ part → word_in part a ≡ Some word → word_of parts a ≡ Some word
+word_at_place : (parts : List Part) (part : Part) (k a word : ℕ) → InOrder parts → k < length parts → get_or parts k part ≡ part
+    → word_in part a ≡ Some word → word_of parts a ≡ Some word
 word_at_place [] part k a word order within is e = absurd (omega (arith, within))
 word_at_place (first ∷ parts) part zero a word order within is e =
     let here : word_in first a ≡ Some word = ap (λ (p : Part). word_in p a) is ∙ e in
@@ -81,7 +86,9 @@ IsWordAt a word = (word < 2 ^ 32) × (a % 4 ≡ 0) × (a + 4 ≤ 2 ^ 64)
 part_word_fits : (part : Part) (a word : ℕ) → IsPart part → word_in part a ≡ Some word → IsWordAt a word
 part_word_fits part a word is e =
     let has = has_word part a word e in
-    let bytes = front_bytes (a - part.start + 4 - (a - part.start)) (drop (a - part.start) part.bytes) (rest_bytes (a - part.start) part.bytes (is_bytes part.bytes is.bytes)) in
+    let bytes =
+    front_bytes (a - part.start + 4 - (a - part.start)) (drop (a - part.start) part.bytes)
+    (rest_bytes (a - part.start) part.bytes (is_bytes part.bytes is.bytes)) in
     let small = number_fits (slice_range part.bytes (a - part.start) (a - part.start + 4)) bytes in
     (omega (arith, small, has.is), has.aligned, omega (arith, has.aligned, has.to, is.aligned, is.whole, is.within))
 
