@@ -140,7 +140,11 @@ fn a_fault_of_the_path_is_told_at_its_packet(rt: HostRuntime) -> Result<(), Fail
         ),
         (&[0x06, 0x1d, 0xf7], b"", b"01 fault 28 address-awaited\n"),
         // a cancel, a mispredict and the two other cancels
-        (&[0x06, 0x1d, 0x2e, 0x01], b"", b"01 fault 28 address-awaited\n"),
+        (
+            &[0x06, 0x1d, 0x2e, 0x01],
+            b"",
+            b"01 fault 28 address-awaited\n",
+        ),
         (&[0x06, 0x1d, 0x30], b"", b"01 fault 28 address-awaited\n"),
         (&[0x06, 0x1d, 0x34], b"", b"01 fault 28 address-awaited\n"),
         (&[0x06, 0x1d, 0x38], b"", b"01 fault 28 address-awaited\n"),

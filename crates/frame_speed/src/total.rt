@@ -1,5 +1,6 @@
 //! A count and a digest of what came, and the sink that adds up what is written to it.
-ghost use Rattle.std.specs.Prelude.{None, true};
+ghost use Rattle.std.specs.Prelude.{true};
+ghost use Rattle.trace_io.specs.Memory.{hidden_state};
 
 use formatter_frames::FrameBytes;
 use trace_io::{Failed, Sink};
@@ -42,9 +43,7 @@ impl Total {
 }
 
 impl Sink for Total {
-    ghost written = { λ s. None };
-
-    ghost faults = { λ s. 0 };
+    ghost state = { λ s. hidden_state 0 };
 
     ghost flushed = { λ s. true };
 
