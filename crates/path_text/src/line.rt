@@ -160,7 +160,8 @@ impl Line {
     /// Ends the line with LF, and writes it by one call. It is not moved, since that would copy its bytes.
     pub fn write<K: Sink>(&mut self, sink: &mut K) -> Result<(), Failed>
         requires { HasRoom 1 self.old }
-        ensures { Writes (K.state sink.old) (K.state sink.new) result (self.old ++ 10 ∷ []) }
+        ensures written { Writes (K.state sink.old) (K.state sink.new) result (self.old ++ 10 ∷ []) }
+        ensures ended { self.new ≡ self.old ++ 10 ∷ [] }
     {
         self.text(b"\n");
         write_all(sink, &self.bytes[..self.len])
