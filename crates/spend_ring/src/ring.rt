@@ -1,7 +1,8 @@
 //! `SpendRing`, a list over the cells of one block. A clause sees a ring as its `items`, the oldest first, and its `capacity`.
 //!
 //! The items lie side by side from the place `start` on, and go on at place 0 where they reach the end of the block.
-ghost use Rattle.std.specs.Prelude.{◌≡◌, ◌+◌, ◌-◌, ◌^◌, ◌<◌, ◌≤◌, [], ◌∷◌, ◌++◌, ◌↔◌, length, take, drop, slice_get, option_copied, option_to_list, IfOk, IsSome};
+ghost use Rattle.std.specs.Prelude.{◌≡◌, ◌+◌, ◌-◌, ◌^◌, ◌<◌, ◌≤◌, [], ◌∷◌, ◌++◌, ◌↔◌, length, take, drop};
+ghost use Rattle.std.specs.Prelude.{slice_get, option_copied, option_to_list, IfOk, IsSome};
 ghost use Rattle.std.specs.Option.{option_copied_mut};
 ghost use Rattle.std.specs.Borrow.{sem};
 ghost use Rattle.spend_ring.specs.Cells.{IsPlace};
