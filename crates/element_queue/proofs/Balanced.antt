@@ -1,0 +1,27 @@
+-- The counts while P0 elements are made and end.
+use Rattle.std.proofs.Common.{◌≡◌, ℕ, ◌+◌, ap, arith}
+use Rattle.element_queue.specs.declared.ledger.Counts.{Counts}
+use Rattle.element_queue.specs.Counting.{Balances, add}
+
+pub made_one : (was now : Counts) (before held : ℕ)
+    → now ≡ record was { made = add was.made 1 } → held ≡ before + 1 → Balances was before → Balances now held
+made_one was now before held e h b =
+    omega (arith, ap (λ c. c.made) e, ap (λ c. c.committed) e, ap (λ c. c.cancelled) e, ap (λ c. c.lost) e)
+
+pub committed_one : (was now : Counts) (before held : ℕ)
+    → now ≡ record was { committed = add was.committed 1 } → before ≡ held + 1 → Balances was before → Balances now held
+committed_one was now before held e h b =
+    omega (arith, ap (λ c. c.made) e, ap (λ c. c.committed) e, ap (λ c. c.cancelled) e, ap (λ c. c.lost) e)
+
+pub cancelled_one : (was now : Counts) (before held : ℕ)
+    → now ≡ record was { cancelled = add was.cancelled 1 } → before ≡ held + 1 → Balances was before → Balances now held
+cancelled_one was now before held e h b =
+    omega (arith, ap (λ c. c.made) e, ap (λ c. c.committed) e, ap (λ c. c.cancelled) e, ap (λ c. c.lost) e)
+
+pub lost_one : (was now : Counts) (before held : ℕ)
+    → now ≡ record was { lost = add was.lost 1 } → before ≡ held + 1 → Balances was before → Balances now held
+lost_one was now before held e h b =
+    omega (arith, ap (λ c. c.made) e, ap (λ c. c.committed) e, ap (λ c. c.cancelled) e, ap (λ c. c.lost) e)
+
+pub same_counts : (a b : Counts) → a.made ≡ b.made → a.committed ≡ b.committed → a.cancelled ≡ b.cancelled → a.lost ≡ b.lost → a ≡ b
+same_counts a b made committed cancelled lost k = record { made = made k; committed = committed k; cancelled = cancelled k; lost = lost k }

@@ -1,0 +1,5 @@
+pub mod Balanced
+pub mod Cancelled
+pub mod Flipped
+pub mod Held
+pub mod Joined

@@ -1,0 +1,64 @@
+use Rattle.std.proofs.Common.{◌≡◌, ◌-◌, [], length, subst, arith, ap, sym, ◌∙◌, length-append}
+use Rattle.std.proofs.lemmas.List.{nil_from_length}
+use Rattle.element_queue.specs.Queued.{IsQueued}
+use Rattle.element_queue.proofs.Balanced.{same_counts}
+use Rattle.element_queue.proofs.Cancelled.{given_behind, missing_behind, parts, takes_cancel}
+use Rattle.element_queue.proofs.Held.{entries-things, length-things, queued}
+use Rattle.element_queue.proofs.queue.Queue.cancel.Goals as goal
+
+pub returns-then-n-held-clause-queued : goal.returns-then-n-held-clause-queued
+returns-then-n-held-clause-queued c = let i = c.self.invariant in subst IsQueued c.self.view_is (queued _ _ _ _ _ i.1 i.3)
+
+pub returns-then-unseen-gt0-clause-queued : goal.returns-then-unseen-gt0-clause-queued
+returns-then-unseen-gt0-clause-queued c =
+    let i = c.self.invariant in
+    let kept = c.loop.invariant.1 in
+    let size = ap length kept.split in
+    let joined = length-append c.loop.self-inside.ring.items c.loop.invariant.0 in
+    queued _ _ _ _ _ (omega (arith, size, joined)) (omega (arith, size, joined))
+
+pub returns-else-unseen-gt0-clause-queued : goal.returns-else-unseen-gt0-clause-queued
+returns-else-unseen-gt0-clause-queued c =
+    let i = c.self.invariant in
+    let kept = c.loop.invariant.1 in
+    let size = ap length kept.split in
+    let joined = length-append c.loop.self-inside.ring.items c.loop.invariant.0 in
+    queued _ _ _ _ _ (omega (arith, size, joined)) (omega (arith, size, joined))
+
+pub returns-then-unseen-gt0-clause-ok : goal.returns-then-unseen-gt0-clause-ok
+returns-then-unseen-gt0-clause-ok c ok =
+    let was = c.self.inside in
+    let now = c.loop.self-inside in
+    let gone = c.loop.invariant.0 in
+    let kept = c.loop.invariant.1 in
+    let more = c.args.n - c.min-seen.result in
+    let less = now.unseen - more in
+    let size = ap length kept.split in
+    let joined = length-append now.ring.items gone in
+    let held = ap (λ q. length q.held) c.self.view_is in
+    let count = length-things was.unseen was.ring.items in
+    let none : now.ring.items ≡ [] = nil_from_length _ (omega (arith, size, joined)) in
+    let went = entries-things more gone in
+    rw (← c.self.view_is)
+    (takes_cancel was.unseen less more was.depth now.depth c.args.n was.ring.items now.ring.items gone was.pre _ was.ledger now.ledger
+    (parts was.unseen less more was.ring.items now.ring.items gone (omega (arith, size, joined)) kept.split (λ h. none))
+    (omega (arith, size, joined))
+    kept.depth
+    (c.trace_missing-self-inside.ensures ∙ sym (missing_behind was.pre more gone c.if-unseen-gt0.true))
+    (same_counts _ _ (omega arith) (omega arith) (omega (arith, went)) (omega arith)))
+
+pub returns-else-unseen-gt0-clause-ok : goal.returns-else-unseen-gt0-clause-ok
+returns-else-unseen-gt0-clause-ok c ok =
+    let was = c.self.inside in
+    let now = c.loop.self-inside in
+    let gone = c.loop.invariant.0 in
+    let kept = c.loop.invariant.1 in
+    let more = c.args.n - c.min-seen.result in
+    let went = entries-things more gone in
+    rw (← c.self.view_is)
+    (takes_cancel was.unseen now.unseen more was.depth now.depth c.args.n was.ring.items now.ring.items gone was.pre now.pre was.ledger now.ledger
+    (parts was.unseen now.unseen more was.ring.items now.ring.items gone (omega arith) kept.split (λ h. absurd (omega arith)))
+    (omega arith)
+    kept.depth
+    (kept.pre ∙ sym (given_behind was.pre more gone (omega arith)))
+    (same_counts _ _ (omega arith) (omega arith) (omega (arith, went)) (omega arith)))

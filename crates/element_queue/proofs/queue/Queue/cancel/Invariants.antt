@@ -1,0 +1,19 @@
+use Rattle.std.proofs.Common.{◌≡◌, ◌+◌, ◌%◌, ◌^◌, List, ◌++◌, length}
+use Rattle.etm_types.specs.declared.element.Entry.{Entry}
+use Rattle.element_queue.proofs.Cancelled.{seen_since}
+use Rattle.element_queue.proofs.queue.Queue.cancel.Given as goal
+
+abbrev pub invariant-loop : goal.invariant-loop
+invariant-loop l =
+    let q = l.self-inside in let was = l.initial.self-inside in (gone : List Entry) × record {
+      unseen : q.unseen ≡ was.unseen;
+      depth : q.depth ≡ was.depth;
+      capacity : q.ring.capacity ≡ was.ring.capacity;
+      made : q.ledger.made ≡ was.ledger.made;
+      committed : q.ledger.committed ≡ was.ledger.committed;
+      cancelled : q.ledger.cancelled ≡ (was.ledger.cancelled + l.counter) % 2 ^ 64;
+      lost : q.ledger.lost ≡ was.ledger.lost;
+      split : q.ring.items ++ gone ≡ was.ring.items;
+      count : length gone ≡ l.counter;
+      pre : q.pre ≡ seen_since was.pre gone;
+    }

@@ -1,0 +1,4 @@
+pub mod Counting
+pub mod Pending
+pub mod Queued
+pub mod Resolved

@@ -1,0 +1,63 @@
+-- What contracts see of a queue.
+use Rattle.std.specs.Prelude.{◌≡◌, ◌≤◌, ℕ, Bool, true, None, Some, Option, List, [], ◌∷◌, All, length, Ok, Err, ⊤}
+use Rattle.etm_types.specs.declared.element.Elem.{Elem}
+use Rattle.etm_types.specs.declared.element.Pre.{Pre}
+use Rattle.etm_types.specs.declared.element.Thing.{Thing}
+use Rattle.etm_types.specs.declared.element.Thing.TheVariants.{Seen, Unseen}
+use Rattle.etm_types.specs.declared.queue_fault.QueueFault.{QueueFault}
+use Rattle.element_queue.specs.declared.ledger.Counts.{Counts}
+use Rattle.element_queue.specs.declared.queue.Committed.{Committed}
+use Rattle.element_queue.specs.declared.queue.Committed.TheVariants as committed
+use Rattle.element_queue.specs.declared.queue.PreElem.{PreElem}
+use Rattle.element_queue.specs.declared.queue.PreElem.TheVariants as pre_elem
+use Rattle.element_queue.specs.Counting.{Balances, counts_after, entries, made_by}
+use Rattle.element_queue.specs.Pending.{Gone, Pending, taken}
+
+-- what is held, oldest first, what was given since, the most that may be held, and the counts
+pub record Queued : Type 0 where
+  pub held : List Thing
+  pub pre : Pre
+  pub depth : ℕ
+  pub counts : Counts
+
+-- only P0 elements are held, seen or not
+abbrev pub IsHeld : Thing → Type 0
+IsHeld (Seen entry) = ⊤
+IsHeld Unseen = ⊤
+IsHeld thing = ⊥
+
+-- what holds of every queue
+pub record IsQueued (q : Queued) : Type 0 where
+  pub few : length q.held ≤ q.depth
+  pub things : All IsHeld q.held
+  pub balanced : Balances q.counts (entries q.held)
+
+-- A queue as it stands in the rules. It does not keep whether a trace info came.
+abbrev pub pending_of : Queued → Bool → Pending
+pending_of q informed = record { held = q.held; pre = q.pre; informed = informed }
+
+-- the element is taken: what leaves by it is this, and it is counted
+pub record Takes (q : Queued) (e : Elem) (gone : Gone) (q' : Queued) : Type 0 where
+  pub rule : (informed : Bool) → taken q.depth (pending_of q informed) e ≡ Ok (pending_of q' informed, gone)
+  pub counts : q'.counts ≡ counts_after q.counts (made_by e) gone
+  pub depth : q'.depth ≡ q.depth
+
+-- the element has this fault
+abbrev pub Refuses : Queued → Elem → QueueFault → Type 0
+Refuses q e fault = (informed : Bool) → taken q.depth (pending_of q informed) e ≡ Err fault
+
+-- what an element that is no P0 element gives to the next one
+abbrev pub noted : Pre → PreElem → Pre
+noted pre pre_elem.Info = record pre { flush = true }
+noted pre pre_elem.On = record pre { on = true; addr = None }
+noted pre (pre_elem.Ctx ctx) = record pre { ctx = Some ctx }
+noted pre (pre_elem.Addr addr) = record pre { addr = Some addr }
+
+-- what is committed, as a thing
+abbrev pub thing_of : Committed → Thing
+thing_of (committed.Seen entry) = Seen entry
+thing_of committed.Unseen = Unseen
+
+abbrev pub things_of : Option Committed → List Thing
+things_of None = []
+things_of (Some c) = thing_of c ∷ []

@@ -1,0 +1,23 @@
+//! The P0 elements of a trace that may still be taken back (Arm IHI 0064, "Speculation").
+//!
+//! A [`Queue`] holds them up to the maximum speculation depth, with what came before each, and gives out
+//! the oldest as they are committed. Each one is an [`Uncommitted`], which can't be forgotten: it ends as
+//! committed, cancelled or lost, and a [`Ledger`] counts which.
+//!
+//! The layer above uses the contracts of [`Queue`]: each call is one case of the rules in
+//! `specs/Pending.antt`. What the rules make of a list of elements is in `specs/Resolved.antt`, and the
+//! contracts of the laws say how that goes on from list to list.
+#![tactic(auto)]
+
+mod laws;
+mod ledger;
+mod queue;
+mod uncommitted;
+
+pub use laws::{done_stays_done, elements_are_resolved_one_by_one, no_more_than_the_depth_is_held};
+pub use ledger::{Counts, Ledger};
+pub use queue::{Committed, PreElem, Queue};
+pub use uncommitted::Uncommitted;
+
+#[cfg(test)]
+mod tests;

@@ -1,0 +1,274 @@
+//! The queue of P0 elements that are not committed.
+ghost use Rattle.std.specs.Prelude.{◌≡◌, ◌≤◌, ◌-◌, ◌↔◌, [], length, take, drop, map, replicate, Bool, Ok, Err, IfOk, IsOk, IsErr, IsSome, IsTrue};
+ghost use Rattle.etm_types.specs.Pre.{trace_missing};
+ghost use Rattle.etm_types.specs.declared.element.Elem.TheVariants as elem;
+ghost use Rattle.etm_types.specs.declared.element.Thing.TheVariants.{Seen, Unseen};
+ghost use Rattle.etm_types.specs.declared.queue_fault.QueueFault.{QueueFault};
+ghost use Rattle.element_queue.specs.Counting.{Balances, counts_after, no_counts};
+ghost use Rattle.element_queue.specs.Pending.{cancelling, committing, flip_newest, losing, nothing_gone};
+ghost use Rattle.element_queue.specs.Queued.{IsQueued, Refuses, Takes, noted, things_of};
+
+use crate::ledger::{Counts, Ledger};
+use crate::uncommitted::Uncommitted;
+use etm_types::{Ctx, Entry, P0, Pre, QueueFault};
+use spend_ring::SpendRing;
+use std::alloc::{AllocError, Global};
+use std::marker::Model;
+
+/// An element that gives something to the next P0 element.
+#[derive(Clone, Copy, Debug, PartialEq, Eq)]
+pub enum PreElem {
+    /// Trace info.
+    Info,
+    /// Trace on.
+    On,
+    /// The context of what follows.
+    Ctx(Ctx),
+    /// The address of the next instruction.
+    Addr(u64),
+}
+
+/// A P0 element that is committed.
+#[derive(Clone, Copy, Debug, PartialEq, Eq)]
+pub enum Committed {
+    /// One that was seen, with what was given before it.
+    Seen(Entry),
+    /// One from before the trace that was found, of which nothing else is known.
+    Unseen,
+}
+
+/// The P0 elements that are not committed, oldest first, at most so many as the maximum speculation depth,
+/// and what was given since the newest. It has no drop: `close` ends it.
+///
+/// Those that were not seen are from before all others, so their number is enough.
+#[must_use]
+pub struct Queue {
+    unseen: u32,
+    ring: SpendRing<Uncommitted>,
+    pre: Pre,
+    depth: u32,
+    ledger: Ledger,
+}
+
+impl Model for Queue {
+    ghost use Rattle.std.specs.Prelude.{◌≡◌, ◌≤◌, ◌<◌, ◌+◌, ◌^◌, ◌++◌, length, map, replicate};
+    ghost use Rattle.etm_types.specs.declared.element.Thing.TheVariants.{Seen, Unseen};
+    ghost use Rattle.element_queue.specs.Counting.{Balances};
+    ghost use Rattle.element_queue.specs.Queued.{Queued};
+
+    ghost Value = { Queued };
+
+    ghost view = { λ q. record { held = replicate q.unseen Unseen ++ map Seen q.ring.items; pre = q.pre; depth = q.depth; counts = q.ledger } };
+
+    ghost invariant = { λ q. (q.ring.capacity ≡ q.depth) × (q.unseen + length q.ring.items ≤ q.depth) × (q.depth < 2 ^ 32) × Balances q.ledger (length q.ring.items) };
+}
+
+impl Queue {
+    /// An empty queue of a maximum speculation depth. This is the one call that takes memory, and the error
+    /// means want of it.
+    pub fn new(alloc: Global, depth: u32) -> Result<Queue, AllocError>
+        ensures empty { IfOk result (λ q. q ≡ record { held = []; pre = trace_missing; depth = depth; counts = no_counts }) }
+        ensures queued { IfOk result IsQueued }
+    {
+        let ring = SpendRing::with_capacity(alloc, depth as usize)?;
+        Ok(Queue {
+            unseen: 0,
+            ring,
+            pre: Pre::trace_missing(),
+            depth,
+            ledger: Ledger::new(),
+        })
+    }
+
+    /// What an element gives to the next P0 element.
+    pub fn note(&mut self, elem: PreElem)
+        ensures value { self.new ≡ record (self.old) { pre = noted self.old.pre elem } }
+        ensures queued { IsQueued self.new }
+    {
+        match elem {
+            PreElem::Info => self.pre.flush = true,
+            PreElem::On => {
+                self.pre.on = true;
+                self.pre.addr = None;
+            }
+            PreElem::Ctx(ctx) => self.pre.ctx = Some(ctx),
+            PreElem::Addr(addr) => self.pre.addr = Some(addr),
+        }
+    }
+
+    /// One more P0 element. Where more than the depth would be held, the oldest is committed.
+    pub fn push(&mut self, p0: P0) -> Option<Committed>
+        ensures takes { Takes self.old (elem.P0 p0) (committing (things_of result)) self.new }
+        ensures full { IsSome result ↔ (self.old.depth ≤ length self.old.held) }
+        ensures queued { IsQueued self.new }
+    {
+        let full = self.held() == self.depth;
+        let entry = Uncommitted::new(Entry { pre: self.pre, p0 }, &mut self.ledger);
+        self.pre = Pre::nothing_told();
+        if let Some(oldest) = self.ring.push_back(entry) {
+            return Some(Committed::Seen(oldest.commit(&mut self.ledger)));
+        }
+        if full {
+            self.unseen -= 1;
+            return Some(Committed::Unseen);
+        }
+        None
+    }
+
+    /// Whether so many are held that can be committed.
+    pub fn check_commit(&self, n: u32) -> Result<(), QueueFault>
+        ensures ok { IsOk result ↔ (n ≤ length self.now.held) }
+        ensures fault { (fault : QueueFault) → result ≡ Err fault → Refuses self.now (elem.Commit n) fault }
+    {
+        let held = self.held();
+        if n > held {
+            return Err(QueueFault::CommitOverrun { asked: n, held });
+        }
+        Ok(())
+    }
+
+    /// Commits the oldest.
+    pub fn commit_one(&mut self) -> Option<Committed>
+        ensures oldest { things_of result ≡ take 1 self.old.held }
+        ensures rest { self.new ≡ record (self.old) { held = drop 1 self.old.held; counts = counts_after self.old.counts 0 (committing (things_of result)) } }
+        ensures queued { IsQueued self.new }
+    {
+        if self.unseen > 0 {
+            self.unseen -= 1;
+            return Some(Committed::Unseen);
+        }
+        match self.ring.pop_front() {
+            None => None,
+            Some(oldest) => Some(Committed::Seen(oldest.commit(&mut self.ledger))),
+        }
+    }
+
+    /// Takes the `n` newest back, and what was given since the oldest of them.
+    pub fn cancel(&mut self, n: u32) -> Result<(), QueueFault>
+        ensures ok { IsOk result → Takes self.old (elem.Cancel n) (cancelling (drop (length self.old.held - n) self.old.held)) self.new }
+        ensures fault { (fault : QueueFault) → result ≡ Err fault → Refuses self.old (elem.Cancel n) fault }
+        ensures unchanged { IsErr result → self.new ≡ self.old }
+        ensures queued { IsQueued self.new }
+    {
+        let held = self.held();
+        if n > held {
+            return Err(QueueFault::CancelOverrun { asked: n, held });
+        }
+        let seen = (n as usize).min(self.ring.len());
+        for _ in 0..seen {
+            if let Some(newest) = self.ring.pop_back() {
+                self.pre = newest.cancel(&mut self.ledger);
+            }
+        }
+        let unseen = n - seen as u32;
+        if unseen > 0 {
+            self.unseen -= unseen;
+            self.pre = Pre::trace_missing();
+        }
+        Ok(())
+    }
+
+    /// A mispredict: the newest, an atom, is the other one, and no address is given any more. Of one that was
+    /// not seen nothing is known, so trace is missing behind it.
+    pub fn flip(&mut self) -> Result<(), QueueFault>
+        ensures ok { IsOk result → Takes self.old elem.Flip nothing_gone self.new }
+        ensures fault { (fault : QueueFault) → result ≡ Err fault → Refuses self.old elem.Flip fault }
+        ensures unchanged { IsErr result → self.new ≡ self.old }
+        ensures queued { IsQueued self.new }
+    {
+        if self.ring.len() == 0 && self.unseen > 0 {
+            self.pre.addr = None;
+            self.pre.lost = true;
+            return Ok(());
+        }
+        if !newest_is_atom(&self.ring) {
+            return Err(QueueFault::NoAtomToFlip { held: self.held() });
+        }
+        if let Some(newest) = self.ring.get_mut(self.ring.len() - 1) {
+            newest.flip();
+        }
+        self.pre.addr = None;
+        Ok(())
+    }
+
+    /// Holds P0 elements from before the trace that was found, of which nothing else is known. Nothing is held
+    /// yet.
+    pub fn start(&mut self, spec: u32) -> Result<(), QueueFault>
+        requires { self.old.held ≡ [] }
+        ensures within { IsOk result ↔ (spec ≤ self.old.depth) }
+        ensures ok { IsOk result → self.new ≡ record (self.old) { held = replicate spec Unseen } }
+        ensures fault { (fault : QueueFault) → result ≡ Err fault → fault ≡ QueueFault.SpecTooDeep spec self.old.depth }
+        ensures unchanged { IsErr result → self.new ≡ self.old }
+        ensures queued { IsQueued self.new }
+    {
+        if spec > self.depth {
+            return Err(QueueFault::SpecTooDeep {
+                spec,
+                depth: self.depth,
+            });
+        }
+        self.unseen = spec;
+        Ok(())
+    }
+
+    /// Trace is missing: all that is held is lost.
+    pub fn discard(&mut self)
+        ensures value { self.new
+            ≡ record (self.old) { held = []; pre = trace_missing; counts = counts_after self.old.counts 0 (losing self.old.held) } }
+        ensures queued { IsQueued self.new }
+    {
+        while let Some(oldest) = self.ring.pop_front() {
+            oldest.lose(&mut self.ledger);
+        }
+        self.unseen = 0;
+        self.pre = Pre::trace_missing();
+    }
+
+    /// How many are held, those that were not seen too.
+    pub fn held(&self) -> u32
+        ensures value { result ≡ length self.now.held }
+        ensures within { result ≤ self.now.depth }
+    {
+        self.unseen + self.ring.len() as u32
+    }
+
+    /// What became of the P0 elements so far.
+    pub fn ledger(&self) -> Counts
+        ensures value { result ≡ self.now.counts }
+        ensures queued { IsQueued self.now }
+    {
+        self.ledger.counts()
+    }
+
+    /// Ends the queue. What is held is lost.
+    pub fn close(self) -> Ledger
+        ensures value { result ≡ counts_after self.counts 0 (losing self.held) }
+        ensures balanced { Balances result 0 }
+    {
+        let mut queue = self;
+        queue.discard();
+        let Queue {
+            unseen: _,
+            ring,
+            pre: _,
+            depth: _,
+            ledger,
+        } = queue;
+        ring.close();
+        ledger
+    }
+}
+
+/// Whether the newest is an atom.
+fn newest_is_atom(ring: &SpendRing<Uncommitted>) -> bool
+    ensures { IsTrue result ↔ IsSome (flip_newest (map Seen ring.now.items)) }
+{
+    let seen = ring.len();
+    if seen == 0 {
+        return false;
+    }
+    match ring.get(seen - 1) {
+        None => false,
+        Some(newest) => matches!(newest.entry().p0, P0::Atom(_)),
+    }
+}
