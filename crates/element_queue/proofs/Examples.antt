@@ -1,5 +1,5 @@
--- The rules at small states, worked out by hand, each with a near miss.
-use Rattle.std.proofs.Common.{◌≡◌, true, false, List, [], ◌∷◌, length, Some, None, Ok, Err, ap, refl}
+-- The rules at small states, each with near misses.
+use Rattle.std.proofs.Common.{◌≡◌, ℕ, true, false, List, [], ◌∷◌, length, Some, None, Result, Ok, Err, ap, refl}
 use Rattle.std.specs.Prelude.{Bool, slice_get, ◌==◌}
 use Rattle.std.specs.Option.{option_map}
 use Rattle.etm_types.specs.Pre.{nothing_told, trace_missing}
@@ -11,11 +11,12 @@ use Rattle.etm_types.specs.declared.element.P0.TheVariants.{Atom, Exc}
 use Rattle.etm_types.specs.declared.element.Pre.{Pre}
 use Rattle.etm_types.specs.declared.element.Thing.{Thing}
 use Rattle.etm_types.specs.declared.element.Thing.TheVariants.{Seen, Unseen, Gap, Stop}
+use Rattle.etm_types.specs.declared.queue_fault.QueueFault.{QueueFault}
 use Rattle.etm_types.specs.declared.queue_fault.QueueFault.TheVariants.{CommitOverrun, CancelOverrun, NoAtomToFlip, SpecTooDeep}
 use Rattle.element_queue.specs.declared.ledger.Counts.{Counts}
 use Rattle.element_queue.specs.Counting.{no_counts, tally}
 use Rattle.element_queue.specs.Pending.{Pending, Taken, taken, nothing_gone, committing, cancelling}
-use Rattle.element_queue.specs.Resolved.{at_first, unresolved, resolve_all}
+use Rattle.element_queue.specs.Resolved.{Resolved, at_first, unresolved, resolve_all}
 
 -- what an outcome without a fault gives, keeps and commits
 abbrev given : Taken → Pre
@@ -29,6 +30,10 @@ kept (Err fault) = []
 abbrev committed : Taken → List Thing
 committed (Ok t) = (t.1).committed
 committed (Err fault) = []
+
+abbrev length_done : Result Resolved QueueFault → ℕ
+length_done (Ok r) = length r.done
+length_done (Err fault) = 0
 
 -- whether an atom is E
 abbrev e_atom : P0 → Bool
@@ -94,7 +99,7 @@ pub first_info_of_the_depth : taken 2 at_first (elem.Info 2)
 first_info_of_the_depth = refl
 
 pub first_info_of_the_depth_is_no_fault : taken 2 at_first (elem.Info 2) ≡ Err (SpecTooDeep 2 2) → ⊥
-first_info_of_the_depth_is_no_fault = λ e. let a = e in cc
+first_info_of_the_depth_is_no_fault = λ e. cc
 
 pub first_info_too_deep : taken 4 at_first (elem.Info 5) ≡ Err (SpecTooDeep 5 4)
 first_info_too_deep = refl
@@ -182,7 +187,7 @@ pub commit_all : taken 4 full (elem.Commit 3) ≡ Ok (record { held = []; pre = 
 commit_all = refl
 
 pub all_can_be_committed : taken 4 full (elem.Commit 3) ≡ Err (CommitOverrun 3 3) → ⊥
-all_can_be_committed = λ e. let a = e in cc
+all_can_be_committed = λ e. cc
 
 pub commit_too_many : taken 4 full (elem.Commit 4) ≡ Err (CommitOverrun 4 3)
 commit_too_many = refl
@@ -228,7 +233,14 @@ trace_is_missing_before_an_unseen_one = λ e. let a = ap (λ (pre : Pre). pre.lo
 -- ---- mispredicts
 
 pub flip_atom : taken 4 full elem.Flip
-    ≡ Ok (record { held = first ∷ second ∷ seen (record nothing_told { addr = Some 0x3000 }) (Atom true) ∷ []; pre = record since { addr = None }; informed = true }, nothing_gone)
+    ≡ Ok (
+      record {
+        held = first ∷ second ∷ seen (record nothing_told { addr = Some 0x3000 }) (Atom true) ∷ [];
+        pre = record since { addr = None };
+        informed = true;
+      },
+      nothing_gone,
+    )
 flip_atom = refl
 
 pub the_oldest_is_not_flipped : kept (taken 4 full elem.Flip) ≡ seen begun (Atom false) ∷ second ∷ third ∷ [] → ⊥
@@ -241,7 +253,7 @@ pub flip_exception : taken 4 two elem.Flip ≡ Err (NoAtomToFlip 2)
 flip_exception = refl
 
 pub an_exception_is_no_atom : taken 4 two elem.Flip ≡ Ok (two, nothing_gone) → ⊥
-an_exception_is_no_atom = λ e. let a = e in cc
+an_exception_is_no_atom = λ e. cc
 
 pub flip_none : taken 4 empty elem.Flip ≡ Err (NoAtomToFlip 0)
 flip_none = refl
@@ -260,7 +272,7 @@ pub overflow : taken 4 behind elem.Overflow
 overflow = refl
 
 pub an_overflow_is_no_stop : committed (taken 4 behind elem.Overflow) ≡ Stop ∷ [] → ⊥
-an_overflow_is_no_stop = λ e. let a = e in cc
+an_overflow_is_no_stop = λ e. cc
 
 pub trace_is_missing_behind_an_overflow : given (taken 4 behind elem.Overflow) ≡ nothing_told → ⊥
 trace_is_missing_behind_an_overflow = λ e. let a = ap (λ (pre : Pre). pre.lost) e in cc
@@ -277,14 +289,24 @@ nothing_is_held_behind_a_discard = λ e. let a = ap length e in cc
 -- at depth 2
 abbrev elements : List Elem
 elements =
-    elem.Info 1 ∷ elem.On ∷ elem.Ctx handler ∷ elem.Addr 0x1000 ∷ elem.P0 (Atom true) ∷ elem.P0 (Exc 1 0x2000) ∷ elem.Addr 0x3000 ∷ elem.P0 (Atom false) ∷ elem.Flip
-    ∷ elem.Commit 1 ∷ elem.P0 (Atom true) ∷ elem.Cancel 2 ∷ elem.P0 (Atom false) ∷ elem.Overflow ∷ elem.Info 1 ∷ elem.P0 (Atom true) ∷ elem.P0 (Atom false) ∷ elem.P0 (Atom true) ∷ []
+    elem.Info 1 ∷ elem.On ∷ elem.Ctx handler ∷ elem.Addr 0x1000 ∷ elem.P0 (Atom true)
+    ∷ elem.P0 (Exc 1 0x2000) ∷ elem.Addr 0x3000 ∷ elem.P0 (Atom false) ∷ elem.Flip
+    ∷ elem.Commit 1 ∷ elem.P0 (Atom true) ∷ elem.Cancel 2 ∷ elem.P0 (Atom false) ∷ elem.Overflow
+    ∷ elem.Info 1 ∷ elem.P0 (Atom true) ∷ elem.P0 (Atom false) ∷ elem.P0 (Atom true) ∷ []
 
 abbrev done : List Thing
-done = Unseen ∷ seen (record trace_missing { flush = true; on = true; ctx = Some handler; addr = Some 0x1000 }) (Atom true) ∷ second ∷ Gap ∷ seen (record trace_missing { flush = true }) (Atom true) ∷ []
+done =
+    Unseen ∷ seen (record trace_missing { flush = true; on = true; ctx = Some handler; addr = Some 0x1000 }) (Atom true)
+    ∷ second ∷ Gap ∷ seen (record trace_missing { flush = true }) (Atom true) ∷ []
 
-pub a_list : resolve_all 2 unresolved elements ≡ Ok (record { done = done; pending = record { held = seen nothing_told (Atom false) ∷ seen nothing_told (Atom true) ∷ []; pre = nothing_told; informed = true } })
+abbrev left : Pending
+left = record { held = seen nothing_told (Atom false) ∷ seen nothing_told (Atom true) ∷ []; pre = nothing_told; informed = true }
+
+pub a_list : resolve_all 2 unresolved elements ≡ Ok (record { done = done; pending = left })
 a_list = refl
+
+pub a_list_has_its_gap : length_done (resolve_all 2 unresolved elements) ≡ 4 → ⊥
+a_list_has_its_gap = λ e. cc
 
 pub a_count : tally 2 at_first no_counts elements ≡ record { made = 8; committed = 3; cancelled = 2; lost = 1 }
 a_count = refl
@@ -297,5 +319,10 @@ unseen_ones_are_not_counted = λ e. let a = ap (λ (c : Counts). c.committed) e 
 pub a_fault : resolve_all 2 unresolved (elem.Info 1 ∷ elem.P0 (Atom true) ∷ elem.Commit 3 ∷ elem.P0 (Atom true) ∷ []) ≡ Err (CommitOverrun 3 2)
 a_fault = refl
 
-pub counted_up_to_a_fault : tally 2 at_first no_counts (elem.Info 1 ∷ elem.P0 (Atom true) ∷ elem.Commit 3 ∷ elem.P0 (Atom true) ∷ []) ≡ record { made = 1; committed = 0; cancelled = 0; lost = 0 }
+pub counted_up_to_a_fault : tally 2 at_first no_counts (elem.Info 1 ∷ elem.P0 (Atom true) ∷ elem.Commit 3 ∷ elem.P0 (Atom true) ∷ [])
+    ≡ record { made = 1; committed = 0; cancelled = 0; lost = 0 }
 counted_up_to_a_fault = refl
+
+pub nothing_is_counted_behind_a_fault : tally 2 at_first no_counts (elem.Info 1 ∷ elem.P0 (Atom true) ∷ elem.Commit 3 ∷ elem.P0 (Atom true) ∷ [])
+    ≡ record { made = 2; committed = 0; cancelled = 0; lost = 0 } → ⊥
+nothing_is_counted_behind_a_fault = λ e. let a = ap (λ (c : Counts). c.made) e in cc
