@@ -88,8 +88,11 @@ impl Queue {
         match elem {
             PreElem::Info => self.pre.flush = true,
             PreElem::On => {
-                self.pre.on = true;
-                self.pre.addr = None;
+                self.pre = Pre {
+                    on: true,
+                    addr: None,
+                    ..self.pre
+                }
             }
             PreElem::Ctx(ctx) => self.pre.ctx = Some(ctx),
             PreElem::Addr(addr) => self.pre.addr = Some(addr),
@@ -177,8 +180,11 @@ impl Queue {
         ensures queued { IsQueued self.new }
     {
         if self.ring.len() == 0 && self.unseen > 0 {
-            self.pre.addr = None;
-            self.pre.lost = true;
+            self.pre = Pre {
+                addr: None,
+                lost: true,
+                ..self.pre
+            };
             return Ok(());
         }
         if !newest_is_atom(&self.ring) {
