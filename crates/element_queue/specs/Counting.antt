@@ -1,5 +1,5 @@
 -- How many P0 elements were made, and what became of them: four counts, each modulo 2^64.
-use Rattle.std.specs.Prelude.{◌≡◌, ℕ, suc, ◌+◌, ◌%◌, ◌^◌, List, [], ◌∷◌, Ok, Err}
+use Rattle.std.specs.Prelude.{◌≡◌, ℕ, suc, ◌+◌, ◌%◌, ◌^◌, ◌<◌, List, [], ◌∷◌, Ok, Err}
 use Rattle.etm_types.specs.declared.element.Elem.{Elem}
 use Rattle.etm_types.specs.declared.element.Elem.TheVariants as elem
 use Rattle.etm_types.specs.declared.element.Thing.{Thing}
@@ -9,6 +9,13 @@ use Rattle.element_queue.specs.Pending.{Pending, Gone, Taken, taken}
 
 abbrev pub no_counts : Counts
 no_counts = record { made = 0; committed = 0; cancelled = 0; lost = 0 }
+
+-- counts as they are kept: each modulo 2^64
+pub record AreCounts (c : Counts) : Type 0 where
+  pub made : c.made < 2 ^ 64
+  pub committed : c.committed < 2 ^ 64
+  pub cancelled : c.cancelled < 2 ^ 64
+  pub lost : c.lost < 2 ^ 64
 
 -- how many of the things are P0 elements that were seen; others are in no count
 abbrev pub entries : List Thing → ℕ

@@ -4,7 +4,7 @@ ghost use Rattle.etm_types.specs.Pre.{trace_missing};
 ghost use Rattle.etm_types.specs.declared.element.Elem.TheVariants as elem;
 ghost use Rattle.etm_types.specs.declared.element.Thing.TheVariants.{Seen, Unseen};
 ghost use Rattle.etm_types.specs.declared.queue_fault.QueueFault.{QueueFault};
-ghost use Rattle.element_queue.specs.Counting.{Balances, counts_after, no_counts};
+ghost use Rattle.element_queue.specs.Counting.{AreCounts, Balances, counts_after, no_counts};
 ghost use Rattle.element_queue.specs.Pending.{cancelling, committing, flip_newest, losing, nothing_gone};
 ghost use Rattle.element_queue.specs.Queued.{IsQueued, Refuses, Takes, noted, things_of};
 
@@ -84,6 +84,7 @@ impl Queue {
     pub fn note(&mut self, elem: PreElem)
         ensures value { self.new ≡ record (self.old) { pre = noted self.old.pre elem } }
         ensures queued { IsQueued self.new }
+        ensures counted { AreCounts self.old.counts }
     {
         match elem {
             PreElem::Info => self.pre.flush = true,
@@ -104,6 +105,7 @@ impl Queue {
         ensures takes { Takes self.old (elem.P0 p0) (committing (things_of result)) self.new }
         ensures full { IsSome result ↔ (self.old.depth ≤ length self.old.held) }
         ensures queued { IsQueued self.new }
+        ensures counted { AreCounts self.old.counts }
     {
         let full = self.held() == self.depth;
         let entry = Uncommitted::new(Entry { pre: self.pre, p0 }, &mut self.ledger);
@@ -135,6 +137,7 @@ impl Queue {
         ensures oldest { things_of result ≡ take 1 self.old.held }
         ensures rest { self.new ≡ record (self.old) { held = drop 1 self.old.held; counts = counts_after self.old.counts 0 (committing (things_of result)) } }
         ensures queued { IsQueued self.new }
+        ensures counted { AreCounts self.old.counts }
     {
         if self.unseen > 0 {
             self.unseen -= 1;
@@ -152,6 +155,7 @@ impl Queue {
         ensures fault { (fault : QueueFault) → result ≡ Err fault → Refuses self.old (elem.Cancel n) fault }
         ensures unchanged { IsErr result → self.new ≡ self.old }
         ensures queued { IsQueued self.new }
+        ensures counted { AreCounts self.old.counts }
     {
         let held = self.held();
         if n > held {
@@ -178,6 +182,7 @@ impl Queue {
         ensures fault { (fault : QueueFault) → result ≡ Err fault → Refuses self.old elem.Flip fault }
         ensures unchanged { IsErr result → self.new ≡ self.old }
         ensures queued { IsQueued self.new }
+        ensures counted { AreCounts self.old.counts }
     {
         if self.ring.len() == 0 && self.unseen > 0 {
             self.pre = Pre {
@@ -206,6 +211,7 @@ impl Queue {
         ensures fault { (fault : QueueFault) → result ≡ Err fault → fault ≡ QueueFault.SpecTooDeep spec self.old.depth }
         ensures unchanged { IsErr result → self.new ≡ self.old }
         ensures queued { IsQueued self.new }
+        ensures counted { AreCounts self.old.counts }
     {
         if spec > self.depth {
             return Err(QueueFault::SpecTooDeep {
@@ -222,6 +228,7 @@ impl Queue {
         ensures value { self.new
             ≡ record (self.old) { held = []; pre = trace_missing; counts = counts_after self.old.counts 0 (losing self.old.held) } }
         ensures queued { IsQueued self.new }
+        ensures counted { AreCounts self.old.counts }
     {
         while let Some(oldest) = self.ring.pop_front() {
             oldest.lose(&mut self.ledger);
@@ -242,6 +249,7 @@ impl Queue {
     pub fn ledger(&self) -> Counts
         ensures value { result ≡ self.now.counts }
         ensures queued { IsQueued self.now }
+        ensures counted { AreCounts self.now.counts }
     {
         self.ledger.counts()
     }
@@ -250,6 +258,7 @@ impl Queue {
     pub fn close(self) -> Ledger
         ensures value { result ≡ counts_after self.counts 0 (losing self.held) }
         ensures balanced { Balances result 0 }
+        ensures counted { AreCounts self.counts }
     {
         let mut queue = self;
         queue.discard();
