@@ -13,6 +13,7 @@ use Rattle.packet_grammar.specs.declared.stream_fault.Fault.TheVariants.{Queue, 
 use Rattle.path_elements.specs.Held.{IsElem}
 use Rattle.path_elements.specs.Running.{Step, Outcome, walked, TakesSo, Takes, Runs}
 use Rattle.path_elements.specs.Standing.{ArePlacedElems, IsAlignedPending, IsPlace}
+use Rattle.path_elements.proofs.InRange.{IsElemThere}
 use Rattle.path_elements.proofs.Places.{IsAlignedTaken, taken_aligned}
 use Rattle.path_walker.specs.State.{State, IsState}
 use Rattle.path_walker.specs.Things.{Gives, Walks, IsAlignedThing}
@@ -61,9 +62,6 @@ same_walking a b e = cc
 
 pub walking_or_halting : (s : State) (f : WalkFault) → walking s ≡ halting f → ⊥
 walking_or_halting s f e = cc
-
-abbrev pub IsElemThere : ℕ × Elem → Type 0
-IsElemThere e = IsElem e.1
 
 -- an element goes on or halts
 pub step_cases : (s : Step) → ((n : Pending × State) × (s ≡ Ok n)) ⊎ ((f : Fault) × (s ≡ Err f))

@@ -4,3 +4,4 @@ pub mod Laws
 pub mod Path
 pub mod Running
 pub mod Standing
+pub mod PathLaws
