@@ -9,3 +9,4 @@ pub mod OnePath
 pub mod Joined
 pub mod BytePaths
 pub mod Examples
+pub mod PathExamples

@@ -111,18 +111,14 @@ commits_aligned p pre all n told are =
 cancels_aligned : (p : Pending) (n : ℕ) → IsAlignedPending p → IsAlignedTaken (cancels p n)
 cancels_aligned p n is =
     let left = length p.held - n in
-    record {
-      pending = record { told = pre_aligned (drop left p.held) (All-drop IsAlignedThing left p.held is.held); held = All-take IsAlignedThing left p.held is.held };
-      committed = none_aligned;
-    }
+    let told = pre_aligned (drop left p.held) (All-drop IsAlignedThing left p.held is.held) in
+    record { pending = record { told = told; held = All-take IsAlignedThing left p.held is.held }; committed = none_aligned }
 
 informs_aligned : (depth : ℕ) (p : Pending) (spec : ℕ) → IsAlignedPending p → IsAlignedTaken (informs depth p spec)
 informs_aligned depth p spec is =
+    let held = All-append IsAlignedThing p.held (replicate spec Unseen) is.held (All-replicate IsAlignedThing spec Unseen tt) in
     chosen p.informed _ _ (tells_aligned p _ is is.told) (chosen (nat_le spec depth) _ _
-    (record {
-      pending = record { told = is.told; held = All-append IsAlignedThing p.held (replicate spec Unseen) is.held (All-replicate IsAlignedThing spec Unseen tt) };
-      committed = none_aligned;
-    }) tt)
+    (record { pending = record { told = is.told; held = held }; committed = none_aligned }) tt)
 
 pub taken_aligned : (depth : ℕ) (p : Pending) (e : Elem) → IsAlignedPending p → IsElem e → IsAlignedTaken (taken depth p e)
 taken_aligned depth p (elem.Info spec) is fits = informs_aligned depth p spec is
