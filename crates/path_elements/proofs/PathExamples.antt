@@ -20,12 +20,15 @@ use Rattle.etm_types.specs.declared.item.Item.TheVariants as item
 use Rattle.etm_types.specs.declared.queue_fault.QueueFault.TheVariants.{NoAtomToFlip}
 use Rattle.etm_types.specs.declared.walk_fault.WalkFault.TheVariants.{BadAtom}
 use Rattle.etm_types.specs.declared.walked.Walked.{Walked}
-use Rattle.packet_grammar.specs.Parsed.{clean, SyncAt, IsStream}
+use Rattle.packet_grammar.specs.Parsed.{no_sync, clean, cut, fault as fault_at, SyncAt, IsStream}
 use Rattle.packet_grammar.specs.declared.end.End.{End}
 use Rattle.packet_grammar.specs.declared.end.End.TheVariants as end
 use Rattle.packet_grammar.specs.declared.packet.Packet.{Packet}
 use Rattle.packet_grammar.specs.declared.packet.Packet.TheVariants as packet
-use Rattle.packet_grammar.specs.declared.stream_fault.Fault.TheVariants.{Queue, Walk}
+use Rattle.packet_grammar.specs.declared.stream_fault.Fault.TheVariants.{AddressAwaited, Queue, Walk}
+use Rattle.packet_grammar.specs.declared.stream_fault.Fault.TheVariants as reason
+use Rattle.packet_grammar.specs.declared.fault.PacketFault.TheVariants.{BrokenSync}
+use Rattle.packet_grammar.specs.Ends.{end_of, is_fault}
 use Rattle.packet_grammar.proofs.PacketExamples.{address_64_context, atoms_en, info_mode}
 use Rattle.path_elements.specs.Elements.{all_elements, untold}
 use Rattle.path_elements.specs.Path.{end_behind, IsPathOfPackets, IsPathTaking}
@@ -318,6 +321,35 @@ told_there other = absurd (omega (arith, ap offset_of (only 1 no_atom_left none_
   offset_of : End → ℕ
   offset_of (end.Fault at fault) = at
   offset_of last = 0
+
+-- ---- a packet that may not come: an atom between an exception and its address is not taken, and the path ends there
+
+abbrev awaited : List (ℕ × Packet)
+awaited = head ++ (26, e_atom) ∷ (27, packet.Exc 14) ∷ (29, e_atom) ∷ []
+
+abbrev one_done : Resolved
+one_done = record { done = Seen (atom begin true) ∷ []; pending = record { held = []; pre = nothing_told; informed = true } }
+
+pub ends_awaited : IsPathOfPackets code 0 awaited clean first_block (end.Fault 29 AddressAwaited) (told ++ (26, e) ∷ [])
+ends_awaited = inl (record { resolved = one_done; after = at 0x100c; commits = refl; walks = one_block }, refl, refl)
+
+pub none_taken_there : IsPathOfPackets code 0 awaited clean both_blocks (end.Fault 29 AddressAwaited) (told ++ (26, e) ∷ (29, e) ∷ []) → ⊥
+none_taken_there other = absurd (omega (arith, ap length (only 0 awaited ends_awaited other).2))
+
+pub not_passed_over : IsPathOfPackets code 0 awaited clean first_block end.Clean (told ++ (26, e) ∷ []) → ⊥
+not_passed_over other = absurd (let same = (only 0 awaited ends_awaited other).1 in cc)
+
+-- ---- how streams end, and which ends are faults
+
+pub ends : (end_of no_sync ≡ end.NoSync) × (end_of clean ≡ end.Clean) × (end_of (cut 2) ≡ end.Cut 2)
+    × (end_of (fault_at 14 BrokenSync) ≡ end.Fault 14 (reason.Packet BrokenSync))
+ends = (refl, refl, refl, refl)
+
+pub faults : (is_fault end.NoSync ≡ false) × (is_fault end.Clean ≡ false) × (is_fault (end.Cut 2) ≡ false) × (is_fault (end.Fault 0 AddressAwaited) ≡ true)
+faults = (refl, refl, refl, refl)
+
+pub no_fault_of_a_cut : is_fault (end_of (cut 2)) ≡ true → ⊥
+no_fault_of_a_cut same = absurd cc
 
 -- ---- from bytes on: E and N in one packet at depth 1, where the N commits the E
 
