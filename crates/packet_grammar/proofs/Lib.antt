@@ -9,6 +9,7 @@ pub mod Inverse
 pub mod AllLaws
 pub mod Streams
 pub mod GoesOn
+pub mod Longer
 pub mod Examples
 pub mod PacketExamples
 pub mod FaultExamples

@@ -17,26 +17,26 @@ use Rattle.packet_grammar.specs.Parsed.{Spells, Begins, Ending, no_sync, clean, 
 use Rattle.packet_grammar.specs.Laws.{EachIsAStream, OneStream, StartsWithSync, Stream}
 use Rattle.packet_grammar.proofs.AllLaws.{some_byte, spells_apart, spells_covers, not_both}
 
-packet_or_fault : (p : Packet) (f : PacketFault) → ◌≡◌ {A = Outcome Packet} (Ok p) (Err f) → ⊥
+pub packet_or_fault : (p : Packet) (f : PacketFault) → ◌≡◌ {A = Outcome Packet} (Ok p) (Err f) → ⊥
 packet_or_fault p f e = absurd cc
 
-same_packet : (p q : Packet) → ◌≡◌ {A = Outcome Packet} (Ok p) (Ok q) → p ≡ q
+pub same_packet : (p q : Packet) → ◌≡◌ {A = Outcome Packet} (Ok p) (Ok q) → p ≡ q
 same_packet p q e = cc
 
 same_fault : (f g : PacketFault) → ◌≡◌ {A = Outcome Packet} (Err f) (Err g) → f ≡ g
 same_fault f g e = cc
 
-same_pair : (p q : ℕ × Packet) → p.0 ≡ q.0 → p.1 ≡ q.1 → p ≡ q
+pub same_pair : (p q : ℕ × Packet) → p.0 ≡ q.0 → p.1 ≡ q.1 → p ≡ q
 same_pair (a, p) (b, q) e f = λ i. (e i, f i)
 
 module _ (s : Sizes) (are : AreSettings s) where
   -- nothing is no packet
-  nothing_whole : (bytes text rest : List ℕ) (outcome : Outcome Packet) → bytes ≡ [] → bytes ≡ text ++ rest → Spells s outcome text → ⊥
+  pub nothing_whole : (bytes text rest : List ℕ) (outcome : Outcome Packet) → bytes ≡ [] → bytes ≡ text ++ rest → Spells s outcome text → ⊥
   nothing_whole bytes text rest outcome none parts is =
       absurd (omega (arith, ap length none, ap length parts, length-append text rest, some_byte s outcome text is))
 
   -- bytes that begin a spelling have none at their front
-  only_begun : (bytes text rest : List ℕ) (outcome : Outcome Packet) → Begins s bytes → bytes ≡ text ++ rest → Spells s outcome text → ⊥
+  pub only_begun : (bytes text rest : List ℕ) (outcome : Outcome Packet) → Begins s bytes → bytes ≡ text ++ rest → Spells s outcome text → ⊥
   only_begun bytes text rest outcome begun parts is = not_both s are bytes begun
       (record { outcome = outcome; text = text; rest = rest; parts = parts; spells = is })
 
@@ -139,7 +139,7 @@ hunt : (bytes : List ℕ) → Hunted bytes
 hunt [] = inr none_in
 hunt (b ∷ bytes) = hunt_on b bytes (starts_with nat_eq (b ∷ bytes) sync) refl (hunt bytes)
 
-one_first : (at other : ℕ) (bytes : List ℕ) → FirstSync at bytes → FirstSync other bytes → at ≡ other
+pub one_first : (at other : ℕ) (bytes : List ℕ) → FirstSync at bytes → FirstSync other bytes → at ≡ other
 one_first at other bytes first second = elim (cases_lt at other) [
   | inl earlier ↦ absurd (second.none_before at earlier first.here)
   | inr later ↦ elim (cases_lt other at) [

@@ -85,6 +85,18 @@ FaultStays =
     (s : Sizes) (bytes more : List ℕ) (packets : List (ℕ × Packet)) (at : ℕ) (f : PacketFault)
     → IsStream s bytes packets (fault at f) → IsStream s (bytes ++ more) packets (fault at f)
 
+-- the packets of a longer stream begin with those of its front
+abbrev pub BeginsAlike : Type 0
+BeginsAlike =
+    (s : Sizes) → AreSettings s → (bytes more : List ℕ) (packets others : List (ℕ × Packet)) (ending other : Ending)
+    → IsStream s bytes packets ending → IsStream s (bytes ++ more) others other → (rest : List (ℕ × Packet)) × (others ≡ packets ++ rest)
+
+-- and where a fault ends the front, it has no packet more and ends with the same fault
+abbrev pub FaultEndsBoth : Type 0
+FaultEndsBoth =
+    (s : Sizes) → AreSettings s → (bytes more : List ℕ) (packets others : List (ℕ × Packet)) (at : ℕ) (f : PacketFault) (other : Ending)
+    → IsStream s bytes packets (fault at f) → IsStream s (bytes ++ more) others other → (others ≡ packets) × (other ≡ fault at f)
+
 -- the values of a packet that bytes spell are in their ranges
 abbrev pub ValuesFit : Type 0
 ValuesFit = (s : Sizes) (packet : Packet) (bytes : List ℕ) → All (λ b. b < 256) bytes → SpellsPacket s packet bytes → IsPacket s packet

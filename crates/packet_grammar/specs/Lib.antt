@@ -8,3 +8,4 @@ pub mod Faults
 pub mod Ranges
 pub mod Parsed
 pub mod Laws
+pub mod Ends

@@ -1,5 +1,6 @@
 //! What holds of the spellings as a whole, under any settings (Arm IHI 0064, "Descriptions of Trace Packets").
-ghost use Rattle.packet_grammar.specs.Laws.{AtMost, EachIsAStream, FaultStays, GoesOnByAFault, GoesOnByAPacket, NoneBeginsAnother, NotBoth, OneOutcome};
+ghost use Rattle.packet_grammar.specs.Laws.{AtMost, BeginsAlike, EachIsAStream, FaultEndsBoth, FaultStays, GoesOnByAFault, GoesOnByAPacket};
+ghost use Rattle.packet_grammar.specs.Laws.{NoneBeginsAnother, NotBoth, OneOutcome};
 ghost use Rattle.packet_grammar.specs.Laws.{OneStream, SpelledOrBegun, StartsWithSync, ValuesFit, longest_packet};
 
 /// A reader that goes from left to right knows a spelling by its last byte, and what it spells.
@@ -32,6 +33,13 @@ pub fn a_stream_goes_on_by_one_spelling()
     ensures packet { GoesOnByAPacket }
     ensures fault { GoesOnByAFault }
     ensures stays { FaultStays }
+{}
+
+/// A stream and a longer one that begins with its bytes have the same packets as far as the shorter one
+/// goes; a fault of the shorter one ends both.
+pub fn a_longer_stream_begins_alike()
+    ensures packets { BeginsAlike }
+    ensures fault { FaultEndsBoth }
 {}
 
 /// A reader can keep the values of a packet in the fields that a packet has.

@@ -1,23 +1,26 @@
 //! The packets of an ETMv4 trace and their spellings (Arm IHI 0064, "Descriptions of Trace Packets").
 //!
-//! There is no code here. The crate has the types of packets, of the faults that bytes can show, and of
-//! all faults of a stream, [`Fault`]. Its definitions say which bytes spell which packet, which show which
-//! fault, and how a stream parses.
+//! There is no code here. The crate has the types of packets, of the faults that bytes can show, of all
+//! faults of a stream, [`Fault`], and of how a stream ends, [`End`]. Its definitions say which bytes
+//! spell which packet, which show which fault, and how a stream parses.
 //! A reader and a writer of packets promise what they do in these terms. The laws that both build on
 //! are the contracts of [`spellings_are_told_apart`], [`bytes_spell_or_begin`],
-//! [`spellings_are_short`], [`spelled_values_are_in_range`], [`a_stream_parses_in_one_way`] and
-//! [`a_stream_goes_on_by_one_spelling`].
+//! [`spellings_are_short`], [`spelled_values_are_in_range`], [`a_stream_parses_in_one_way`],
+//! [`a_stream_goes_on_by_one_spelling`] and [`a_longer_stream_begins_alike`].
 #![tactic(auto)]
 
+mod end;
 mod fault;
 mod laws;
 mod packet;
 mod stream_fault;
 
+pub use end::End;
 pub use fault::{PacketFault, RefusedKind};
 pub use laws::{
-    a_stream_goes_on_by_one_spelling, a_stream_parses_in_one_way, bytes_spell_or_begin,
-    spelled_values_are_in_range, spellings_are_short, spellings_are_told_apart,
+    a_longer_stream_begins_alike, a_stream_goes_on_by_one_spelling, a_stream_parses_in_one_way,
+    bytes_spell_or_begin, spelled_values_are_in_range, spellings_are_short,
+    spellings_are_told_apart,
 };
 pub use packet::Packet;
 pub use stream_fault::Fault;

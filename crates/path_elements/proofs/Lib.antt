@@ -1,4 +1,12 @@
 pub mod AtomElems
 pub mod Grows
 pub mod Taken
+pub mod InRange
+pub mod Places
+pub mod Runs
+pub mod Paths
+pub mod OnePath
+pub mod Joined
+pub mod BytePaths
 pub mod Examples
+pub mod PathExamples

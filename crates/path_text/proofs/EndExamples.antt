@@ -9,8 +9,8 @@ use Rattle.packet_grammar.specs.declared.stream_fault.Fault.{Fault}
 use Rattle.packet_grammar.specs.declared.stream_fault.Fault.TheVariants as fault
 use Rattle.path_text.specs.Lines.{in_base}
 use Rattle.path_text.specs.EndLines.{end_line}
-use Rattle.path_text.specs.declared.end.End.{End}
-use Rattle.path_text.specs.declared.end.End.TheVariants as end
+use Rattle.packet_grammar.specs.declared.end.End.{End}
+use Rattle.packet_grammar.specs.declared.end.End.TheVariants as end
 
 -- the end of stream 01 has this line
 abbrev HasLine : End → List ℕ → Type 0

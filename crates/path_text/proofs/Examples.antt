@@ -1,9 +1,12 @@
 -- Lines of paths, written out by hand from the formats that docs/FORMATS.md gives.
-use Rattle.std.proofs.Common.{◌≡◌, ℕ, List, [], ◌∷◌, ◌++◌, codes, true, false, Option, Some, None, refl, ap, get_or, arith}
+use Rattle.std.proofs.Common.{◌≡◌, ℕ, List, [], ◌∷◌, ◌++◌, codes, map, length, true, false, Option, Some, None, refl, sym, ap, get_or, arith}
 use Rattle.etm_types.specs.declared.context.Ctx.{Ctx}
+use Rattle.etm_types.specs.declared.item.Item.{Item}
 use Rattle.etm_types.specs.declared.item.Item.TheVariants as item
-use Rattle.path_text.specs.Lines.{in_base, byte_text, line_of, hex, decimal}
-use Rattle.path_text.specs.PathLines.{exception_text, lines_of, shown_after_all, instruction_lines}
+use Rattle.packet_grammar.proofs.GoesOn.{strip}
+use Rattle.path_text.specs.Lines.{IsLine, in_base, byte_text, line_of, hex, decimal}
+use Rattle.path_text.specs.PathLines.{exception_text, line_list, lines_of, shown_after_all, instruction_lines}
+use Rattle.path_text.proofs.Feeds.{written}
 
 -- lines, each ended by LF
 abbrev lines : List (List ℕ) → List ℕ
@@ -71,6 +74,44 @@ nothing_is_shown_by_it = refl
 
 pub the_last_is_shown : shown_after_all (Some user) (item.Instr 0x1000 user ∷ item.Instr 0x8000 kernel ∷ []) ≡ Some kernel
 the_last_is_shown = refl
+
+-- ---- the lines one by one: a context has a line of its own, and is printed once
+
+-- each ended by LF
+abbrev each : List (List ℕ) → List (List ℕ)
+each texts = map (λ text. text ++ 10 ∷ []) texts
+
+abbrev two_instructions : List Item
+two_instructions = item.On ∷ item.Instr 0x1000 user ∷ item.Exc 14 0x1004 ∷ item.Instr 0x8000 kernel ∷ item.Instr 0x8004 kernel ∷ []
+
+pub one_by_one :
+    line_list 1 (Some user) two_instructions
+    ≡ each (codes "01 on" ∷ codes "01 1000" ∷ codes "01 exc irq 1004" ∷ codes "01 ctx el1 ns 0 0" ∷ codes "01 8000" ∷ codes "01 8004" ∷ [])
+unfolding in_base
+one_by_one = refl
+
+-- the line of a context and that of its instruction are not one line, and no line is empty
+pub not_in_one :
+    line_list 1 None (item.Instr 0x1000 user ∷ []) ≡ (codes "01 ctx el0 ns 0 0" ++ 10 ∷ codes "01 1000" ++ 10 ∷ []) ∷ [] → ⊥
+unfolding in_base
+not_in_one e = absurd (omega (arith, ap length e))
+
+pub none_empty : line_list 1 (Some user) (item.Instr 0x1000 user ∷ []) ≡ [] ∷ each (codes "01 1000" ∷ []) → ⊥
+unfolding in_base
+none_empty e = absurd (omega (arith, ap length e))
+
+pub a_line : IsLine (codes "01 on" ++ 10 ∷ [])
+a_line = (codes "01 on", refl, written (codes "01 on") refl)
+
+-- a line ends with its LF, has one, and has it at its end alone
+pub no_line_without_one : IsLine (codes "01 on") → ⊥
+no_line_without_one (text, parts, none) =
+    let last = strip (codes "01 o") text 110 10 parts in absurd (omega (arith, last.1))
+
+pub no_line_of_two : IsLine (codes "01 on" ++ 10 ∷ 10 ∷ []) → ⊥
+no_line_of_two (text, parts, none) =
+    let front = (strip (codes "01 on" ++ 10 ∷ []) text 10 10 parts).0 in
+    none 5 0 (omega (arith, ap length front)) (ap (λ t. get_or t 5 0) (sym front))
 
 -- ---- contexts that differ in one field are printed, and the same one is not
 

@@ -11,8 +11,8 @@ use Rattle.packet_grammar.specs.declared.fault.RefusedKind.TheVariants as kind
 use Rattle.packet_grammar.specs.declared.stream_fault.Fault.{Fault}
 use Rattle.packet_grammar.specs.declared.stream_fault.Fault.TheVariants as fault
 use Rattle.path_text.specs.Lines.{hex, decimal, byte_text, line_of}
-use Rattle.path_text.specs.declared.end.End.{End}
-use Rattle.path_text.specs.declared.end.End.TheVariants as end
+use Rattle.packet_grammar.specs.declared.end.End.{End}
+use Rattle.packet_grammar.specs.declared.end.End.TheVariants as end
 
 abbrev pub refused_text : RefusedKind → List ℕ
 refused_text kind.CycleCount = codes "cycle-count"

@@ -1,5 +1,6 @@
 -- Numbers as they are printed, and how a line begins and ends.
-use Rattle.std.specs.Prelude.{ℕ, ◌+◌, ◌/◌, ◌%◌, ◌≤◌, Bool, if◌then◌else◌, nat_lt, ◌==◌, List, [], ◌∷◌, ◌++◌, length, map, codes, Option, Some, None}
+use Rattle.std.specs.Prelude.{◌≡◌, ◌≢◌, All, ℕ, ◌+◌, ◌/◌, ◌%◌, ◌≤◌, Bool, if◌then◌else◌, nat_lt, ◌==◌, List, [], ◌∷◌, ◌++◌, length, map, codes}
+use Rattle.std.specs.Prelude.{Option, Some, None}
 use Rattle.std.specs.Int.Digits.{digits_of}
 
 -- a digit: 0 to 9, then a to f
@@ -35,6 +36,10 @@ line_start id = byte_text id ++ 32 ∷ []
 -- and ends with LF
 abbrev pub line_of : ℕ → List ℕ → List ℕ
 line_of id text = line_start id ++ text ++ 10 ∷ []
+
+-- it has no other LF
+abbrev pub IsLine : List ℕ → Type 0
+IsLine line = (text : List ℕ) × (line ≡ text ++ 10 ∷ []) × All (λ b. b ≢ 10) text
 
 -- no line is longer
 abbrev pub longest_line : ℕ

@@ -60,6 +60,21 @@ abbrev pub shown_after_all : Option Ctx → List Item → Option Ctx
 shown_after_all shown [] = shown
 shown_after_all shown (i ∷ items) = shown_after_all (shown_after shown i) items
 
+-- a line, where there is one
+abbrev pub where_any : List ℕ → List (List ℕ)
+where_any [] = []
+where_any (b ∷ line) = (b ∷ line) ∷ []
+
+-- the lines of an item one by one: an instruction may have one for its context before its own
+abbrev pub item_line_list : ℕ → Option Ctx → Item → List (List ℕ)
+item_line_list id shown (item.Instr address ctx) = where_any (context_line id shown ctx) ++ line_of id (hex address) ∷ []
+item_line_list id shown i = item_lines id shown i ∷ []
+
+-- the lines of items one by one
+abbrev pub line_list : ℕ → Option Ctx → List Item → List (List ℕ)
+line_list id shown [] = []
+line_list id shown (i ∷ items) = item_line_list id shown i ++ line_list id (shown_after shown i) items
+
 -- the lines of so many instructions, one after the other, where their context was printed
 abbrev pub instruction_lines : ℕ → ℕ → ℕ → List ℕ
 instruction_lines id address zero = []

@@ -2,23 +2,25 @@
 //!
 //! A line has the ID of its stream, a text, and LF. It is put together in a small array and written by one
 //! call of `write_all`, so that a sink sees whole lines. Each function promises exactly the text that
-//! `specs/` gives for its value, or a front of it where a write fails.
+//! `specs/` gives for its value, or a front of it where a write fails. The contract of
+//! [`lines_stand_one_by_one`] says how the lines of the items of a path are put together.
 //!
 //! [`Line`] is public because `trace_cmd` writes lines of its own with it for now.
 #![tactic(auto)]
 
 mod address_line;
 mod digits;
-mod end;
 mod end_lines;
+mod laws;
 mod letters;
 mod line;
 mod packet_lines;
 mod path_lines;
 
-pub use end::End;
 pub use end_lines::write_end;
+pub use laws::lines_stand_one_by_one;
 pub use line::Line;
+pub use packet_grammar::End;
 pub use packet_lines::write_packet_line;
 pub use path_lines::{write_gap, write_stop, write_walked};
 

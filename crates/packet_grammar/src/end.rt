@@ -1,6 +1,6 @@
 //! How the trace of a stream ends.
 
-use packet_grammar::Fault;
+use crate::Fault;
 
 /// How a stream ends.
 #[derive(Clone, Copy, Debug, PartialEq, Eq)]
