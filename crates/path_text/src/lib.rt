@@ -13,13 +13,14 @@ mod end;
 mod end_lines;
 mod letters;
 mod line;
+mod packet_line;
 mod packet_lines;
 mod path_lines;
 
 pub use end::End;
 pub use end_lines::write_end;
 pub use line::Line;
-pub use packet_lines::write_packet_line;
+pub use packet_line::PacketLine;
 pub use path_lines::{write_gap, write_stop, write_walked};
 
 #[cfg(test)]
