@@ -1,4 +1,4 @@
-use Rattle.std.proofs.Common.{◌∙◌, Option, Ok, sym, ap, subst}
+use Rattle.std.proofs.Common.{◌≡◌, ◌∙◌, Option, Some, None, Ok, sym, ap, subst}
 use Rattle.etm_types.specs.declared.element.Thing.{Thing}
 use Rattle.path_walker.specs.Walk.{ToldIsAligned}
 use Rattle.trace_cmd.specs.declared.pending.Pending.{Pending}
