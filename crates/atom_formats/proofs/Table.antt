@@ -7,7 +7,7 @@ use Rattle.std.proofs.lemmas.Bool.{agree_below, agree_below_at, and_parts, eqb-t
 use Rattle.std.proofs.lemmas.List.Sums.{AllPass-from_list_all}
 use Rattle.etm_types.specs.Atoms.{IsAtomRun, low_bits}
 use Rattle.atom_formats.specs.Formats.{Spells, atom_formats}
-use Rattle.atom_formats.specs.declared.formats.TheConstants.{RUNS}
+use Rattle.atom_formats.specs.declared.formats.TheConstants.{ROWS}
 
 -- whether two lists have the same atoms
 abbrev pub same_atoms : List Bool → List Bool → Bool
@@ -90,8 +90,8 @@ run_told byte count bits told =
 
 -- each row is its byte's
 pub row_told : (byte : ℕ) → 192 ≤ byte → byte < 256
-    → is_run byte (slice_index_or RUNS (byte - 192) (0, 0)).0 (slice_index_or RUNS (byte - 192) (0, 0)).1 ≡ true
+    → is_run byte (slice_index_or ROWS (byte - 192) (0, 0)).0 (slice_index_or ROWS (byte - 192) (0, 0)).1 ≡ true
 unfolding atom_formats
 row_told byte least most =
-    each_from 192 63 (λ b. is_run b (slice_index_or RUNS (b - 192) (0, 0)).0 (slice_index_or RUNS (b - 192) (0, 0)).1) refl byte least
+    each_from 192 63 (λ b. is_run b (slice_index_or ROWS (b - 192) (0, 0)).0 (slice_index_or ROWS (b - 192) (0, 0)).1) refl byte least
     (omega (arith, most))

@@ -10,7 +10,7 @@ const FIRST: u8 = 0xc0;
 
 /// The atoms of each byte from 0xc0 on: how many, and their bits, of which bit 0 is the oldest atom and 1 is E. So a
 /// row's number reads from the right.
-const RUNS: [(u8, u32); 64] = [
+const ROWS: [(u8, u32); 64] = [
     // 0xc0 to 0xd4, format 6: E three times and as often as bits 4 to 0 (COUNT) say, and then E.
     (4, 0b1111),
     (5, 0b1_1111),
@@ -84,6 +84,9 @@ const RUNS: [(u8, u32); 64] = [
     (3, 0b110),
     (3, 0b111),
 ];
+
+/// The same rows as a table in memory, so that a look-up does not make them anew.
+static RUNS: [(u8, u32); 64] = ROWS;
 
 /// The atoms of a byte that is an atom packet: 0xc0 or above. They are looked up, since branches on a byte that no
 /// processor foresees would cost more than all else here.
