@@ -32,7 +32,8 @@ returns-in_err-write_address-clause-front g c =
       a.behind.now,
       a.at,
       packet,
-      subst (λ (r : Standing). TakesFront r c.take_address.new.self c.args.bytes.now a.behind.now a.at packet) (c.in_default-take_atoms.ensures.none refl) front,
+      subst (λ (r : Standing). TakesFront r c.take_address.new.self c.args.bytes.now a.behind.now a.at packet)
+          (c.in_default-take_atoms.ensures.none refl) front,
       answers_err _ _ c.in_err-write_address.field-0.0 p.0 _ c.in_err-write_address.ensures.line,
       tt,
     ))
@@ -47,7 +48,8 @@ returns-in-Some-take_address-clause-front g c =
       a.behind.now,
       a.at,
       packet,
-      subst (λ (r : Standing). TakesFront r c.take_address.new.self c.args.bytes.now a.behind.now a.at packet) (c.in_default-take_atoms.ensures.none refl) front,
+      subst (λ (r : Standing). TakesFront r c.take_address.new.self c.args.bytes.now a.behind.now a.at packet)
+          (c.in_default-take_atoms.ensures.none refl) front,
       answers_ok _ _ c.in_ok-write_address.field-0 _ _ c.in_ok-write_address.ensures.line,
       refl,
     )

@@ -42,7 +42,8 @@ loop-byte-preserved-in-Some-2 g c =
           let place : c.in-Some-2.behind.now ≡ behind = rw c.in-Some-2.is at rest in
           record {
             id = c.in_ok-behind.ensures.id ∙ i.id;
-            along = subst (λ (b : List ℕ). Along s c.args.id (state c.args.sink.now) (state c.write_front.new.sink) bytes b c.write_front.new.reader) (sym place)
+            along = subst (λ (b : List ℕ). Along s c.args.id (state c.args.sink.now) (state c.write_front.new.sink) bytes b c.write_front.new.reader)
+                (sym place)
                 (along_packet s c.requires.settings c.args.id (state c.args.sink.now) bytes _ _ _ _ _ i.along behind at packet takes
                 (wrote_by _ _ _ (packet_line c.args.id at packet) line));
           }
