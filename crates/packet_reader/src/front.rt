@@ -2,12 +2,13 @@
 //! packets", "Address with Context packet").
 //!
 //! Where the bytes of a packet are all there, they are read at once, without a state between one byte and the next.
-ghost use Rattle.std.specs.Prelude.{◌≡◌, ◌∷◌, ◌++◌, IfSome, None, List, ℕ, length};
+ghost use Rattle.std.specs.Prelude.{◌≡◌, ◌∷◌, ◌++◌, ◌+◌, ◌≤◌, IfSome, IsTrue, IsSome, None, List, ℕ, length, drop};
 ghost use Rattle.etm_types.specs.Settings.{Sizes};
 ghost use Rattle.packet_grammar.specs.Contexts.{Context, Field, address_of};
 ghost use Rattle.packet_grammar.specs.Numbers.{little};
 ghost use Rattle.packet_grammar.specs.Parsed.{Spells};
-ghost use Rattle.packet_reader.specs.Fronts.{IsFront};
+ghost use Rattle.packet_grammar.specs.Fields.{bit};
+ghost use Rattle.packet_reader.specs.Fronts.{IsFieldSize, IsFront};
 
 use crate::fields::{CONTINUES, bit, is_last, lowest};
 use crate::groups::BYTE;
@@ -36,7 +37,11 @@ pub struct Address {
 /// carry a context.
 #[inline(always)]
 pub fn address_at<'a>(settings: &Settings, bytes: &'a [u8]) -> Option<(Address, &'a [u8])>
-    ensures { IfSome result (λ r. IsFront (Spells settings.now) bytes.now (Packet.Addr r.0.form r.0.ctx) r.1.now) }
+    ensures front { IfSome result (λ r. IsFront (Spells settings.now) bytes.now (Packet.Addr r.0.form r.0.ctx) r.1.now) }
+    ensures short { (rest : List ℕ) → bytes.now ≡ 0x95 ∷ rest → 2 ≤ length rest → IsSome result }
+    ensures long { (rest : List ℕ) → bytes.now ≡ 0x9d ∷ rest → 8 ≤ length rest → IsSome result }
+    ensures with_context { (address rest : List ℕ) (info : ℕ) → bytes.now ≡ 0x85 ∷ address → drop 8 address ≡ info ∷ rest
+        → IsTrue (bit 4 info) → 8 ≤ length rest → IsSome result }
 {
     let (header, rest) = bytes.split_first()?;
     match *header {
@@ -72,7 +77,8 @@ pub fn address_at<'a>(settings: &Settings, bytes: &'a [u8]) -> Option<(Address, 
 /// A short address behind its header, and what follows it.
 #[inline(always)]
 fn short_at(bytes: &[u8]) -> Option<(AddrForm, &[u8])>
-    ensures { (s : Sizes) → IfSome result (λ r. IsFront (Spells s) (0x95 ∷ bytes.now) (Packet.Addr r.0 None) r.1.now) }
+    ensures front { (s : Sizes) → IfSome result (λ r. IsFront (Spells s) (0x95 ∷ bytes.now) (Packet.Addr r.0 None) r.1.now) }
+    ensures some { 2 ≤ length bytes.now → IsSome result }
 {
     let (a, rest) = bytes.split_first()?;
     if is_last(*a) {
@@ -86,7 +92,9 @@ fn short_at(bytes: &[u8]) -> Option<(AddrForm, &[u8])>
 /// A long address of 64 bits, and what follows it.
 #[inline(always)]
 fn long_at(bytes: &[u8]) -> Option<(u64, &[u8])>
-    ensures { IfSome result (λ r. (given : List ℕ) × (bytes.now ≡ given ++ r.1.now) × (length given ≡ 8) × (r.0 ≡ address_of given)) }
+    ensures front { IfSome result (λ r. (given : List ℕ) × (bytes.now ≡ given ++ r.1.now) × (length given ≡ 8) × (r.0 ≡ address_of given)) }
+    ensures behind { IfSome result (λ r. r.1.now ≡ drop 8 bytes.now) }
+    ensures some { 8 ≤ length bytes.now → IsSome result }
 {
     let ([a, b, c, d, e, f, g, h], rest) = bytes.split_first_chunk::<8>()?;
     let low = (u64::from(lowest(7, *a)) << FIRST) + (u64::from(lowest(7, *b)) << SECOND);
@@ -98,7 +106,8 @@ fn long_at(bytes: &[u8]) -> Option<(u64, &[u8])>
 /// A context, and what follows it.
 #[inline(always)]
 fn context_at<'a>(settings: &Settings, bytes: &'a [u8]) -> Option<(CtxBits, &'a [u8])>
-    ensures { IfSome result (λ r. IsFront (Context settings.now) bytes.now r.0 r.1.now) }
+    ensures front { IfSome result (λ r. IsFront (Context settings.now) bytes.now r.0 r.1.now) }
+    ensures some { (info : ℕ) (rest : List ℕ) → bytes.now ≡ info ∷ rest → IsTrue (bit 4 info) → 8 ≤ length rest → IsSome result }
 {
     let (info, rest) = bytes.split_first()?;
     if !bit(*info, 4) {
@@ -113,7 +122,9 @@ fn context_at<'a>(settings: &Settings, bytes: &'a [u8]) -> Option<(CtxBits, &'a 
 /// A field of so many bytes where it is there, and what follows it.
 #[inline(always)]
 fn field_at(there: bool, size: u8, bytes: &[u8]) -> Option<(Option<u32>, &[u8])>
-    ensures { IfSome result (λ r. IsFront (Field there size) bytes.now r.0 r.1.now) }
+    requires { IsFieldSize size }
+    ensures front { IfSome result (λ r. IsFront (Field there size) bytes.now r.0 r.1.now) }
+    ensures some { 4 ≤ length bytes.now → IfSome result (λ r. length bytes.now ≤ length r.1.now + 4) × IsSome result }
 {
     if !there || size == 0 {
         return Some((None, bytes));
@@ -125,7 +136,9 @@ fn field_at(there: bool, size: u8, bytes: &[u8]) -> Option<(Option<u32>, &[u8])>
 /// A number of 1, 2 or 4 bytes, the low one first, and what follows it.
 #[inline(always)]
 fn number_at(size: u8, bytes: &[u8]) -> Option<(u32, &[u8])>
-    ensures { IfSome result (λ r. (given : List ℕ) × (bytes.now ≡ given ++ r.1.now) × (length given ≡ size) × (r.0 ≡ little given)) }
+    requires { IsFieldSize size × (1 ≤ size) }
+    ensures front { IfSome result (λ r. (given : List ℕ) × (bytes.now ≡ given ++ r.1.now) × (length given ≡ size) × (r.0 ≡ little given)) }
+    ensures some { 4 ≤ length bytes.now → IfSome result (λ r. length bytes.now ≤ length r.1.now + 4) × IsSome result }
 {
     match size {
         1 => {
@@ -142,6 +155,6 @@ fn number_at(size: u8, bytes: &[u8]) -> Option<(u32, &[u8])>
             let high = u32::from(*c) + (u32::from(*d) << BYTE);
             Some((low + (high << (2 * BYTE)), rest))
         }
-        _ => None,
+        _ => unreachable!(),
     }
 }

@@ -101,7 +101,12 @@ fn addresses_that_are_all_there_are_taken_at_once(rt: HostRuntime) {
     };
     for (bytes, form, ctx, left) in [
         (&[0x95, 0x7f][..], AddrForm::Short1(0x1fc), None, 0),
-        (&[0x95, 0x81, 0x02, 0xf7][..], AddrForm::Short2(0x404), None, 1),
+        (
+            &[0x95, 0x81, 0x02, 0xf7][..],
+            AddrForm::Short2(0x404),
+            None,
+            1,
+        ),
         (
             &[0x9d, 0x01, 0x02, 0x03, 0x04, 0x05, 0x06, 0x07, 0x08][..],
             AddrForm::Long64(0x0807_0605_0403_0404),
@@ -109,13 +114,18 @@ fn addresses_that_are_all_there_are_taken_at_once(rt: HostRuntime) {
             0,
         ),
         (
-            &[0x85, 0, 0, 0, 0, 0, 0, 0, 0, 0xf1, 7, 1, 2, 3, 4, 0xf7, 0xf7][..],
+            &[
+                0x85, 0, 0, 0, 0, 0, 0, 0, 0, 0xf1, 7, 1, 2, 3, 4, 0xf7, 0xf7,
+            ][..],
             AddrForm::Long64(0),
             Some(ctx),
             2,
         ),
     ] {
-        assert_eq!(rt; address_taken(bytes), Some((12, Address { form, ctx }, left)));
+        assert_eq!(rt;
+            address_taken(bytes),
+            Some((12, Address { form, ctx }, left))
+        );
     }
     assert_eq!(rt; address_taken(&[0x95, 0x81]), None);
     assert_eq!(rt; address_taken(&[0x90]), None);

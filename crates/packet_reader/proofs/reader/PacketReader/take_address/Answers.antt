@@ -1,4 +1,5 @@
 use Rattle.std.proofs.Common.{◌≡◌, ℕ, ◌+◌, ◌-◌, ◌<◌, Ok, length, length-append, ap, subst, arith}
+use Rattle.std.proofs.lemmas.Bool.{false≢true}
 use Rattle.std.proofs.lemmas.List.Elements.{All-from_get_or}
 use Rattle.packet_grammar.proofs.AllLaws.{some_byte}
 use Rattle.packet_grammar.proofs.Fitting.{small_front}
@@ -9,7 +10,7 @@ use Rattle.packet_reader.proofs.reader.PacketReader.take_address.Goals as goal
 
 pub returns-in_ok-address-in-Between-clause-takes : goal.returns-in_ok-address-in-Between-clause-takes
 returns-in_ok-address-in-Between-clause-takes c =
-    let r = c.self.inside in let bytes = c.args.bytes.now in let a = c.in_ok-address-in-Between.ensures in
+    let r = c.self.inside in let bytes = c.args.bytes.now in let a = c.in_ok-address-in-Between.ensures.front in
     let address = c.in_ok-address-in-Between.address in let packet = Addr address.form address.ctx in
     let behind = c.in_ok-address-in-Between.behind.now in
     let taken : ℕ = r.taken + (length bytes - length behind) in
@@ -22,3 +23,7 @@ returns-in_ok-address-in-Between-clause-takes c =
       subst (λ (v : Standing). TakesPacket v after a.text r.start packet) c.self.view_is
           (rw c.in-Between.is (takes_packet r.settings r.start r.taken taken a.text packet more (small_front bytes a.text behind a.parts all) a.spells)),
     )
+
+pub returns-in_err-address-in-Between-clause-with_context : goal.returns-in_err-address-in-Between-clause-with_context
+returns-in_err-address-in-Between-clause-with_context c address rest info between parts more aarch64 enough =
+    absurd (false≢true (c.in_err-address-in-Between.ensures.with_context address rest info parts more aarch64 enough))
