@@ -1,15 +1,13 @@
 -- The table of atom packets, tested row by row.
-use Rattle.std.proofs.Common.{◌≡◌, ℕ, suc, ◌+◌, ◌-◌, ◌*◌, ◌%◌, ◌^◌, ◌≤◌, List, [], ◌∷◌, Bool, true}
-use Rattle.std.proofs.Common.{false, ◌&&◌, ◌||◌, ◌==◌, Option, Some, nat_lt, refl, sym, ap, ◌∙◌, arith, inl, inr}
-use Rattle.std.specs.Prelude.{IfSome, Contains}
+use Rattle.std.proofs.Common.{◌≡◌, ℕ, suc, ◌+◌, ◌-◌, ◌^◌, ◌<◌, ◌≤◌, List, [], ◌∷◌, Bool, true}
+use Rattle.std.proofs.Common.{false, ◌&&◌, ◌||◌, ◌==◌, nat_lt, nat_le, slice_index_or, refl, sym, ap, ◌∙◌, arith, inl, inr}
+use Rattle.std.specs.Prelude.{Contains}
 use Rattle.std.specs.List.{list_all}
-use Rattle.std.proofs.lemmas.Bool.{agree_below, agree_below_at, and_parts, eqb-true, or_cases}
+use Rattle.std.proofs.lemmas.Bool.{agree_below, agree_below_at, and_parts, eqb-true, leb-true, ltb-true, or_cases}
 use Rattle.std.proofs.lemmas.List.Sums.{AllPass-from_list_all}
-use Rattle.std.proofs.lemmas.Nat.{pow_pos}
-use Rattle.std.proofs.Math.Nat.{pow-suc}
-use Rattle.etm_types.specs.declared.atoms.AtomRun.{AtomRun}
-use Rattle.etm_types.specs.Atoms.{IsAtomRun, atoms_in, low_bits}
+use Rattle.etm_types.specs.Atoms.{IsAtomRun, low_bits}
 use Rattle.atom_formats.specs.Formats.{Spells, atom_formats}
+use Rattle.atom_formats.specs.declared.formats.TheConstants.{ROWS}
 
 -- whether two lists have the same atoms
 abbrev pub same_atoms : List Bool → List Bool → Bool
@@ -67,12 +65,6 @@ every_row test all byte atoms spells =
 abbrev pub tells : ℕ → ℕ → ℕ → Bool
 tells byte count bits = nat_lt bits (2 ^ count) && has_row atom_formats byte (low_bits count bits)
 
--- a byte's run is the one that it spells
-pub run_told : (byte count bits : ℕ) (r : Option AtomRun) → r ≡ Some (record { count = count; bits = bits }) → tells byte count bits ≡ true
-    → IfSome r (λ run. Spells byte (atoms_in run))
-run_told byte count bits r is told =
-    rw is (row_found atom_formats byte (low_bits count bits) (and_parts (nat_lt bits (2 ^ count)) (has_row atom_formats byte (low_bits count bits)) told).1)
-
 -- a test of each number from low to high
 pub each_from : (low more : ℕ) (test : ℕ → Bool) → agree_below (λ j. test (low + j)) (λ _. true) (suc more) ≡ true → (b : ℕ) → low ≤ b → b ≤ low + more
     → test b ≡ true
@@ -80,37 +72,26 @@ each_from low more test all b least most =
     let there : low + (b - low) ≡ b = omega (arith, least) in
     ap test (sym there) ∙ agree_below_at (λ (j : ℕ). test (low + j)) (λ _. true) (suc more) (b - low) all (omega (arith, least, most))
 
--- one, two and three atoms, in the low bits of the byte
-pub one_told : (b : ℕ) → 246 ≤ b → b ≤ 247 → tells b 1 (b % 2 ^ 1) ≡ true
+-- ---- the rows that are looked up
+
+-- whether a byte tells so many atoms, 1 to 24, which are the low bits of a number that has no others
+abbrev pub is_run : ℕ → ℕ → ℕ → Bool
+is_run byte count bits = tells byte count bits && (nat_le 1 count && nat_le count 24)
+
+pub run_told : (byte count bits : ℕ) → is_run byte count bits ≡ true
+    → Spells byte (low_bits count bits) × IsAtomRun (record { count = count; bits = bits })
+run_told byte count bits told =
+    let is = and_parts (tells byte count bits) (nat_le 1 count && nat_le count 24) told in
+    let fits = and_parts (nat_lt bits (2 ^ count)) (has_row atom_formats byte (low_bits count bits)) is.0 in
+    let within = and_parts (nat_le 1 count) (nat_le count 24) is.1 in (
+      row_found atom_formats byte (low_bits count bits) fits.1,
+      record { some = leb-true 1 count within.0; most = leb-true count 24 within.1; bits = ltb-true bits (2 ^ count) fits.0 },
+    )
+
+-- each row is its byte's
+pub row_told : (byte : ℕ) → 192 ≤ byte → byte < 256
+    → is_run byte (slice_index_or ROWS (byte - 192) (0, 0)).0 (slice_index_or ROWS (byte - 192) (0, 0)).1 ≡ true
 unfolding atom_formats
-one_told b least most = each_from 246 1 (λ (b : ℕ). tells b 1 (b % 2 ^ 1)) refl b least most
-
-pub two_told : (b : ℕ) → 216 ≤ b → b ≤ 219 → tells b 2 (b % 2 ^ 2) ≡ true
-unfolding atom_formats
-two_told b least most = each_from 216 3 (λ (b : ℕ). tells b 2 (b % 2 ^ 2)) refl b least most
-
-pub three_told : (b : ℕ) → 248 ≤ b → b ≤ 255 → tells b 3 (b % 2 ^ 3) ≡ true
-unfolding atom_formats
-three_told b least most = each_from 248 7 (λ (b : ℕ). tells b 3 (b % 2 ^ 3)) refl b least most
-
-pub long_told_e : (b : ℕ) → 192 ≤ b → b ≤ 212 → tells b (b - 192 + 4) (2 ^ (b - 192 + 4) - 1) ≡ true
-unfolding atom_formats
-long_told_e b least most = each_from 192 20 (λ (b : ℕ). tells b (b - 192 + 4) (2 ^ (b - 192 + 4) - 1)) refl b least most
-
-pub long_told_n : (b : ℕ) → 224 ≤ b → b ≤ 244 → tells b (b - 224 + 4) (2 ^ (b - 224 + 3) - 1) ≡ true
-unfolding atom_formats
-long_told_n b least most = each_from 224 20 (λ (b : ℕ). tells b (b - 224 + 4) (2 ^ (b - 224 + 3) - 1)) refl b least most
-
-pub fixed_told : (known byte count bits : ℕ) (r : Option AtomRun) → r ≡ Some (record { count = count; bits = bits }) → byte ≡ known
-    → tells known count bits ≡ true
-    → IfSome r (λ run. Spells byte (atoms_in run))
-fixed_told known byte count bits r is same told = run_told byte count bits r is (ap (λ (b : ℕ). tells b count bits) same ∙ told)
-
--- E so many times and three times more, and then N, is a run
-pub long_within : (more : ℕ) (r : Option AtomRun) → r ≡ Some (record { count = more + 4; bits = 2 ^ (more + 3) - 1 }) → more ≤ 20
-    → IfSome r (λ run. IsAtomRun run)
-long_within more r is few =
-    let doubled : 2 ^ suc (more + 3) ≡ 2 ^ (more + 3) * 2 = pow-suc 2 (more + 3) in
-    let same : suc (more + 3) ≡ more + 4 = omega arith in
-    let larger : 2 ^ (more + 4) ≡ 2 ^ (more + 3) * 2 = ap (λ (n : ℕ). 2 ^ n) (sym same) ∙ doubled in
-    rw is (record { some = omega arith; most = omega arith; bits = omega (arith, larger, pow_pos (more + 3)) })
+row_told byte least most =
+    each_from 192 63 (λ b. is_run b (slice_index_or ROWS (b - 192) (0, 0)).0 (slice_index_or ROWS (b - 192) (0, 0)).1) refl byte least
+    (omega (arith, most))

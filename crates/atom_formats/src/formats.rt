@@ -1,61 +1,102 @@
 //! The table of the atom packets.
-ghost use Rattle.std.specs.Prelude.{◌≡◌, ◌<◌, ◌↔◌, ◌≤◌, ◌+◌, ◌-◌, ◌%◌, ◌^◌, None, Some, IfSome, if◌then◌else◌};
+ghost use Rattle.std.specs.Prelude.{◌≡◌, ◌<◌, ◌↔◌, None, IfSome};
 ghost use Rattle.etm_types.specs.Atoms.{IsAtomRun, atoms_in};
 ghost use Rattle.atom_formats.specs.Formats.{Spells};
 
 use etm_types::AtomRun;
 
-/// Format 6 has so many atoms more than its field COUNT: three times E, and the last atom.
-const MORE_THAN_COUNT: u8 = 4;
+/// The first byte that is an atom packet. All from here on are.
+const FIRST: u8 = 0xc0;
 
-/// The atoms of a byte that is an atom packet: 0xc0 or above.
+/// The atoms of each byte from 0xc0 on: how many, and their bits, of which bit 0 is the oldest atom and 1 is E. So a
+/// row's number reads from the right.
+const ROWS: [(u8, u32); 64] = [
+    // 0xc0 to 0xd4, format 6: E three times and as often as bits 4 to 0 (COUNT) say, and then E.
+    (4, 0b1111),
+    (5, 0b1_1111),
+    (6, 0b11_1111),
+    (7, 0b111_1111),
+    (8, 0b1111_1111),
+    (9, 0b1_1111_1111),
+    (10, 0b11_1111_1111),
+    (11, 0b111_1111_1111),
+    (12, 0b1111_1111_1111),
+    (13, 0b1_1111_1111_1111),
+    (14, 0b11_1111_1111_1111),
+    (15, 0b111_1111_1111_1111),
+    (16, 0b1111_1111_1111_1111),
+    (17, 0b1_1111_1111_1111_1111),
+    (18, 0b11_1111_1111_1111_1111),
+    (19, 0b111_1111_1111_1111_1111),
+    (20, 0b1111_1111_1111_1111_1111),
+    (21, 0b1_1111_1111_1111_1111_1111),
+    (22, 0b11_1111_1111_1111_1111_1111),
+    (23, 0b111_1111_1111_1111_1111_1111),
+    (24, 0b1111_1111_1111_1111_1111_1111),
+    // 0xd5 to 0xd7, format 5: NNNNN, NENEN, ENENE.
+    (5, 0b0_0000),
+    (5, 0b0_1010),
+    (5, 0b1_0101),
+    // 0xd8 to 0xdb, format 2: bit 0 is the older atom.
+    (2, 0b00),
+    (2, 0b01),
+    (2, 0b10),
+    (2, 0b11),
+    // 0xdc to 0xdf, format 4: NEEE, NNNN, NENE, ENEN.
+    (4, 0b1110),
+    (4, 0b0000),
+    (4, 0b1010),
+    (4, 0b0101),
+    // 0xe0 to 0xf4, format 6: E three times and as often as COUNT says, and then N.
+    (4, 0b0111),
+    (5, 0b0_1111),
+    (6, 0b01_1111),
+    (7, 0b011_1111),
+    (8, 0b0111_1111),
+    (9, 0b0_1111_1111),
+    (10, 0b01_1111_1111),
+    (11, 0b011_1111_1111),
+    (12, 0b0111_1111_1111),
+    (13, 0b0_1111_1111_1111),
+    (14, 0b01_1111_1111_1111),
+    (15, 0b011_1111_1111_1111),
+    (16, 0b0111_1111_1111_1111),
+    (17, 0b0_1111_1111_1111_1111),
+    (18, 0b01_1111_1111_1111_1111),
+    (19, 0b011_1111_1111_1111_1111),
+    (20, 0b0111_1111_1111_1111_1111),
+    (21, 0b0_1111_1111_1111_1111_1111),
+    (22, 0b01_1111_1111_1111_1111_1111),
+    (23, 0b011_1111_1111_1111_1111_1111),
+    (24, 0b0111_1111_1111_1111_1111_1111),
+    // 0xf5, format 5: NEEEE.
+    (5, 0b1_1110),
+    // 0xf6 and 0xf7, format 1: bit 0 is the atom.
+    (1, 0b0),
+    (1, 0b1),
+    // 0xf8 to 0xff, format 3: bit 0 is the oldest atom.
+    (3, 0b000),
+    (3, 0b001),
+    (3, 0b010),
+    (3, 0b011),
+    (3, 0b100),
+    (3, 0b101),
+    (3, 0b110),
+    (3, 0b111),
+];
+
+/// The same rows as a table in memory, so that a look-up does not make them anew.
+static RUNS: [(u8, u32); 64] = ROWS;
+
+/// The atoms of a byte that is an atom packet: 0xc0 or above. They are looked up, since branches on a byte that no
+/// processor foresees would cost more than all else here.
+#[inline]
 pub fn atoms_of(byte: u8) -> Option<AtomRun>
     ensures none { (result ≡ None) ↔ (byte < 0xc0) }
     ensures run { IfSome result (λ run. Spells byte (atoms_in run)) }
     ensures within { IfSome result (λ run. IsAtomRun run) }
 {
-    match byte {
-        // Format 1: one atom, in bit 0.
-        0xf6..=0xf7 => run(1, byte),
-        // Format 2: two atoms, bit 0 the older.
-        0xd8..=0xdb => run(2, byte),
-        // Format 3: three atoms, bit 0 the oldest.
-        0xf8..=0xff => run(3, byte),
-        // Format 4: four atoms, the oldest in bit 0, so that a row's number reads from the right.
-        0xdc => run(4, 0b1110), // N E E E
-        0xdd => run(4, 0b0000), // N N N N
-        0xde => run(4, 0b1010), // N E N E
-        0xdf => run(4, 0b0101), // E N E N
-        // Format 5: five atoms.
-        0xf5 => run(5, 0b11110), // N E E E E
-        0xd5 => run(5, 0b00000), // N N N N N
-        0xd6 => run(5, 0b01010), // N E N E N
-        0xd7 => run(5, 0b10101), // E N E N E
-        // Format 6: COUNT in bits 4 to 0, and in bit 5 (A) the last atom.
-        0xc0..=0xd4 => format_6(byte - 0xc0, true),
-        0xe0..=0xf4 => format_6(byte - 0xe0, false),
-        _ => None,
-    }
-}
-
-/// So many atoms, 1 to 5, in the low bits: bit 0 is the oldest, and 1 is E.
-fn run(count: u8, bits: u8) -> Option<AtomRun>
-    requires { (1 ≤ count) × (count ≤ 5) }
-    ensures { result ≡ Some (record { count = count; bits = bits % 2 ^ count }) }
-{
-    let bits = u32::from(bits) % (1 << count);
+    let row = byte.checked_sub(FIRST)?;
+    let (count, bits) = RUNS[usize::from(row)];
     Some(AtomRun { count, bits })
-}
-
-/// E as often as COUNT says, 0 to 20, and three times more, and then the last atom.
-fn format_6(count: u8, last_is_e: bool) -> Option<AtomRun>
-    requires { count ≤ 20 }
-    ensures { result ≡ Some (record { count = count + 4; bits = (if last_is_e then 2 ^ (count + 4) else 2 ^ (count + 3)) - 1 }) }
-{
-    let count = count + MORE_THAN_COUNT;
-    let taken = if last_is_e { count } else { count - 1 };
-    Some(AtomRun {
-        count,
-        bits: (1 << taken) - 1,
-    })
 }

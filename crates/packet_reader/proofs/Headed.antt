@@ -11,7 +11,8 @@ use Rattle.packet_grammar.specs.Parts.{Outcome, Part, Known, Bytes, Where, Then,
 use Rattle.packet_grammar.specs.Numbers.{Number, TimeStamp}
 use Rattle.packet_grammar.specs.Contexts.{Context, ShortAddress, LongAddress32, LongAddress64, address_of}
 use Rattle.packet_grammar.proofs.Table.{Told, body_of, Body, Follows, AtomsOf, AfterZero, Exception, alone, atoms, extension}
-use Rattle.packet_grammar.proofs.Table.{trace_info, time_stamp, exception, commit, cancel, context, short_address, long_32, long_64, long_32_with_context, long_64_with_context}
+use Rattle.packet_grammar.proofs.Table.{trace_info, time_stamp, exception, commit, cancel, context, short_address}
+use Rattle.packet_grammar.proofs.Table.{long_32, long_64, long_32_with_context, long_64_with_context}
 use Rattle.packet_grammar.specs.Spelling.{TraceInfo}
 use Rattle.packet_grammar.specs.Parsed.{Spells}
 use Rattle.packet_grammar.proofs.Inverse.{told_to, told_back}

@@ -37,7 +37,8 @@ module _ (s : Sizes) where
   settles : (start x : ℕ) (packets : List (ℕ × Packet)) (bytes : List ℕ) (ending : Ending) (progress : Progress) (taken : ℕ) → length bytes + 1 ≡ taken
       → FitsAfter progress
       → Goes ending → IsStream s bytes packets ending → At s (tree_after s progress) start packets (bytes ++ x ∷ [])
-      → InPhase s (settled progress start taken).phase (settled progress start taken).start (bytes ++ x ∷ []) × Gains s bytes x (settled progress start taken).step
+      → InPhase s (settled progress start taken).phase (settled progress start taken).start (bytes ++ x ∷ [])
+      × Gains s bytes x (settled progress start taken).step
   settles start x packets bytes ending progress taken all fits goes old a = (
     phase_after s start packets (bytes ++ x ∷ []) progress taken (one_more bytes x taken all) fits a,
     gains_after start x packets bytes ending progress taken goes old (stream_after s start packets (bytes ++ x ∷ []) progress fits a),

@@ -10,3 +10,4 @@ pub mod Hunt
 pub mod Adds
 pub mod OneAnswer
 pub mod Asked
+mod Fronts

@@ -1,4 +1,5 @@
 pub mod Trees
 pub mod States
+pub mod Fronts
 pub mod Stands
 pub mod Answered

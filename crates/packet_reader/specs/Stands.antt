@@ -6,6 +6,7 @@ use Rattle.etm_types.specs.Settings.{Sizes}
 use Rattle.packet_grammar.specs.declared.packet.Packet.{Packet}
 use Rattle.packet_grammar.specs.declared.fault.PacketFault.{PacketFault}
 use Rattle.packet_grammar.specs.Parts.{Outcome}
+use Rattle.packet_grammar.specs.Ranges.{IsPacket}
 use Rattle.packet_grammar.specs.Parsed.{Spells, Ending, no_sync, clean, cut, fault, IsStream, SyncAt}
 use Rattle.packet_reader.specs.declared.state.State.{State}
 use Rattle.packet_reader.specs.declared.state.Progress.{Progress}
@@ -86,6 +87,19 @@ Gains s bytes byte (Bad at f) =
     (packets : List (ℕ × Packet)) × (ending : Ending) × Goes ending × IsStream s bytes packets ending × IsStream s (bytes ++ byte ∷ []) packets (fault at f)
 Gains s bytes byte Stopped =
     (packets : List (ℕ × Packet)) × (at : ℕ) × (f : PacketFault) × IsStream s bytes packets (fault at f) × IsStream s (bytes ++ byte ∷ []) packets (fault at f)
+
+-- What the parse of a stream gains by the bytes of a whole packet, the first of which has this offset.
+abbrev pub GainsPacket : Sizes → List ℕ → List ℕ → ℕ → Packet → Type 0
+GainsPacket s bytes text at packet =
+    (packets : List (ℕ × Packet)) × (ending : Ending) × IsStream s bytes packets ending × IsStream s (bytes ++ text) (packets ++ (at, packet) ∷ []) clean
+
+-- a reader took the bytes of a whole packet
+pub record TakesPacket (old new : Standing) (text : List ℕ) (at : ℕ) (packet : Packet) : Type 0 where
+  pub settings : new.settings ≡ old.settings
+  pub taken : new.taken ≡ old.taken + length text
+  pub stands : (bytes : List ℕ) → StandsAt old bytes → StandsAt new (bytes ++ text)
+  pub gains : (bytes : List ℕ) → StandsAt old bytes → GainsPacket old.settings bytes text at packet
+  pub values : IsPacket old.settings packet
 
 -- what a byte makes of a reader: the phase, the offset at which the begun packet starts or the next one, and the answer
 pub record Moved : Type 0 where

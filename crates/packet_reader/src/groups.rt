@@ -1,6 +1,12 @@
 //! Numbers that are put together from groups of bits, the low ones first.
 ghost use Rattle.std.specs.Prelude.{◌≡◌, ◌+◌, ◌*◌, ◌^◌, ◌<◌, ◌≤◌};
 
+/// How many bits of a number a group has.
+const GROUP: u32 = 7;
+
+/// How many bits a byte has.
+pub const BYTE: u32 = 8;
+
 /// A value of so many groups of seven bits, with a group above them.
 pub fn with_group(value: u64, group: u8, groups: u8) -> u64
     requires at_most_eight { groups ≤ 8 }
@@ -12,14 +18,14 @@ pub fn with_group(value: u64, group: u8, groups: u8) -> u64
     let group = u64::from(group);
     match groups {
         0 => value + group,
-        1 => value + (group << 7),
-        2 => value + (group << 14),
-        3 => value + (group << 21),
-        4 => value + (group << 28),
-        5 => value + (group << 35),
-        6 => value + (group << 42),
-        7 => value + (group << 49),
-        _ => value + (group << 56),
+        1 => value + (group << GROUP),
+        2 => value + (group << (2 * GROUP)),
+        3 => value + (group << (3 * GROUP)),
+        4 => value + (group << (4 * GROUP)),
+        5 => value + (group << (5 * GROUP)),
+        6 => value + (group << (6 * GROUP)),
+        7 => value + (group << (7 * GROUP)),
+        _ => value + (group << (8 * GROUP)),
     }
 }
 
@@ -35,10 +41,10 @@ pub fn with_byte(value: u64, byte: u8, count: u8) -> u64
     let byte = u64::from(byte);
     match count {
         0 => value + byte,
-        1 => value + (byte << 8),
-        2 => value + (byte << 16),
-        3 => value + (byte << 24),
-        4 => value + (byte << 32),
-        _ => value + (byte << 40),
+        1 => value + (byte << BYTE),
+        2 => value + (byte << (2 * BYTE)),
+        3 => value + (byte << (3 * BYTE)),
+        4 => value + (byte << (4 * BYTE)),
+        _ => value + (byte << (5 * BYTE)),
     }
 }

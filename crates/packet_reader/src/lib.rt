@@ -9,6 +9,7 @@
 
 mod advance;
 mod fields;
+mod front;
 mod groups;
 mod headers;
 mod laws;
@@ -19,6 +20,7 @@ mod state;
 mod step;
 mod sync;
 
+pub use front::Address;
 pub use laws::{each_byte_has_its_answer, the_answers_are_the_parse};
 pub use reader::PacketReader;
 pub use step::Step;

@@ -1,18 +1,19 @@
 //! The reader: the search for the first A-sync, and the packets from there on (Arm IHI 0064, "Alignment
 //! Synchronization packet", "Descriptions of Trace Packets").
-ghost use Rattle.std.specs.Prelude.{◌≡◌, ◌≤◌, ◌<◌, ◌+◌, ◌-◌, ◌^◌, ◌++◌, ◌∷◌, [], ◌↔◌, length, List, ℕ, IsTrue, All};
+ghost use Rattle.std.specs.Prelude.{◌≡◌, ◌≤◌, ◌<◌, ◌+◌, ◌-◌, ◌^◌, ◌++◌, ◌∷◌, [], ◌↔◌, length, drop, List, ℕ, IsTrue, IsSome, IfSome, None, All};
 ghost use Rattle.etm_types.specs.Settings.{AreSettings};
 ghost use Rattle.packet_grammar.specs.Ranges.{IsPacket};
 ghost use Rattle.packet_reader.specs.States.{FitsAfter, HeadsBy};
 ghost use Rattle.packet_reader.specs.Stands.{FitsPhase, Moved, Moves, settled, zeros_in, zeros_of_sync};
 
 use crate::advance::advance;
+use crate::front::{Address, address_at};
 use crate::headers::{FIRST_OF_ATOMS, header, run_of};
 use crate::phase::Phase;
 use crate::state::Progress;
 use crate::step::Step;
 use crate::sync::{LENGTH_OF_SYNC, ends_sync};
-use etm_types::Settings;
+use etm_types::{AtomRun, Settings};
 use packet_grammar::{Packet, PacketFault};
 use std::marker::Model;
 
@@ -37,8 +38,9 @@ impl Model for PacketReader {
 }
 
 impl PacketReader {
+    ghost use Rattle.packet_grammar.specs.Fields.{bit};
     ghost use Rattle.packet_grammar.specs.Parsed.{Ending, FirstSync, IsStream};
-    ghost use Rattle.packet_reader.specs.Stands.{StandsAt, Gains, is_synced, rest_in, rest_of};
+    ghost use Rattle.packet_reader.specs.Stands.{StandsAt, Gains, TakesPacket, is_synced, rest_in, rest_of};
 
     /// A reader that has taken nothing.
     pub fn new(settings: &Settings) -> PacketReader
@@ -72,6 +74,55 @@ impl PacketReader {
             self.taken,
             byte,
         )
+    }
+
+    /// Takes the next byte where the reader stands between two packets and the byte is an atom packet, and answers the
+    /// packet's offset and its atoms. Every other byte is left to [`take`](PacketReader::take), and nothing changes.
+    ///
+    /// Most packets are such. A [`Step`] has room for every packet, and to fill and move it costs more than all else.
+    #[inline(always)]
+    pub fn take_atoms(&mut self, byte: u8) -> Option<(u64, AtomRun)>
+        requires { self.old.taken < 2 ^ 62 }
+        ensures some { IsSome result ↔ ((self.old.phase ≡ Phase.Between) × (0xc0 ≤ byte)) }
+        ensures none { result ≡ None → self.new ≡ self.old }
+        ensures takes { IfSome result (λ atoms. TakesPacket self.old self.new (byte ∷ []) atoms.0 (Packet.Atoms atoms.1)) }
+    {
+        match &self.phase {
+            Phase::Between if byte >= FIRST_OF_ATOMS => {
+                let (at, after) = (self.start, self.taken + 1);
+                (self.start, self.taken) = (after, after);
+                Some((at, run_of(byte)))
+            }
+            _ => None,
+        }
+    }
+
+    /// Takes the address packet at the front of `bytes`, the bytes that come next, where the reader stands between two
+    /// packets and the packet is all there. It answers the packet's offset, the address and the bytes behind it.
+    ///
+    /// It is for speed, as [`take_atoms`](PacketReader::take_atoms) is: where it answers `None`, nothing changes, and
+    /// [`take`](PacketReader::take) takes the same bytes one by one. It knows short addresses, and long ones of 64 bits,
+    /// alone or with a context: where as many bytes are there as these may have, they are taken.
+    #[inline(always)]
+    pub fn take_address<'a>(&mut self, bytes: &'a [u8]) -> Option<(u64, Address, &'a [u8])>
+        requires { self.old.taken + length bytes.now ≤ 2 ^ 62 }
+        ensures none { result ≡ None → self.new ≡ self.old }
+        ensures short { (rest : List ℕ) → self.old.phase ≡ Phase.Between → bytes.now ≡ 0x95 ∷ rest → 2 ≤ length rest → IsSome result }
+        ensures long { (rest : List ℕ) → self.old.phase ≡ Phase.Between → bytes.now ≡ 0x9d ∷ rest → 8 ≤ length rest → IsSome result }
+        ensures with_context { (address rest : List ℕ) (info : ℕ) → self.old.phase ≡ Phase.Between → bytes.now ≡ 0x85 ∷ address
+            → drop 8 address ≡ info ∷ rest → IsTrue (bit 4 info) → 8 ≤ length rest → IsSome result }
+        ensures takes { IfSome result (λ a. (text : List ℕ) × (bytes.now ≡ text ++ a.2.now) × (0 < length text)
+            × TakesPacket self.old self.new text a.0 (Packet.Addr a.1.form a.1.ctx)) }
+    {
+        match &self.phase {
+            Phase::Between => {
+                let (address, behind) = address_at(&self.settings, bytes)?;
+                let (at, after) = (self.start, self.taken + (bytes.len() - behind.len()) as u64);
+                (self.start, self.taken) = (after, after);
+                Some((at, address, behind))
+            }
+            _ => None,
+        }
     }
 
     /// How many bytes were taken.

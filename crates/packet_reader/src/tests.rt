@@ -1,6 +1,6 @@
 //! Each call once, and the bytes at which readers go wrong.
 use super::*;
-use etm_types::{AtomRun, Settings};
+use etm_types::{AddrForm, AtomRun, CtxBits, Settings};
 use packet_grammar::{Packet, PacketFault};
 
 /// The answer to the last of the bytes behind an A-sync, in a reader of a VMID of one byte and a context
@@ -73,4 +73,78 @@ fn faults_come_with_the_byte_that_shows_them(rt: HostRuntime) {
         assert_eq!(rt; last_answer(bytes), Some(Step::Bad { at: 12, fault }));
     }
     assert_eq!(rt; last_answer(&[0x08, 0x04]), Some(Step::Stopped));
+}
+
+/// The address that is taken at once behind an A-sync, with its offset and how many bytes are left.
+fn address_taken(bytes: &[u8]) -> Option<(u64, Address, usize)> {
+    let settings = Settings::new(16, 1, 4).ok()?;
+    let mut reader = PacketReader::new(&settings);
+    for byte in [0, 0, 0, 0, 0, 0, 0, 0, 0, 0, 0, 0x80] {
+        if reader.taken() < 100 {
+            reader.take(byte);
+        }
+    }
+    if reader.taken() > 100 || bytes.len() > 100 {
+        return None;
+    }
+    let (at, address, behind) = reader.take_address(bytes)?;
+    Some((at, address, behind.len()))
+}
+
+#[test]
+fn addresses_that_are_all_there_are_taken_at_once(rt: HostRuntime) {
+    let ctx = CtxBits {
+        el: 1,
+        ns: true,
+        vmid: Some(7),
+        cid: Some(0x0403_0201),
+    };
+    for (bytes, form, ctx, left) in [
+        (&[0x95, 0x7f][..], AddrForm::Short1(0x1fc), None, 0),
+        (
+            &[0x95, 0x81, 0x02, 0xf7][..],
+            AddrForm::Short2(0x404),
+            None,
+            1,
+        ),
+        (
+            &[0x9d, 0x01, 0x02, 0x03, 0x04, 0x05, 0x06, 0x07, 0x08][..],
+            AddrForm::Long64(0x0807_0605_0403_0404),
+            None,
+            0,
+        ),
+        (
+            &[
+                0x85, 0, 0, 0, 0, 0, 0, 0, 0, 0xf1, 7, 1, 2, 3, 4, 0xf7, 0xf7,
+            ][..],
+            AddrForm::Long64(0),
+            Some(ctx),
+            2,
+        ),
+    ] {
+        assert_eq!(rt;
+            address_taken(bytes),
+            Some((12, Address { form, ctx }, left))
+        );
+    }
+    assert_eq!(rt; address_taken(&[0x95, 0x81]), None);
+    assert_eq!(rt; address_taken(&[0x90]), None);
+}
+
+#[test]
+fn atoms_are_taken_at_once_between_packets(rt: HostRuntime) {
+    let settings = Settings::new(16, 1, 4).expect(&rt, "settings");
+    let mut reader = PacketReader::new(&settings);
+    for byte in [0, 0, 0, 0, 0, 0, 0, 0, 0, 0, 0, 0x80] {
+        if reader.taken() < 100 {
+            assert_eq!(rt; reader.take_atoms(0xf7), None);
+            reader.take(byte);
+        }
+    }
+    if reader.taken() < 100 {
+        let run = AtomRun { count: 1, bits: 1 };
+        assert_eq!(rt; reader.take_atoms(0xf7), Some((12, run)));
+        assert_eq!(rt; reader.take_atoms(0x04), None);
+        assert_eq!(rt; reader.taken(), 13);
+    }
 }

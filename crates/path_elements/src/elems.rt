@@ -156,8 +156,8 @@ impl Values {
 impl Elems {
     ghost use Rattle.etm_types.specs.declared.element.Elem.TheVariants as elem;
 
-    /// None.
-    pub(crate) fn none() -> Elems
+    /// No element.
+    pub fn none() -> Elems
         ensures { result ≡ [] }
     {
         Elems {

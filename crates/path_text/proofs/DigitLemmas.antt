@@ -190,7 +190,8 @@ put_one n end text below some within =
 
 -- a number of two digits is put
 pub put_both : (n end : ℕ) (text : List ℕ) → 10 ≤ n → n < 100 → 2 ≤ end
-    → take (end - 2) text ++ (digit (n / 10) ∷ digit (n % 10) ∷ drop (end - 2 + 2) text) ≡ take (end - length (in_base 10 n)) text ++ (in_base 10 n ++ drop end text)
+    → take (end - 2) text ++ (digit (n / 10) ∷ digit (n % 10) ∷ drop (end - 2 + 2) text)
+    ≡ take (end - length (in_base 10 n)) text ++ (in_base 10 n ++ drop end text)
 put_both n end text above below some =
     let pair = digit (n / 10) ∷ digit (n % 10) ∷ [] in
     let last : end - 2 + 2 ≡ end = omega (arith, some) in

@@ -60,7 +60,8 @@ put_one_hex n end text below some within =
 
 -- a number of two digits is put
 pub put_both_hex : (n end : ℕ) (text : List ℕ) → 16 ≤ n → n < 256 → 2 ≤ end
-    → take (end - 2) text ++ (digit (n / 16) ∷ digit (n % 16) ∷ drop (end - 2 + 2) text) ≡ take (end - length (in_base 16 n)) text ++ (in_base 16 n ++ drop end text)
+    → take (end - 2) text ++ (digit (n / 16) ∷ digit (n % 16) ∷ drop (end - 2 + 2) text)
+    ≡ take (end - length (in_base 16 n)) text ++ (in_base 16 n ++ drop end text)
 put_both_hex n end text above below some =
     let pair = digit (n / 16) ∷ digit (n % 16) ∷ [] in
     let last : end - 2 + 2 ≡ end = omega (arith, some) in

@@ -1,13 +1,15 @@
 -- The table of the numbers below 100, two digits each.
 use Rattle.std.proofs.Common.{◌≡◌, inl, inr, ℕ, zero, suc, ◌+◌, ◌*◌, ◌/◌, ◌%◌, ◌<◌}
-use Rattle.std.proofs.Common.{Bool, true, false, List, [], ◌∷◌, slice_index_or, codes, refl, ap, ◌∙◌, arith}
+use Rattle.std.proofs.Common.{Bool, true, false, List, [], ◌∷◌, ◌++◌, slice_index_or, codes, refl, ap, ◌∙◌, arith}
 use Rattle.std.specs.Prelude.{◌==◌, if◌then◌else◌}
 use Rattle.std.proofs.lemmas.Bool.{eqb-true, false≢true}
 use Rattle.std.proofs.Math.Nat.{eq-or-lt_of_le}
 use Rattle.path_text.specs.Lines.{digit}
 
 abbrev pairs : List ℕ
-pairs = codes "00010203040506070809101112131415161718192021222324252627282930313233343536373839404142434445464748495051525354555657585960616263646566676869707172737475767778798081828384858687888990919293949596979899"
+pairs =
+    codes "0001020304050607080910111213141516171819202122232425262728293031323334353637383940414243444546474849"
+    ++ codes "5051525354555657585960616263646566676869707172737475767778798081828384858687888990919293949596979899"
 
 -- whether each number below a bound passes a test
 abbrev all_below : (ℕ → Bool) → ℕ → Bool

@@ -8,7 +8,7 @@ use Rattle.etm_types.specs.declared.atoms.FewAtoms.{FewAtoms}
 use Rattle.etm_types.specs.declared.context.CtxBits.{CtxBits}
 use Rattle.packet_grammar.specs.declared.packet.Packet.{Packet}
 use Rattle.packet_grammar.specs.declared.packet.Packet.TheVariants as packet
-use Rattle.path_text.specs.Lines.{hex, decimal, number_or_dash, security, line_of}
+use Rattle.path_text.specs.Lines.{hex, decimal, number_or_dash, security, line_start, line_of}
 
 -- the letter of an atom
 abbrev pub letter : Bool → ℕ
@@ -69,6 +69,10 @@ packet_text (packet.Atoms run) = codes "atoms " ++ atoms_text run
 -- a packet's line has its offset in the stream
 abbrev pub packet_line : ℕ → ℕ → Packet → List ℕ
 packet_line id at packet = line_of id (decimal at ++ codes " " ++ packet_text packet)
+
+-- the line begins with it
+abbrev pub packet_head : ℕ → ℕ → List ℕ
+packet_head id at = line_start id ++ decimal at ++ codes " "
 
 -- a packet has a text where its atoms are some that a packet can tell
 abbrev pub HasText : Packet → Type 0

@@ -90,7 +90,7 @@ pub fn decimal_count(n: u64) -> usize
 
 /// The two digits of a number below 100.
 #[inline(always)]
-fn pair(n: u8) -> [u8; 2]
+pub fn pair(n: u8) -> [u8; 2]
     requires { n < 100 }
     ensures { result ≡ digit (n / 10) ∷ digit (n % 10) ∷ [] }
 {

@@ -1,8 +1,8 @@
 //! One line of the output, put together before it is written.
-ghost use Rattle.std.specs.Prelude.{◌≡◌, ◌+◌, ◌∷◌, ◌++◌, ◌<◌, ◌≤◌, [], length};
+ghost use Rattle.std.specs.Prelude.{◌≡◌, ◌+◌, ◌/◌, ◌%◌, ◌∷◌, ◌++◌, ◌<◌, ◌≤◌, [], length, take};
 ghost use Rattle.path_text.specs.Lines.{line_start, byte_text};
 
-use crate::digits::{decimal_count, digit, hex_count, put_decimal, put_hex};
+use crate::digits::{decimal_count, digit, hex_count, pair, put_decimal, put_hex};
 use crate::letters::put_atoms;
 use etm_types::{AtomRun, Id};
 use std::marker::Model;
@@ -30,7 +30,8 @@ impl Model for Line {
 }
 
 impl Line {
-    ghost use Rattle.path_text.specs.Lines.{HasRoom, AddsAtMost, hex, decimal};
+    ghost use Rattle.etm_types.specs.Atoms.{most_atoms};
+    ghost use Rattle.path_text.specs.Lines.{HasRoom, AddsAtMost, digit, hex, decimal};
     ghost use Rattle.path_text.specs.PacketLines.{atoms_text};
     ghost use Rattle.path_text.specs.Writing.{Writes};
 
@@ -54,7 +55,25 @@ impl Line {
         line
     }
 
+    /// How many bytes it has.
+    #[inline(always)]
+    pub(crate) fn len(&self) -> usize
+        ensures { result ≡ length self.now }
+    {
+        self.len
+    }
+
+    /// Takes off all but so many bytes.
+    #[inline(always)]
+    pub(crate) fn cut(&mut self, len: usize)
+        requires { len ≤ length self.old }
+        ensures { self.new ≡ take len self.old }
+    {
+        self.len = len;
+    }
+
     /// Adds a text.
+    #[inline(always)]
     pub fn text(&mut self, text: &[u8])
         requires { HasRoom (length text.now) self.old }
         ensures { self.new ≡ self.old ++ text.now }
@@ -146,10 +165,22 @@ impl Line {
         self.decimal_digits(u64::from(n));
     }
 
+    /// Adds a number below 100 as two decimal digits.
+    #[inline(always)]
+    pub(crate) fn pair(&mut self, n: u8)
+        requires pair { n < 100 }
+        requires room { HasRoom 2 self.old }
+        ensures { self.new ≡ self.old ++ (digit (n / 10) ∷ digit (n % 10) ∷ []) }
+    {
+        self.text(&pair(n));
+    }
+
     /// Adds the letters of a run of atoms, the oldest first.
+    #[inline(always)]
     #[tactic(auto, using(crate::proofs::AtomLemmas::count_letters))]
-    pub fn atoms(&mut self, run: &AtomRun)
-        requires { HasRoom run.now.count self.old }
+    pub(crate) fn atoms(&mut self, run: &AtomRun)
+        requires room { HasRoom most_atoms self.old }
+        requires most { run.now.count ≤ most_atoms }
         ensures value { self.new ≡ self.old ++ atoms_text run.now }
         ensures len { length self.new ≡ length self.old + run.now.count }
     {
@@ -158,6 +189,7 @@ impl Line {
     }
 
     /// Ends the line with LF, and writes it by one call. It is not moved, since that would copy its bytes.
+    #[inline(always)]
     pub fn write<K: Sink>(&mut self, sink: &mut K) -> Result<(), Failed>
         requires { HasRoom 1 self.old }
         ensures written { Writes (K.state sink.old) (K.state sink.new) result (self.old ++ 10 ∷ []) }

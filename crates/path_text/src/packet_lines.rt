@@ -1,15 +1,13 @@
-//! The lines of packets.
+//! The texts of packets.
 ghost use Rattle.std.specs.Prelude.{◌≡◌, ◌+◌, ◌++◌, ◌≤◌, length, codes};
 ghost use Rattle.etm_types.specs.Atoms.{IsFewAtoms, most_atoms};
 ghost use Rattle.path_text.specs.Lines.{HasRoom, AddsAtMost, hex, decimal, number_or_dash};
 ghost use Rattle.path_text.specs.PacketLines.{HasText, atoms_text, few_text, form_text};
-ghost use Rattle.path_text.specs.PacketLines.{told_context_text, carried_text, mispredict_text, packet_text, packet_line};
-ghost use Rattle.path_text.specs.Writing.{Writes};
+ghost use Rattle.path_text.specs.PacketLines.{told_context_text, carried_text, mispredict_text, packet_text};
 
 use crate::line::Line;
-use etm_types::{AddrForm, AtomRun, CtxBits, FewAtoms, Id};
+use etm_types::{AddrForm, AtomRun, CtxBits, FewAtoms};
 use packet_grammar::Packet;
-use trace_io::{Failed, Sink};
 
 /// Adds a number in decimal, or a dash where there is none.
 fn add_decimal(line: &mut Line, n: Option<u32>)
@@ -201,7 +199,7 @@ fn add_form(line: &mut Line, form: &AddrForm)
 }
 
 /// Adds an address packet.
-fn add_address(line: &mut Line, form: &AddrForm, ctx: &Option<CtxBits>)
+pub fn add_address(line: &mut Line, form: &AddrForm, ctx: &Option<CtxBits>)
     requires { HasRoom 59 line.old }
     ensures value { line.new ≡ line.old ++ packet_text (Packet.Addr form.now ctx.now) }
     ensures short { AddsAtMost 59 line.old line.new }
@@ -215,7 +213,8 @@ fn add_address(line: &mut Line, form: &AddrForm, ctx: &Option<CtxBits>)
 }
 
 /// Adds the letters of a run of atoms, the oldest first.
-fn add_atoms(line: &mut Line, run: &AtomRun)
+#[inline(always)]
+pub fn add_atoms(line: &mut Line, run: &AtomRun)
     requires room { HasRoom 30 line.old }
     requires most { run.now.count ≤ most_atoms }
     ensures value { line.new ≡ line.old ++ packet_text (Packet.Atoms run.now) }
@@ -226,7 +225,7 @@ fn add_atoms(line: &mut Line, run: &AtomRun)
 }
 
 /// Adds the text of a packet.
-fn add_packet(line: &mut Line, packet: &Packet)
+pub fn add_packet(line: &mut Line, packet: &Packet)
     requires room { HasRoom 59 line.old }
     requires has_text { HasText packet.now }
     ensures value { line.new ≡ line.old ++ packet_text packet.now }
@@ -257,21 +256,4 @@ fn add_packet(line: &mut Line, packet: &Packet)
         Packet::Addr { form, ctx } => add_address(line, form, ctx),
         Packet::Atoms(run) => add_atoms(line, run),
     }
-}
-
-/// Writes the line of a packet that begins at an offset of its stream.
-pub fn write_packet_line<K: Sink>(
-    id: Id,
-    at: u64,
-    packet: &Packet,
-    sink: &mut K,
-) -> Result<(), Failed>
-    requires { HasText packet.now }
-    ensures { Writes (K.state sink.old) (K.state sink.new) result (packet_line id at packet.now) }
-{
-    let mut line = Line::begin(id);
-    line.decimal(at);
-    line.text(b" ");
-    add_packet(&mut line, packet);
-    line.write(sink)
 }

@@ -13,7 +13,8 @@ fn show(sink: &mut MemSink, at: u64, packet: &Packet) -> Result<(), Fail>
     requires { HasText packet.now }
 {
     let id = Id::new(111).ok_or("it is an ID")?;
-    write_packet_line(id, at, packet, sink)
+    PacketLine::new(id)
+        .write(at, packet, sink)
         .ok()
         .ok_or("a write failed")?;
     Ok(())
@@ -106,7 +107,7 @@ fn a_line_is_written_by_one_call(rt: HostRuntime) -> Result<(), Fail> {
     let id = Id::new(1).ok_or("it is an ID")?;
     let mut sink = MemSink::new(alloc, vec![in alloc; false, true]?);
     assert_eq!(rt;
-        write_packet_line(id, 1 << 63, &Packet::CtxSame, &mut sink),
+        PacketLine::new(id).write(1 << 63, &Packet::CtxSame, &mut sink),
         Ok(())
     );
     assert_eq!(rt; write_end(id, &End::Clean, &mut sink), Err(Failed));
@@ -127,5 +128,32 @@ fn a_path_ends_where_a_write_fails(rt: HostRuntime) -> Result<(), Fail> {
     );
     let lines = b"01 ctx el0 ns 0 0\n01 1000\n";
     assert_eq!(rt; sink.written(), lines.as_slice());
+    Ok(())
+}
+
+#[test]
+fn a_line_goes_on_from_packet_to_packet(rt: HostRuntime) -> Result<(), Fail> {
+    let id = Id::new(1).ok_or("it is an ID")?;
+    let mut sink = MemSink::new(rt.alloc(), Vec::new(rt.alloc()));
+    let mut line = PacketLine::new(id);
+    let run = AtomRun {
+        count: 3,
+        bits: 0b011,
+    };
+    for at in [7, 98, 101, 199, 200] {
+        assert_eq!(rt; line.write_atoms(at, &run, &mut sink), Ok(()));
+    }
+    let form = AddrForm::Short1(0x1fc);
+    assert_eq!(rt;
+        line.write_address(1 << 63, &form, &None, &mut sink),
+        Ok(())
+    );
+    assert_eq!(rt; line.write(7, &Packet::On, &mut sink), Ok(()));
+    assert_eq!(rt;
+        sink.written(),
+        b"01 7 atoms EEN\n01 98 atoms EEN\n01 101 atoms EEN\n01 199 atoms EEN\n01 200 atoms EEN\n\
+          01 9223372036854775808 addr short1 1fc\n01 7 on\n"
+            .as_slice()
+    );
     Ok(())
 }

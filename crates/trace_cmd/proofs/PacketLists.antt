@@ -19,6 +19,7 @@ use Rattle.std.proofs.Common.{
   drop,
   get_or,
   Option,
+  Result,
   Some,
   None,
   Ok,
@@ -32,6 +33,8 @@ use Rattle.std.proofs.Common.{
   inr,
   arith,
   append_assoc,
+  append-nil,
+  length-append,
 }
 use Rattle.std.specs.Prelude.{All, is_some, if◌then◌else◌}
 use Rattle.std.proofs.lemmas.List.Elements.{All-from_get_or}
@@ -41,10 +44,11 @@ use Rattle.packet_grammar.specs.declared.packet.Packet.TheVariants.{Mispredict, 
 use Rattle.packet_grammar.specs.declared.fault.PacketFault.{PacketFault}
 use Rattle.packet_grammar.specs.Parsed.{Ending, no_sync, clean, cut, fault, FirstSync, IsStream, Parses}
 use Rattle.packet_grammar.specs.Ranges.{IsPacket}
+use Rattle.packet_grammar.proofs.Fitting.{small_back}
 use Rattle.packet_grammar.proofs.Streams.{each_is_a_stream, one_stream, parsed}
 use Rattle.packet_reader.specs.declared.step.Step.{Step}
 use Rattle.packet_reader.specs.declared.step.Step.TheVariants.{Whole}
-use Rattle.packet_reader.specs.Stands.{Gains, rest_of}
+use Rattle.packet_reader.specs.Stands.{Gains, GainsPacket, Standing, StandsAt, rest_of}
 use Rattle.packet_reader.specs.Answered.{told, fault_after, fault_of}
 use Rattle.packet_reader.proofs.Stream.{stream_on, fault_stays}
 use Rattle.packet_reader.proofs.Adds.{Told, gains_more, nothing_is_a_stream, nothing_told}
@@ -54,7 +58,7 @@ use Rattle.path_text.specs.PacketLines.{HasText, packet_line}
 use Rattle.path_text.specs.EndLines.{end_line}
 use Rattle.path_text.specs.Writing.{Writes}
 use Rattle.trace_io.specs.declared.traits.Failed.{Failed}
-use Rattle.trace_cmd.specs.PacketList.{packet_lines, end_of, is_faulty, list_text, IsPacketList}
+use Rattle.trace_cmd.specs.PacketList.{TakesFront, packet_lines, end_of, is_faulty, list_text, IsPacketList}
 use Rattle.std.proofs.lemmas.Bool.{eqb-true}
 use Rattle.path_walker.proofs.Search.{cases}
 use Rattle.path_text.proofs.Wrote.{Wrote, wrote_nothing, wrote_more, writes_all, fails_after}
@@ -135,14 +139,28 @@ module _ (s : Sizes) (are : AreSettings s) (id : ℕ) (old mid new : IoState) (f
         (wrote_more old mid new (packet_lines id is.packets) (packet_lines id (told step)) is.wrote wrote);
   }
 
+module _ (s : Sizes) (are : AreSettings s) (id : ℕ) (old mid new : IoState) (front text : List ℕ) (at : ℕ) (packet : Packet) where
+  -- the line of a packet was written
+  pub listed_packet : Listed s id old mid front None → GainsPacket s front text at packet → Wrote mid new (packet_line id at packet)
+      → Listed s id old new (front ++ text) None
+  listed_packet is (others, ending, before, now) wrote =
+      let same = one_stream s are front is.packets others is.told.ending ending is.told.stream before in
+      let all = is.packets ++ (at, packet) ∷ [] in
+      let lines : packet_lines id is.packets ++ packet_line id at packet ≡ packet_lines id all =
+      ap (λ t. packet_lines id is.packets ++ t) (sym (append-nil (packet_line id at packet))) ∙ sym (packet_lines-append id is.packets ((at, packet) ∷ [])) in
+      record {
+        packets = all;
+        told = record { ending = clean; stream = subst (λ p. IsStream s (front ++ text) (p ++ (at, packet) ∷ []) clean) (sym same.0) now; fault = refl };
+        wrote = subst (Wrote old new) lines (wrote_more old mid new (packet_lines id is.packets) (packet_line id at packet) is.wrote wrote);
+      }
+
   -- the line of a packet could not be written
-  pub listed_fails : {T U : Type 0} (at : ℕ) (packet : Packet) (e d : Failed) (rest : List ℕ) → Listed s id old mid front last
-      → Gains s front byte (Whole at packet)
-      → Writes {T = T} mid new (Err e) (packet_line id at packet) → All (λ b. b < 256) rest
-      → (packets : List (ℕ × Packet)) × (ending : Ending) × IsStream s ((front ++ byte ∷ []) ++ rest) packets ending
+  pub listed_fails : {T U : Type 0} (e d : Failed) (rest : List ℕ) (last : Option (ℕ × PacketFault)) → Listed s id old mid front last
+      → GainsPacket s front text at packet → Writes {T = T} mid new (Err e) (packet_line id at packet) → All (λ b. b < 256) rest
+      → (packets : List (ℕ × Packet)) × (ending : Ending) × IsStream s ((front ++ text) ++ rest) packets ending
       × Writes {T = U} old new (Err d) (packet_lines id packets)
-  listed_fails {T} {U} at packet e d rest is (others, ending, before, now) writes small =
-      let front' = front ++ byte ∷ [] in
+  listed_fails {T} {U} e d rest last is (others, ending, before, now) writes small =
+      let front' = front ++ text in
       let same = one_stream s are front is.packets others is.told.ending ending is.told.stream before in
       let later = parsed s are (length rest) (length front') rest (omega arith) small in
       let all = (others ++ (at, packet) ∷ []) ++ later.packets in
@@ -156,6 +174,9 @@ module _ (s : Sizes) (are : AreSettings s) (id : ℕ) (old mid new : IoState) (f
         fails_after old mid new e d (packet_lines id is.packets) (packet_line id at packet) (packet_lines id later.packets)
             (packet_lines id all) lines is.wrote writes,
       )
+
+pub some_is_not_none : {A E : Type 0} (answer : Option A) (a : A) → answer ≡ Some a → ◌≡◌ {A = Result (Option A) E} (Ok answer) (Ok None) → ⊥
+some_is_not_none answer a is none = absurd cc
 
 pub is_none : {T : Type 0} (last : Option T) → is_some last ≡ false → last ≡ None
 is_none None e = refl
@@ -181,6 +202,102 @@ listed_to_fault s id old new front rest (Some stop) some is = (
   writes_all old new (Some stop) (packet_lines id is.packets) is.wrote,
   is.told.fault,
 )
+
+-- ---- how far the reader and the list have come
+
+-- The reader took a front of the bytes, the lines of its packets are written, and no fault was met.
+pub record Along (s : Sizes) (id : ℕ) (old new : IoState) (bytes rest : List ℕ) (r : Standing) : Type 0 where
+  pub front : List ℕ
+  pub parts : bytes ≡ front ++ rest
+  pub settings : r.settings ≡ s
+  pub stands : StandsAt r front
+  pub listed : Listed s id old new front None
+
+module _ (s : Sizes) (are : AreSettings s) (id : ℕ) (old : IoState) (bytes : List ℕ) where
+  pub along_first : (r : Standing) → r.settings ≡ s → StandsAt r [] → Along s id old old bytes bytes r
+  along_first r same stands = record { front = []; parts = refl; settings = same; stands = stands; listed = listed_first s id old }
+
+  -- how many bytes were taken, and are left
+  pub along_taken : (new : IoState) (rest : List ℕ) (r : Standing) → Along s id old new bytes rest r → r.taken + length rest ≡ length bytes
+  along_taken new rest r is = omega (arith, is.stands.0, ap length is.parts, length-append is.front rest)
+
+  -- the reader took all
+  pub along_all : (new : IoState) (rest : List ℕ) (r : Standing) → length rest ≡ 0 → Along s id old new bytes rest r
+      → StandsAt r bytes × Listed s id old new bytes None
+  along_all new [] r none is =
+      let whole : bytes ≡ is.front = is.parts ∙ append-nil is.front in
+      (subst (λ t. StandsAt r t) (sym whole) is.stands, subst (λ t. Listed s id old new t None) (sym whole) is.listed)
+  along_all new (b ∷ rest) r none is = absurd (omega (arith, none))
+
+  module _ (mid new : IoState) (rest : List ℕ) (r after : Standing) (is : Along s id old mid bytes rest r) where
+    -- the packet in front was taken, and its line was written
+    pub along_packet : (behind : List ℕ) (at : ℕ) (packet : Packet) → TakesFront r after rest behind at packet → Wrote mid new (packet_line id at packet)
+        → Along s id old new bytes behind after
+    along_packet behind at packet front wrote = record {
+      front = is.front ++ front.text;
+      parts = is.parts ∙ ap (λ t. is.front ++ t) front.parts ∙ sym (append_assoc is.front front.text behind);
+      settings = front.takes.settings ∙ is.settings;
+      stands = front.takes.stands is.front is.stands;
+      listed = listed_packet s are id old mid new is.front front.text at packet is.listed
+          (subst (λ t. GainsPacket t is.front front.text at packet) is.settings (front.takes.gains is.front is.stands)) wrote;
+    }
+
+    -- and its line could not be written
+    pub packet_fails : {T U : Type 0} (behind : List ℕ) (at : ℕ) (packet : Packet) (e d : Failed) → TakesFront r after rest behind at packet
+        → Writes {T = T} mid new (Err e) (packet_line id at packet) → All (λ b. b < 256) bytes
+        → (packets : List (ℕ × Packet)) × (ending : Ending) × IsStream s bytes packets ending × Writes {T = U} old new (Err d) (packet_lines id packets)
+    packet_fails {T} {U} behind at packet e d front writes small =
+        let whole : bytes ≡ (is.front ++ front.text) ++ behind =
+        is.parts ∙ ap (λ t. is.front ++ t) front.parts ∙ sym (append_assoc is.front front.text behind) in
+        let list = listed_fails s are id old mid new is.front front.text at packet {T = T} {U = U} e d behind None is.listed
+        (subst (λ t. GainsPacket t is.front front.text at packet) is.settings (front.takes.gains is.front is.stands)) writes
+        (small_back bytes (is.front ++ front.text) behind whole small) in
+        (list.0, list.1, subst (λ t. IsStream s t list.0 list.1) (sym whole) list.2, list.3)
+
+    module _ (byte : ℕ) (later : List ℕ) (step : Step) (parts : rest ≡ byte ∷ later) (same : after.settings ≡ r.settings)
+        (stands : (front : List ℕ) → StandsAt r front → StandsAt after (front ++ byte ∷ []))
+        (gains : (front : List ℕ) → StandsAt r front → Gains r.settings front byte step) where
+      whole : bytes ≡ (is.front ++ byte ∷ []) ++ later
+      whole = is.parts ∙ ap (λ t. is.front ++ t) parts ∙ sym (append_assoc is.front (byte ∷ []) later)
+
+      gained : Gains s is.front byte step
+      gained = subst (λ t. Gains t is.front byte step) is.settings (gains is.front is.stands)
+
+      stepped : Wrote mid new (packet_lines id (told step)) → Listed s id old new (is.front ++ byte ∷ []) (fault_after None step)
+      stepped = listed_more s are id old mid new is.front byte None step is.listed gained
+
+      -- a byte was taken, and showed no fault
+      pub along_byte : fault_after None step ≡ None → Wrote mid new (packet_lines id (told step)) → Along s id old new bytes later after
+      along_byte none wrote = record {
+        front = is.front ++ byte ∷ [];
+        parts = whole;
+        settings = same ∙ is.settings;
+        stands = stands is.front is.stands;
+        listed = subst (λ f. Listed s id old new (is.front ++ byte ∷ []) f) none (stepped wrote);
+      }
+
+      -- it showed one
+      pub byte_faults : (last : Option (ℕ × PacketFault)) → is_some last ≡ true → last ≡ fault_after None step → Wrote mid new (packet_lines id (told step))
+          → (packets : List (ℕ × Packet)) × (ending : Ending) × IsStream s bytes packets ending
+          × Writes {T = Option (ℕ × PacketFault)} {E = Failed} old new (Ok last) (packet_lines id packets) × (fault_of ending ≡ last)
+      byte_faults last some e wrote =
+          let list = listed_to_fault s id old new (is.front ++ byte ∷ []) later last some
+          (subst (λ f. Listed s id old new (is.front ++ byte ∷ []) f) (sym e) (stepped wrote)) in
+          (list.0, list.1, subst (λ t. IsStream s t list.0 list.1) (sym whole) list.2, list.3, list.4)
+
+      -- it ended a packet whose line could not be written
+      pub byte_fails : {T U : Type 0} (at : ℕ) (packet : Packet) (e d : Failed) → step ≡ Whole at packet
+          → Writes {T = T} mid new (Err e) (packet_lines id (told step)) → All (λ b. b < 256) bytes
+          → (packets : List (ℕ × Packet)) × (ending : Ending) × IsStream s bytes packets ending
+          × Writes {T = U} old new (Err d) (packet_lines id packets)
+      byte_fails {T} {U} at packet e d is_whole writes small =
+          let line : packet_lines id (told step) ≡ packet_line id at packet =
+          ap (λ (step : Step). packet_lines id (told step)) is_whole ∙ append-nil (packet_line id at packet) in
+          let list = listed_fails s are id old mid new is.front (byte ∷ []) at packet {T = T} {U = U} e d later None is.listed
+          (subst (λ (step : Step). Gains s is.front byte step) is_whole gained)
+          (subst (λ t. Writes {T = T} {E = Failed} mid new (Err e) t) line writes)
+          (small_back bytes (is.front ++ byte ∷ []) later whole small) in
+          (list.0, list.1, subst (λ t. IsStream s t list.0 list.1) (sym whole) list.2, list.3)
 
 -- ---- the list as a whole
 

@@ -1,13 +1,21 @@
 -- What is printed of a stream's packets.
-use Rattle.std.specs.Prelude.{◌≡◌, ℕ, ◌==◌, Bool, true, false, if◌then◌else◌, List, [], ◌∷◌, ◌++◌, length}
+use Rattle.std.specs.Prelude.{◌≡◌, ℕ, ◌<◌, ◌==◌, Bool, true, false, if◌then◌else◌, List, [], ◌∷◌, ◌++◌, length}
 use Rattle.etm_types.specs.Settings.{Sizes}
 use Rattle.packet_grammar.specs.declared.packet.Packet.{Packet}
 use Rattle.packet_grammar.specs.declared.stream_fault.Fault.TheVariants as stream
 use Rattle.packet_grammar.specs.Parsed.{Ending, no_sync, clean, cut, fault, IsStream}
+use Rattle.packet_reader.specs.Stands.{Standing, TakesPacket}
 use Rattle.path_text.specs.declared.end.End.{End}
 use Rattle.path_text.specs.declared.end.End.TheVariants as end
 use Rattle.path_text.specs.EndLines.{end_line}
 use Rattle.path_text.specs.PacketLines.{packet_line}
+
+-- a reader took the packet at the front of some bytes, and the others stand behind it
+pub record TakesFront (old new : Standing) (bytes behind : List ℕ) (at : ℕ) (packet : Packet) : Type 0 where
+  pub text : List ℕ
+  pub parts : bytes ≡ text ++ behind
+  pub some : 0 < length text
+  pub takes : TakesPacket old new text at packet
 
 -- the lines of packets, each with its offset
 abbrev pub packet_lines : ℕ → List (ℕ × Packet) → List ℕ

@@ -1,4 +1,4 @@
-// What no clause says: errors of std's readers and writers, and each call once on its way.
+//! What no clause says: errors of std's readers and writers, and each call once on its way.
 ghost use Rattle.std.specs.Prelude.{◌≤◌, IfOk};
 
 use super::*;

@@ -1,6 +1,5 @@
-use Rattle.std.proofs.Common.{Ok, refl, sym, subst}
+use Rattle.std.proofs.Common.{Ok, refl}
 use Rattle.packet_grammar.specs.declared.packet.Packet.TheVariants.{Atoms}
-use Rattle.packet_reader.specs.declared.phase.Phase.{Phase}
 use Rattle.packet_reader.specs.declared.phase.Phase.TheVariants.{Between}
 use Rattle.packet_reader.specs.declared.state.Progress.TheVariants.{Done}
 use Rattle.packet_reader.specs.declared.step.Step.TheVariants.{Whole}

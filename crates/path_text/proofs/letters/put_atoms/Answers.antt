@@ -1,37 +1,31 @@
-use Rattle.std.proofs.Common.{◌≡◌, suc, ◌+◌, ◌-◌, ◌/◌, ◌%◌, ◌<◌, ◌++◌, ◌∷◌, [], length, take, drop, set, ap, sym, ◌∙◌, arith, append_assoc, append-nil}
-use Rattle.std.specs.Prelude.{◌==◌, map}
-use Rattle.std.proofs.lemmas.List.{length-set, take_more_set, drop-set-lt, take-append-drop}
+use Rattle.std.proofs.Common.{◌≡◌, ◌+◌, ◌-◌, ◌*◌, ◌/◌, ◌++◌, take, drop, ap, sym, ◌∙◌, arith, append-nil}
+use Rattle.std.specs.Prelude.{map}
 use Rattle.etm_types.specs.Atoms.{low_bits}
-use Rattle.path_text.specs.PacketLines.{letter, atoms_text}
+use Rattle.path_text.specs.PacketLines.{letter}
+use Rattle.path_text.proofs.Fours.{four_put, front_of_letters}
 use Rattle.path_text.proofs.letters.put_atoms.Goals as goal
 
-pub bounds-text-start : goal.bounds-text-start
-bounds-text-start c = omega (arith, c.loop-atom.invariant.len, c.requires)
-
-pub loop-atom-preserved : goal.loop-atom-preserved
-loop-atom-preserved c =
-    let i = c.loop-atom.invariant in let text = c.loop-atom.text in let rest = c.loop-atom.rest in
-    let count = c.args.run.now.count in let at = c.args.start + c.loop-atom.atom in let left = count - (c.loop-atom.atom + 1) in
-    let step : suc left ≡ count - c.loop-atom.atom = omega arith in
-    let next : c.args.start + (c.loop-atom.atom + 1) ≡ at + 1 = omega arith in
-    let inside : at < length text = omega (arith, i.len, c.requires) in
-    let later = map letter (low_bits left (rest / 2)) in
+pub loop-four-preserved : goal.loop-four-preserved
+loop-four-preserved c =
+    let i = c.loop-four.invariant in let text = c.loop-four.text in let rest = c.loop-four.rest in let k = c.loop-four.four in
+    let at = c.args.start + 4 * k in let next = c.args.start + 4 * (k + 1) in let n = 24 - 4 * (k + 1) in
+    let there : next ≡ at + 4 = omega arith in
+    let left : n + 4 ≡ 24 - 4 * k = omega (arith, c.loop-four-test.true) in
     record {
-      len = length-set text at _ ∙ i.len;
-      so_far = ap (λ k. take k (set text at c.letter.result) ++ later) next ∙ ap (λ t. t ++ later) (take_more_set text at c.letter.result inside)
-          ∙ ap (λ d. (take at text ++ (d ∷ [])) ++ later) c.letter.ensures ∙ append_assoc (take at text) (letter (rest % 2 == 1) ∷ []) later
-          ∙ ap (λ n. take at text ++ map letter (low_bits n rest)) step ∙ i.so_far;
-      after = drop-set-lt (c.args.start + count) text at c.letter.result (omega arith) ∙ i.after;
+      len = c.put_four.auto.text ∙ i.len;
+      so_far = ap (λ t. take next t ++ map letter (low_bits n (rest / 16))) (c.put_four.ensures
+          ∙ ap (λ m. take at text ++ (map letter (low_bits 4 rest) ++ drop m text)) (sym there))
+          ∙ four_put at next n rest text (omega (arith, i.len, c.requires.room, c.loop-four-test.true)) there
+          ∙ ap (λ m. take at text ++ map letter (low_bits m rest)) left ∙ i.so_far;
     }
 
-pub returns : goal.returns
-returns c =
-    let i = c.loop-atom.invariant in let text = c.loop-atom.text in let rest = c.loop-atom.rest in let old = c.args.text.now in
-    let count = c.args.run.now.count in let start = c.args.start in let end = start + count in let letters = atoms_text c.args.run.now in
-    let none : count - c.loop-atom.atom ≡ 0 = omega arith in
-    let last : end ≡ start + c.loop-atom.atom = omega arith in
-    let all : take end text ≡ take start old ++ letters =
-    sym (append-nil (take end text)) ∙ ap (λ n. take end text ++ map letter (low_bits n rest)) (sym none)
-    ∙ ap (λ k. take k text ++ map letter (low_bits (count - c.loop-atom.atom) rest)) last ∙ i.so_far in
-    sym (take-append-drop end text) ∙ ap (λ t. t ++ drop end text) all ∙ append_assoc (take start old) letters (drop end text)
-    ∙ ap (λ t. take start old ++ (letters ++ t)) i.after
+pub returns-clause-letters : goal.returns-clause-letters
+returns-clause-letters c =
+    let i = c.loop-four.invariant in let text = c.loop-four.text in let run = c.args.run.now in let old = c.args.text.now in
+    let last : c.loop-four.four ≡ 6 = omega (arith, c.loop-four-test.false, c.loop-four.auto.four-end) in
+    let none : 24 - 4 * c.loop-four.four ≡ 0 = omega (arith, last) in
+    let end : c.args.start + 24 ≡ c.args.start + 4 * c.loop-four.four = omega (arith, last) in
+    let all = sym (append-nil (take (c.args.start + 24) text))
+    ∙ ap (λ n. take n text ++ map letter (low_bits 0 c.loop-four.rest)) end
+    ∙ ap (λ m. take (c.args.start + 4 * c.loop-four.four) text ++ map letter (low_bits m c.loop-four.rest)) (sym none) ∙ i.so_far in
+    front_of_letters c.args.start run.count run.bits text old c.requires.most (omega (arith, c.requires.room)) all

@@ -19,4 +19,5 @@ returns-in_err-write_packet_list-clause-answer g c =
     let shown = subst (λ bytes. IsPacketList raw_sizes raw_id bytes w.0 w.1) c.deref.ensures.value
     (subst (λ (s : Sizes). IsPacketList s raw_id c.deref.result.now w.0 w.1) c.raw_settings.ensures
     (subst (λ id. IsPacketList c.raw_settings.result id c.deref.result.now w.0 w.1) c.raw_id.ensures w.2)) in
-    rw p.1 (input_fails PacketsShown _ _ _ _ c.in_err-write_packet_list.field-0.0 p.0 c.in-Ok.bytes.items w.0 w.1 c.in-Ok.ensures.bytes.0 c.in-Ok.ensures.bytes.1 shown w.3)
+    rw p.1 (input_fails PacketsShown _ _ _ _ c.in_err-write_packet_list.field-0.0 p.0 c.in-Ok.bytes.items w.0 w.1
+    c.in-Ok.ensures.bytes.0 c.in-Ok.ensures.bytes.1 shown w.3)

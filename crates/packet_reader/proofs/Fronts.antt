@@ -1,0 +1,133 @@
+-- Address packets at the front of some bytes.
+use Rattle.std.proofs.Common.{◌≡◌, ◌∙◌, ℕ, ◌+◌, ◌-◌, ◌*◌, ◌^◌, ◌==◌, ◌&&◌, not, Bool, true, false, List, [], ◌∷◌, ◌++◌, length, Some, None, Ok}
+use Rattle.std.proofs.Common.{refl, sym, ap, inl}
+use Rattle.std.proofs.Common.{append_assoc, length-append, subst, arith, ◌<◌}
+use Rattle.std.specs.Prelude.{All}
+use Rattle.etm_types.specs.Settings.{Sizes}
+use Rattle.etm_types.specs.declared.address.AddrForm.TheVariants.{Short1, Short2, Long64}
+use Rattle.etm_types.specs.declared.context.CtxBits.{CtxBits}
+use Rattle.packet_grammar.specs.declared.packet.Packet.{Packet}
+use Rattle.packet_grammar.specs.declared.packet.Packet.TheVariants.{Addr}
+use Rattle.packet_grammar.specs.Contexts.{Context, Field, address_of}
+use Rattle.packet_grammar.specs.Fields.{bit, is_last, lowest}
+use Rattle.packet_grammar.specs.Numbers.{little}
+use Rattle.packet_grammar.specs.Parts.{Outcome, Part, Bytes, Where, As}
+use Rattle.packet_grammar.specs.Parsed.{Spells, clean, IsStream}
+use Rattle.packet_grammar.proofs.GoesOn.{goes_on_by_a_packet}
+use Rattle.packet_grammar.proofs.InRange.{values_fit}
+use Rattle.packet_grammar.proofs.Inverse.{as_back}
+use Rattle.packet_reader.specs.Fronts.{IsFront}
+use Rattle.packet_reader.specs.Stands.{TakesPacket}
+use Rattle.packet_reader.specs.declared.phase.Phase.TheVariants.{Between}
+
+where_so : {A : Type 0} (test : Bool) (P Q : Part A) (outcome : Outcome A) (bytes : List ℕ) → test ≡ true → P outcome bytes → Where test P Q outcome bytes
+where_so true P Q outcome bytes e is = is
+where_so false P Q outcome bytes e is = absurd cc
+
+where_not : {A : Type 0} (test : Bool) (P Q : Part A) (outcome : Outcome A) (bytes : List ℕ) → test ≡ false → Q outcome bytes → Where test P Q outcome bytes
+where_not true P Q outcome bytes e is = absurd cc
+where_not false P Q outcome bytes e is = is
+
+-- ---- short addresses
+
+pub short_1 : (s : Sizes) (bytes rest : List ℕ) (a value : ℕ) → bytes ≡ a ∷ rest → is_last a ≡ true → value ≡ a * 2 ^ 2
+    → IsFront (Spells s) (0x95 ∷ bytes) (Addr (Short1 value) None) rest
+short_1 s bytes rest a value parts last is =
+    record {
+      text = 0x95 ∷ a ∷ [];
+      parts = ap (λ t. 0x95 ∷ t) parts;
+      spells = (a ∷ [], refl, where_so (is_last a) _ _ _ [] last (ap (λ k. Ok (Short1 k)) is));
+    }
+
+pub short_2 : (s : Sizes) (bytes later rest : List ℕ) (a b value : ℕ) → bytes ≡ a ∷ later → later ≡ b ∷ rest → is_last a ≡ false
+    → value ≡ (a - 0x80) * 2 ^ 2 + b * 2 ^ 9 → IsFront (Spells s) (0x95 ∷ bytes) (Addr (Short2 value) None) rest
+short_2 s bytes later rest a b value parts more last is =
+    record {
+      text = 0x95 ∷ a ∷ b ∷ [];
+      parts = ap (λ t. 0x95 ∷ t) parts ∙ ap (λ t. 0x95 ∷ a ∷ t) more;
+      spells = (a ∷ b ∷ [], refl, where_not (is_last a) _ _ _ (b ∷ []) last (ap (λ k. Ok (Short2 k)) is));
+    }
+
+-- ---- contexts
+
+pub field_there : (there : Bool) (size number : ℕ) (bytes rest given : List ℕ) → (there && not (size == 0)) ≡ true → bytes ≡ given ++ rest
+    → length given ≡ size → number ≡ little given → IsFront (Field there size) bytes (Some number) rest
+field_there there size number bytes rest given test parts many is =
+    record {
+      text = given;
+      parts = parts;
+      spells = where_so (there && not (size == 0)) _ _ _ given test
+          (rw is (as_back (Bytes size) (λ given. Some (little given)) given given (refl, many)));
+    }
+
+pub context_front : (s : Sizes) (bytes later between rest : List ℕ) (info : ℕ) (ctx : CtxBits) → bytes ≡ info ∷ later → bit 4 info ≡ true
+    → IsFront (Field (bit 6 info) s.vmid_bytes) later ctx.vmid between → IsFront (Field (bit 7 info) s.cid_bytes) between ctx.cid rest
+    → ctx ≡ record { el = lowest 2 info; ns = bit 5 info; vmid = ctx.vmid; cid = ctx.cid }
+    → IsFront (Context s) bytes ctx rest
+context_front s bytes later between rest info ctx parts aarch64 vmid cid is =
+    record {
+      text = info ∷ vmid.text ++ cid.text;
+      parts = parts ∙ ap (λ t. info ∷ t) (vmid.parts ∙ ap (λ t. vmid.text ++ t) cid.parts ∙ sym (append_assoc vmid.text cid.text rest));
+      spells = where_so (bit 4 info) _ _ _ (vmid.text ++ cid.text) aarch64 (inl (
+        ctx.vmid,
+        vmid.text,
+        cid.text,
+        refl,
+        vmid.spells,
+        subst (λ c. As (Field (bit 7 info) s.cid_bytes) (λ cid. record { el = lowest 2 info; ns = bit 5 info; vmid = ctx.vmid; cid = cid }) (Ok c) cid.text)
+            (sym is)
+            (as_back (Field (bit 7 info) s.cid_bytes) (λ cid. record { el = lowest 2 info; ns = bit 5 info; vmid = ctx.vmid; cid = cid }) ctx.cid
+            cid.text cid.spells),
+      ));
+    }
+
+-- ---- long addresses
+
+pub long_front : (s : Sizes) (bytes later rest given : List ℕ) (header value : ℕ) → bytes ≡ header ∷ later → header ≡ 0x9d → later ≡ given ++ rest
+    → length given ≡ 8 → value ≡ address_of given → IsFront (Spells s) bytes (Addr (Long64 value) None) rest
+long_front s bytes later rest given header value parts is more many e =
+    record {
+      text = 0x9d ∷ given;
+      parts = parts ∙ ap (λ h. h ∷ later) is ∙ ap (λ t. 0x9d ∷ t) more;
+      spells = (given, refl, rw e (as_back (Bytes 8) (λ given. Long64 (address_of given)) given given (refl, many)));
+    }
+
+pub long_with_context : (s : Sizes) (bytes later between rest given : List ℕ) (header value : ℕ) (ctx : CtxBits) → bytes ≡ header ∷ later
+    → header ≡ 0x85 → later ≡ given ++ between → length given ≡ 8 → value ≡ address_of given → IsFront (Context s) between ctx rest
+    → IsFront (Spells s) bytes (Addr (Long64 value) (Some ctx)) rest
+long_with_context s bytes later between rest given header value ctx parts is more many e context =
+    record {
+      text = 0x85 ∷ given ++ context.text;
+      parts = parts ∙ ap (λ h. h ∷ later) is
+          ∙ ap (λ t. 0x85 ∷ t) (more ∙ ap (λ t. given ++ t) context.parts ∙ sym (append_assoc given context.text rest));
+      spells = (
+        given,
+        context.text,
+        refl,
+        rw e (as_back (Bytes 8) (λ given. Long64 (address_of given)) given given (refl, many)),
+        context.spells,
+      );
+    }
+
+-- ---- whole packets
+
+goes_on : (s : Sizes) (start : ℕ) (bytes text : List ℕ) (packets : List (ℕ × Packet)) (packet : Packet) → length bytes ≡ start
+    → IsStream s bytes packets clean → Spells s (Ok packet) text → IsStream s (bytes ++ text) (packets ++ (start, packet) ∷ []) clean
+goes_on s start bytes text packets packet place whole spells =
+    subst (λ at. IsStream s (bytes ++ text) (packets ++ (at, packet) ∷ []) clean) place (goes_on_by_a_packet s bytes text packets packet whole spells)
+
+-- A reader that stands between two packets takes the bytes of a packet.
+pub takes_packet : (s : Sizes) (start taken after : ℕ) (text : List ℕ) (packet : Packet) → after ≡ taken + length text → All (λ b. b < 256) text
+    → Spells s (Ok packet) text
+    → TakesPacket (record { settings = s; phase = Between; start = start; taken = taken })
+    (record { settings = s; phase = Between; start = after; taken = after }) text start packet
+takes_packet s start taken after text packet more small spells =
+    record {
+      settings = refl;
+      taken = more;
+      stands = λ bytes stands.
+          let long : length (bytes ++ text) ≡ after = omega (arith, length-append bytes text, stands.0, more) in
+          (long, (long, (stands.1.1.0 ++ (start, packet) ∷ [], goes_on s start bytes text stands.1.1.0 packet stands.1.0 stands.1.1.1 spells)));
+      gains = λ bytes stands. (stands.1.1.0, clean, stands.1.1.1, goes_on s start bytes text stands.1.1.0 packet stands.1.0 stands.1.1.1 spells);
+      values = values_fit s packet text small spells;
+    }
