@@ -21,12 +21,8 @@ mod path_lines;
 pub use end_lines::write_end;
 pub use laws::lines_stand_one_by_one;
 pub use line::Line;
-<<<<<<< HEAD
 pub use packet_grammar::End;
-pub use packet_lines::write_packet_line;
-=======
-pub use packet_line::PacketLine;
->>>>>>> c47b3d12f62fd0f38b3b30264e9d1a77ed65cc51
+pub use packet_line::{PacketLine, write_packet_line};
 pub use path_lines::{write_gap, write_stop, write_walked};
 
 #[cfg(test)]
