@@ -1,3 +1,5 @@
+mod WordLemmas
+mod WordExamples
 pub mod Runs
 pub mod Shown
 pub mod Paths

@@ -1,4 +1,5 @@
 pub mod Words
+pub mod Said
 pub mod PacketList
 pub mod Resolving
 pub mod Pending
