@@ -1,36 +1,11 @@
 -- Answers whose text was not written whole, and answers of a call from those of its parts.
-use Rattle.std.proofs.Common.{
-  ◌≡◌,
-  ℕ,
-  ◌≤◌,
-  Bool,
-  true,
-  false,
-  List,
-  [],
-  length,
-  Option,
-  Some,
-  None,
-  Result,
-  Ok,
-  Err,
-  IfOk,
-  refl,
-  sym,
-  ap,
-  subst,
-  ◌∙◌,
-  inl,
-  inr,
-  arith,
-}
+use Rattle.std.proofs.Common.{◌≡◌, ℕ, ◌≤◌, Bool, true, false, List, [], length, None, Result, Ok, Err, IfOk, refl, sym, ap, subst, ◌∙◌, inl, inr, arith}
 use Rattle.std.proofs.KnownBytes.{Appends-kept}
 use Rattle.program_image.specs.declared.fault.ImageWhy.{ImageWhy}
 use Rattle.trace_io.specs.State.{IoState}
-use Rattle.trace_io.specs.Causes.{Rose, HasCause}
-use Rattle.trace_io.specs.Bytes.{AppendsFront, AppendsShorter, KeepsBytes, ShowsAsBefore, TakesAll}
-use Rattle.trace_io.proofs.Known.{front_of_shorter, front_of_all, front_kept}
+use Rattle.trace_io.specs.Causes.{Rose}
+use Rattle.trace_io.specs.Bytes.{AppendsFront, KeepsBytes, TakesAll}
+use Rattle.trace_io.proofs.Known.{front_of_all, front_kept}
 use Rattle.etm_types.specs.Settings.{Sizes}
 use Rattle.trace_cmd.specs.Words.{meaning}
 use Rattle.program_image.specs.declared.image.Image.{Image}

@@ -1,5 +1,5 @@
 -- Numbers and sizes.
-use Rattle.std.proofs.Common.{◌≡◌, ℕ, Bool, nat_le, ◌<◌, ◌≤◌, ◌^◌, List, length, true, false, Option, Some, IfSome, None, Result, Ok, Err, refl, sym, ◌∙◌, arith, rules}
+use Rattle.std.proofs.Common.{◌≡◌, ℕ, Bool, nat_le, ◌<◌, ◌≤◌, List, length, true, false, Some, IfSome, Result, Ok, Err, refl, ◌∙◌, arith, rules}
 use Rattle.std.specs.List.{list_all}
 use Rattle.std.specs.Char.{is_ascii_digit}
 use Rattle.std.specs.Result.{OkIff, result_ok}
@@ -38,7 +38,8 @@ sized d v c r = by_tests (nat_le d 4096) (is_vmid_size v) (is_cid_size c) d v c 
 pub counted : {E : Type 0} (word : List ℕ) (r : Result ℕ E) → ParsesUnsigned 64 10 word r → list_all is_ascii_digit word ≡ true → 1 ≤ length word
     → length word ≤ 10 → result_ok r ≡ number_of word
 counted word r h all some few =
-    let n : nat_le 1 (length word) ≡ true = grind (arith, nat_tests) in let m : nat_le (length word) 10 ≡ true = grind (arith, nat_tests) in rw (parsed word r h all some few) (simp (n, m, all))
+    let n : nat_le 1 (length word) ≡ true = grind (arith, nat_tests) in
+    let m : nat_le (length word) 10 ≡ true = grind (arith, nat_tests) in rw (parsed word r h all some few) (simp (n, m, all))
 
 -- a number that was converted is the same
 pub converted : {E : Type 0} (P : Type 0) (r : Result ℕ E) (n m : ℕ) → OkIff r P n → Some m ≡ result_ok r → m ≡ n

@@ -1,5 +1,5 @@
 -- What each answer of a call means, and the text that comes with it.
-use Rattle.std.specs.Prelude.{◌≡◌, ◌⊎◌, ℕ, ◌+◌, ◌^◌, ◌≤◌, Bool, true, false, List, [], ◌∷◌, ◌++◌, length, codes, Option, Some, None, Result, IfOk}
+use Rattle.std.specs.Prelude.{◌≡◌, ◌⊎◌, ℕ, ◌+◌, ◌^◌, ◌≤◌, Bool, true, false, List, [], ◌∷◌, ◌++◌, length, codes, Some, None, Result, IfOk}
 use Rattle.trace_io.specs.State.{IoState}
 use Rattle.trace_io.specs.Bytes.{TakesAll, TakesCount, AppendsAll, AppendsFront}
 use Rattle.trace_io.specs.Causes.{KeepsFaults, Rose}

@@ -1,5 +1,4 @@
 -- What contracts see of a command in the code.
-use Rattle.std.specs.Prelude.{ℕ, List}
 use Rattle.etm_types.specs.Settings.{Sizes}
 use Rattle.trace_cmd.specs.Words.{Command, Path, Packets}
 use Rattle.trace_cmd.specs.declared.words.Command.{Command as Told}

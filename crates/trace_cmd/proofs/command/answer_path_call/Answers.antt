@@ -8,7 +8,8 @@ returns-in_err-write_image_bad-in-Err-Bad-clause-answer g c =
     let p = err_from_is_err_and c.from_residual.result c.from_residual.ensures.1 in
     let line = c.in-Err-Bad.line in let why = c.in-Err-Bad.why in
     let bad = c.in-Err-Bad.ensures.bad line why (ap Err c.in-Err-Bad.field-0-is) in
-    rw p.1 (λ words call. image_fails _ _ _ c.in_err-write_image_bad-in-Err-Bad.field-0.0 p.0 line _ why _ c.in-Err-Bad.line-is c.in-Err-Bad.why-is (_, call) bad c.in_err-write_image_bad-in-Err-Bad.ensures)
+    rw p.1 (λ words call. image_fails _ _ _ c.in_err-write_image_bad-in-Err-Bad.field-0.0 p.0
+    line _ why _ c.in-Err-Bad.line-is c.in-Err-Bad.why-is (_, call) bad c.in_err-write_image_bad-in-Err-Bad.ensures)
 
 pub returns-in-Ok-clause-answer : goal.returns-in-Ok-clause-answer
 returns-in-Ok-clause-answer g c =

@@ -17,4 +17,5 @@ returns-in_err-write_packet_list-clause-answer g c =
     let w = c.in_err-write_packet_list.ensures in let s = c.args.settings.now in
     let shown = subst (λ bytes. IsPacketList s raw_id bytes w.0 w.1) c.deref.ensures.value
     (subst (λ id. IsPacketList s id c.deref.result.now w.0 w.1) c.raw_id.ensures w.2) in
-    rw p.1 (input_fails (PacketsShown s) _ _ _ _ c.in_err-write_packet_list.field-0.0 p.0 c.in-Ok.bytes.items w.0 w.1 c.in-Ok.ensures.bytes.0 c.in-Ok.ensures.bytes.1 shown w.3)
+    rw p.1 (input_fails (PacketsShown s) _ _ _ _ c.in_err-write_packet_list.field-0.0 p.0
+    c.in-Ok.bytes.items w.0 w.1 c.in-Ok.ensures.bytes.0 c.in-Ok.ensures.bytes.1 shown w.3)

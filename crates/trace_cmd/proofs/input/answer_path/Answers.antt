@@ -14,18 +14,21 @@ returns-in_err-write_path-clause-answer g c =
     let w = c.in_err-write_path.ensures in let image = c.args.image.now in let s = c.args.settings.now in
     let shown = subst (λ bytes. IsPathText image s raw_id bytes w.0 w.1) c.deref.ensures.value
     (subst (λ id. IsPathText image s id c.deref.result.now w.0 w.1) c.raw_id.ensures w.2) in
-    rw p.1 (input_fails (PathShown image s) _ _ _ _ c.in_err-write_path.field-0.0 p.0 c.in-Ok-read_input.bytes.items w.0 w.1 c.in-Ok-read_input.ensures.bytes.0 c.in-Ok-read_input.ensures.bytes.1 shown w.3)
+    rw p.1 (input_fails (PathShown image s) _ _ _ _ c.in_err-write_path.field-0.0 p.0
+    c.in-Ok-read_input.bytes.items w.0 w.1 c.in-Ok-read_input.ensures.bytes.0 c.in-Ok-read_input.ensures.bytes.1 shown w.3)
 
 pub returns-then-branch-clause-answer : goal.returns-then-branch-clause-answer
 returns-then-branch-clause-answer g c =
     let w = c.in_ok-write_path.ensures in let image = c.args.image.now in let s = c.args.settings.now in
     let shown = subst (λ bytes. IsPathText image s raw_id bytes w.0 w.1) c.deref.ensures.value
     (subst (λ id. IsPathText image s id c.deref.result.now w.0 w.1) c.raw_id.ensures w.2) in
-    input_faulted (PathShown image s) _ _ _ _ c.in_ok-write_path.field-0 w.1 c.in-Ok-read_input.bytes.items w.0 c.in-Ok-read_input.ensures.bytes.0 c.in-Ok-read_input.ensures.bytes.1 shown w.3 w.4 c.if-branch.true
+    input_faulted (PathShown image s) _ _ _ _ c.in_ok-write_path.field-0 w.1
+    c.in-Ok-read_input.bytes.items w.0 c.in-Ok-read_input.ensures.bytes.0 c.in-Ok-read_input.ensures.bytes.1 shown w.3 w.4 c.if-branch.true
 
 pub returns-clause-answer : goal.returns-clause-answer
 returns-clause-answer g c =
     let w = c.in_ok-write_path.ensures in let image = c.args.image.now in let s = c.args.settings.now in
     let shown = subst (λ bytes. IsPathText image s raw_id bytes w.0 w.1) c.deref.ensures.value
     (subst (λ id. IsPathText image s id c.deref.result.now w.0 w.1) c.raw_id.ensures w.2) in
-    input_done (PathShown image s) _ _ _ _ c.in_ok-write_path.field-0 w.1 c.in-Ok-read_input.bytes.items w.0 c.in-Ok-read_input.ensures.bytes.0 c.in-Ok-read_input.ensures.bytes.1 shown w.3 w.4 c.if-branch.false
+    input_done (PathShown image s) _ _ _ _ c.in_ok-write_path.field-0 w.1
+    c.in-Ok-read_input.bytes.items w.0 c.in-Ok-read_input.ensures.bytes.0 c.in-Ok-read_input.ensures.bytes.1 shown w.3 w.4 c.if-branch.false
