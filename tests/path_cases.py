@@ -130,17 +130,22 @@ def bad_image(rng, choice):
 
 # ---- streams ---------------------------------------------------------------
 
-def context(rng):
+def field(rng, size):
+    return [rng.randrange(3)] + [0] * (size - 1) if size else []
+
+
+def context(rng, sizes=(1, 4)):
+    """An info byte with its fields, by the bytes of a VMID and of a context ID."""
     first = 0x10 | rng.randrange(4) | 0x20 * rng.randrange(2) | rng.choice([0, 0, 0x40, 0x80, 0xC0])
-    fields = [rng.randrange(3)] * (first >> 6 & 1) + [rng.randrange(3), 0, 0, 0] * (first >> 7)
-    return bytes([first, *fields])
+    vmid, cid = field(rng, sizes[0]), field(rng, sizes[1])
+    return bytes([first] + vmid * (first >> 6 & 1) + cid * (first >> 7))
 
 
 def long_address(place, count):
     return bytes([place >> 2 & 0x7F, place >> 9 & 0x7F, *(place >> shift & 0xFF for shift in range(16, 8 * count, 8))])
 
 
-def address(rng, places):
+def address(rng, places, sizes=(1, 4)):
     place = rng.choice(places)
     kind = rng.randrange(8)
     if kind == 0:
@@ -151,7 +156,7 @@ def address(rng, places):
         return bytes([0x95, place >> 2 & 0x7F | 0x80, place >> 9 & 0xFF])
     count = 4 if place >> 32 == 0 and kind < 5 else 8
     if rng.random() < 0.4:
-        return bytes([0x82 if count == 4 else 0x85]) + long_address(place, count) + context(rng)
+        return bytes([0x82 if count == 4 else 0x85]) + long_address(place, count) + context(rng, sizes)
     return bytes([0x9A if count == 4 else 0x9D]) + long_address(place, count)
 
 
@@ -160,10 +165,10 @@ def atoms(rng):
                                                         rng.randrange(0xC0, 0x100)])])
 
 
-def exception(rng, places):
-    between = rng.choice([b"", b"", b"\x70", b"\x7a", SYNC, b"\x80", b"\x81" + context(rng), b"\x00\x05", b"\x00\x03"])
+def exception(rng, places, sizes=(1, 4)):
+    between = rng.choice([b"", b"", b"\x70", b"\x7a", SYNC, b"\x80", b"\x81" + context(rng, sizes), b"\x00\x05", b"\x00\x03"])
     kind = rng.choice([0, 2, 3, 6, 10, 12, 14, 14, 15, rng.randrange(32)])
-    return bytes([0x06, kind << 1 | 1]) + between + address(rng, places)
+    return bytes([0x06, kind << 1 | 1]) + between + address(rng, places, sizes)
 
 
 def again(rng, places):

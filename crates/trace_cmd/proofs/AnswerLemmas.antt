@@ -1,36 +1,13 @@
 -- Answers whose text was not written whole, and answers of a call from those of its parts.
-use Rattle.std.proofs.Common.{
-  ◌≡◌,
-  ℕ,
-  ◌≤◌,
-  Bool,
-  true,
-  false,
-  List,
-  [],
-  length,
-  Option,
-  Some,
-  None,
-  Result,
-  Ok,
-  Err,
-  refl,
-  sym,
-  ap,
-  subst,
-  ◌∙◌,
-  inl,
-  inr,
-  arith,
-}
+use Rattle.std.proofs.Common.{◌≡◌, ℕ, ◌≤◌, Bool, true, false, List, [], length, None, Result, Ok, Err, IfOk, refl, sym, ap, subst, ◌∙◌, inl, inr, arith}
 use Rattle.std.proofs.KnownBytes.{Appends-kept}
 use Rattle.program_image.specs.declared.fault.ImageWhy.{ImageWhy}
 use Rattle.trace_io.specs.State.{IoState}
-use Rattle.trace_io.specs.Causes.{Rose, HasCause}
-use Rattle.trace_io.specs.Bytes.{AppendsFront, AppendsShorter, KeepsBytes, ShowsAsBefore, TakesAll}
-use Rattle.trace_io.proofs.Known.{front_of_shorter, front_of_all, front_kept}
-use Rattle.trace_cmd.specs.Words.{Command, Path, Packets, meaning, image_of, asks_packets}
+use Rattle.trace_io.specs.Causes.{Rose}
+use Rattle.trace_io.specs.Bytes.{AppendsFront, KeepsBytes, TakesAll}
+use Rattle.trace_io.proofs.Known.{front_of_all, front_kept}
+use Rattle.etm_types.specs.Settings.{Sizes}
+use Rattle.trace_cmd.specs.Words.{meaning}
 use Rattle.program_image.specs.declared.image.Image.{Image}
 use Rattle.program_image.specs.Answers.{TakesImage, TakesNoImage}
 use Rattle.trace_io.specs.declared.traits.Failed.{Failed}
@@ -44,7 +21,8 @@ use Rattle.trace_cmd.specs.Answers.{
   most_input,
   Call,
   IsPathCall,
-  IsPacketsCall,
+  IsPathUnder,
+  IsPacketsUnder,
   IsUnread,
   IsAnswer,
   IsInputAnswer,
@@ -119,90 +97,51 @@ pub unread_without_image : (input input' : IoState) (s : Status) → IsUnread in
 unread_without_image input input' s is line why e = let same : s ≡ status.ImageBad line why = cc in subst (IsUnread input input') same is
 
 -- an answer by the input is one of the call, where the image was read
-of_path : (c : Call) (parts : Image) (s : Status) (text : List ℕ) → IsPathCall c.words → TakesImage c.image c.image' parts
-    → IsInputAnswer (PathShown parts) c.input c.input' s text → IsAnswer c s text
-of_path c parts status.Done text command read (bytes, all, few, shown) =
-    inl (record { command = command; parts = parts; bytes = bytes; image_read = read; input_read = all; few = few; shown = shown })
-of_path c parts status.Faulted text command read (bytes, all, few, shown) =
-    inl (record { command = command; parts = parts; bytes = bytes; image_read = read; input_read = all; few = few; shown = shown })
-of_path c parts status.InputTooLong text command read (many, none) = (record { first = inl (command, (parts, read)); many = many }, none)
-of_path c parts status.ReadFault text command read (rose, none) = (inl (command, inr rose), none)
-of_path c parts status.NoMemory text command read (free, none) = (inl command, none)
-of_path c parts status.Usage text command read is = absurd is.0
-of_path c parts (status.ImageBad line why) text command read is = absurd is.0
-of_path c parts status.WriteFault text command read is = absurd is.0
+of_path : (c : Call) (parts : Image) (z : Sizes) (s : Status) (text : List ℕ) → IsPathUnder z c.words → TakesImage c.image c.image' parts
+    → IsInputAnswer (PathShown parts z) c.input c.input' s text → IsAnswer c s text
+of_path c parts z status.Done text command read (bytes, all, few, shown) =
+    inl (record { sizes = z; command = command; parts = parts; bytes = bytes; image_read = read; input_read = all; few = few; shown = shown })
+of_path c parts z status.Faulted text command read (bytes, all, few, shown) =
+    inl (record { sizes = z; command = command; parts = parts; bytes = bytes; image_read = read; input_read = all; few = few; shown = shown })
+of_path c parts z status.InputTooLong text command read (many, none) = (record { first = inl ((z, command), (parts, read)); many = many }, none)
+of_path c parts z status.ReadFault text command read (rose, none) = (inl ((z, command), inr rose), none)
+of_path c parts z status.NoMemory text command read (free, none) = (inl (z, command), none)
+of_path c parts z status.Usage text command read is = absurd is.0
+of_path c parts z (status.ImageBad line why) text command read is = absurd is.0
+of_path c parts z status.WriteFault text command read is = absurd is.0
 
-pub so_of_path : (c : Call) (parts : Image) (old new : IoState) (r : Result Status Failed) → IsPathCall c.words → TakesImage c.image c.image' parts
-    → AnswersSo (IsInputAnswer (PathShown parts) c.input c.input') {E = Failed} old new r → AnswersSo (IsAnswer c) {E = Failed} old new r
-so_of_path c parts old new r command read a =
-    record { status = a.status; text = a.text; answer = of_path c parts a.status a.text command read a.answer; writes = a.writes; same = a.same }
+pub so_of_path : (c : Call) (parts : Image) (z : Sizes) (old new : IoState) (r : Result Status Failed) → IsPathUnder z c.words
+    → TakesImage c.image c.image' parts → AnswersSo (IsInputAnswer (PathShown parts z) c.input c.input') {E = Failed} old new r
+    → AnswersSo (IsAnswer c) {E = Failed} old new r
+so_of_path c parts z old new r command read a =
+    record { status = a.status; text = a.text; answer = of_path c parts z a.status a.text command read a.answer; writes = a.writes; same = a.same }
 
 -- and where the packets are asked for
-of_packets : (c : Call) (s : Status) (text : List ℕ) → IsPacketsCall c.words → IsInputAnswer PacketsShown c.input c.input' s text → IsAnswer c s text
-of_packets c status.Done text command (bytes, all, few, shown) = inr (record { command = command; bytes = bytes; input_read = all; few = few; shown = shown })
-of_packets c status.Faulted text command (bytes, all, few, shown) = inr
-    (record { command = command; bytes = bytes; input_read = all; few = few; shown = shown })
-of_packets c status.InputTooLong text command (many, none) = (record { first = inr command; many = many }, none)
-of_packets c status.ReadFault text command (rose, none) = (inr (command, rose), none)
-of_packets c status.NoMemory text command (free, none) = (inr command, none)
-of_packets c status.Usage text command is = absurd is.0
-of_packets c (status.ImageBad line why) text command is = absurd is.0
-of_packets c status.WriteFault text command is = absurd is.0
+of_packets : (c : Call) (z : Sizes) (s : Status) (text : List ℕ) → IsPacketsUnder z c.words → IsInputAnswer (PacketsShown z) c.input c.input' s text
+    → IsAnswer c s text
+of_packets c z status.Done text command (bytes, all, few, shown) =
+    inr (record { sizes = z; command = command; bytes = bytes; input_read = all; few = few; shown = shown })
+of_packets c z status.Faulted text command (bytes, all, few, shown) =
+    inr (record { sizes = z; command = command; bytes = bytes; input_read = all; few = few; shown = shown })
+of_packets c z status.InputTooLong text command (many, none) = (record { first = inr (z, command); many = many }, none)
+of_packets c z status.ReadFault text command (rose, none) = (inr ((z, command), rose), none)
+of_packets c z status.NoMemory text command (free, none) = (inr (z, command), none)
+of_packets c z status.Usage text command is = absurd is.0
+of_packets c z (status.ImageBad line why) text command is = absurd is.0
+of_packets c z status.WriteFault text command is = absurd is.0
 
-pub so_of_packets : (c : Call) (old new : IoState) (r : Result Status Failed) → IsPacketsCall c.words
-    → AnswersSo (IsInputAnswer PacketsShown c.input c.input') {E = Failed} old new r
-    → AnswersSo (IsAnswer c) {E = Failed} old new r
-so_of_packets c old new r command a =
-    record { status = a.status; text = a.text; answer = of_packets c a.status a.text command a.answer; writes = a.writes; same = a.same }
+pub so_of_packets : (c : Call) (z : Sizes) (old new : IoState) (r : Result Status Failed) → IsPacketsUnder z c.words
+    → AnswersSo (IsInputAnswer (PacketsShown z) c.input c.input') {E = Failed} old new r → AnswersSo (IsAnswer c) {E = Failed} old new r
+so_of_packets c z old new r command a =
+    record { status = a.status; text = a.text; answer = of_packets c z a.status a.text command a.answer; writes = a.writes; same = a.same }
 
 -- ---- words
 
--- words whose image has a name are a call of path
-path_of : (c : Option Command) (name : List ℕ) → image_of c ≡ Some name → (image : List ℕ) × (c ≡ Some (Path image))
-path_of None name e = absurd cc
-path_of (Some (Path image)) name e = (image, refl)
-path_of (Some Packets) name e = absurd cc
-
-pub path_call : (words : List (List ℕ)) (name : List ℕ) → image_of (meaning words) ≡ Some name → IsPathCall words
-path_call words name e = path_of (meaning words) name e
-
--- words that ask for packets are a call of packets
-packets_of : (c : Option Command) → asks_packets c ≡ true → c ≡ Some Packets
-packets_of None e = absurd cc
-packets_of (Some (Path image)) e = absurd cc
-packets_of (Some Packets) e = refl
-
-pub packets_call : (words : List (List ℕ)) → asks_packets (meaning words) ≡ true → IsPacketsCall words
-packets_call words e = packets_of (meaning words) e
-
--- all others mean nothing
-nothing_of : (c : Option Command) → image_of c ≡ None → asks_packets c ≡ false → c ≡ None
-nothing_of None e f = refl
-nothing_of (Some (Path image)) e f = absurd cc
-nothing_of (Some Packets) e f = absurd cc
-
-pub no_command : (words : List (List ℕ)) → image_of (meaning words) ≡ None → asks_packets (meaning words) ≡ false → meaning words ≡ None
-no_command words e f = nothing_of (meaning words) e f
-
--- the line of usage could not be written
-pub usage_fails : (c : Call) (old new : IoState) (e : Failed) → meaning c.words ≡ None → AppendsShorter old new usage_line → ShowsAsBefore old new
-    → HasCause {T = Unit {0}} {E = Failed} old new (Err e)
-    → AnswersSo (IsAnswer c) {E = Failed} old new (Err e)
-usage_fails c old new e none shorter shows cause =
-    record {
-      status = status.Usage;
-      text = usage_line;
-      answer = record { meaningless = none; printed = refl };
-      writes =
-          record {
-            whole = tt;
-            front = front_of_shorter old new usage_line shorter;
-            shows = shows;
-            cause =
-                record { later = cause.later; kept = tt; failed = cause.failed };
-          };
-      same = tt;
-    }
+-- the line of usage is the answer to words that mean nothing
+pub so_of_usage : (c : Call) (old new : IoState) (r : Result Status Failed) → meaning c.words ≡ None → Writes old new r usage_line
+    → IfOk r (λ s. s ≡ status.Usage) → AnswersSo (IsAnswer c) {E = Failed} old new r
+so_of_usage c old new r none w same =
+    record { status = status.Usage; text = usage_line; answer = record { meaningless = none; printed = refl }; writes = w; same = same }
 
 -- the line of an image that is bad could not be written
 pub image_fails : (c : Call) (old new : IoState) (e d : Failed) (line line' : ℕ) (why why' : ImageWhy) → line' ≡ line → why' ≡ why → IsPathCall c.words

@@ -1,3 +1,6 @@
+mod WordLemmas
+mod WordExamples
+mod CommandLines
 pub mod Runs
 pub mod Shown
 pub mod Paths

@@ -1,5 +1,5 @@
 -- What each answer of a call means, and the text that comes with it.
-use Rattle.std.specs.Prelude.{◌≡◌, ◌⊎◌, ℕ, ◌+◌, ◌^◌, ◌≤◌, Bool, true, false, List, [], ◌∷◌, ◌++◌, length, codes, Option, Some, None, Result, IfOk}
+use Rattle.std.specs.Prelude.{◌≡◌, ◌⊎◌, ℕ, ◌+◌, ◌^◌, ◌≤◌, Bool, true, false, List, [], ◌∷◌, ◌++◌, length, codes, Some, None, Result, IfOk}
 use Rattle.trace_io.specs.State.{IoState}
 use Rattle.trace_io.specs.Bytes.{TakesAll, TakesCount, AppendsAll, AppendsFront}
 use Rattle.trace_io.specs.Causes.{KeepsFaults, Rose}
@@ -37,10 +37,6 @@ image_line line why = codes "image line " ++ decimal line ++ codes ": " ++ why_t
 abbrev pub raw_id : ℕ
 raw_id = 1
 
--- the sizes of contexts where no words give others: a VMID of one byte and a context ID of four
-abbrev pub raw_sizes : Sizes
-raw_sizes = record { depth = 0; vmid_bytes = 1; cid_bytes = 4 }
-
 -- the most bytes of input
 abbrev pub most_input : ℕ
 most_input = 2 ^ 30
@@ -58,11 +54,19 @@ pub record Call : Type 0 where
 abbrev pub call : List (List ℕ) → IoState → IoState → IoState → IoState → Call
 call words image image' input input' = record { words = words; image = image; image' = image'; input = input; input' = input' }
 
+-- the words ask for the path under these sizes
+abbrev pub IsPathUnder : Sizes → List (List ℕ) → Type 0
+IsPathUnder s words = (image : List ℕ) × (meaning words ≡ Some (Path image s))
+
 abbrev pub IsPathCall : List (List ℕ) → Type 0
-IsPathCall words = (image : List ℕ) × (meaning words ≡ Some (Path image))
+IsPathCall words = (s : Sizes) × IsPathUnder s words
+
+-- the words ask for the packets under these sizes
+abbrev pub IsPacketsUnder : Sizes → List (List ℕ) → Type 0
+IsPacketsUnder s words = meaning words ≡ Some (Packets s)
 
 abbrev pub IsPacketsCall : List (List ℕ) → Type 0
-IsPacketsCall words = meaning words ≡ Some Packets
+IsPacketsCall words = (s : Sizes) × IsPacketsUnder s words
 
 abbrev pub IsCall : List (List ℕ) → Type 0
 IsCall words = IsPathCall words ⊎ IsPacketsCall words
@@ -92,23 +96,27 @@ pub record IsImageBad (c : Call) (line : ℕ) (why : ImageWhy) (text : List ℕ)
   pub refused : TakesNoImage c.image c.image' line why
   pub printed : text ≡ image_line line why
 
--- image and input were read to their ends, and the text is the path of the input as one stream without frames
+-- image and input were read to their ends, and the text is the path of the input as one stream without frames, under the sizes
+-- that the words give
 pub record IsPathOfInput (c : Call) (faulty : Bool) (text : List ℕ) : Type 0 where
-  pub command : IsPathCall c.words
+  pub sizes : Sizes
+  pub command : IsPathUnder sizes c.words
   pub parts : Image
   pub bytes : List ℕ
   pub image_read : TakesImage c.image c.image' parts
   pub input_read : TakesAll c.input c.input' bytes
   pub few : length bytes ≤ most_input
-  pub shown : IsPathText parts raw_sizes raw_id bytes text faulty
+  pub shown : IsPathText parts sizes raw_id bytes text faulty
 
--- the input was read to its end, and the text is the packets of the input as one stream without frames
+-- the input was read to its end, and the text is the packets of the input as one stream without frames, under the sizes that
+-- the words give
 pub record IsPacketsOfInput (c : Call) (faulty : Bool) (text : List ℕ) : Type 0 where
-  pub command : IsPacketsCall c.words
+  pub sizes : Sizes
+  pub command : IsPacketsUnder sizes c.words
   pub bytes : List ℕ
   pub input_read : TakesAll c.input c.input' bytes
   pub few : length bytes ≤ most_input
-  pub shown : IsPacketList raw_sizes raw_id bytes text faulty
+  pub shown : IsPacketList sizes raw_id bytes text faulty
 
 -- Done, and Faulted where the stream ends with a fault: the text is what the command prints of the input
 abbrev pub IsOutput : Call → Bool → List ℕ → Type 0
@@ -172,9 +180,9 @@ IsInputAnswer Shown input input' status.Done text = (bytes : List ℕ) × TakesA
 IsInputAnswer Shown input input' status.Faulted text = (bytes : List ℕ) × TakesAll input input' bytes × (length bytes ≤ most_input) × Shown bytes text true
 IsInputAnswer Shown input input' status text = IsUnread input input' status × (text ≡ [])
 
--- what the path of the input is over an image, and what its packets are
-abbrev pub PathShown : Image → List ℕ → List ℕ → Bool → Type 0
-PathShown image bytes text faulty = IsPathText image raw_sizes raw_id bytes text faulty
+-- what the path of the input is over an image and under sizes, and what its packets are
+abbrev pub PathShown : Image → Sizes → List ℕ → List ℕ → Bool → Type 0
+PathShown image s bytes text faulty = IsPathText image s raw_id bytes text faulty
 
-abbrev pub PacketsShown : List ℕ → List ℕ → Bool → Type 0
-PacketsShown bytes text faulty = IsPacketList raw_sizes raw_id bytes text faulty
+abbrev pub PacketsShown : Sizes → List ℕ → List ℕ → Bool → Type 0
+PacketsShown s bytes text faulty = IsPacketList s raw_id bytes text faulty

@@ -1,4 +1,6 @@
 pub mod Words
+pub mod Said
+pub mod CommandLines
 pub mod PacketList
 pub mod Resolving
 pub mod Pending

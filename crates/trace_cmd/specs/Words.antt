@@ -1,17 +1,29 @@
 -- What the words of the command line mean.
-use Rattle.std.specs.Prelude.{ℕ, ◌==◌, ◌&&◌, Bool, true, false, not, List, [], ◌∷◌, codes, Option, Some, None, if◌then◌else◌, String, map, string_bytes}
+use Rattle.std.specs.Prelude.{ℕ, ◌==◌, ◌&&◌, nat_le, Bool, true, not, List, [], ◌∷◌, length, codes, Option, Some, None}
+use Rattle.std.specs.Prelude.{if◌then◌else◌, String, map, string_bytes}
+use Rattle.std.specs.Option.{option_map, option_and_then}
+use Rattle.std.specs.List.{list_all}
+use Rattle.std.specs.Char.{is_ascii_digit}
 use Rattle.std.specs.Str.{bytes_eq}
+use Rattle.std.specs.Str.Parse.{digits_value}
+use Rattle.etm_types.specs.Settings.{Sizes, is_vmid_size, is_cid_size}
 
 -- the bytes of each word
 abbrev pub texts : {Z : Type 0} → List (String Z) → List (List ℕ)
 texts words = map (λ word. string_bytes word) words
 
--- a command that is there today, with its words
+-- a command that is there today, with what its words say
 pub data Command : Type 0 where
-  -- the path of one stream that is not framed, without speculation; the name of its image
-  Path : List ℕ → Command
-  -- the packets of one stream that is not framed
-  Packets : Command
+  -- the path of one stream that is not framed: the name of its image, and the trace unit's sizes
+  Path : List ℕ → Sizes → Command
+  -- the packets of one stream that is not framed, under the trace unit's sizes
+  Packets : Sizes → Command
+
+-- ---- a word
+
+-- the number of 1 to 10 decimal digits, the highest first; zeros may lead
+abbrev pub number_of : List ℕ → Option ℕ
+number_of word = if nat_le 1 (length word) && nat_le (length word) 10 && list_all is_ascii_digit word then Some (digits_value 10 word) else None
 
 -- a word that names an image: `-` alone, or one that does not begin with `-`
 abbrev pub is_image_word : List ℕ → Bool
@@ -19,25 +31,51 @@ is_image_word [] = true
 is_image_word (c ∷ []) = true
 is_image_word (c ∷ d ∷ rest) = not (c == 45)
 
-abbrev pub is_path : List ℕ → List ℕ → List ℕ → List ℕ → List ℕ → Bool
-is_path command raw depth zero image =
-    bytes_eq command (codes "path") && bytes_eq raw (codes "--raw") && bytes_eq depth (codes "--depth") && bytes_eq zero (codes "0") && is_image_word image
+-- the sizes of a trace unit: a depth of at most 4096, a VMID of 0, 1, 2 or 4 bytes, a context ID of 0 or 4 bytes
+abbrev pub sizes_of : ℕ → ℕ → ℕ → Option Sizes
+sizes_of depth vmid cid =
+    if nat_le depth 4096 && is_vmid_size vmid && is_cid_size cid then Some (record { depth = depth; vmid_bytes = vmid; cid_bytes = cid }) else None
 
-abbrev pub is_packets : List ℕ → List ℕ → Bool
-is_packets command raw = bytes_eq command (codes "packets") && bytes_eq raw (codes "--raw")
+-- ---- words in a row
 
--- `path --raw --depth 0 IMAGE` and `packets --raw`, in this order; all other words mean nothing
+-- `[NAME N]` at the front of words: N, or the default where NAME is not there, and the words behind it
+abbrev pub option_at : List ℕ → ℕ → List (List ℕ) → Option (ℕ × List (List ℕ))
+option_at name default (word ∷ number ∷ rest) =
+    if bytes_eq word name then option_map (λ n. (n, rest)) (number_of number) else Some (default, word ∷ number ∷ rest)
+option_at name default words = Some (default, words)
+
+-- `[--vmid N] [--cid N]` at the front of words: the sizes, with the depth, and the words behind them
+abbrev pub sizes_at : ℕ → List (List ℕ) → Option (Sizes × List (List ℕ))
+sizes_at depth words =
+    option_and_then (λ (vmid : ℕ × List (List ℕ)). option_and_then (λ (cid : ℕ × List (List ℕ)).
+    option_map (λ sizes. (sizes, cid.1)) (sizes_of depth vmid.0 cid.0)) (option_at (codes "--cid") 4 vmid.1)) (option_at (codes "--vmid") 1 words)
+
+-- `IMAGE`, and no more words
+abbrev pub only_image : List (List ℕ) → Option (List ℕ)
+only_image (image ∷ []) = if is_image_word image then Some image else None
+only_image words = None
+
+-- `[--depth N] [--vmid N] [--cid N] IMAGE`
+abbrev pub path_of : List (List ℕ) → Option Command
+path_of words =
+    option_and_then (λ (depth : ℕ × List (List ℕ)). option_and_then (λ (s : Sizes × List (List ℕ)).
+    option_map (λ image. Path image s.0) (only_image s.1)) (sizes_at depth.0 depth.1)) (option_at (codes "--depth") 16 words)
+
+-- `[--vmid N] [--cid N]`, and no more words; no packet depends on the depth
+abbrev pub packets_of : List (List ℕ) → Option Command
+packets_of words = option_and_then (λ (s : Sizes × List (List ℕ)). if length s.1 == 0 then Some (Packets s.0) else None) (sizes_at 16 words)
+
+-- `path --raw [--depth N] [--vmid N] [--cid N] IMAGE` and `packets --raw [--vmid N] [--cid N]`, in this order; all other words
+-- mean nothing
 abbrev pub meaning : List (List ℕ) → Option Command
-meaning (command ∷ raw ∷ depth ∷ zero ∷ image ∷ []) = if is_path command raw depth zero image then Some (Path image) else None
-meaning (command ∷ raw ∷ []) = if is_packets command raw then Some Packets else None
-meaning _ = None
+meaning (command ∷ raw ∷ words) =
+    if not (bytes_eq raw (codes "--raw")) then None
+    else if bytes_eq command (codes "path") then path_of words
+    else if bytes_eq command (codes "packets") then packets_of words
+    else None
+meaning words = None
 
 abbrev pub image_of : Option Command → Option (List ℕ)
 image_of None = None
-image_of (Some (Path image)) = Some image
-image_of (Some Packets) = None
-
--- whether the packets are asked for
-abbrev pub asks_packets : Option Command → Bool
-asks_packets (Some Packets) = true
-asks_packets command = false
+image_of (Some (Path image sizes)) = Some image
+image_of (Some (Packets sizes)) = None

@@ -1,16 +1,18 @@
 //! The top call: words, image and input, in this order, and what is written.
-ghost use Rattle.std.specs.Prelude.{◌≡◌, ◌⊎◌, ℕ, ◌≤◌, List, None, Ok, IsTrue};
+ghost use Rattle.std.specs.Prelude.{◌≡◌, ◌⊎◌, ℕ, ◌≤◌, List, None, Ok, IfOk, IsTrue};
+ghost use Rattle.etm_types.specs.Settings.{AreSettings};
 ghost use Rattle.trace_io.specs.State.{IoState};
 ghost use Rattle.trace_io.specs.Bytes.{ShowsAsBefore};
 ghost use Rattle.trace_io.specs.Causes.{KeepsFaults};
-ghost use Rattle.trace_cmd.specs.Words.{meaning, image_of, texts};
+ghost use Rattle.trace_cmd.specs.Words.{meaning, texts};
 ghost use Rattle.path_text.specs.Writing.{Writes};
-ghost use Rattle.trace_cmd.specs.Answers.{usage_line, image_line, call, IsPathCall, IsPacketsCall, NoReadFailed};
+ghost use Rattle.trace_cmd.specs.Answers.{usage_line, image_line, call, IsPathUnder, IsPacketsCall, NoReadFailed};
 ghost use Rattle.trace_cmd.specs.Answers.{ReadsImage, ReadsFirst, IsAnswer, AnswersSo, Answers};
 
 use crate::input::{answer_packets, answer_path};
 use crate::status::Status;
-use crate::words::{asks_packets, image_name};
+use crate::words::{Command, command_of};
+use etm_types::Settings;
 use path_text::Line;
 use program_image::{Image, ImageFault, ImageWhy};
 use std::alloc::Global;
@@ -34,11 +36,13 @@ fn write_image_bad<K: Sink>(line: u64, why: ImageWhy, out: &mut K) -> Result<(),
 /// Reads the image, and answers by it and the input.
 fn answer_path_call<I: Source, J: Source, K: Sink>(
     alloc: Global,
+    settings: &Settings,
     image: &mut I,
     input: &mut J,
     out: &mut K,
 ) -> Result<Status, Failed>
-    ensures answer { (words : List (List ℕ)) → IsPathCall words
+    requires { AreSettings settings.now }
+    ensures answer { (words : List (List ℕ)) → IsPathUnder settings.now words
         → AnswersSo (IsAnswer (call words (I.state image.old) (I.state image.new) (J.state input.old) (J.state input.new)))
         (K.state out.old) (K.state out.new) result }
     ensures kept { (result ≡ Ok Status.ReadFault)
@@ -52,7 +56,7 @@ fn answer_path_call<I: Source, J: Source, K: Sink>(
     ensures input_later { (J.state input.old).faults ≤ (J.state input.new).faults }
 {
     match Image::read(alloc, image) {
-        Ok(image) => answer_path(alloc, &image, input, out),
+        Ok(image) => answer_path(alloc, &image, settings, input, out),
         Err(ImageFault::Bad { line, why }) => {
             write_image_bad(line, why, out)?;
             Ok(Status::ImageBad { line, why })
@@ -62,26 +66,10 @@ fn answer_path_call<I: Source, J: Source, K: Sink>(
     }
 }
 
-/// Answers where the words name no image: with the packets of the input, or with the line of usage.
-fn answer_without_image<J: Source, K: Sink>(
-    alloc: Global,
-    words: &[String],
-    input: &mut J,
-    out: &mut K,
-) -> Result<Status, Failed>
-    requires { image_of (meaning (texts words.now)) ≡ None }
-    ensures answer { (image image' : IoState)
-        → AnswersSo (IsAnswer (call (texts words.now) image image' (J.state input.old) (J.state input.new))) (K.state out.old) (K.state out.new) result }
-    ensures kept { (result ≡ Ok Status.ReadFault) ⊎ KeepsFaults (J.state input.old) (J.state input.new) }
-    ensures order { (input.new ≡ input.old) ⊎ IsPacketsCall (texts words.now) }
-    ensures words_first { meaning (texts words.now) ≡ None → input.new ≡ input.old }
-    ensures no_image { (line : ℕ) (why : ImageWhy) → result ≡ Ok (Status.ImageBad line why) → ⊥ }
-    ensures shows { ShowsAsBefore (J.state input.old) (J.state input.new) }
-    ensures later { (J.state input.old).faults ≤ (J.state input.new).faults }
+/// Writes the line of usage.
+fn answer_usage<K: Sink>(out: &mut K) -> Result<Status, Failed>
+    ensures { Writes (K.state out.old) (K.state out.new) result usage_line × IfOk result (λ status. status ≡ Status.Usage) }
 {
-    if asks_packets(words) {
-        return answer_packets(alloc, input, out);
-    }
     match write_all(out, &USAGE) {
         Ok(()) => Ok(Status::Usage),
         Err(failed) => Err(failed),
@@ -111,15 +99,18 @@ fn answer_words<I: Source, J: Source, K: Sink>(
     ensures input_shows { ShowsAsBefore (J.state input.old) (J.state input.new) }
     ensures input_later { (J.state input.old).faults ≤ (J.state input.new).faults }
 {
-    match image_name(words) {
-        Some(_) => answer_path_call(alloc, image, input, out),
-        None => answer_without_image(alloc, words, input, out),
+    let Some(command) = command_of(words) else {
+        return answer_usage(out);
+    };
+    match &command {
+        Command::Path { settings, .. } => answer_path_call(alloc, settings, image, input, out),
+        Command::Packets { settings } => answer_packets(alloc, settings, input, out),
     }
 }
 
-/// Runs the command that the words mean: `path --raw --depth 0 IMAGE` prints the path of one stream that
-/// is not framed, and `packets --raw` its packets. `image` is what the word IMAGE names, and `input` the
-/// bytes of the stream.
+/// Runs the command that the words mean: `path --raw [--depth N] [--vmid N] [--cid N] IMAGE` prints the path of
+/// one stream that is not framed, and `packets --raw [--vmid N] [--cid N]` its packets. `image` is what the
+/// word IMAGE names, and `input` the bytes of the stream.
 ///
 /// All is flushed before it answers, and a flush that fails is `WriteFault`.
 pub fn run<I: Source, J: Source, K: Sink>(

@@ -1,9 +1,10 @@
 //! The answers that the input decides: it is read whole, and then its path or its packets are written.
 ghost use Rattle.std.specs.Prelude.{◌≡◌, ℕ, ◌≤◌, Ok, Err, length, IfOk, ◌⊎◌};
+ghost use Rattle.etm_types.specs.Settings.{AreSettings};
 ghost use Rattle.program_image.specs.Part.{IsImage};
 ghost use Rattle.trace_io.specs.Bytes.{TakesAll, ShowsAsBefore};
 ghost use Rattle.trace_io.specs.Causes.{KeepsFaults};
-ghost use Rattle.trace_cmd.specs.Answers.{raw_id, raw_sizes, most_input, IsUnread, IsInputAnswer, AnswersSo, PathShown, PacketsShown};
+ghost use Rattle.trace_cmd.specs.Answers.{raw_id, most_input, IsUnread, IsInputAnswer, AnswersSo, PathShown, PacketsShown};
 
 use crate::packet_list::write_packet_list;
 use crate::path::write_path;
@@ -17,24 +18,11 @@ use trace_io::{Failed, ReadAllFault, Sink, Source, read_all};
 /// The most bytes of input.
 const MOST_INPUT: usize = 1 << 30;
 
-/// The size of a VMID in bytes, where no words give another.
-const VMID_BYTES: u8 = 1;
-
-/// The size of a context ID in bytes, where no words give another.
-const CID_BYTES: u8 = 4;
-
 /// The ID under which a stream is printed that is not framed.
 fn raw_id() -> Id
     ensures { result ≡ raw_id }
 {
     Id::new(1).unwrap()
-}
-
-/// The settings of a reader, where no words give others.
-fn raw_settings() -> Settings
-    ensures { result ≡ raw_sizes }
-{
-    Settings::new(0, VMID_BYTES, CID_BYTES).unwrap()
 }
 
 /// Reads the whole input, or says why that can't be done.
@@ -57,11 +45,13 @@ fn read_input<J: Source>(alloc: Global, input: &mut J) -> Result<Vec<u8>, Status
 pub fn answer_path<J: Source, K: Sink>(
     alloc: Global,
     image: &Image,
+    settings: &Settings,
     input: &mut J,
     out: &mut K,
 ) -> Result<Status, Failed>
-    requires { IsImage image.now }
-    ensures answer { AnswersSo (IsInputAnswer (PathShown image.now) (J.state input.old) (J.state input.new))
+    requires image { IsImage image.now }
+    requires settings { AreSettings settings.now }
+    ensures answer { AnswersSo (IsInputAnswer (PathShown image.now settings.now) (J.state input.old) (J.state input.new))
         (K.state out.old) (K.state out.new) result }
     ensures kept { (result ≡ Ok Status.ReadFault) ⊎ KeepsFaults (J.state input.old) (J.state input.new) }
     ensures shows { ShowsAsBefore (J.state input.old) (J.state input.new) }
@@ -74,7 +64,7 @@ pub fn answer_path<J: Source, K: Sink>(
         Ok(bytes) => bytes,
         Err(status) => return Ok(status),
     };
-    if write_path(raw_id(), &raw_settings(), image, walker, &bytes, out)? {
+    if write_path(raw_id(), settings, image, walker, &bytes, out)? {
         Ok(Status::Faulted)
     } else {
         Ok(Status::Done)
@@ -84,10 +74,12 @@ pub fn answer_path<J: Source, K: Sink>(
 /// Reads the input, and writes its packets.
 pub fn answer_packets<J: Source, K: Sink>(
     alloc: Global,
+    settings: &Settings,
     input: &mut J,
     out: &mut K,
 ) -> Result<Status, Failed>
-    ensures answer { AnswersSo (IsInputAnswer PacketsShown (J.state input.old) (J.state input.new))
+    requires { AreSettings settings.now }
+    ensures answer { AnswersSo (IsInputAnswer (PacketsShown settings.now) (J.state input.old) (J.state input.new))
         (K.state out.old) (K.state out.new) result }
     ensures kept { (result ≡ Ok Status.ReadFault) ⊎ KeepsFaults (J.state input.old) (J.state input.new) }
     ensures no_image { (line : ℕ) (why : ImageWhy) → result ≡ Ok (Status.ImageBad line why) → ⊥ }
@@ -98,7 +90,7 @@ pub fn answer_packets<J: Source, K: Sink>(
         Ok(bytes) => bytes,
         Err(status) => return Ok(status),
     };
-    if write_packet_list(raw_id(), &raw_settings(), &bytes, out)? {
+    if write_packet_list(raw_id(), settings, &bytes, out)? {
         Ok(Status::Faulted)
     } else {
         Ok(Status::Done)

@@ -1,10 +1,12 @@
-//! What the definitions of a path and of a packet list are as a whole.
-ghost use Rattle.std.specs.Prelude.{◌≡◌, ◌<◌, ℕ, List, Bool, All};
+//! What the definitions of a path, of a packet list and of the words' meaning are as a whole.
+ghost use Rattle.std.specs.Prelude.{◌≡◌, ◌<◌, ◌↔◌, ℕ, List, Bool, All, Some};
 ghost use Rattle.etm_types.specs.Settings.{Sizes, AreSettings};
 ghost use Rattle.program_image.specs.Part.{IsImage};
 ghost use Rattle.program_image.specs.declared.image.Image.{Image};
+ghost use Rattle.trace_cmd.specs.CommandLines.{IsPathLine, IsPacketsLine};
 ghost use Rattle.trace_cmd.specs.PacketList.{IsPacketList};
 ghost use Rattle.trace_cmd.specs.Path.{IsPathText};
+ghost use Rattle.trace_cmd.specs.Words.{Path, Packets, meaning};
 
 /// Over an image and under given sizes, an input has one path and no other: one text that is printed of
 /// it, and one answer to whether it ends with a fault.
@@ -21,4 +23,10 @@ pub fn an_input_has_one_packet_list()
         → IsPacketList s id bytes text faulty → IsPacketList s id bytes other also → (text ≡ other) × (faulty ≡ also) }
     ensures some { (s : Sizes) → AreSettings s → (id : ℕ) (bytes : List ℕ) → All (λ b. b < 256) bytes
         → (text : List ℕ) × (faulty : Bool) × IsPacketList s id bytes text faulty }
+{}
+
+/// Words mean a command exactly where they stand in its row: each option at most once, in one order, with its number.
+pub fn words_mean_what_they_spell()
+    ensures path { (words : List (List ℕ)) (image : List ℕ) (s : Sizes) → (meaning words ≡ Some (Path image s)) ↔ IsPathLine words image s }
+    ensures packets { (words : List (List ℕ)) (s : Sizes) → (meaning words ≡ Some (Packets s)) ↔ IsPacketsLine words s }
 {}

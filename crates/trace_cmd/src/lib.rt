@@ -16,6 +16,6 @@ mod trail;
 mod words;
 
 pub use command::run;
-pub use laws::{an_input_has_one_packet_list, an_input_has_one_path};
+pub use laws::{an_input_has_one_packet_list, an_input_has_one_path, words_mean_what_they_spell};
 pub use status::Status;
 pub use words::image_name;

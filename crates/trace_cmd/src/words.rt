@@ -1,7 +1,34 @@
 //! The words of the command line.
-ghost use Rattle.std.specs.Prelude.{◌≡◌};
+ghost use Rattle.std.specs.Prelude.{◌≡◌, IfSome};
+ghost use Rattle.std.specs.List.{list_all};
+ghost use Rattle.std.specs.Char.{is_ascii_digit};
 ghost use Rattle.std.specs.Option.{option_map};
-ghost use Rattle.trace_cmd.specs.Words.{is_image_word, meaning, image_of, asks_packets, texts};
+ghost use Rattle.trace_cmd.specs.Words.{is_image_word, meaning, only_image, path_of, packets_of, image_of, number_of, option_at, sizes_of, sizes_at, texts};
+ghost use Rattle.etm_types.specs.Settings.{AreSettings};
+ghost use Rattle.trace_cmd.specs.Said.{said, sizes_in};
+
+use etm_types::Settings;
+
+/// The speculation depth where no word gives one.
+const DEPTH: u64 = 16;
+
+/// The size of a VMID in bytes, where no word gives one.
+const VMID_BYTES: u64 = 1;
+
+/// The size of a context ID in bytes, where no word gives one.
+const CID_BYTES: u64 = 4;
+
+/// The most digits of a number.
+const NUMBER_DIGITS: usize = 10;
+
+/// A command, with what its words say.
+#[derive(Clone, Copy, Debug)]
+pub enum Command<'a> {
+    /// The path of one stream that is not framed, over the image of this name.
+    Path { image: &'a str, settings: Settings },
+    /// The packets of one stream that is not framed.
+    Packets { settings: Settings },
+}
 
 /// Whether a word may name an image: `-` alone, or a word that does not begin with `-`.
 fn is_image_word(word: &str) -> bool
@@ -13,28 +40,118 @@ fn is_image_word(word: &str) -> bool
     }
 }
 
+/// Whether all bytes are decimal digits.
+fn are_digits(bytes: &[u8]) -> bool
+    ensures { result ≡ list_all is_ascii_digit bytes.now }
+{
+    bytes.iter().all(|byte| byte.is_ascii_digit())
+}
+
+/// The number that 1 to 10 decimal digits spell.
+fn number(word: &str) -> Option<u64>
+    ensures { result ≡ number_of word.now }
+{
+    if word.is_empty() || word.len() > NUMBER_DIGITS || !are_digits(word.as_bytes()) {
+        return None;
+    }
+    word.parse().ok()
+}
+
+/// An option at the front of the words: its number, or the default where the option is absent, and the words behind it.
+fn take_option<'a>(words: &'a [String], name: &str, default: u64) -> Option<(u64, &'a [String])>
+    ensures { option_map (λ found. (found.0, texts found.1.now)) result ≡ option_at name.now default (texts words.now) }
+{
+    match words {
+        [word, digits, rest @ ..] if word.as_str() == name => {
+            let found = number(digits.as_str())?;
+            Some((found, rest))
+        }
+        _ => Some((default, words)),
+    }
+}
+
+/// The settings of these numbers, where they are in range.
+fn settings_of(depth: u64, vmid_bytes: u64, cid_bytes: u64) -> Option<Settings>
+    ensures value { result ≡ sizes_of depth vmid_bytes cid_bytes }
+    ensures within { IfSome result AreSettings }
+{
+    let depth = u32::try_from(depth).ok()?;
+    let vmid_bytes = u8::try_from(vmid_bytes).ok()?;
+    let cid_bytes = u8::try_from(cid_bytes).ok()?;
+    Settings::new(depth, vmid_bytes, cid_bytes).ok()
+}
+
+/// The sizes of a VMID and a context ID at the front of the words, with the depth as settings, and the words behind them.
+fn take_settings(depth: u64, words: &[String]) -> Option<(Settings, &[String])>
+    ensures value { option_map (λ found. (found.0, texts found.1.now)) result ≡ sizes_at depth (texts words.now) }
+    ensures within { IfSome result (λ found. AreSettings found.0) }
+{
+    let (vmid_bytes, words) = take_option(words, "--vmid", VMID_BYTES)?;
+    let (cid_bytes, words) = take_option(words, "--cid", CID_BYTES)?;
+    Some((settings_of(depth, vmid_bytes, cid_bytes)?, words))
+}
+
+/// The word that names the image, where there is no other word.
+fn only_image(words: &[String]) -> Option<&str>
+    ensures { option_map (λ name. name.now) result ≡ only_image (texts words.now) }
+{
+    match words {
+        [image] if is_image_word(image.as_str()) => Some(image.as_str()),
+        _ => None,
+    }
+}
+
+/// The command of the words behind `path --raw`.
+fn path_of(words: &[String]) -> Option<Command<'_>>
+    ensures value { option_map said result ≡ path_of (texts words.now) }
+    ensures within { IfSome result (λ command. AreSettings (sizes_in command)) }
+{
+    let (depth, words) = take_option(words, "--depth", DEPTH)?;
+    let Some((settings, words)) = take_settings(depth, words) else {
+        return None;
+    };
+    let image = only_image(words)?;
+    Some(Command::Path { image, settings })
+}
+
+/// The command of the words behind `packets --raw`.
+fn packets_of(words: &[String]) -> Option<Command<'_>>
+    ensures value { option_map said result ≡ packets_of (texts words.now) }
+    ensures within { IfSome result (λ command. AreSettings (sizes_in command)) }
+{
+    let Some((settings, words)) = take_settings(DEPTH, words) else {
+        return None;
+    };
+    if words.is_empty() {
+        Some(Command::Packets { settings })
+    } else {
+        None
+    }
+}
+
+/// The command that the words mean, where they mean one. It takes no memory.
+pub fn command_of(words: &[String]) -> Option<Command<'_>>
+    ensures value { option_map said result ≡ meaning (texts words.now) }
+    ensures within { IfSome result (λ command. AreSettings (sizes_in command)) }
+{
+    match words {
+        [command, raw, rest @ ..] if raw.as_str() == "--raw" => match command.as_str() {
+            "path" => path_of(rest),
+            "packets" => packets_of(rest),
+            _ => None,
+        },
+        _ => None,
+    }
+}
+
 /// The name of the image, where the words have a meaning and their command reads one. It takes no
 /// memory.
 pub fn image_name(words: &[String]) -> Option<&str>
     ensures { option_map (λ name. name.now) result ≡ image_of (meaning (texts words.now)) }
 {
-    let [command, raw, depth, zero, image] = words else {
-        return None;
-    };
-    let is_path = command.as_str() == "path"
-        && raw.as_str() == "--raw"
-        && depth.as_str() == "--depth"
-        && zero.as_str() == "0"
-        && is_image_word(image.as_str());
-    if is_path { Some(image.as_str()) } else { None }
-}
-
-/// Whether the words ask for the packets of a stream.
-pub fn asks_packets(words: &[String]) -> bool
-    ensures { result ≡ asks_packets (meaning (texts words.now)) }
-{
-    let [command, raw] = words else {
-        return false;
-    };
-    command.as_str() == "packets" && raw.as_str() == "--raw"
+    match command_of(words) {
+        Some(Command::Path { image, .. }) => Some(image),
+        Some(Command::Packets { .. }) => None,
+        None => None,
+    }
 }

@@ -1,25 +1,22 @@
-use Rattle.std.proofs.Common.{sym, ◌∙◌, inl, inr}
+use Rattle.std.proofs.Common.{Some, sym, ap, ◌∙◌}
+use Rattle.std.specs.Option.{option_map}
+use Rattle.trace_cmd.specs.Said.{said}
+use Rattle.trace_cmd.specs.declared.words.Command.{Command as Told}
 use Rattle.trace_cmd.specs.Words.{texts}
-use Rattle.trace_cmd.proofs.AnswerLemmas.{path_call}
+use Rattle.trace_cmd.proofs.AnswerLemmas.{so_of_packets, so_of_usage}
 use Rattle.trace_cmd.proofs.command.answer_words.Goals as goal
 
-pub returns-in-Some-clause-answer : goal.returns-in-Some-clause-answer
-returns-in-Some-clause-answer g c =
-    let words = texts c.args.words.now in
-    c.answer_path_call.ensures.answer words (path_call words _ (sym c.in-Some.ensures))
+pub returns-in-Path-clause-answer : goal.returns-in-Path-clause-answer
+returns-in-Path-clause-answer g c =
+    let means = sym c.command_of.ensures.value ∙ ap (option_map said) (c.in-Some.is ∙ ap (λ (command : Told). Some command) c.in-Path.is) in
+    c.answer_path_call.ensures.answer (texts c.args.words.now) (c.in-Path.image.now, means)
 
-pub returns-in-Some-clause-words_first : goal.returns-in-Some-clause-words_first
-returns-in-Some-clause-words_first g c =
-    λ e. let call = path_call (texts c.args.words.now) _ (sym c.in-Some.ensures) in
-    absurd (let x = sym call.1 ∙ e in cc)
+pub returns-in-Packets-clause-answer : goal.returns-in-Packets-clause-answer
+returns-in-Packets-clause-answer g c =
+    let means = sym c.command_of.ensures.value ∙ ap (option_map said) (c.in-Some.is ∙ ap (λ (command : Told). Some command) c.in-Packets.is) in
+    so_of_packets _ _ _ _ c.answer_packets.result means c.answer_packets.ensures.answer
 
-pub returns-in-None-clause-answer : goal.returns-in-None-clause-answer
-returns-in-None-clause-answer g c = c.answer_without_image.ensures.answer (g.I.Source.state c.args.image.now) (g.I.Source.state c.args.image.now)
-
-pub returns-in-Some-clause-order : goal.returns-in-Some-clause-order
-returns-in-Some-clause-order g c =
-    let call = path_call (texts c.args.words.now) _ (sym c.in-Some.ensures) in
-    elim c.answer_path_call.ensures.order [ inl same ↦ inl same | inr read ↦ inr (inl (call, read)) ]
-
-pub returns-in-None-clause-order : goal.returns-in-None-clause-order
-returns-in-None-clause-order g c = elim c.answer_without_image.ensures.order [ inl same ↦ inl same | inr call ↦ inr (inr call) ]
+pub returns-in_default-clause-answer : goal.returns-in_default-clause-answer
+returns-in_default-clause-answer g c =
+    let none = sym c.command_of.ensures.value ∙ ap (option_map said) c.in_default.is in
+    so_of_usage _ _ _ _ none c.answer_usage.ensures.0 c.answer_usage.ensures.1

@@ -1,7 +1,3 @@
-use Rattle.std.proofs.Common.{Ok, Err, subst}
-use Rattle.trace_io.specs.declared.traits.Failed.{Failed}
-use Rattle.trace_cmd.specs.Answers.{IsAnswer, AnswersSo, call}
-use Rattle.trace_cmd.specs.Words.{texts}
 use Rattle.trace_cmd.proofs.AnswerLemmas.{all_flushed, flush_fails, write_fails}
 use Rattle.trace_cmd.proofs.command.run.Goals as goal
 

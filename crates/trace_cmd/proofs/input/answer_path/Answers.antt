@@ -1,38 +1,34 @@
 use Rattle.std.proofs.Common.{subst, refl}
 use Rattle.std.proofs.lemmas.Result.{err_from_is_err_and}
-use Rattle.etm_types.specs.Settings.{Sizes}
 use Rattle.trace_cmd.specs.Path.{IsPathText}
-use Rattle.trace_cmd.specs.Answers.{raw_id, raw_sizes, PathShown}
+use Rattle.trace_cmd.specs.Answers.{raw_id, PathShown}
 use Rattle.trace_cmd.proofs.AnswerLemmas.{input_done, input_faulted, input_fails, unread}
 use Rattle.trace_cmd.proofs.input.answer_path.Goals as goal
 
 pub returns-in-Err-clause-answer : goal.returns-in-Err-clause-answer
-returns-in-Err-clause-answer g c = unread (PathShown c.args.image.now) _ _ _ c.in-Err.status (c.in-Err.ensures.unread c.in-Err.status refl)
+returns-in-Err-clause-answer g c = unread (PathShown c.args.image.now c.args.settings.now) _ _ _ c.in-Err.status (c.in-Err.ensures.unread c.in-Err.status refl)
 
 pub returns-in_err-write_path-clause-answer : goal.returns-in_err-write_path-clause-answer
 returns-in_err-write_path-clause-answer g c =
     let p = err_from_is_err_and c.from_residual.result c.from_residual.ensures.1 in
-    let w = c.in_err-write_path.ensures in let image = c.args.image.now in
-    let shown = subst (λ bytes. IsPathText image raw_sizes raw_id bytes w.0 w.1) c.deref.ensures.value
-    (subst (λ (s : Sizes). IsPathText image s raw_id c.deref.result.now w.0 w.1) c.raw_settings.ensures
-    (subst (λ id. IsPathText image c.raw_settings.result id c.deref.result.now w.0 w.1) c.raw_id.ensures w.2)) in
-    rw p.1 (input_fails (PathShown image) _ _ _ _ c.in_err-write_path.field-0.0 p.0 c.in-Ok-read_input.bytes.items w.0 w.1
-    c.in-Ok-read_input.ensures.bytes.0 c.in-Ok-read_input.ensures.bytes.1 shown w.3)
+    let w = c.in_err-write_path.ensures in let image = c.args.image.now in let s = c.args.settings.now in
+    let shown = subst (λ bytes. IsPathText image s raw_id bytes w.0 w.1) c.deref.ensures.value
+    (subst (λ id. IsPathText image s id c.deref.result.now w.0 w.1) c.raw_id.ensures w.2) in
+    rw p.1 (input_fails (PathShown image s) _ _ _ _ c.in_err-write_path.field-0.0 p.0
+    c.in-Ok-read_input.bytes.items w.0 w.1 c.in-Ok-read_input.ensures.bytes.0 c.in-Ok-read_input.ensures.bytes.1 shown w.3)
 
 pub returns-then-branch-clause-answer : goal.returns-then-branch-clause-answer
 returns-then-branch-clause-answer g c =
-    let w = c.in_ok-write_path.ensures in let image = c.args.image.now in
-    let shown = subst (λ bytes. IsPathText image raw_sizes raw_id bytes w.0 w.1) c.deref.ensures.value
-    (subst (λ (s : Sizes). IsPathText image s raw_id c.deref.result.now w.0 w.1) c.raw_settings.ensures
-    (subst (λ id. IsPathText image c.raw_settings.result id c.deref.result.now w.0 w.1) c.raw_id.ensures w.2)) in
-    input_faulted (PathShown image) _ _ _ _ c.in_ok-write_path.field-0 w.1 c.in-Ok-read_input.bytes.items w.0
-    c.in-Ok-read_input.ensures.bytes.0 c.in-Ok-read_input.ensures.bytes.1 shown w.3 w.4 c.if-branch.true
+    let w = c.in_ok-write_path.ensures in let image = c.args.image.now in let s = c.args.settings.now in
+    let shown = subst (λ bytes. IsPathText image s raw_id bytes w.0 w.1) c.deref.ensures.value
+    (subst (λ id. IsPathText image s id c.deref.result.now w.0 w.1) c.raw_id.ensures w.2) in
+    input_faulted (PathShown image s) _ _ _ _ c.in_ok-write_path.field-0 w.1
+    c.in-Ok-read_input.bytes.items w.0 c.in-Ok-read_input.ensures.bytes.0 c.in-Ok-read_input.ensures.bytes.1 shown w.3 w.4 c.if-branch.true
 
 pub returns-clause-answer : goal.returns-clause-answer
 returns-clause-answer g c =
-    let w = c.in_ok-write_path.ensures in let image = c.args.image.now in
-    let shown = subst (λ bytes. IsPathText image raw_sizes raw_id bytes w.0 w.1) c.deref.ensures.value
-    (subst (λ (s : Sizes). IsPathText image s raw_id c.deref.result.now w.0 w.1) c.raw_settings.ensures
-    (subst (λ id. IsPathText image c.raw_settings.result id c.deref.result.now w.0 w.1) c.raw_id.ensures w.2)) in
-    input_done (PathShown image) _ _ _ _ c.in_ok-write_path.field-0 w.1 c.in-Ok-read_input.bytes.items w.0
-    c.in-Ok-read_input.ensures.bytes.0 c.in-Ok-read_input.ensures.bytes.1 shown w.3 w.4 c.if-branch.false
+    let w = c.in_ok-write_path.ensures in let image = c.args.image.now in let s = c.args.settings.now in
+    let shown = subst (λ bytes. IsPathText image s raw_id bytes w.0 w.1) c.deref.ensures.value
+    (subst (λ id. IsPathText image s id c.deref.result.now w.0 w.1) c.raw_id.ensures w.2) in
+    input_done (PathShown image s) _ _ _ _ c.in_ok-write_path.field-0 w.1
+    c.in-Ok-read_input.bytes.items w.0 c.in-Ok-read_input.ensures.bytes.0 c.in-Ok-read_input.ensures.bytes.1 shown w.3 w.4 c.if-branch.false

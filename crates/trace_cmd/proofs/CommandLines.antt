@@ -1,0 +1,255 @@
+-- What words mean is how they are spelled.
+use Rattle.std.proofs.Common.{◌≡◌, ℕ, Bool, true, false, nat_le, List, [], ◌∷◌, ◌++◌, length, ◌==◌, if◌then◌else◌, codes, Option, Some}
+use Rattle.std.proofs.Common.{None, refl, sym, ap, subst, ◌∙◌, inl, inr, ◌⊎◌, arith}
+use Rattle.std.proofs.lemmas.Bool.Decides.{nat_tests}
+use Rattle.std.proofs.lemmas.List.{append-nil}
+use Rattle.std.proofs.lemmas.Slice.Eq.{bytes_eq-Decides}
+use Rattle.std.specs.Option.{option_map, option_and_then}
+use Rattle.std.specs.Str.{bytes_eq}
+use Rattle.etm_types.specs.Settings.{Sizes, AreSettings, is_vmid_size, is_cid_size}
+use Rattle.trace_cmd.specs.Words.{Command, Path, Packets, is_image_word, number_of, option_at, sizes_of, sizes_at, only_image, path_of, packets_of, meaning}
+use Rattle.trace_cmd.specs.CommandLines.{IsOption, IsPathLine, IsPacketsLine}
+
+-- ---- an option
+
+-- an option that was found stands at the front of the words
+pub record Found (name : List ℕ) (default : ℕ) (words : List (List ℕ)) (n : ℕ) (rest : List (List ℕ)) : Type 0 where
+  pub front : List (List ℕ)
+  pub is : IsOption name default front n
+  pub row : words ≡ front ++ rest
+
+absent : (name : List ℕ) (default : ℕ) (words : List (List ℕ)) (n : ℕ) (rest : List (List ℕ))
+    → ◌≡◌ {A = Option (ℕ × List (List ℕ))} (Some (default, words)) (Some (n, rest)) → Found name default words n rest
+absent name default words n rest e =
+    let p : ◌≡◌ {A = ℕ × List (List ℕ)} (default, words) (n, rest) = cc in
+    record { front = []; is = sym (ap (λ (q : ℕ × List (List ℕ)). q.0) p); row = ap (λ (q : ℕ × List (List ℕ)). q.1) p }
+
+present : (name : List ℕ) (default : ℕ) (word number : List ℕ) (more : List (List ℕ)) (n : ℕ) (rest : List (List ℕ)) (found : Option ℕ)
+    → number_of number ≡ found → word ≡ name
+    → option_map {U = ℕ × List (List ℕ)} (λ m. (m, more)) found ≡ Some (n, rest) → Found name default (word ∷ number ∷ more) n rest
+present name default word number more n rest None is same e = absurd cc
+present name default word number more n rest (Some m) is same e =
+    let p : ◌≡◌ {A = ℕ × List (List ℕ)} (m, more) (n, rest) = cc in
+    record {
+      front = word ∷ number ∷ [];
+      is = (same, is ∙ ap (λ (q : ℕ × List (List ℕ)). Some q.0) p);
+      row = ap (λ (q : ℕ × List (List ℕ)). word ∷ number ∷ q.1) p;
+    }
+
+option_by : (name : List ℕ) (default : ℕ) (word number : List ℕ) (more : List (List ℕ)) (n : ℕ) (rest : List (List ℕ)) (b : Bool)
+    → bytes_eq word name ≡ b → option_at name default (word ∷ number ∷ more) ≡ Some (n, rest) → Found name default (word ∷ number ∷ more) n rest
+option_by name default word number more n rest true is e =
+    present name default word number more n rest (number_of number) refl ((bytes_eq-Decides word name).0 is) (simp is at e)
+option_by name default word number more n rest false is e = absent name default (word ∷ number ∷ more) n rest (simp is at e)
+
+pub found : (name : List ℕ) (default : ℕ) (words : List (List ℕ)) (n : ℕ) (rest : List (List ℕ)) → option_at name default words ≡ Some (n, rest)
+    → Found name default words n rest
+found name default [] n rest e = absent name default [] n rest e
+found name default (word ∷ []) n rest e = absent name default (word ∷ []) n rest e
+found name default (word ∷ number ∷ more) n rest e = option_by name default word number more n rest (bytes_eq word name) refl e
+
+-- an option is found, where the words behind it do not begin with its name
+pub taken : (name : List ℕ) (default : ℕ) (front : List (List ℕ)) (n : ℕ) (rest : List (List ℕ)) → IsOption name default front n
+    → option_at name default rest ≡ Some (default, rest) → option_at name default (front ++ rest) ≡ Some (n, rest)
+taken name default [] n rest is other = other ∙ ap (λ m. Some (m, rest)) (sym is)
+taken name default (word ∷ []) n rest is other = absurd is
+taken name default (word ∷ number ∷ []) n rest (same, is) other =
+    let test : bytes_eq word name ≡ true = (bytes_eq-Decides word name).1 same in simp (test, is)
+taken name default (word ∷ number ∷ more ∷ words) n rest is other = absurd is
+
+-- ---- sizes
+
+-- numbers that are sizes, and those of the sizes
+sized_by : (a b e : Bool) (d v c : ℕ) (s : Sizes) → nat_le d 4096 ≡ a → is_vmid_size v ≡ b → is_cid_size c ≡ e → sizes_of d v c ≡ Some s
+    → (s ≡ record { depth = d; vmid_bytes = v; cid_bytes = c }) × AreSettings s
+sized_by true true true d v c s x y z e =
+    let same : record { depth = d; vmid_bytes = v; cid_bytes = c } ≡ s = let f = simp (x, y, z) at e in cc in
+    (sym same, subst AreSettings same (record { depth = grind (arith, nat_tests, x); vmid = y; cid = z }))
+sized_by true true false d v c s x y z e = let f = simp (x, y, z) at e in absurd cc
+sized_by true false b d v c s x y z e = let f = simp (x, y) at e in absurd cc
+sized_by false a b d v c s x y z e = let f = simp x at e in absurd cc
+
+pub sized : (d v c : ℕ) (s : Sizes) → sizes_of d v c ≡ Some s → (s ≡ record { depth = d; vmid_bytes = v; cid_bytes = c }) × AreSettings s
+sized d v c s e = sized_by (nat_le d 4096) (is_vmid_size v) (is_cid_size c) d v c s refl refl refl e
+
+pub sizes_there : (s : Sizes) → AreSettings s → sizes_of s.depth s.vmid_bytes s.cid_bytes ≡ Some s
+sizes_there s are =
+    let deep : nat_le s.depth 4096 ≡ true = grind (arith, nat_tests, are.depth) in let vmid : is_vmid_size s.vmid_bytes ≡ true = are.vmid in
+    let cid : is_cid_size s.cid_bytes ≡ true = are.cid in simp (deep, vmid, cid)
+
+-- ---- words one after the other
+
+then_some : {A B : Type 0} (x : Option A) (f : A → Option B) (b : B) → option_and_then f x ≡ Some b → (a : A) × (x ≡ Some a) × (f a ≡ Some b)
+then_some None f b e = absurd cc
+then_some (Some a) f b e = (a, refl, e)
+
+map_some : {A B : Type 0} (x : Option A) (f : A → B) (b : B) → option_map f x ≡ Some b → (a : A) × (x ≡ Some a) × (f a ≡ b)
+map_some None f b e = absurd cc
+map_some (Some a) f b e = (a, refl, cc)
+
+-- sizes that were found stand at the front of the words
+record SizesFound (depth : ℕ) (words : List (List ℕ)) (s : Sizes) (rest : List (List ℕ)) : Type 0 where
+  vmid : List (List ℕ)
+  cid : List (List ℕ)
+  row : words ≡ vmid ++ (cid ++ rest)
+  depth_is : s.depth ≡ depth
+  vmid_is : IsOption (codes "--vmid") 1 vmid s.vmid_bytes
+  cid_is : IsOption (codes "--cid") 4 cid s.cid_bytes
+  within : AreSettings s
+
+sizes_found : (depth : ℕ) (words : List (List ℕ)) (s : Sizes) (rest : List (List ℕ)) → sizes_at depth words ≡ Some (s, rest) → SizesFound depth words s rest
+sizes_found depth words s rest e =
+    let v = then_some (option_at (codes "--vmid") 1 words) _ (s, rest) e in let c = then_some (option_at (codes "--cid") 4 v.0.1) _ (s, rest) v.2 in
+    let z = map_some (sizes_of depth v.0.0 c.0.0) _ (s, rest) c.2 in
+    let vmid = found (codes "--vmid") 1 words v.0.0 v.0.1 v.1 in let cid = found (codes "--cid") 4 v.0.1 c.0.0 c.0.1 c.1 in
+    let are = sized depth v.0.0 c.0.0 z.0 z.1 in let same : z.0 ≡ s = ap (λ (q : Sizes × List (List ℕ)). q.0) z.2 in
+    let parts = sym same ∙ are.0 in
+    record {
+      vmid = vmid.front;
+      cid = cid.front;
+      row = vmid.row ∙ ap (λ r. vmid.front ++ r) (cid.row ∙ ap (λ (q : Sizes × List (List ℕ)). cid.front ++ q.1) z.2);
+      depth_is = ap (λ (t : Sizes). t.depth) parts;
+      vmid_is = subst (IsOption (codes "--vmid") 1 vmid.front) (sym (ap (λ (t : Sizes). t.vmid_bytes) parts)) vmid.is;
+      cid_is = subst (IsOption (codes "--cid") 4 cid.front) (sym (ap (λ (t : Sizes). t.cid_bytes) parts)) cid.is;
+      within = subst AreSettings same are.1;
+    }
+
+-- an option of another name is passed over
+other_option : (name other : List ℕ) (default default' : ℕ) (front : List (List ℕ)) (n : ℕ) (rest : List (List ℕ)) → IsOption other default' front n
+    → bytes_eq other name ≡ false → option_at name default rest ≡ Some (default, rest)
+    → option_at name default (front ++ rest) ≡ Some (default, front ++ rest)
+other_option name other default default' [] n rest is differ e = e
+other_option name other default default' (word ∷ []) n rest is differ e = absurd is
+other_option name other default default' (word ∷ number ∷ []) n rest (same, is) differ e = rw same (simp differ)
+other_option name other default default' (word ∷ number ∷ more ∷ words) n rest is differ e = absurd is
+
+-- sizes are found, where the words behind them begin with no option
+sizes_said : (vmid cid rest : List (List ℕ)) (s : Sizes) → IsOption (codes "--vmid") 1 vmid s.vmid_bytes → IsOption (codes "--cid") 4 cid s.cid_bytes
+    → AreSettings s → option_at (codes "--vmid") 1 rest ≡ Some (1, rest) → option_at (codes "--cid") 4 rest ≡ Some (4, rest)
+    → sizes_at s.depth (vmid ++ (cid ++ rest)) ≡ Some (s, rest)
+sizes_said vmid cid rest s vmid_is cid_is are no_vmid no_cid =
+    let v = taken (codes "--vmid") 1 vmid s.vmid_bytes (cid ++ rest) vmid_is
+    (other_option (codes "--vmid") (codes "--cid") 1 4 cid s.cid_bytes rest cid_is refl no_vmid) in
+    let c = taken (codes "--cid") 4 cid s.cid_bytes rest cid_is no_cid in let z = sizes_there s are in simp (v, c, z)
+
+-- ---- whole lines
+
+image_by : (word image : List ℕ) (b : Bool) → is_image_word word ≡ b → only_image (word ∷ []) ≡ Some image → (word ≡ image) × (is_image_word image ≡ true)
+image_by word image true is e = let same : word ≡ image = let f = simp is at e in cc in (same, subst (λ w. is_image_word w ≡ true) same is)
+image_by word image false is e = let f = simp is at e in absurd cc
+
+one_image : (words : List (List ℕ)) (image : List ℕ) → only_image words ≡ Some image → (words ≡ image ∷ []) × (is_image_word image ≡ true)
+one_image [] image e = absurd cc
+one_image (word ∷ []) image e = let p = image_by word image (is_image_word word) refl e in (ap (λ w. w ∷ []) p.0, p.1)
+one_image (word ∷ more ∷ words) image e = absurd cc
+
+-- words behind `path --raw` that mean a command
+path_found : (words : List (List ℕ)) (command : Command) → path_of words ≡ Some command
+    → (image : List ℕ) × (s : Sizes) × (command ≡ Path image s) × IsPathLine (codes "path" ∷ codes "--raw" ∷ words) image s
+path_found words command e =
+    let d = then_some (option_at (codes "--depth") 16 words) _ command e in let z = then_some (sizes_at d.0.0 d.0.1) _ command d.2 in
+    let i = map_some (only_image z.0.1) _ command z.2 in let depth = found (codes "--depth") 16 words d.0.0 d.0.1 d.1 in
+    let sizes = sizes_found d.0.0 d.0.1 z.0.0 z.0.1 z.1 in let image = one_image z.0.1 i.0 i.1 in (
+      i.0,
+      z.0.0,
+      sym i.2,
+      record {
+        depth = depth.front;
+        vmid = sizes.vmid;
+        cid = sizes.cid;
+        row = ap (λ r. codes "path" ∷ codes "--raw" ∷ r)
+            (depth.row ∙ ap (λ r. depth.front ++ r) (sizes.row ∙ ap (λ r. sizes.vmid ++ (sizes.cid ++ r)) image.0));
+        depth_is = subst (IsOption (codes "--depth") 16 depth.front) (sym sizes.depth_is) depth.is;
+        vmid_is = sizes.vmid_is;
+        cid_is = sizes.cid_is;
+        image_is = image.1;
+        within = sizes.within;
+      },
+    )
+
+end_by : (words : List (List ℕ)) (s : Sizes) (command : Command) (b : Bool) → (length words == 0) ≡ b
+    → (if length words == 0 then Some (Packets s) else None) ≡ Some command → (command ≡ Packets s) × (words ≡ [])
+end_by [] s command b is e = (sym cc, refl)
+end_by (word ∷ words) s command b is e = let some : (length (word ∷ words) == 0) ≡ false = grind (arith, nat_tests) in let f = simp some at e in absurd cc
+
+-- words behind `packets --raw` that mean a command
+packets_found : (words : List (List ℕ)) (command : Command) → packets_of words ≡ Some command
+    → (s : Sizes) × (command ≡ Packets s) × IsPacketsLine (codes "packets" ∷ codes "--raw" ∷ words) s
+packets_found words command e =
+    let z = then_some (sizes_at 16 words) _ command e in let sizes = sizes_found 16 words z.0.0 z.0.1 z.1 in
+    let done = end_by z.0.1 z.0.0 command (length z.0.1 == 0) refl z.2 in (
+      z.0.0,
+      done.0,
+      record {
+        vmid = sizes.vmid;
+        cid = sizes.cid;
+        row = ap (λ r. codes "packets" ∷ codes "--raw" ∷ r)
+            (sizes.row ∙ ap (λ r. sizes.vmid ++ (sizes.cid ++ r)) done.1 ∙ ap (λ r. sizes.vmid ++ r) (append-nil sizes.cid));
+        depth_is = sizes.depth_is;
+        vmid_is = sizes.vmid_is;
+        cid_is = sizes.cid_is;
+        within = sizes.within;
+      },
+    )
+
+-- the first two words, and what the others mean behind them
+abbrev BeginsLine : List ℕ → List ℕ → List (List ℕ) → Command → Type 0
+BeginsLine command raw words c =
+    ((command ≡ codes "path") × (raw ≡ codes "--raw") × (path_of words ≡ Some c))
+    ⊎ ((command ≡ codes "packets") × (raw ≡ codes "--raw") × (packets_of words ≡ Some c))
+
+line_by : (command raw : List ℕ) (words : List (List ℕ)) (c : Command) (a b d : Bool) → bytes_eq raw (codes "--raw") ≡ a
+    → bytes_eq command (codes "path") ≡ b → bytes_eq command (codes "packets") ≡ d → meaning (command ∷ raw ∷ words) ≡ Some c
+    → BeginsLine command raw words c
+line_by command raw words c true true d x y z e =
+    inl ((bytes_eq-Decides command (codes "path")).0 y, (bytes_eq-Decides raw (codes "--raw")).0 x, simp (x, y) at e)
+line_by command raw words c true false true x y z e =
+    inr ((bytes_eq-Decides command (codes "packets")).0 z, (bytes_eq-Decides raw (codes "--raw")).0 x, simp (x, y, z) at e)
+line_by command raw words c true false false x y z e = let f = simp (x, y, z) at e in absurd cc
+line_by command raw words c false b d x y z e = let f = simp x at e in absurd cc
+
+line : (command raw : List ℕ) (words : List (List ℕ)) (c : Command) → meaning (command ∷ raw ∷ words) ≡ Some c
+    → BeginsLine command raw words c
+line command raw words c e =
+    line_by command raw words c (bytes_eq raw (codes "--raw")) (bytes_eq command (codes "path")) (bytes_eq command (codes "packets")) refl refl refl e
+
+pub path_line : (words : List (List ℕ)) (image : List ℕ) (s : Sizes) → meaning words ≡ Some (Path image s) → IsPathLine words image s
+path_line [] image s e = absurd cc
+path_line (command ∷ []) image s e = absurd cc
+path_line (command ∷ raw ∷ words) image s e =
+    elim (line command raw words (Path image s) e) [
+      | inl p ↦
+          let f = path_found words (Path image s) p.2 in let name : f.0 ≡ image = let g = f.2 in cc in let sizes : f.1 ≡ s = let g = f.2 in cc in
+          rw p.0 (rw p.1 (subst (λ n. IsPathLine (codes "path" ∷ codes "--raw" ∷ words) n s) name
+          (subst (λ z. IsPathLine (codes "path" ∷ codes "--raw" ∷ words) f.0 z) sizes f.3)))
+      | inr p ↦ let f = packets_found words (Path image s) p.2 in let g = f.1 in absurd cc
+    ]
+
+pub packets_line : (words : List (List ℕ)) (s : Sizes) → meaning words ≡ Some (Packets s) → IsPacketsLine words s
+packets_line [] s e = absurd cc
+packets_line (command ∷ []) s e = absurd cc
+packets_line (command ∷ raw ∷ words) s e =
+    elim (line command raw words (Packets s) e) [
+      | inl p ↦ let f = path_found words (Packets s) p.2 in let g = f.2 in absurd cc
+      | inr p ↦
+          let f = packets_found words (Packets s) p.2 in let sizes : f.0 ≡ s = let g = f.1 in cc in
+          rw p.0 (rw p.1 (subst (λ z. IsPacketsLine (codes "packets" ∷ codes "--raw" ∷ words) z) sizes f.2))
+    ]
+
+-- and what is spelled so means it
+pub path_said : (words : List (List ℕ)) (image : List ℕ) (s : Sizes) → IsPathLine words image s → meaning words ≡ Some (Path image s)
+path_said words image s l =
+    let rest = l.vmid ++ (l.cid ++ image ∷ []) in
+    let other = other_option (codes "--depth") (codes "--vmid") 16 1 l.vmid s.vmid_bytes (l.cid ++ image ∷ []) l.vmid_is refl
+    (other_option (codes "--depth") (codes "--cid") 16 4 l.cid s.cid_bytes (image ∷ []) l.cid_is refl refl) in
+    let depth = taken (codes "--depth") 16 l.depth s.depth rest l.depth_is other in
+    let sizes = sizes_said l.vmid l.cid (image ∷ []) s l.vmid_is l.cid_is l.within refl refl in let name : is_image_word image ≡ true = l.image_is in
+    rw l.row (simp (depth, sizes, name))
+
+pub packets_said : (words : List (List ℕ)) (s : Sizes) → IsPacketsLine words s → meaning words ≡ Some (Packets s)
+packets_said words s l =
+    let sizes = sizes_said l.vmid l.cid [] s l.vmid_is l.cid_is l.within refl refl in
+    let found : ◌≡◌ {A = Option (Sizes × List (List ℕ))} (sizes_at 16 (l.vmid ++ l.cid)) (Some (s, [])) =
+    subst (λ (c : List (List ℕ)). ◌≡◌ {A = Option (Sizes × List (List ℕ))} (sizes_at 16 (l.vmid ++ c)) (Some (s, []))) (append-nil l.cid)
+    (subst (λ (d : ℕ). ◌≡◌ {A = Option (Sizes × List (List ℕ))} (sizes_at d (l.vmid ++ (l.cid ++ []))) (Some (s, []))) l.depth_is sizes) in
+    rw l.row (simp found)

@@ -1,0 +1,32 @@
+-- How the words of a command line stand in a row.
+use Rattle.std.specs.Prelude.{◌≡◌, ℕ, List, [], ◌∷◌, ◌++◌, codes, Some, IsTrue}
+use Rattle.etm_types.specs.Settings.{Sizes, AreSettings}
+use Rattle.trace_cmd.specs.Words.{number_of, is_image_word}
+
+-- `[NAME N]`: NAME and a number, or no words, which stand for the default
+abbrev pub IsOption : List ℕ → ℕ → List (List ℕ) → ℕ → Type 0
+IsOption name default [] n = n ≡ default
+IsOption name default (word ∷ number ∷ []) n = (word ≡ name) × (number_of number ≡ Some n)
+IsOption name default words n = ⊥
+
+-- `path --raw [--depth N] [--vmid N] [--cid N] IMAGE`, with numbers in range
+pub record IsPathLine (words : List (List ℕ)) (image : List ℕ) (s : Sizes) : Type 0 where
+  pub depth : List (List ℕ)
+  pub vmid : List (List ℕ)
+  pub cid : List (List ℕ)
+  pub row : words ≡ codes "path" ∷ codes "--raw" ∷ (depth ++ (vmid ++ (cid ++ image ∷ [])))
+  pub depth_is : IsOption (codes "--depth") 16 depth s.depth
+  pub vmid_is : IsOption (codes "--vmid") 1 vmid s.vmid_bytes
+  pub cid_is : IsOption (codes "--cid") 4 cid s.cid_bytes
+  pub image_is : IsTrue (is_image_word image)
+  pub within : AreSettings s
+
+-- `packets --raw [--vmid N] [--cid N]`, with numbers in range; no packet depends on the depth, which is the default
+pub record IsPacketsLine (words : List (List ℕ)) (s : Sizes) : Type 0 where
+  pub vmid : List (List ℕ)
+  pub cid : List (List ℕ)
+  pub row : words ≡ codes "packets" ∷ codes "--raw" ∷ (vmid ++ cid)
+  pub depth_is : s.depth ≡ 16
+  pub vmid_is : IsOption (codes "--vmid") 1 vmid s.vmid_bytes
+  pub cid_is : IsOption (codes "--cid") 4 cid s.cid_bytes
+  pub within : AreSettings s
