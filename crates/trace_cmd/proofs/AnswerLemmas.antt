@@ -47,13 +47,13 @@ input_fails Shown input input' old new e d bytes text false all few shown w =
 -- what is shown of the input was written
 pub input_faulted : (Shown : List ℕ → List ℕ → Bool → Type 0) (input input' old new : IoState) (told faulty : Bool) (bytes text : List ℕ)
     → TakesAll input input' bytes
-    → length bytes ≤ most_input → Shown bytes text faulty → Writes {T = Bool} {E = Failed} old new (Ok told) text → told ≡ faulty → told ≡ true
+    → length bytes ≤ most_input → Shown bytes text faulty → Writes {T = Bool} {E = Failed} old new (Ok told) text → faulty ≡ true
     → AnswersSo (IsInputAnswer Shown input input') {E = Failed} old new (Ok status.Faulted)
-input_faulted Shown input input' old new told faulty bytes text all few shown w same t =
+input_faulted Shown input input' old new told faulty bytes text all few shown w is =
     record {
       status = status.Faulted;
       text = text;
-      answer = (bytes, all, few, subst (λ b. Shown bytes text b) (sym same ∙ t) shown);
+      answer = (bytes, all, few, subst (λ b. Shown bytes text b) is shown);
       writes =
           answers_ok old new told status.Faulted text w;
       same = refl;
@@ -61,13 +61,13 @@ input_faulted Shown input input' old new told faulty bytes text all few shown w 
 
 pub input_done : (Shown : List ℕ → List ℕ → Bool → Type 0) (input input' old new : IoState) (told faulty : Bool) (bytes text : List ℕ)
     → TakesAll input input' bytes
-    → length bytes ≤ most_input → Shown bytes text faulty → Writes {T = Bool} {E = Failed} old new (Ok told) text → told ≡ faulty → told ≡ false
+    → length bytes ≤ most_input → Shown bytes text faulty → Writes {T = Bool} {E = Failed} old new (Ok told) text → faulty ≡ false
     → AnswersSo (IsInputAnswer Shown input input') {E = Failed} old new (Ok status.Done)
-input_done Shown input input' old new told faulty bytes text all few shown w same t =
+input_done Shown input input' old new told faulty bytes text all few shown w is =
     record {
       status = status.Done;
       text = text;
-      answer = (bytes, all, few, subst (λ b. Shown bytes text b) (sym same ∙ t) shown);
+      answer = (bytes, all, few, subst (λ b. Shown bytes text b) is shown);
       writes =
           answers_ok old new told status.Done text w;
       same = refl;

@@ -52,13 +52,14 @@ use Rattle.packet_reader.specs.Stands.{Gains, GainsPacket, Standing, StandsAt, r
 use Rattle.packet_reader.specs.Answered.{told, fault_after, fault_of}
 use Rattle.packet_reader.proofs.Stream.{stream_on, fault_stays}
 use Rattle.packet_reader.proofs.Adds.{Told, gains_more, nothing_is_a_stream, nothing_told}
-use Rattle.path_text.specs.declared.end.End.{End}
-use Rattle.path_text.specs.declared.end.End.TheVariants.{Clean, Cut}
+use Rattle.packet_grammar.specs.declared.end.End.{End}
+use Rattle.packet_grammar.specs.declared.end.End.TheVariants.{Clean, Cut}
 use Rattle.path_text.specs.PacketLines.{HasText, packet_line}
 use Rattle.path_text.specs.EndLines.{end_line}
 use Rattle.path_text.specs.Writing.{Writes}
 use Rattle.trace_io.specs.declared.traits.Failed.{Failed}
-use Rattle.trace_cmd.specs.PacketList.{TakesFront, packet_lines, end_of, is_faulty, list_text, IsPacketList}
+use Rattle.packet_grammar.specs.Ends.{end_of}
+use Rattle.trace_cmd.specs.PacketList.{TakesFront, packet_lines, is_faulty, list_text, IsPacketList}
 use Rattle.std.proofs.lemmas.Bool.{eqb-true}
 use Rattle.path_walker.proofs.Search.{cases}
 use Rattle.path_text.proofs.Wrote.{Wrote, wrote_nothing, wrote_more, writes_all, fails_after}

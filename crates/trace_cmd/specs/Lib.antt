@@ -2,9 +2,5 @@ pub mod Words
 pub mod Said
 pub mod CommandLines
 pub mod PacketList
-pub mod Resolving
-pub mod Pending
-pub mod Trail
 pub mod Path
 pub mod Answers
-pub mod Shown

@@ -2,11 +2,9 @@
 use Rattle.std.specs.Prelude.{◌≡◌, ℕ, ◌<◌, ◌==◌, Bool, true, false, if◌then◌else◌, List, [], ◌∷◌, ◌++◌, length}
 use Rattle.etm_types.specs.Settings.{Sizes}
 use Rattle.packet_grammar.specs.declared.packet.Packet.{Packet}
-use Rattle.packet_grammar.specs.declared.stream_fault.Fault.TheVariants as stream
-use Rattle.packet_grammar.specs.Parsed.{Ending, no_sync, clean, cut, fault, IsStream}
+use Rattle.packet_grammar.specs.Ends.{end_of}
+use Rattle.packet_grammar.specs.Parsed.{Ending, fault, IsStream}
 use Rattle.packet_reader.specs.Stands.{Standing, TakesPacket}
-use Rattle.path_text.specs.declared.end.End.{End}
-use Rattle.path_text.specs.declared.end.End.TheVariants as end
 use Rattle.path_text.specs.EndLines.{end_line}
 use Rattle.path_text.specs.PacketLines.{packet_line}
 
@@ -21,13 +19,6 @@ pub record TakesFront (old new : Standing) (bytes behind : List ℕ) (at : ℕ) 
 abbrev pub packet_lines : ℕ → List (ℕ × Packet) → List ℕ
 packet_lines id [] = []
 packet_lines id (p ∷ packets) = packet_line id p.0 p.1 ++ packet_lines id packets
-
--- the end that is printed
-abbrev pub end_of : Ending → End
-end_of no_sync = end.NoSync
-end_of clean = end.Clean
-end_of (cut n) = end.Cut n
-end_of (fault at f) = end.Fault at (stream.Packet f)
 
 abbrev pub is_faulty : Ending → Bool
 is_faulty (fault at f) = true

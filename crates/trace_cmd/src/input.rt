@@ -10,9 +10,9 @@ use crate::packet_list::write_packet_list;
 use crate::path::write_path;
 use crate::status::Status;
 use etm_types::{Id, Settings};
-use path_walker::Walker;
 use program_image::{Image, ImageWhy};
 use std::alloc::Global;
+use stream_decoder::StreamDecoder;
 use trace_io::{Failed, ReadAllFault, Sink, Source, read_all};
 
 /// The most bytes of input.
@@ -41,7 +41,7 @@ fn read_input<J: Source>(alloc: Global, input: &mut J) -> Result<Vec<u8>, Status
     }
 }
 
-/// Reads the input, and writes its path. The walk takes its memory before anything is read.
+/// Reads the input, and writes its path. The decoder takes its memory before anything is read.
 pub fn answer_path<J: Source, K: Sink>(
     alloc: Global,
     image: &Image,
@@ -57,17 +57,20 @@ pub fn answer_path<J: Source, K: Sink>(
     ensures shows { ShowsAsBefore (J.state input.old) (J.state input.new) }
     ensures later { (J.state input.old).faults ≤ (J.state input.new).faults }
 {
-    let Ok(walker) = Walker::new(alloc) else {
+    let Ok(decoder) = StreamDecoder::new(alloc, settings) else {
         return Ok(Status::NoMemory);
     };
     let bytes = match read_input(alloc, input) {
         Ok(bytes) => bytes,
-        Err(status) => return Ok(status),
+        Err(status) => {
+            decoder.abandon();
+            return Ok(status);
+        }
     };
-    if write_path(raw_id(), settings, image, walker, &bytes, out)? {
-        Ok(Status::Faulted)
-    } else {
+    if write_path(raw_id(), image, decoder, &bytes, out)? {
         Ok(Status::Done)
+    } else {
+        Ok(Status::Faulted)
     }
 }
 

@@ -10,9 +10,7 @@ mod input;
 mod laws;
 mod packet_list;
 mod path;
-mod pending;
 mod status;
-mod trail;
 mod words;
 
 pub use command::run;

@@ -2,17 +2,18 @@
 ghost use Rattle.std.specs.Prelude.{◌≡◌, ◌⊎◌, ℕ, ◌+◌, ◌^◌, ◌≤◌, List, [], Bool, length, None, Ok, Err, IfOk, IfSome};
 ghost use Rattle.etm_types.specs.Settings.{AreSettings};
 ghost use Rattle.packet_grammar.specs.declared.packet.Packet.{Packet};
+ghost use Rattle.packet_grammar.specs.Ends.{end_of};
 ghost use Rattle.packet_grammar.specs.Parsed.{Ending, IsStream};
 ghost use Rattle.packet_reader.specs.Stands.{StandsAt};
 ghost use Rattle.packet_reader.specs.Answered.{told, fault_after, fault_of};
 ghost use Rattle.path_text.specs.PacketLines.{HasText, packet_line};
 ghost use Rattle.path_text.specs.Writing.{Writes};
-ghost use Rattle.trace_cmd.specs.PacketList.{TakesFront, packet_lines, end_of, IsPacketList};
+ghost use Rattle.trace_cmd.specs.PacketList.{TakesFront, packet_lines, IsPacketList};
 
 use etm_types::{Id, Settings};
-use packet_grammar::{Fault, PacketFault};
+use packet_grammar::{End, Fault, PacketFault};
 use packet_reader::{PacketReader, Step};
-use path_text::{End, PacketLine, write_end};
+use path_text::{PacketLine, write_end};
 use trace_io::{Failed, Sink};
 
 /// Writes the line of the packet that a byte ends, or gives the fault that it shows, with its offset.
@@ -105,7 +106,7 @@ fn write_packets<K: Sink>(
 }
 
 /// How the stream ends whose bytes the reader took, where it met no fault.
-pub fn end_without_fault(reader: &PacketReader) -> End
+fn end_without_fault(reader: &PacketReader) -> End
     requires { AreSettings reader.now.settings }
     ensures { (bytes : List ℕ) (packets : List (ℕ × Packet)) (ending : Ending) → StandsAt reader.now bytes
         → IsStream reader.now.settings bytes packets ending → fault_of ending ≡ None → result ≡ end_of ending }

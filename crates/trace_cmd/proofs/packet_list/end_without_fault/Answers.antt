@@ -1,4 +1,4 @@
-use Rattle.trace_cmd.specs.PacketList.{end_of}
+use Rattle.packet_grammar.specs.Ends.{end_of}
 use Rattle.trace_cmd.proofs.PacketLists.{end_by_rest, end_when_none, end_when_some}
 use Rattle.trace_cmd.proofs.packet_list.end_without_fault.Goals as goal
 

@@ -2,9 +2,10 @@ use Rattle.std.proofs.Common.{[], ◌++◌, false, Ok, sym, ap, subst, ◌∙◌
 use Rattle.std.proofs.lemmas.Result.{err_from_is_err_and}
 use Rattle.etm_types.specs.Settings.{Sizes}
 use Rattle.packet_grammar.specs.Parsed.{IsStream}
-use Rattle.path_text.specs.declared.end.End.{End}
+use Rattle.packet_grammar.specs.declared.end.End.{End}
 use Rattle.path_text.specs.EndLines.{end_line}
-use Rattle.trace_cmd.specs.PacketList.{packet_lines, end_of, is_faulty}
+use Rattle.packet_grammar.specs.Ends.{end_of}
+use Rattle.trace_cmd.specs.PacketList.{packet_lines, is_faulty}
 use Rattle.path_text.proofs.Wrote.{wrote_nothing, wrote_by, writes_all, fails_first, last_fails, all_written}
 use Rattle.trace_cmd.proofs.PacketLists.{list_of_nothing, list_of_some, faulty_where}
 use Rattle.trace_cmd.proofs.packet_list.write_packet_list.Goals as goal
