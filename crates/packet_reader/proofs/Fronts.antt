@@ -1,10 +1,10 @@
 -- Address packets at the front of some bytes.
 use Rattle.std.proofs.Common.{◌≡◌, ◌∙◌, ℕ, ◌+◌, ◌-◌, ◌*◌, ◌^◌, ◌==◌, ◌&&◌, not, Bool, true, false, List, [], ◌∷◌, ◌++◌, length, Some, None, Ok}
 use Rattle.std.proofs.Common.{refl, sym, ap, inl}
-use Rattle.std.proofs.Common.{append_assoc, length-append, subst, arith, ◌<◌}
+use Rattle.std.proofs.Common.{append_assoc, length-append, subst, arith, ◌<◌, ◌≤◌}
 use Rattle.std.specs.Prelude.{All}
 use Rattle.etm_types.specs.Settings.{Sizes}
-use Rattle.etm_types.specs.declared.address.AddrForm.TheVariants.{Short1, Short2, Long64}
+use Rattle.etm_types.specs.declared.address.AddrForm.TheVariants.{Match, Short1, Short2, Long32, Long64}
 use Rattle.etm_types.specs.declared.context.CtxBits.{CtxBits}
 use Rattle.packet_grammar.specs.declared.packet.Packet.{Packet}
 use Rattle.packet_grammar.specs.declared.packet.Packet.TheVariants.{Addr}
@@ -81,21 +81,54 @@ context_front s bytes later between rest info ctx parts aarch64 vmid cid is =
       ));
     }
 
+-- ---- exact match addresses
+
+pub match_front : (s : Sizes) (bytes rest : List ℕ) (header index : ℕ) → bytes ≡ header ∷ rest → 0x90 ≤ header → header ≤ 0x92
+    → index ≡ header - 0x90 → IsFront (Spells s) bytes (Addr (Match index) None) rest
+match_front s bytes rest header index parts least most is =
+    record { text = header ∷ []; parts = parts; spells = (header, (least, most, refl), is) }
+
 -- ---- long addresses
 
-pub long_front : (s : Sizes) (bytes later rest given : List ℕ) (header value : ℕ) → bytes ≡ header ∷ later → header ≡ 0x9d → later ≡ given ++ rest
+pub long_32_front : (s : Sizes) (bytes later rest given : List ℕ) (header value : ℕ) → bytes ≡ header ∷ later → header ≡ 0x9a → later ≡ given ++ rest
+    → length given ≡ 4 → value ≡ address_of given → IsFront (Spells s) bytes (Addr (Long32 value) None) rest
+long_32_front s bytes later rest given header value parts is more many e =
+    record {
+      text = 0x9a ∷ given;
+      parts = parts ∙ ap (λ h. h ∷ later) is ∙ ap (λ t. 0x9a ∷ t) more;
+      spells = (given, refl, rw e (as_back (Bytes 4) (λ given. Long32 (address_of given)) given given (refl, many)));
+    }
+
+pub long_64_front : (s : Sizes) (bytes later rest given : List ℕ) (header value : ℕ) → bytes ≡ header ∷ later → header ≡ 0x9d → later ≡ given ++ rest
     → length given ≡ 8 → value ≡ address_of given → IsFront (Spells s) bytes (Addr (Long64 value) None) rest
-long_front s bytes later rest given header value parts is more many e =
+long_64_front s bytes later rest given header value parts is more many e =
     record {
       text = 0x9d ∷ given;
       parts = parts ∙ ap (λ h. h ∷ later) is ∙ ap (λ t. 0x9d ∷ t) more;
       spells = (given, refl, rw e (as_back (Bytes 8) (λ given. Long64 (address_of given)) given given (refl, many)));
     }
 
-pub long_with_context : (s : Sizes) (bytes later between rest given : List ℕ) (header value : ℕ) (ctx : CtxBits) → bytes ≡ header ∷ later
+pub context_32_front : (s : Sizes) (bytes later between rest given : List ℕ) (header value : ℕ) (ctx : CtxBits) → bytes ≡ header ∷ later
+    → header ≡ 0x82 → later ≡ given ++ between → length given ≡ 4 → value ≡ address_of given → IsFront (Context s) between ctx rest
+    → IsFront (Spells s) bytes (Addr (Long32 value) (Some ctx)) rest
+context_32_front s bytes later between rest given header value ctx parts is more many e context =
+    record {
+      text = 0x82 ∷ given ++ context.text;
+      parts = parts ∙ ap (λ h. h ∷ later) is
+          ∙ ap (λ t. 0x82 ∷ t) (more ∙ ap (λ t. given ++ t) context.parts ∙ sym (append_assoc given context.text rest));
+      spells = (
+        given,
+        context.text,
+        refl,
+        rw e (as_back (Bytes 4) (λ given. Long32 (address_of given)) given given (refl, many)),
+        context.spells,
+      );
+    }
+
+pub context_64_front : (s : Sizes) (bytes later between rest given : List ℕ) (header value : ℕ) (ctx : CtxBits) → bytes ≡ header ∷ later
     → header ≡ 0x85 → later ≡ given ++ between → length given ≡ 8 → value ≡ address_of given → IsFront (Context s) between ctx rest
     → IsFront (Spells s) bytes (Addr (Long64 value) (Some ctx)) rest
-long_with_context s bytes later between rest given header value ctx parts is more many e context =
+context_64_front s bytes later between rest given header value ctx parts is more many e context =
     record {
       text = 0x85 ∷ given ++ context.text;
       parts = parts ∙ ap (λ h. h ∷ later) is

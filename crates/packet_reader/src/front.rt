@@ -1,5 +1,5 @@
-//! Address packets that stand whole at the front of some bytes (Arm IHI 0064, "Short Address packet", "Long Address
-//! packets", "Address with Context packet").
+//! Address packets that stand whole at the front of some bytes (Arm IHI 0064, "Exact Match Address packet", "Short
+//! Address packet", "Long Address packets", "Address with Context packet").
 //!
 //! Where the bytes of a packet are all there, they are read at once, without a state between one byte and the next.
 ghost use Rattle.std.specs.Prelude.{◌≡◌, ◌∷◌, ◌++◌, ◌+◌, ◌≤◌, IfSome, IsTrue, IsSome, None, List, ℕ, length, drop};
@@ -33,42 +33,50 @@ pub struct Address {
     pub ctx: Option<CtxBits>,
 }
 
-/// The address packet at the front of some bytes, and what follows it: a short one, or a long one of 64 bits, which may
-/// carry a context.
+/// The address packet at the front of some bytes, and what follows it.
 #[inline(always)]
 pub fn address_at<'a>(settings: &Settings, bytes: &'a [u8]) -> Option<(Address, &'a [u8])>
     ensures front { IfSome result (λ r. IsFront (Spells settings.now) bytes.now (Packet.Addr r.0.form r.0.ctx) r.1.now) }
+    ensures matched { (h : ℕ) (rest : List ℕ) → bytes.now ≡ h ∷ rest → 0x90 ≤ h → h ≤ 0x92 → IsSome result }
     ensures short { (rest : List ℕ) → bytes.now ≡ 0x95 ∷ rest → 2 ≤ length rest → IsSome result }
-    ensures long { (rest : List ℕ) → bytes.now ≡ 0x9d ∷ rest → 8 ≤ length rest → IsSome result }
-    ensures with_context { (address rest : List ℕ) (info : ℕ) → bytes.now ≡ 0x85 ∷ address → drop 8 address ≡ info ∷ rest
+    ensures long_32 { (rest : List ℕ) → bytes.now ≡ 0x9a ∷ rest → 4 ≤ length rest → IsSome result }
+    ensures long_64 { (rest : List ℕ) → bytes.now ≡ 0x9d ∷ rest → 8 ≤ length rest → IsSome result }
+    ensures context_32 { (address rest : List ℕ) (info : ℕ) → bytes.now ≡ 0x82 ∷ address → drop 4 address ≡ info ∷ rest
+        → IsTrue (bit 4 info) → 8 ≤ length rest → IsSome result }
+    ensures context_64 { (address rest : List ℕ) (info : ℕ) → bytes.now ≡ 0x85 ∷ address → drop 8 address ≡ info ∷ rest
         → IsTrue (bit 4 info) → 8 ≤ length rest → IsSome result }
 {
     let (header, rest) = bytes.split_first()?;
     match *header {
+        0x82 => {
+            let (value, rest) = long_32_at(rest)?;
+            let (ctx, rest) = context_at(settings, rest)?;
+            let (form, ctx) = (AddrForm::Long32(value), Some(ctx));
+            Some((Address { form, ctx }, rest))
+        }
+        0x85 => {
+            let (value, rest) = long_64_at(rest)?;
+            let (ctx, rest) = context_at(settings, rest)?;
+            let (form, ctx) = (AddrForm::Long64(value), Some(ctx));
+            Some((Address { form, ctx }, rest))
+        }
+        0x90..=0x92 => {
+            let form = AddrForm::Match(*header - 0x90);
+            Some((Address { form, ctx: None }, rest))
+        }
         0x95 => {
             let (form, rest) = short_at(rest)?;
             Some((Address { form, ctx: None }, rest))
         }
-        0x9d => {
-            let (value, rest) = long_at(rest)?;
-            Some((
-                Address {
-                    form: AddrForm::Long64(value),
-                    ctx: None,
-                },
-                rest,
-            ))
+        0x9a => {
+            let (value, rest) = long_32_at(rest)?;
+            let form = AddrForm::Long32(value);
+            Some((Address { form, ctx: None }, rest))
         }
-        0x85 => {
-            let (value, rest) = long_at(rest)?;
-            let (ctx, rest) = context_at(settings, rest)?;
-            Some((
-                Address {
-                    form: AddrForm::Long64(value),
-                    ctx: Some(ctx),
-                },
-                rest,
-            ))
+        0x9d => {
+            let (value, rest) = long_64_at(rest)?;
+            let form = AddrForm::Long64(value);
+            Some((Address { form, ctx: None }, rest))
         }
         _ => None,
     }
@@ -89,9 +97,22 @@ fn short_at(bytes: &[u8]) -> Option<(AddrForm, &[u8])>
     Some((AddrForm::Short2(value), rest))
 }
 
+/// A long address of 32 bits, and what follows it.
+#[inline(always)]
+fn long_32_at(bytes: &[u8]) -> Option<(u64, &[u8])>
+    ensures front { IfSome result (λ r. (given : List ℕ) × (bytes.now ≡ given ++ r.1.now) × (length given ≡ 4) × (r.0 ≡ address_of given)) }
+    ensures behind { IfSome result (λ r. r.1.now ≡ drop 4 bytes.now) }
+    ensures some { 4 ≤ length bytes.now → IsSome result }
+{
+    let ([a, b, c, d], rest) = bytes.split_first_chunk::<4>()?;
+    let low = (u64::from(lowest(7, *a)) << FIRST) + (u64::from(lowest(7, *b)) << SECOND);
+    let high = u64::from(*c) + (u64::from(*d) << BYTE);
+    Some((low + (high << THIRD), rest))
+}
+
 /// A long address of 64 bits, and what follows it.
 #[inline(always)]
-fn long_at(bytes: &[u8]) -> Option<(u64, &[u8])>
+fn long_64_at(bytes: &[u8]) -> Option<(u64, &[u8])>
     ensures front { IfSome result (λ r. (given : List ℕ) × (bytes.now ≡ given ++ r.1.now) × (length given ≡ 8) × (r.0 ≡ address_of given)) }
     ensures behind { IfSome result (λ r. r.1.now ≡ drop 8 bytes.now) }
     ensures some { 8 ≤ length bytes.now → IsSome result }

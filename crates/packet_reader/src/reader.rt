@@ -101,15 +101,19 @@ impl PacketReader {
     /// packets and the packet is all there. It answers the packet's offset, the address and the bytes behind it.
     ///
     /// It is for speed, as [`take_atoms`](PacketReader::take_atoms) is: where it answers `None`, nothing changes, and
-    /// [`take`](PacketReader::take) takes the same bytes one by one. It knows short addresses, and long ones of 64 bits,
-    /// alone or with a context: where as many bytes are there as these may have, they are taken.
+    /// [`take`](PacketReader::take) takes the same bytes one by one. Where as many bytes are there as a packet of the
+    /// kind may have, it is taken.
     #[inline(always)]
     pub fn take_address<'a>(&mut self, bytes: &'a [u8]) -> Option<(u64, Address, &'a [u8])>
         requires { self.old.taken + length bytes.now ≤ 2 ^ 62 }
         ensures none { result ≡ None → self.new ≡ self.old }
+        ensures matched { (h : ℕ) (rest : List ℕ) → self.old.phase ≡ Phase.Between → bytes.now ≡ h ∷ rest → 0x90 ≤ h → h ≤ 0x92 → IsSome result }
         ensures short { (rest : List ℕ) → self.old.phase ≡ Phase.Between → bytes.now ≡ 0x95 ∷ rest → 2 ≤ length rest → IsSome result }
-        ensures long { (rest : List ℕ) → self.old.phase ≡ Phase.Between → bytes.now ≡ 0x9d ∷ rest → 8 ≤ length rest → IsSome result }
-        ensures with_context { (address rest : List ℕ) (info : ℕ) → self.old.phase ≡ Phase.Between → bytes.now ≡ 0x85 ∷ address
+        ensures long_32 { (rest : List ℕ) → self.old.phase ≡ Phase.Between → bytes.now ≡ 0x9a ∷ rest → 4 ≤ length rest → IsSome result }
+        ensures long_64 { (rest : List ℕ) → self.old.phase ≡ Phase.Between → bytes.now ≡ 0x9d ∷ rest → 8 ≤ length rest → IsSome result }
+        ensures context_32 { (address rest : List ℕ) (info : ℕ) → self.old.phase ≡ Phase.Between → bytes.now ≡ 0x82 ∷ address
+            → drop 4 address ≡ info ∷ rest → IsTrue (bit 4 info) → 8 ≤ length rest → IsSome result }
+        ensures context_64 { (address rest : List ℕ) (info : ℕ) → self.old.phase ≡ Phase.Between → bytes.now ≡ 0x85 ∷ address
             → drop 8 address ≡ info ∷ rest → IsTrue (bit 4 info) → 8 ≤ length rest → IsSome result }
         ensures takes { IfSome result (λ a. (text : List ℕ) × (bytes.now ≡ text ++ a.2.now) × (0 < length text)
             × TakesPacket self.old self.new text a.0 (Packet.Addr a.1.form a.1.ctx)) }

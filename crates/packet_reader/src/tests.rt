@@ -107,6 +107,13 @@ fn addresses_that_are_all_there_are_taken_at_once(rt: HostRuntime) {
             None,
             1,
         ),
+        (&[0x92][..], AddrForm::Match(2), None, 0),
+        (
+            &[0x9a, 0x01, 0x02, 0x03, 0x04][..],
+            AddrForm::Long32(0x0403_0404),
+            None,
+            0,
+        ),
         (
             &[0x9d, 0x01, 0x02, 0x03, 0x04, 0x05, 0x06, 0x07, 0x08][..],
             AddrForm::Long64(0x0807_0605_0403_0404),
@@ -128,7 +135,7 @@ fn addresses_that_are_all_there_are_taken_at_once(rt: HostRuntime) {
         );
     }
     assert_eq!(rt; address_taken(&[0x95, 0x81]), None);
-    assert_eq!(rt; address_taken(&[0x90]), None);
+    assert_eq!(rt; address_taken(&[0x93]), None);
 }
 
 #[test]

@@ -24,6 +24,10 @@ returns-in_ok-address-in-Between-clause-takes c =
           (rw c.in-Between.is (takes_packet r.settings r.start r.taken taken a.text packet more (small_front bytes a.text behind a.parts all) a.spells)),
     )
 
-pub returns-in_err-address-in-Between-clause-with_context : goal.returns-in_err-address-in-Between-clause-with_context
-returns-in_err-address-in-Between-clause-with_context c address rest info between parts more aarch64 enough =
-    absurd (false≢true (c.in_err-address-in-Between.ensures.with_context address rest info parts more aarch64 enough))
+pub returns-in_err-address-in-Between-clause-context_64 : goal.returns-in_err-address-in-Between-clause-context_64
+returns-in_err-address-in-Between-clause-context_64 c address rest info between parts more aarch64 enough =
+    absurd (false≢true (c.in_err-address-in-Between.ensures.context_64 address rest info parts more aarch64 enough))
+
+pub returns-in_err-address-in-Between-clause-context_32 : goal.returns-in_err-address-in-Between-clause-context_32
+returns-in_err-address-in-Between-clause-context_32 c address rest info between parts more aarch64 enough =
+    absurd (false≢true (c.in_err-address-in-Between.ensures.context_32 address rest info parts more aarch64 enough))

@@ -1,0 +1,12 @@
+pub mod Yielding
+pub mod Coming
+pub mod Holds
+pub mod Beginning
+pub mod Lefts
+pub mod Taking
+pub mod Stepping
+pub mod Waits
+pub mod Endings
+pub mod Printing
+pub mod Standing
+pub mod Growing

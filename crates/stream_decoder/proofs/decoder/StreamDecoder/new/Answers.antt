@@ -1,0 +1,7 @@
+use Rattle.std.proofs.Common.{◌≡◌, [], refl}
+use Rattle.stream_decoder.proofs.Printing.{came_first}
+use Rattle.stream_decoder.proofs.decoder.StreamDecoder.new.Goals as goal
+
+pub returns-clause-stands : goal.returns-clause-stands
+returns-clause-stands c image =
+    record { whole = refl; items = []; came = came_first image c.args.settings.now c.in_ok-new.field-0 c.in_ok-new.ensures; shown = refl }

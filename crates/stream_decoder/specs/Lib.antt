@@ -1,0 +1,5 @@
+pub mod Decoding
+pub mod Left
+pub mod Stands
+pub mod Waiting
+pub mod Yields

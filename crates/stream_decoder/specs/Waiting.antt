@@ -1,0 +1,51 @@
+-- What contracts see of the P0 elements that wait: those that may still be taken back, and those that are due.
+use Rattle.std.specs.Prelude.{◌≡◌, ◌≤◌, ◌<◌, ◌^◌, ℕ, Bool, List, [], ◌++◌, length, take, drop, Ok}
+use Rattle.element_queue.specs.Counting.{Balances, add, counts_after, entries, made_by}
+use Rattle.element_queue.specs.Pending.{Gone, Pending, taken}
+use Rattle.element_queue.specs.Queued.{Queued}
+use Rattle.element_queue.specs.declared.ledger.Counts.{Counts}
+use Rattle.etm_types.specs.declared.element.Elem.{Elem}
+use Rattle.etm_types.specs.declared.element.Thing.{Thing}
+
+-- what may still be taken back, what was committed by an element and is still to be given out, the most that may be held, and
+-- what became of the others
+pub record Waiting : Type 0 where
+  pub pending : Pending
+  pub due : List Thing
+  pub depth : ℕ
+  pub counts : Counts
+
+-- of what a queue holds, the oldest may be due already
+abbrev pub waiting_of : Queued → Bool → ℕ → Waiting
+waiting_of q informed due =
+    record {
+      pending = record { held = drop due q.held; pre = q.pre; informed = informed };
+      due = take due q.held;
+      depth = q.depth;
+      counts = q.counts;
+    }
+
+-- what became of the P0 elements, once what is due is committed
+abbrev pub counted_with : Counts → List Thing → Counts
+counted_with c due = record c { committed = add c.committed (entries due) }
+
+-- each count is one modulo 2^64
+pub record AreInRange (c : Counts) : Type 0 where
+  pub made : c.made < 2 ^ 64
+  pub committed : c.committed < 2 ^ 64
+  pub cancelled : c.cancelled < 2 ^ 64
+  pub lost : c.lost < 2 ^ 64
+
+-- what holds at any time
+pub record IsWaiting (w : Waiting) : Type 0 where
+  pub few : length (w.due ++ (w.pending).held) ≤ w.depth
+  pub balanced : Balances w.counts (entries (w.due ++ (w.pending).held))
+  pub range : AreInRange w.counts
+
+-- an element is taken; these of the things that it commits are given out, and the others are due
+pub record Commits (w : Waiting) (e : Elem) (w' : Waiting) (things : List Thing) : Type 0 where
+  pub gone : Gone
+  pub rule : taken w.depth w.pending e ≡ Ok (w'.pending, gone)
+  pub commits : gone.committed ≡ things ++ w'.due
+  pub counts : counted_with w'.counts w'.due ≡ counts_after (counted_with w.counts w.due) (made_by e) gone
+  pub depth : w'.depth ≡ w.depth

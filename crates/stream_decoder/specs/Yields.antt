@@ -1,0 +1,164 @@
+-- What is left to do shows, and where it leads.
+use Rattle.std.specs.Prelude.{◌≡◌, ◌⊎◌, ℕ, ◌+◌, ◌*◌, Bool, true, false, List, [], ◌∷◌, ◌++◌, length, Option, Some, None, Result, Ok, Err, IsOk, option_to_list}
+use Rattle.element_queue.specs.Counting.{counts_after, made_by, tally}
+use Rattle.element_queue.specs.Pending.{Gone, Pending, taken}
+use Rattle.element_queue.specs.declared.ledger.Counts.{Counts}
+use Rattle.etm_types.specs.Walked.{items_of}
+use Rattle.etm_types.specs.declared.context.Ctx.{Ctx}
+use Rattle.etm_types.specs.declared.element.Elem.{Elem}
+use Rattle.etm_types.specs.declared.element.Thing.{Thing}
+use Rattle.etm_types.specs.declared.item.Item.{Item}
+use Rattle.etm_types.specs.declared.item.Item.TheVariants as item
+use Rattle.etm_types.specs.declared.queue_fault.QueueFault.{QueueFault}
+use Rattle.etm_types.specs.declared.walk_fault.WalkFault.{WalkFault}
+use Rattle.packet_grammar.specs.declared.packet.Packet.{Packet}
+use Rattle.packet_grammar.specs.declared.stream_fault.Fault.{Fault}
+use Rattle.packet_grammar.specs.declared.stream_fault.Fault.TheVariants as fault
+use Rattle.packet_reader.specs.Stands.{Standing}
+use Rattle.packet_reader.specs.Stands as reader
+use Rattle.packet_reader.specs.declared.step.Step.{Step}
+use Rattle.packet_reader.specs.declared.step.Step.TheVariants.{Whole, Bad}
+use Rattle.path_elements.specs.Elements.{elements_of, told_after, is_misplaced, placed}
+use Rattle.path_elements.specs.Path.{unplaced}
+use Rattle.path_elements.specs.Running.{Outcome, Runs}
+use Rattle.path_text.specs.PathLines.{lines_of, shown_after_all}
+use Rattle.path_text.specs.Writing.{Writes}
+use Rattle.path_walker.specs.State.{State}
+use Rattle.path_walker.specs.Things.{Walks}
+use Rattle.program_image.specs.declared.image.Image.{Image}
+use Rattle.stream_decoder.specs.Decoding.{Decoding, AtRest, counted, depth_of}
+use Rattle.stream_decoder.specs.declared.found.Found.{Found}
+use Rattle.stream_decoder.specs.declared.found.Found.TheVariants as found
+use Rattle.trace_io.specs.State.{IoState}
+use Rattle.trace_io.specs.declared.traits.Failed.{Failed}
+
+-- the items that were found
+abbrev pub items_of_found : Found → List Item
+items_of_found (found.Walked w) = items_of w
+items_of_found found.Gap = item.Gap ∷ []
+items_of_found found.Stop = item.Stop ∷ []
+
+abbrev pub items_found : Option Found → List Item
+items_found None = []
+items_found (Some f) = items_of_found f
+
+-- ---- what a byte begins
+
+-- the reader takes the byte, and this is its answer
+abbrev pub Reads : Standing → Standing → ℕ → Step → Type 0
+Reads r r' byte step =
+    (bytes : List ℕ) → reader.StandsAt r bytes → reader.StandsAt r' (bytes ++ byte ∷ []) × reader.Gains r.settings bytes byte step
+
+abbrev pub OpensPacket : Decoding → ℕ → Packet → Decoding → Type 0
+OpensPacket d at packet d' =
+    ((is_misplaced d.told packet ≡ true) × (d' ≡ record d { reader = d'.reader; fault = Some (at, fault.AddressAwaited) }))
+    ⊎ ((is_misplaced d.told packet ≡ false)
+    × (d' ≡ record d { reader = d'.reader; told = told_after d.told packet; at = at; todo = elements_of d.told packet }))
+
+-- what the reader's answer to a byte leaves to do
+abbrev pub Opens : Decoding → Step → Decoding → Type 0
+Opens d (Whole at packet) d' = OpensPacket d at packet d'
+Opens d (Bad at f) d' = d' ≡ record d { reader = d'.reader; fault = Some (at, fault.Packet f) }
+Opens d step d' = d' ≡ record d { reader = d'.reader }
+
+-- whatever it answers: the same, where a fault was met or not: behind a fault nothing is taken
+abbrev pub OpensBehind : Option (ℕ × Fault) → Decoding → Step → Decoding → Type 0
+OpensBehind None d step d' = Opens d step d'
+OpensBehind (Some f) d step d' = d' ≡ record d { reader = d'.reader }
+
+-- a byte is taken
+abbrev pub Begun : Decoding → ℕ → Decoding → Type 0
+Begun d byte d' = (step : Step) × Reads d.reader d'.reader byte step × OpensBehind d.fault d step d'
+
+-- ---- one thing or one element more
+
+abbrev pub LeavesBy : Decoding → List Elem → Pending → List Thing → Type 0
+LeavesBy d [] p things = (d.due ≡ things) × (p ≡ d.pending)
+LeavesBy d (e ∷ []) p things = (d.due ≡ []) × ((gone : Gone) × (taken (depth_of d) d.pending e ≡ Ok (p, gone)) × (gone.committed ≡ things))
+LeavesBy d took p things = ⊥
+
+-- The thing is to be walked next: the oldest that is due; or, where none is, an element is taken, and it is the oldest that this
+-- commits.
+pub record Leaves (d d' : Decoding) (thing : Option Thing) : Type 0 where
+  pub took : List Elem
+  pub todo : d.todo ≡ took ++ d'.todo
+  pub commits : LeavesBy d took d'.pending (option_to_list thing ++ d'.due)
+  pub counts : counted d' ≡ tally (depth_of d) d.pending (counted d) took
+  pub rest : d' ≡ record d { pending = d'.pending; due = d'.due; todo = d'.todo; counts = d'.counts }
+
+-- the next element has a fault
+pub record Refuses (d : Decoding) (f : QueueFault) : Type 0 where
+  pub element : Elem
+  pub others : List Elem
+  pub due : d.due ≡ []
+  pub todo : d.todo ≡ element ∷ others
+  pub fault : taken (depth_of d) d.pending element ≡ Err f
+
+-- how much is left to do: an element commits no more than the depth
+abbrev pub left : Decoding → ℕ
+left d = length d.todo * (depth_of d + 1) + length d.due
+
+-- ---- all that is left to do
+
+-- From what is pending and the state of the walk: what is due is walked, and then the elements of the packet at an offset run. So
+-- these items are shown, the outcome is this, and these elements are taken.
+abbrev pub YieldsFrom : Image → ℕ → ℕ → Pending → State → List Thing → List Elem → List Item → Outcome → List (ℕ × Elem) → Type 0
+YieldsFrom image depth at p w due todo items outcome took =
+    ((first : List Item) × (rest : List Item) × (next : State) × Walks image w due first (Ok next)
+    × Runs image depth p next (placed at todo) rest outcome took × (items ≡ first ++ rest))
+    ⊎ ((f : WalkFault) × Walks image w due items (Err f) × (outcome ≡ Err (at, fault.Walk f)) × (took ≡ []))
+
+abbrev pub Yields : Image → Decoding → List Item → Outcome → List (ℕ × Elem) → Type 0
+Yields image d items outcome took = YieldsFrom image (depth_of d) d.at d.pending d.walk d.due d.todo items outcome took
+
+-- these elements are taken, one after the other, without a fault
+abbrev pub TakesAll : ℕ → Pending → Counts → List Elem → Pending → Counts → Type 0
+TakesAll depth p c [] p' c' = (p' ≡ p) × (c' ≡ c)
+TakesAll depth p c (e ∷ es) p' c' =
+    (next : Pending) × (gone : Gone) × (taken depth p e ≡ Ok (next, gone)) × TakesAll depth next (counts_after c (made_by e) gone) es p' c'
+
+-- some of it is done, without a fault, and showed these items
+pub record Goes (image : Image) (d : Decoding) (items : List Item) (d' : Decoding) : Type 0 where
+  pub took : List Elem
+  pub todo : d.todo ≡ took ++ d'.todo
+  pub takes : TakesAll (depth_of d) d.pending (counted d) took d'.pending (counted d')
+  pub leads : (rest : List Item) (outcome : Outcome) (more : List (ℕ × Elem)) → Yields image d' rest outcome more
+      → Yields image d (items ++ rest) outcome (placed d.at took ++ more)
+  pub rest : d' ≡ record d { pending = d'.pending; due = d'.due; walk = d'.walk; todo = d'.todo; counts = d'.counts }
+
+abbrev pub is_walk_fault : Option (ℕ × Fault) → Bool
+is_walk_fault (Some (at, fault.Walk f)) = true
+is_walk_fault stop = false
+
+-- The next thing or element has a fault; these items are shown before it, and with it these elements are taken.
+pub record Stops (image : Image) (d : Decoding) (f : Fault) (d' : Decoding) : Type 0 where
+  pub took : List Elem
+  pub leads : Yields image d [] (Err (d.at, f)) (placed d.at took)
+  pub made : (d'.counts).made ≡ (tally (depth_of d) d.pending (counted d) took).made
+  pub counts : is_walk_fault (Some (d.at, f)) ≡ false → d'.counts ≡ tally (depth_of d) d.pending (counted d) took
+  pub rest : d' ≡ record d { pending = d'.pending; due = d'.due; walk = d'.walk; todo = d'.todo; counts = d'.counts }
+
+-- where a decoding stands: at its fault, if it met one
+abbrev pub outcome_at : Option (ℕ × Fault) → Pending → State → Outcome
+outcome_at None p w = Ok (p, w)
+outcome_at (Some stop) p w = Err stop
+
+-- all of it is done, up to the first fault, and showed these items
+pub record Ends (image : Image) (d : Decoding) (items : List Item) (d' : Decoding) : Type 0 where
+  pub took : List (ℕ × Elem)
+  pub leads : Yields image d items (outcome_at d'.fault d'.pending d'.walk) took
+  pub done : AtRest d'
+  pub made : (d'.counts).made ≡ (tally (depth_of d) d.pending (counted d) (unplaced took)).made
+  pub counts : is_walk_fault d'.fault ≡ false → d'.counts ≡ tally (depth_of d) d.pending (counted d) (unplaced took)
+  pub rest : d' ≡ record d { pending = d'.pending; due = []; walk = d'.walk; todo = []; fault = d'.fault; counts = d'.counts }
+
+-- what is left to do is printed, after the context that was printed last: the lines of all that it shows, or a front of them where a
+-- write fails
+pub record Prints (image : Image) (id : ℕ) (d : Decoding) (shown : Option Ctx) (d' : Decoding) (shown' : Option Ctx) (old new : IoState)
+    (result : Result (Unit {0}) Failed) : Type 0 where
+  pub items : List Item
+  pub outcome : Outcome
+  pub took : List (ℕ × Elem)
+  pub yields : Yields image d items outcome took
+  pub writes : Writes old new result (lines_of id shown items)
+  pub ends : IsOk result → Ends image d items d' × (shown' ≡ shown_after_all shown items)

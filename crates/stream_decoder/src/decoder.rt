@@ -1,0 +1,214 @@
+//! One stream, from its bytes to the lines of its path.
+ghost use Rattle.std.specs.Prelude.{◌≡◌, ◌<◌, ◌≤◌, ◌+◌, ◌^◌, ◌==◌, ◌++◌, ◌∷◌, ◌↔◌, [], List, ℕ, None, Ok, Err, IfOk, IsErr, IsOk, IsTrue, true, false, not, length, if◌then◌else◌};
+ghost use Rattle.element_queue.specs.Counting.{Balances, counts_after, entries, no_counts, tally};
+ghost use Rattle.element_queue.specs.Pending.{losing};
+ghost use Rattle.element_queue.specs.Resolved.{at_first};
+ghost use Rattle.etm_types.specs.declared.element.Elem.{Elem};
+ghost use Rattle.etm_types.specs.declared.item.Item.{Item};
+ghost use Rattle.packet_grammar.specs.Ends.{is_fault};
+ghost use Rattle.packet_grammar.specs.declared.end.End.{End};
+ghost use Rattle.path_elements.specs.Path.{IsPath, IsPathTaking, unplaced};
+ghost use Rattle.path_text.specs.EndLines.{end_line};
+ghost use Rattle.path_text.specs.PathLines.{lines_of};
+ghost use Rattle.path_text.specs.Writing.{Writes};
+ghost use Rattle.program_image.specs.Blocks.{HasGap};
+ghost use Rattle.program_image.specs.declared.image.Image.{Image};
+ghost use Rattle.stream_decoder.specs.Decoding.{AtRest, IsDecoding};
+ghost use Rattle.stream_decoder.specs.Yields.{Prints};
+ghost use Rattle.stream_decoder.specs.Stands.{Grows, StandsAt, shows_walk_fault};
+ghost use Rattle.trace_io.specs.Bytes.{ShowsAsBefore};
+ghost use Rattle.trace_io.specs.Causes.{HasCause};
+
+use crate::decoding::Decoding;
+use crate::found::write_found;
+use element_queue::{Counts, Ledger};
+use etm_types::{Ctx, Id, Settings};
+use packet_grammar::End;
+use path_text::write_end;
+use program_image::Image;
+use std::alloc::{AllocError, Global};
+use std::marker::Model;
+use trace_io::{Failed, Sink};
+
+/// Takes the bytes of one stream, and writes the lines of its path as it grows. It has no drop: it ends by
+/// `finish` or `abandon`.
+///
+/// It stands at the bytes that it took, over the image of all calls. The ID is that of the lines of a call.
+#[must_use]
+pub struct StreamDecoder {
+    decoding: Decoding,
+    /// The context that was printed last.
+    shown: Option<Ctx>,
+    /// Whether a write failed.
+    broken: bool,
+}
+
+impl Model for StreamDecoder {
+    ghost use Rattle.std.specs.Prelude.{◌≡◌, false};
+    ghost use Rattle.stream_decoder.specs.Decoding.{AtRest, Decoder, IsDecoding};
+
+    ghost Value = { Decoder };
+
+    ghost view = { λ d. record { decoding = d.decoding; shown = d.shown; broken = d.broken } };
+
+    ghost invariant = { λ d. IsDecoding d.decoding × (d.broken ≡ false → AtRest d.decoding) };
+}
+
+impl StreamDecoder {
+    /// A decoder that has taken nothing, with room for as many P0 elements as the maximum speculation depth.
+    /// This is the one call that takes memory, and the error means want of it.
+    pub fn new(alloc: Global, settings: &Settings) -> Result<StreamDecoder, AllocError>
+        ensures stands { IfOk result (λ d. (image : Image) → StandsAt image d []) }
+        ensures settings { IfOk result (λ d. d.decoding.reader.settings ≡ settings.now) }
+        ensures none { IfOk result (λ d. (d.decoding.counts ≡ no_counts) × (d.decoding.pending.held ≡ [])) }
+    {
+        Ok(StreamDecoder {
+            decoding: Decoding::new(alloc, settings)?,
+            shown: None,
+            broken: false,
+        })
+    }
+
+    /// Takes the next byte, and writes the lines by which the path grows. Behind a fault of the stream no line
+    /// comes any more. The error means that a write failed; then the decoder is broken.
+    pub fn take<K: Sink>(
+        &mut self,
+        image: &Image,
+        id: Id,
+        byte: u8,
+        sink: &mut K,
+    ) -> Result<(), Failed>
+        requires whole { self.old.broken ≡ false }
+        requires few { self.old.decoding.reader.taken < 2 ^ 62 }
+        ensures stands { IsOk result → (bytes : List ℕ) → StandsAt image.now self.old bytes → StandsAt image.now self.new (bytes ++ byte ∷ []) }
+        ensures grows { (bytes : List ℕ) → StandsAt image.now self.old bytes
+            → (more : List Item) × Grows image.now self.old.decoding.reader.settings bytes byte self.old.shown more
+            × Writes (K.state sink.old) (K.state sink.new) result (lines_of id self.old.shown more) }
+        ensures cause { HasCause (K.state sink.old) (K.state sink.new) result }
+        ensures shows { ShowsAsBefore (K.state sink.old) (K.state sink.new) }
+        ensures broken { IsTrue self.new.broken ↔ IsErr result }
+        ensures taken { self.new.decoding.reader.taken ≡ self.old.decoding.reader.taken + 1 }
+        ensures settings { self.new.decoding.reader.settings ≡ self.old.decoding.reader.settings }
+        ensures balanced { Balances self.new.decoding.counts (entries (self.new.decoding.due ++ self.new.decoding.pending.held)) }
+    {
+        self.decoding.begin(byte);
+        match write_rest(&mut self.decoding, &mut self.shown, image, id, sink) {
+            Ok(()) => Ok(()),
+            Err(failed) => {
+                self.broken = true;
+                Err(failed)
+            }
+        }
+    }
+
+    /// Whether a write failed. Then it takes no more bytes, and is abandoned.
+    pub fn broken(&self) -> bool
+        ensures { result ≡ self.now.broken }
+    {
+        self.broken
+    }
+
+    /// How many bytes were taken.
+    pub fn taken(&self) -> u64
+        ensures value { result ≡ self.now.decoding.reader.taken }
+        ensures all { (image : Image) (bytes : List ℕ) → StandsAt image self.now bytes → result ≡ length bytes }
+    {
+        self.decoding.taken()
+    }
+
+    /// What became of the P0 elements. All that the path took were made. As long as it met no fault of the walk,
+    /// those that its elements committed, cancelled and lost are counted as such.
+    pub fn ledger(&self) -> Counts
+        ensures value { result ≡ self.now.decoding.counts }
+        ensures made { (image : Image) (bytes : List ℕ) (items : List Item) (last : End) (took : List (ℕ × Elem)) → StandsAt image self.now bytes
+            → IsPathTaking image self.now.decoding.reader.settings bytes items last took
+            → result.made ≡ (tally self.now.decoding.reader.settings.depth at_first no_counts (unplaced took)).made }
+        ensures counts { (image : Image) (bytes : List ℕ) (items : List Item) (last : End) (took : List (ℕ × Elem)) → StandsAt image self.now bytes
+            → IsPathTaking image self.now.decoding.reader.settings bytes items last took → shows_walk_fault last ≡ false
+            → result ≡ tally self.now.decoding.reader.settings.depth at_first no_counts (unplaced took) }
+        ensures balanced { Balances result (entries (self.now.decoding.due ++ self.now.decoding.pending.held)) }
+    {
+        self.decoding.ledger()
+    }
+
+    /// Writes the line of how the stream ends, and says whether it ends without a fault. Nothing is written of a
+    /// stream without bytes. What is still held is lost, whether the write fails or not.
+    pub fn finish<K: Sink>(self, id: Id, sink: &mut K) -> Result<bool, Failed>
+        requires { self.broken ≡ false }
+        ensures line { (image : Image) (bytes : List ℕ) (items : List Item) (last : End) → StandsAt image self bytes
+            → IsPath image self.decoding.reader.settings bytes items last
+            → Writes (K.state sink.old) (K.state sink.new) result (if length bytes == 0 then [] else end_line id last)
+            × IfOk result (λ whole. whole ≡ not (is_fault last)) }
+        ensures cause { HasCause (K.state sink.old) (K.state sink.new) result }
+        ensures shows { ShowsAsBefore (K.state sink.old) (K.state sink.new) }
+    {
+        let taken = self.decoding.taken();
+        let end = self.decoding.end();
+        self.abandon();
+        if taken == 0 {
+            return Ok(true);
+        }
+        match write_end(id, &end, sink) {
+            Ok(()) => Ok(!is_fault(&end)),
+            Err(failed) => Err(failed),
+        }
+    }
+
+    /// Ends it without a line. What is still held is lost; the ledger has what became of all.
+    pub fn abandon(self) -> Ledger
+        ensures value { result ≡ counts_after self.decoding.counts 0 (losing (self.decoding.due ++ self.decoding.pending.held)) }
+        ensures balanced { Balances result 0 }
+    {
+        let StreamDecoder {
+            decoding,
+            shown: _,
+            broken: _,
+        } = self;
+        decoding.close()
+    }
+}
+
+/// Writes what all that is left to do shows.
+fn write_rest<K: Sink>(
+    decoding: &mut Decoding,
+    shown: &mut Option<Ctx>,
+    image: &Image,
+    id: Id,
+    sink: &mut K,
+) -> Result<(), Failed>
+    requires holds { IsDecoding decoding.old }
+    ensures prints { decoding.old.fault ≡ None
+        → Prints image.now id decoding.old shown.old decoding.new shown.new (K.state sink.old) (K.state sink.new) result }
+    ensures stopped { AtRest decoding.old → (result ≡ Ok tt) × (decoding.new ≡ decoding.old) × (shown.new ≡ shown.old) × (sink.new ≡ sink.old) }
+    ensures rest { IsOk result → AtRest decoding.new }
+    ensures cause { HasCause (K.state sink.old) (K.state sink.new) result }
+    ensures shows { ShowsAsBefore (K.state sink.old) (K.state sink.new) }
+    ensures reader { decoding.new.reader ≡ decoding.old.reader }
+    ensures holds { IsDecoding decoding.new }
+{
+    while let Some(found) = decoding.next(image) {
+        match write_found(id, &found, shown, sink) {
+            Ok(()) => {}
+            Err(failed) => {
+                has_gap(image);
+                return Err(failed);
+            }
+        }
+    }
+    Ok(())
+}
+
+/// Whether a stream ends with a fault.
+fn is_fault(end: &End) -> bool
+    ensures { result ≡ is_fault end.now }
+{
+    matches!(end, End::Fault { .. })
+}
+
+/// An image has an address without a word, so that there is a path over it for any bytes. Only the contract is asked for, and
+/// only where a write failed.
+fn has_gap(image: &Image)
+    ensures { HasGap image.now }
+{
+    image.word_at(0);
+}

@@ -1,0 +1,22 @@
+//! From the bytes of one stream to the lines of its path (Arm IHI 0064).
+//!
+//! A [`StreamDecoder`] takes bytes one by one, and writes what each adds to the path: packets become
+//! elements, elements become P0 elements that are held until they are committed, those are walked over an
+//! image, and what the walk shows is written. All memory is taken when it is made.
+//!
+//! Inside, decoding and printing are two things: a machine that knows no sink answers what was found, and a
+//! thin layer writes it. The layer above uses the contract of [`StreamDecoder::take`]: from the bytes at
+//! which a decoder stands it comes to those bytes and one more, and writes the lines by which the path of
+//! `path_elements` grew.
+#![tactic(auto)]
+
+mod decoder;
+mod decoding;
+mod found;
+mod todo;
+mod waiting;
+
+pub use decoder::StreamDecoder;
+
+#[cfg(test)]
+mod tests;

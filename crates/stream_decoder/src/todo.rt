@@ -1,0 +1,85 @@
+//! The elements of a packet that are still to be taken.
+ghost use Rattle.std.specs.Prelude.{◌≡◌, ◌∷◌, [], ◌↔◌, IsTrue, List, Some, None};
+
+use etm_types::Elem;
+use path_elements::Elems;
+use std::marker::Model;
+
+/// The elements of one packet that are still to be taken, and its offset. Contracts see the offset and the
+/// list.
+#[derive(Drop)]
+pub struct Todo {
+    at: u64,
+    elems: Elems,
+    /// How many were taken.
+    next: usize,
+}
+
+impl Model for Todo {
+    ghost use Rattle.std.specs.Prelude.{◌≤◌, drop, length};
+    ghost use Rattle.stream_decoder.specs.Left.{Left};
+
+    ghost Value = { Left };
+
+    ghost view = { λ t. record { at = t.at; elements = drop t.next t.elems } };
+
+    ghost invariant = { λ t. t.next ≤ length t.elems };
+}
+
+impl Todo {
+    ghost use Rattle.stream_decoder.specs.Left.{nothing_left};
+    ghost use Rattle.etm_types.specs.declared.element.Elem.{Elem};
+
+    /// Nothing, before the first packet.
+    pub fn nothing() -> Todo
+        ensures { result ≡ nothing_left 0 }
+    {
+        Todo::of(0, Elems::none())
+    }
+
+    /// All elements of the packet at an offset.
+    pub fn of(at: u64, elems: Elems) -> Todo
+        ensures { result ≡ record { at = at; elements = elems } }
+    {
+        Todo { at, elems, next: 0 }
+    }
+
+    /// The offset of the packet.
+    pub fn at(&self) -> u64
+        ensures { result ≡ self.now.at }
+    {
+        self.at
+    }
+
+    /// Whether all were taken.
+    pub fn is_empty(&self) -> bool
+        ensures { IsTrue result ↔ (self.now.elements ≡ []) }
+    {
+        self.next == self.elems.len()
+    }
+
+    /// The next one.
+    pub fn first(&self) -> Option<Elem>
+        ensures some { (elem : Elem) → result ≡ Some elem → (others : List Elem) × (self.now.elements ≡ elem ∷ others) }
+        ensures none { result ≡ None → self.now.elements ≡ [] }
+    {
+        self.elems.get(self.next)
+    }
+
+    /// The next one is taken.
+    pub fn advance(&mut self)
+        ensures { (elem : Elem) (others : List Elem) → self.old.elements ≡ elem ∷ others → self.new ≡ record (self.old) { elements = others } }
+    {
+        if self.next < self.elems.len() {
+            self.next += 1;
+        }
+    }
+
+    /// The others are not taken any more.
+    pub fn clear(&mut self)
+        ensures { self.new ≡ nothing_left self.old.at }
+    {
+        self.elems = Elems::none();
+        self.next = 0;
+    }
+}

@@ -1,0 +1,167 @@
+//! The P0 elements that wait: those that may still be taken back, and those that an element committed and that
+//! are still to be walked.
+ghost use Rattle.std.specs.Prelude.{◌≡◌, ◌∷◌, ◌++◌, [], ◌↔◌, IsTrue, IfOk, IsErr, None, Err, false, option_to_list, length, ◌<◌};
+ghost use Rattle.element_queue.specs.Counting.{Balances, counts_after, no_counts};
+ghost use Rattle.element_queue.specs.Pending.{committing, losing, taken};
+ghost use Rattle.element_queue.specs.Queued.{things_of};
+ghost use Rattle.element_queue.specs.Resolved.{at_first};
+ghost use Rattle.etm_types.specs.declared.element.Elem.TheVariants as elem;
+ghost use Rattle.etm_types.specs.declared.element.Thing.{Thing};
+ghost use Rattle.etm_types.specs.declared.queue_fault.QueueFault.{QueueFault};
+ghost use Rattle.stream_decoder.specs.Waiting.{Commits, IsWaiting};
+
+use element_queue::{Committed, Counts, Ledger, PreElem, Queue};
+use etm_types::{Elem, QueueFault, Thing};
+use std::alloc::{AllocError, Global};
+use std::marker::Model;
+
+/// The P0 elements that wait. It has no drop: `close` ends it.
+///
+/// A commit of many is not carried out at once: they stay in the queue, where there is room for them, and are
+/// given out one by one.
+#[must_use]
+pub struct Waiting {
+    queue: Queue,
+    /// Whether a trace info was taken.
+    informed: bool,
+    /// How many of the oldest in the queue are due.
+    due: u32,
+}
+
+impl Model for Waiting {
+    ghost use Rattle.std.specs.Prelude.{◌≤◌, length};
+    ghost use Rattle.element_queue.specs.Queued.{IsQueued};
+    ghost use Rattle.stream_decoder.specs.Waiting.{AreInRange, Waiting, waiting_of};
+
+    ghost Value = { Waiting };
+
+    ghost view = { λ w. waiting_of w.queue w.informed w.due };
+
+    ghost invariant = { λ w. (w.due ≤ length w.queue.held) × IsQueued w.queue × AreInRange w.queue.counts };
+}
+
+impl Waiting {
+    /// None. This is the one call that takes memory, and the error means want of it.
+    pub fn new(alloc: Global, depth: u32) -> Result<Waiting, AllocError>
+        ensures none { IfOk result (λ w. w ≡ record { pending = at_first; due = []; depth = depth; counts = no_counts }) }
+        ensures holds { IfOk result IsWaiting }
+    {
+        Ok(Waiting {
+            queue: Queue::new(alloc, depth)?,
+            informed: false,
+            due: 0,
+        })
+    }
+
+    /// Takes an element, and gives what it commits. What a commit commits is due after it.
+    pub fn take(&mut self, elem: &Elem) -> Result<Option<Thing>, QueueFault>
+        requires begins { self.old.pending.informed ≡ false → self.old.pending.held ≡ [] }
+        requires due { self.old.due ≡ [] }
+        ensures ok { IfOk result (λ thing. Commits self.old elem.now self.new (option_to_list thing)) }
+        ensures fault { (fault : QueueFault) → result ≡ Err fault → taken self.old.depth self.old.pending elem.now ≡ Err fault }
+        ensures unchanged { IsErr result → self.new ≡ self.old }
+        ensures holds { IsWaiting self.new }
+    {
+        match *elem {
+            Elem::Info { spec } => return self.inform(spec),
+            Elem::On => self.queue.note(PreElem::On),
+            Elem::Ctx(ctx) => self.queue.note(PreElem::Ctx(ctx)),
+            Elem::Addr(addr) => self.queue.note(PreElem::Addr(addr)),
+            Elem::P0(p0) => return Ok(thing_of(self.queue.push(p0))),
+            Elem::Commit(n) => {
+                self.queue.check_commit(n)?;
+                self.due = n;
+            }
+            Elem::Cancel(n) => self.queue.cancel(n)?,
+            Elem::Flip => self.queue.flip()?,
+            Elem::Overflow => {
+                self.queue.discard();
+                return Ok(Some(Thing::Gap));
+            }
+            Elem::Discard => {
+                self.queue.discard();
+                return Ok(Some(Thing::Stop));
+            }
+        }
+        Ok(None)
+    }
+
+    /// A trace info. The first one announces P0 elements from before it that are not committed.
+    fn inform(&mut self, spec: u32) -> Result<Option<Thing>, QueueFault>
+        requires begins { self.old.pending.informed ≡ false → self.old.pending.held ≡ [] }
+        requires due { self.old.due ≡ [] }
+        ensures ok { IfOk result (λ thing. Commits self.old (elem.Info spec) self.new (option_to_list thing)) }
+        ensures fault { (fault : QueueFault) → result ≡ Err fault → taken self.old.depth self.old.pending (elem.Info spec) ≡ Err fault }
+        ensures unchanged { IsErr result → self.new ≡ self.old }
+        ensures holds { IsWaiting self.new }
+    {
+        if !self.informed {
+            self.queue.start(spec)?;
+            self.informed = true;
+        }
+        self.queue.note(PreElem::Info);
+        Ok(None)
+    }
+
+    /// Whether some are due.
+    pub fn is_due(&self) -> bool
+        ensures none { result ≡ false → self.now.due ≡ [] }
+        ensures some { IsTrue result → 0 < length self.now.due }
+    {
+        self.due > 0
+    }
+
+    /// Gives out the oldest that is due.
+    pub fn next_due(&mut self) -> Option<Thing>
+        ensures order { self.old.due ≡ option_to_list result ++ self.new.due }
+        ensures none { result ≡ None → (self.old.due ≡ []) × (self.new ≡ self.old) }
+        ensures others { self.new ≡ record (self.old) { due = self.new.due; counts = counts_after self.old.counts 0 (committing (option_to_list result)) } }
+        ensures holds { IsWaiting self.new }
+    {
+        if self.due == 0 {
+            return None;
+        }
+        self.due -= 1;
+        thing_of(self.queue.commit_one())
+    }
+
+    /// What is due is not given out any more, and counts as held again.
+    pub fn keep_due(&mut self)
+        ensures value { self.new ≡ record (self.old) { pending = record (self.old.pending) { held = self.old.due ++ self.old.pending.held }; due = [] } }
+        ensures holds { IsWaiting self.new }
+    {
+        self.due = 0;
+    }
+
+    /// What became of the P0 elements. What is due is not committed yet.
+    pub fn counts(&self) -> Counts
+        ensures value { result ≡ self.now.counts }
+        ensures holds { IsWaiting self.now }
+    {
+        self.queue.ledger()
+    }
+
+    /// Ends it. All that waits is lost.
+    pub fn close(self) -> Ledger
+        ensures value { result ≡ counts_after self.counts 0 (losing (self.due ++ self.pending.held)) }
+        ensures balanced { Balances result 0 }
+    {
+        let Waiting {
+            queue,
+            informed: _,
+            due: _,
+        } = self;
+        queue.close()
+    }
+}
+
+/// What is committed, as a thing.
+fn thing_of(committed: Option<Committed>) -> Option<Thing>
+    ensures { option_to_list result ≡ things_of committed }
+{
+    match committed {
+        None => None,
+        Some(Committed::Seen(entry)) => Some(Thing::Seen(entry)),
+        Some(Committed::Unseen) => Some(Thing::Unseen),
+    }
+}
