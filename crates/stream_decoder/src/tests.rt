@@ -16,6 +16,9 @@ const HEAD: &[u8] = &[
     0, 0x10,
 ];
 
+/// More bytes than any of these streams has.
+const MOST_BYTES: u64 = 100;
+
 /// What is printed of `HEAD` and two atoms E.
 const LINES: &[u8] = b"01 on\n01 ctx el0 s 0 0\n01 1000\n01 1004\n";
 
@@ -32,9 +35,10 @@ fn decoder_at(
         .ok_or("it is an image")?;
     let id = Id::new(1).ok_or("it is an ID")?;
     let mut decoder = StreamDecoder::new(alloc, &settings)?;
-    let mut failed = false;
     for byte in HEAD.iter().chain(bytes) {
-        failed = failed || decoder.broken() || decoder.take(&image, id, *byte, sink).is_err();
+        if !decoder.broken() && decoder.taken() < MOST_BYTES {
+            let _ = decoder.take(&image, id, *byte, sink);
+        }
     }
     Ok(decoder)
 }
@@ -62,7 +66,13 @@ fn a_stream_that_ends_with_a_fault(rt: HostRuntime) -> Result<(), Fail> {
     let mut sink = MemSink::new(rt.alloc(), Vec::new(rt.alloc()));
     let id = Id::new(1).ok_or("it is an ID")?;
     let decoder = decoder_at(rt.alloc(), 4, &[0xf7, 0xf7, 0x2d, 0x03], &mut sink)?;
-    assert_eq!(rt; decoder.finish(id, &mut sink), Ok(false));
+    let whole = if decoder.broken() {
+        decoder.abandon();
+        None
+    } else {
+        decoder.finish(id, &mut sink).ok()
+    };
+    assert_eq!(rt; whole, Some(false));
     assert_eq!(rt;
         sink.written(),
         b"01 fault 28 commit-overrun 3 2\n".as_slice()
