@@ -1,5 +1,6 @@
 //! The queue of P0 elements that are not committed.
-ghost use Rattle.std.specs.Prelude.{◌≡◌, ◌≤◌, ◌-◌, ◌↔◌, [], length, take, drop, map, replicate, Bool, Ok, Err, IfOk, IsOk, IsErr, IsSome, IsTrue};
+ghost use Rattle.std.specs.Prelude.{◌≡◌, ◌≤◌, ◌-◌, ◌↔◌, [], length, take, drop, map, replicate, Bool, Ok, Err};
+ghost use Rattle.std.specs.Prelude.{IfOk, IsOk, IsErr, IsSome, IsTrue};
 ghost use Rattle.etm_types.specs.Pre.{trace_missing};
 ghost use Rattle.etm_types.specs.declared.element.Elem.TheVariants as elem;
 ghost use Rattle.etm_types.specs.declared.element.Thing.TheVariants.{Seen, Unseen};
@@ -60,7 +61,8 @@ impl Model for Queue {
 
     ghost view = { λ q. record { held = replicate q.unseen Unseen ++ map Seen q.ring.items; pre = q.pre; depth = q.depth; counts = q.ledger } };
 
-    ghost invariant = { λ q. (q.ring.capacity ≡ q.depth) × (q.unseen + length q.ring.items ≤ q.depth) × (q.depth < 2 ^ 32) × Balances q.ledger (length q.ring.items) };
+    ghost invariant = { λ q. (q.ring.capacity ≡ q.depth) × (q.unseen + length q.ring.items ≤ q.depth) × (q.depth < 2 ^ 32)
+        × Balances q.ledger (length q.ring.items) };
 }
 
 impl Queue {

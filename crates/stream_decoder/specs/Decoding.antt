@@ -1,5 +1,6 @@
 -- What contracts see of the decoding of one stream.
-use Rattle.std.specs.Prelude.{◌≡◌, ◌≢◌, ◌⊎◌, ℕ, ◌<◌, ◌≤◌, Bool, true, false, All, List, [], ◌∷◌, ◌++◌, length, Option, Some, None}
+use Rattle.std.specs.Prelude.{◌≡◌, ◌≢◌, ◌⊎◌, ℕ, ◌<◌, ◌≤◌, Bool, true, false, All, List, [], ◌∷◌, ◌++◌, length}
+use Rattle.std.specs.Prelude.{Option, Some, None}
 use Rattle.element_queue.specs.Counting.{Balances, entries, no_counts}
 use Rattle.element_queue.specs.Pending.{Pending}
 use Rattle.element_queue.specs.Resolved.{at_first}
@@ -100,7 +101,17 @@ pub record IsDecoding (d : Decoding) : Type 0 where
 pub record Begins (s : Sizes) (d : Decoding) : Type 0 where
   pub reads : reader.StandsAt d.reader []
   pub settings : (d.reader).settings ≡ s
-  pub fresh : d ≡ record { reader = d.reader; told = untold; pending = at_first; due = []; walk = first_state; at = 0; todo = []; fault = None; counts = no_counts }
+  pub fresh : d ≡ record {
+    reader = d.reader;
+    told = untold;
+    pending = at_first;
+    due = [];
+    walk = first_state;
+    at = 0;
+    todo = [];
+    fault = None;
+    counts = no_counts;
+  }
 
 -- one stream between its bytes and the lines of its path: the context that was printed last, and whether a write failed
 pub record Decoder : Type 0 where
