@@ -8,7 +8,7 @@ use Rattle.packet_grammar.specs.declared.fault.RefusedKind.TheVariants as kind
 use Rattle.packet_grammar.specs.declared.stream_fault.Fault.{Fault}
 use Rattle.packet_grammar.specs.declared.stream_fault.Fault.TheVariants as fault
 use Rattle.path_text.specs.Lines.{in_base}
-use Rattle.path_text.specs.EndLines.{end_line}
+use Rattle.path_text.specs.EndLines.{end_line, frame_cut_line}
 use Rattle.packet_grammar.specs.declared.end.End.{End}
 use Rattle.packet_grammar.specs.declared.end.End.TheVariants as end
 
@@ -25,6 +25,10 @@ abbrev IsRefused : ℕ → RefusedKind → List ℕ → Type 0
 IsRefused byte about text = HasReason 0 (fault.Packet (packet.Refused about byte)) text
 
 -- ---- ends
+
+pub begun_frame : frame_cut_line 15 ≡ codes "frame cut 15" ++ (10 ∷ [])
+unfolding in_base
+begun_frame = refl
 
 pub clean : HasLine end.Clean (codes "01 end")
 unfolding in_base

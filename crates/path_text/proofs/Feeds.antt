@@ -17,7 +17,7 @@ use Rattle.packet_grammar.specs.declared.fault.RefusedKind.{RefusedKind}
 use Rattle.packet_grammar.specs.declared.fault.RefusedKind.TheVariants as kind
 use Rattle.packet_grammar.specs.declared.stream_fault.Fault.{Fault}
 use Rattle.packet_grammar.specs.declared.stream_fault.Fault.TheVariants as fault
-use Rattle.path_text.specs.EndLines.{refused_text, packet_fault_text, queue_fault_text, walk_fault_text, fault_text, end_text, end_line}
+use Rattle.path_text.specs.EndLines.{refused_text, packet_fault_text, queue_fault_text, walk_fault_text, fault_text, end_text, end_line, frame_cut_line}
 use Rattle.path_text.specs.Lines.{digit, in_base, hex, decimal, byte_text, security, line_start, line_of, IsLine}
 use Rattle.path_text.specs.PathLines.{whole_context_text, exception_names, name_among, exception_text}
 
@@ -181,3 +181,6 @@ line_is id text none = (
 
 pub end_is : (id : ℕ) (last : End) → IsLine (end_line id last)
 end_is id last = line_is id (end_text last) (end_other last)
+
+pub cut_is : (left : ℕ) → IsLine (frame_cut_line left)
+cut_is left = (codes "frame cut " ++ decimal left, refl, words_and (codes "frame cut ") 10 left refl)

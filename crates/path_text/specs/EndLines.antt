@@ -1,5 +1,5 @@
 -- The lines of how a stream ends, with the reasons of its faults.
-use Rattle.std.specs.Prelude.{ℕ, List, ◌++◌, codes}
+use Rattle.std.specs.Prelude.{ℕ, List, [], ◌∷◌, ◌++◌, codes}
 use Rattle.etm_types.specs.declared.queue_fault.QueueFault.{QueueFault}
 use Rattle.etm_types.specs.declared.queue_fault.QueueFault.TheVariants as queue
 use Rattle.etm_types.specs.declared.walk_fault.WalkFault.{WalkFault}
@@ -62,3 +62,7 @@ end_text (end.Fault at why) = codes "fault " ++ decimal at ++ codes " " ++ fault
 
 abbrev pub end_line : ℕ → End → List ℕ
 end_line id last = line_of id (end_text last)
+
+-- the line of a frame that was begun, of which so many bytes are there; it is of no stream
+abbrev pub frame_cut_line : ℕ → List ℕ
+frame_cut_line left = (codes "frame cut " ++ decimal left) ++ 10 ∷ []

@@ -1,7 +1,7 @@
 //! The lines of how a stream ends.
 ghost use Rattle.std.specs.Prelude.{◌≡◌, ◌+◌, ◌++◌, ◌≤◌, length, codes};
 ghost use Rattle.path_text.specs.Lines.{HasRoom, AddsAtMost, hex, decimal, byte_text};
-ghost use Rattle.path_text.specs.EndLines.{refused_text, packet_fault_text, queue_fault_text, walk_fault_text, fault_text, end_text, end_line};
+ghost use Rattle.path_text.specs.EndLines.{refused_text, packet_fault_text, queue_fault_text, walk_fault_text, fault_text, end_text, end_line, frame_cut_line};
 ghost use Rattle.path_text.specs.Writing.{Writes};
 
 use crate::End;
@@ -199,5 +199,15 @@ pub fn write_end<K: Sink>(id: Id, end: &End, sink: &mut K) -> Result<(), Failed>
 {
     let mut line = Line::begin(id);
     add_end(&mut line, end);
+    line.write(sink)
+}
+
+/// Writes the line of a frame that was begun and is not full, of which `left` bytes are there. It is of no stream.
+pub fn write_frame_cut<K: Sink>(left: u8, sink: &mut K) -> Result<(), Failed>
+    ensures { Writes (K.state sink.old) (K.state sink.new) result (frame_cut_line left) }
+{
+    let mut line = Line::new();
+    line.text(b"frame cut ");
+    line.decimal_u8(left);
     line.write(sink)
 }

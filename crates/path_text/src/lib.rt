@@ -18,7 +18,7 @@ mod packet_line;
 mod packet_lines;
 mod path_lines;
 
-pub use end_lines::write_end;
+pub use end_lines::{write_end, write_frame_cut};
 pub use laws::lines_stand_one_by_one;
 pub use line::Line;
 pub use packet_grammar::End;

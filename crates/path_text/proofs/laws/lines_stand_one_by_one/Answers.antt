@@ -1,4 +1,4 @@
-use Rattle.path_text.proofs.Feeds.{end_is}
+use Rattle.path_text.proofs.Feeds.{cut_is, end_is}
 use Rattle.path_text.proofs.LineLemmas.{lines_of-append, shown_after_all-append}
 use Rattle.path_text.proofs.LineLists.{line_list-append, list_each, list_joined}
 use Rattle.path_text.proofs.laws.lines_stand_one_by_one.Goals as goal
@@ -11,6 +11,9 @@ returns-clause-each c = list_each
 
 pub returns-clause-last : goal.returns-clause-last
 returns-clause-last c = end_is
+
+pub returns-clause-cut : goal.returns-clause-cut
+returns-clause-cut c = cut_is
 
 pub returns-clause-list : goal.returns-clause-list
 returns-clause-list c = line_list-append

@@ -1,0 +1,4 @@
+pub mod Bodies
+pub mod Ending
+pub mod Standing
+pub mod Writing

@@ -1,0 +1,135 @@
+-- What was written of pairs that were taken one after the other.
+use Rattle.std.proofs.Common.{◌≡◌, ℕ, List, [], ◌∷◌, ◌++◌, Result, Ok, Err, refl, sym, ap, subst, ◌∙◌, append-nil, append_assoc}
+use Rattle.std.specs.List.{concat}
+use Rattle.path_text.proofs.Wrote.{Wrote, fails_after, wrote_by, wrote_more, wrote_nothing, writes_all}
+use Rattle.path_text.specs.Writing.{Writes}
+use Rattle.formatter_frames.specs.Unframed.{unframed}
+use Rattle.stream_demux.specs.Demuxed.{Gains}
+use Rattle.stream_demux.specs.Streams.{Adds}
+use Rattle.stream_demux.specs.Texts.{BodyFrom, Listing, PairGains, Printed, lines_under, text_of}
+use Rattle.stream_demux.proofs.Bodies.{body-append, body_one, text_of-append, text_under}
+use Rattle.trace_io.specs.State.{IoState}
+
+-- the lines that pairs add behind others were written, in calls that did not fail
+pub record Written (g : Listing) (before pairs : List (ℕ × ℕ)) (old new : IoState) : Type 0 where
+  pub lines : List Printed
+  pub body : BodyFrom g before pairs lines
+  pub wrote : Wrote old new (text_of lines)
+
+pub nothing_written : (g : Listing) (before : List (ℕ × ℕ)) (a : IoState) → Written g before [] a a
+nothing_written g before a = record { lines = []; body = refl; wrote = wrote_nothing a }
+
+module _ (g : Listing) (before pairs : List (ℕ × ℕ)) (a b c : IoState) (was : Written g before pairs a b) where
+  -- more pairs behind them
+  pub more_written : (more : List (ℕ × ℕ)) → Written g (before ++ pairs) more b c → Written g before (pairs ++ more) a c
+  more_written more next =
+      record {
+        lines = was.lines ++ next.lines;
+        body = body-append g before pairs more was.lines next.lines was.body next.body;
+        wrote = subst (Wrote a c) (sym (text_of-append was.lines next.lines)) (wrote_more a b c (text_of was.lines) (text_of next.lines) was.wrote next.wrote);
+      }
+
+  -- where a call failed behind them, a front of the lines of some pairs more is written
+  pub more_fail : {T U E : Type 0} (e d : E) (took others : List (ℕ × ℕ)) (lines : List Printed) → BodyFrom g (before ++ pairs) took lines
+      → Writes {T = T} b c (Err e) (text_of lines) → Adds {T = U} g before ((pairs ++ took) ++ others) a c (Err d)
+  more_fail e d took others lines body writes =
+      record {
+        took = pairs ++ took;
+        others = others;
+        parts = refl;
+        lines = was.lines ++ lines;
+        body = body-append g before pairs took was.lines lines was.body body;
+        writes = fails_after a b c e d (text_of was.lines) (text_of lines) [] (text_of (was.lines ++ lines))
+            (ap (λ t. text_of was.lines ++ t) (append-nil (text_of lines)) ∙ sym (text_of-append was.lines lines)) was.wrote writes;
+        all = λ ok. absurd cc;
+      }
+
+-- one pair
+module _ (g : Listing) (before : List (ℕ × ℕ)) (pair : ℕ × ℕ) (a b : IoState) (lines : List (List ℕ)) (gains : PairGains g before pair lines) where
+  pub one_written : Wrote a b (concat lines) → Written g before (pair ∷ []) a b
+  one_written wrote =
+      record {
+        lines = lines_under pair.0 lines;
+        body = body_one g before pair lines gains;
+        wrote = subst (Wrote a b) (sym (text_under pair.0 lines)) wrote;
+      }
+
+-- all that was written is what the pairs add
+pub all_added : {T E : Type 0} (g : Listing) (before pairs : List (ℕ × ℕ)) (a b : IoState) (x : T) → Written g before pairs a b
+    → Adds {T = T} {E = E} g before pairs a b (Ok x)
+all_added g before pairs a b x was =
+    record {
+      took = pairs;
+      others = [];
+      parts = sym (append-nil pairs);
+      lines = was.lines;
+      body = was.body;
+      writes = writes_all a b x (text_of was.lines) was.wrote;
+      all = λ ok. refl;
+    }
+
+pub added : {T E : Type 0} (g : Listing) (before pairs : List (ℕ × ℕ)) (a b : IoState) (x : T) → Adds {T = T} {E = E} g before pairs a b (Ok x)
+    → Written g before pairs a b
+added g before pairs a b x adds =
+    let all : adds.took ≡ pairs = sym (append-nil adds.took) ∙ ap (λ (t : List (ℕ × ℕ)). adds.took ++ t) (sym (adds.all refl)) ∙ sym adds.parts in
+    record { lines = adds.lines; body = subst (λ p. BodyFrom g before p adds.lines) all adds.body; wrote = wrote_by a b x (text_of adds.lines) adds.writes }
+
+-- ---- pieces of frames
+
+-- the lines that a piece adds behind other bytes were written, in calls that did not fail
+pub record Gained (g : Listing) (bytes piece : List ℕ) (old new : IoState) : Type 0 where
+  pub pairs : List (ℕ × ℕ)
+  pub carried : unframed (bytes ++ piece) ≡ unframed bytes ++ pairs
+  pub written : Written g (unframed bytes) pairs old new
+
+pub nothing_gained : (g : Listing) (bytes : List ℕ) (a : IoState) → Gained g bytes [] a a
+nothing_gained g bytes a =
+    record {
+      pairs = [];
+      carried = ap unframed (append-nil bytes) ∙ sym (append-nil (unframed bytes));
+      written = nothing_written g (unframed bytes) a;
+    }
+
+module _ (g : Listing) (bytes piece : List ℕ) (a b : IoState) (was : Gained g bytes piece a b) (more : List ℕ) (pairs : List (ℕ × ℕ))
+    (carried : unframed ((bytes ++ piece) ++ more) ≡ unframed (bytes ++ piece) ++ pairs) where
+  joined_pairs : unframed (bytes ++ (piece ++ more)) ≡ unframed bytes ++ (was.pairs ++ pairs)
+  joined_pairs =
+      ap unframed (sym (append_assoc bytes piece more)) ∙ carried ∙ ap (λ l. l ++ pairs) was.carried ∙ append_assoc (unframed bytes) was.pairs pairs
+
+  -- more bytes carry no pair
+  pub more_gained : (c : IoState) → Written g (unframed (bytes ++ piece)) pairs b c → Gained g bytes (piece ++ more) a c
+  more_gained c next =
+      record {
+        pairs = was.pairs ++ pairs;
+        carried = joined_pairs;
+        written = more_written g (unframed bytes) was.pairs a b c was.written pairs (subst (λ l. Written g l pairs b c) was.carried next);
+      }
+
+  -- where a write fails, a front of the lines of the pairs of all bytes is written
+  pub gain_fails : {T U E : Type 0} (c : IoState) (e d : E) → Adds {T = T} g (unframed (bytes ++ piece)) pairs b c (Err e) → (rest : List ℕ) (later : List (ℕ × ℕ))
+      → unframed ((bytes ++ (piece ++ more)) ++ rest) ≡ unframed (bytes ++ (piece ++ more)) ++ later
+      → Gains {T = U} g bytes ((piece ++ more) ++ rest) a c (Err d)
+  gain_fails {T} {U} c e d adds rest later further =
+      let all = (was.pairs ++ pairs) ++ later in
+      let adds' = subst (λ l. Adds {T = T} g l pairs b c (Err e)) was.carried adds in
+      let parts : (was.pairs ++ adds'.took) ++ (adds'.others ++ later) ≡ all =
+      sym (append_assoc (was.pairs ++ adds'.took) adds'.others later)
+      ∙ ap (λ l. l ++ later) (append_assoc was.pairs adds'.took adds'.others ∙ ap (λ l. was.pairs ++ l) (sym adds'.parts)) in
+      record {
+        pairs = all;
+        carried = ap unframed (sym (append_assoc bytes (piece ++ more) rest)) ∙ further ∙ ap (λ l. l ++ later) joined_pairs
+            ∙ append_assoc (unframed bytes) (was.pairs ++ pairs) later;
+        adds = subst (λ l. Adds {T = U} g (unframed bytes) l a c (Err d)) parts
+            (more_fail g (unframed bytes) was.pairs a b c was.written e d adds'.took (adds'.others ++ later) adds'.lines adds'.body adds'.writes);
+      }
+
+pub all_gained : {T E : Type 0} (g : Listing) (bytes piece : List ℕ) (a b : IoState) (x : T) → Gained g bytes piece a b
+    → Gains {T = T} {E = E} g bytes piece a b (Ok x)
+all_gained g bytes piece a b x was =
+    record { pairs = was.pairs; carried = was.carried; adds = all_added g (unframed bytes) was.pairs a b x was.written }
+
+-- a byte more that was taken
+pub byte_gained : {T E : Type 0} (g : Listing) (bytes piece : List ℕ) (byte : ℕ) (a b c : IoState) (x : T) → Gained g bytes piece a b
+    → Gains {T = T} {E = E} g (bytes ++ piece) (byte ∷ []) b c (Ok x) → Gained g bytes (piece ++ byte ∷ []) a c
+byte_gained g bytes piece byte a b c x was gains =
+    more_gained g bytes piece a b was (byte ∷ []) gains.pairs gains.carried c (added g (unframed (bytes ++ piece)) gains.pairs b c x gains.adds)

@@ -1,0 +1,22 @@
+use Rattle.std.proofs.Common.{◌≡◌, ◌+◌, ◌-◌, ◌≤◌, ℕ, List, ◌++◌, length, take}
+use Rattle.std.specs.Prelude.{All}
+use Rattle.etm_types.specs.Settings.{Sizes}
+use Rattle.stream_demux.specs.Streams.{AllStand, IsReady}
+use Rattle.stream_demux.proofs.Writing.{Written}
+use Rattle.stream_demux.proofs.demux.take_frame.Given as goal
+use Rattle.trace_io.specs.Bytes.{ShowsAsBefore}
+use Rattle.trace_io.specs.Causes.{KeepsFaults}
+
+abbrev pub invariant-loop-place : goal.invariant-loop-place
+invariant-loop-place g l =
+    let state = g.K.Sink.state in let at = g.S.Stream.stands l.shared in
+    record {
+      stands : (s : Sizes) (pairs : List (ℕ × ℕ)) → AllStand at g.S.Stream.sizes s l.fn.sources pairs
+          → AllStand at g.S.Stream.sizes s l.sources (pairs ++ take l.place l.frame);
+      written : (s : Sizes) (pairs : List (ℕ × ℕ)) → AllStand at g.S.Stream.sizes s l.fn.sources pairs
+          → Written (g.S.Stream.listing l.shared s) pairs (take l.place l.frame) (state l.fn.sink) (state l.sink);
+      kept : KeepsFaults (state l.fn.sink) (state l.sink);
+      shows : ShowsAsBefore (state l.fn.sink) (state l.sink);
+      ready : (most : ℕ) → All (IsReady g.S.Stream.broken g.S.Stream.taken most) l.fn.sources
+          → All (IsReady g.S.Stream.broken g.S.Stream.taken (most + l.place)) l.sources;
+    }

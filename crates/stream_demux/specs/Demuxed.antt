@@ -1,0 +1,44 @@
+-- What contracts see of frames that are parted into streams.
+use Rattle.std.specs.Prelude.{◌≡◌, ℕ, ◌^◌, Bool, false, List, ◌++◌, length, Option, Result, refl}
+use Rattle.std.specs.Coded.{Coded, code_by, coded×, coded_list, coded_ℕ, coded_bool, coded_option}
+use Rattle.etm_types.specs.Settings.{Sizes}
+use Rattle.formatter_frames.specs.Reader as frames
+use Rattle.formatter_frames.specs.Unframed.{unframed}
+use Rattle.stream_demux.specs.Streams.{Adds, AllStand}
+use Rattle.stream_demux.specs.Texts.{Listing}
+use Rattle.trace_io.specs.State.{IoState}
+
+abbrev reading_code : Coded frames.Reading
+reading_code =
+    code_by (List ℕ × Option ℕ) (coded× (coded_list coded_ℕ) (coded_option coded_ℕ)) (λ r. (r.begun, r.current)) (λ p. record { begun = p.0; current = p.1 })
+    (λ _. refl)
+
+-- the frame that was begun, the streams by ID, how many bytes were taken, and whether a write failed
+pub record Demuxed (X : Type 0) : Type 0 where
+  pub frames : frames.Reading
+  pub streams : List X
+  pub taken : ℕ
+  pub broken : Bool
+
+abbrev pub demuxed_code : {X : Type 0} → Coded X → Coded (Demuxed X)
+demuxed_code {X} code =
+    code_by (frames.Reading × (List X × (ℕ × Bool))) (coded× reading_code (coded× (coded_list code) (coded× coded_ℕ coded_bool)))
+    (λ d. (d.frames, (d.streams, (d.taken, d.broken)))) (λ p. record { frames = p.0; streams = p.1.0; taken = p.1.1.0; broken = p.1.1.1 })
+    (λ _. refl)
+
+-- the most bytes that are taken
+abbrev pub most_bytes : ℕ
+most_bytes = 2 ^ 30
+
+-- these bytes of frames were taken, and no write failed: each stream stands at its bytes, under these sizes
+pub record StandsAt {X : Type 0} (stands : X → List ℕ → Type 0) (sizes : X → Sizes) (s : Sizes) (d : Demuxed X) (bytes : List ℕ) : Type 0 where
+  pub whole : d.broken ≡ false
+  pub taken : d.taken ≡ length bytes
+  pub frames : frames.StandsAt d.frames bytes
+  pub streams : AllStand stands sizes s d.streams (unframed bytes)
+
+-- A piece is taken behind other bytes, and the lines that it adds are written: those of the pairs that its frames carry.
+pub record Gains {T E : Type 0} (g : Listing) (bytes piece : List ℕ) (old new : IoState) (result : Result T E) : Type 0 where
+  pub pairs : List (ℕ × ℕ)
+  pub carried : unframed (bytes ++ piece) ≡ unframed bytes ++ pairs
+  pub adds : Adds g (unframed bytes) pairs old new result

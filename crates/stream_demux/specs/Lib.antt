@@ -1,0 +1,4 @@
+pub mod Demuxed
+pub mod Paths
+pub mod Streams
+pub mod Texts

@@ -1,0 +1,95 @@
+-- What is printed of many streams: lines as their bytes come, and then a line for how each of them ends.
+use Rattle.std.specs.Prelude.{◌≡◌, ℕ, ◌==◌, ◌&&◌, ◌||◌, nat_lt, nat_le, Bool, true, false, if◌then◌else◌, List, [], ◌∷◌, ◌++◌, map, Option, Some, None}
+use Rattle.std.specs.List.{concat, range_with_len}
+use Rattle.path_text.specs.EndLines.{frame_cut_line}
+
+-- ---- lines
+
+-- a line that is printed, with the ID of its stream, where it is of one
+pub record Printed : Type 0 where
+  pub id : Option ℕ
+  pub line : List ℕ
+
+-- lines of a stream
+abbrev pub lines_under : ℕ → List (List ℕ) → List Printed
+lines_under id lines = map (λ (line : List ℕ). record { id = Some id; line = line }) lines
+
+-- what is printed of lines: one after the other
+abbrev pub text_of : List Printed → List ℕ
+text_of lines = concat (map (λ (l : Printed). l.line) lines)
+
+-- ---- streams
+
+-- the bytes of one stream among pairs of ID and byte, in order
+abbrev pub of : ℕ → List (ℕ × ℕ) → List ℕ
+of id [] = []
+of id (pair ∷ pairs) = if pair.0 == id then pair.1 ∷ of id pairs else of id pairs
+
+-- What is printed of a stream: the lines that the stream of an ID gains by a byte, behind the bytes that it had; and the line of
+-- how it ends, with whether that is a fault.
+pub record Listing : Type 1 where
+  pub gains : ℕ → List ℕ → ℕ → List (List ℕ) → Type 0
+  pub ends : ℕ → List ℕ → List ℕ → Bool → Type 0
+
+-- ---- the lines that come with the bytes
+
+-- 01 to 6f are the IDs of sources
+abbrev pub is_source : ℕ → Bool
+is_source id = nat_lt 0 id && nat_le id 111
+
+-- what a byte of a source adds, and one that is of none: nothing
+abbrev pub GainsIf : Bool → Listing → List (ℕ × ℕ) → ℕ × ℕ → List (List ℕ) → Type 0
+GainsIf true g before pair lines = g.gains pair.0 (of pair.0 before) pair.1 lines
+GainsIf false g before pair lines = lines ≡ []
+
+-- what a pair adds behind others
+abbrev pub PairGains : Listing → List (ℕ × ℕ) → ℕ × ℕ → List (List ℕ) → Type 0
+PairGains g before pair lines = GainsIf (is_source pair.0) g before pair lines
+
+-- the lines that pairs add behind others, in order
+abbrev pub BodyFrom : Listing → List (ℕ × ℕ) → List (ℕ × ℕ) → List Printed → Type 0
+BodyFrom g before [] lines = lines ≡ []
+BodyFrom g before (pair ∷ pairs) lines =
+    (first : List (List ℕ)) × (rest : List Printed) × PairGains g before pair first × BodyFrom g (before ++ pair ∷ []) pairs rest
+    × (lines ≡ lines_under pair.0 first ++ rest)
+
+-- ---- the lines of the ends
+
+-- how a stream ends, where it had a byte
+abbrev pub StreamEnds : Listing → ℕ → List ℕ → List Printed → Bool → Type 0
+StreamEnds g id [] lines faulty = (lines ≡ []) × (faulty ≡ false)
+StreamEnds g id (b ∷ bytes) lines faulty = (line : List ℕ) × g.ends id (b ∷ bytes) line faulty × (lines ≡ lines_under id (line ∷ []))
+
+-- how the streams of these IDs end, in this order
+abbrev pub EndsOf : Listing → List (ℕ × ℕ) → List ℕ → List Printed → Bool → Type 0
+EndsOf g pairs [] lines faulty = (lines ≡ []) × (faulty ≡ false)
+EndsOf g pairs (id ∷ ids) lines faulty =
+    (first : List Printed) × (rest : List Printed) × (one : Bool) × (others : Bool) × StreamEnds g id (of id pairs) first one
+    × EndsOf g pairs ids rest others × (lines ≡ first ++ rest) × (faulty ≡ one || others)
+
+-- the IDs of all sources
+unfoldable pub sources : List ℕ
+sources = range_with_len 1 111
+
+-- so many bytes of a frame are left over
+abbrev pub cut_lines : ℕ → List Printed
+cut_lines left = if left == 0 then [] else record { id = None; line = frame_cut_line left } ∷ []
+
+-- The last lines of pairs of ID and byte, with so many bytes of a frame left over: the ends by ID, and then the frame that is cut.
+-- Faulty says whether a stream ends with a fault, or a frame is cut.
+pub record IsEnding (g : Listing) (pairs : List (ℕ × ℕ)) (left : ℕ) (lines : List Printed) (faulty : Bool) : Type 0 where
+  pub ends : List Printed
+  pub some_fault : Bool
+  pub ended : EndsOf g pairs sources ends some_fault
+  pub all : lines ≡ ends ++ cut_lines left
+  pub fault : faulty ≡ some_fault || nat_lt 0 left
+
+-- ---- all of it
+
+-- what is printed of pairs of ID and byte, with so many bytes of a frame left over
+pub record IsText (g : Listing) (pairs : List (ℕ × ℕ)) (left : ℕ) (lines : List Printed) (faulty : Bool) : Type 0 where
+  pub body : List Printed
+  pub ending : List Printed
+  pub gained : BodyFrom g [] pairs body
+  pub ended : IsEnding g pairs left ending faulty
+  pub all : lines ≡ body ++ ending

@@ -1,0 +1,212 @@
+//! Frames of many sources, taken by pieces.
+ghost use Rattle.std.specs.Prelude.{◌≡◌, ◌<◌, ◌≤◌, ◌+◌, ◌^◌, ◌++◌, ◌∷◌, ◌↔◌, [], ℕ, List, Bool, false, All, not, length, map, IsOk, IsErr, IsTrue, IfOk};
+ghost use Rattle.element_queue.specs.Counting.{no_counts};
+ghost use Rattle.etm_types.specs.Settings.{Sizes};
+ghost use Rattle.formatter_frames.specs.Reader as reader;
+ghost use Rattle.formatter_frames.specs.Unframed.{begun_frame, unframed};
+ghost use Rattle.path_text.specs.Writing.{Writes};
+ghost use Rattle.stream_demux.specs.Demuxed.{Gains, StandsAt};
+ghost use Rattle.stream_demux.specs.Streams.{Adds, AllStand, AllTallied, IsReady, total};
+ghost use Rattle.stream_demux.specs.Texts.{IsEnding, Printed, text_of};
+ghost use Rattle.trace_io.specs.Bytes.{ShowsAsBefore};
+ghost use Rattle.trace_io.specs.Causes.{HasCause};
+
+use crate::sources::Sources;
+use crate::stream::Stream;
+use element_queue::{Counts, Ledger};
+use etm_types::Settings;
+use formatter_frames::{FrameBytes, FrameReader};
+use path_text::write_frame_cut;
+use std::alloc::{AllocError, Global};
+use std::marker::Model;
+use trace_io::{Failed, Sink};
+
+/// Takes the bytes of frames piece by piece, parts them into the streams of up to 111 sources, and writes the lines that they
+/// add. It has no drop: it ends by `finish` or `abandon`.
+///
+/// It stands at the bytes that it took. What all streams share is the same in all calls.
+#[must_use]
+pub struct Demux<S: Stream> {
+    frames: FrameReader,
+    sources: Sources<S>,
+    /// How many bytes were taken.
+    taken: u64,
+    /// Whether a write failed.
+    broken: bool,
+}
+
+impl<S: Stream> Model for Demux<S> {
+    ghost use Rattle.std.specs.Prelude.{◌≡◌, ◌≤◌, ◌*◌, false, All};
+    ghost use Rattle.stream_demux.specs.Demuxed.{Demuxed, demuxed_code, most_bytes};
+    ghost use Rattle.stream_demux.specs.Streams.{IsReady};
+
+    ghost Value = { Demuxed S };
+
+    ghost coded = { demuxed_code S.code };
+
+    ghost view = { λ d. record { frames = d.frames; streams = d.sources; taken = d.taken; broken = d.broken } };
+
+    ghost invariant = { λ d. (d.taken ≤ most_bytes) × (d.broken ≡ false → All (IsReady S.broken S.taken (15 * d.taken)) d.sources) };
+}
+
+impl<S: Stream> Demux<S> {
+    /// A demultiplexer that has taken nothing, with a stream for each source. This is the one call that takes memory, and the error
+    /// means want of it.
+    pub fn new(alloc: Global, settings: &Settings) -> Result<Demux<S>, AllocError>
+        ensures stands { IfOk result (λ d. (shared : S.Shared) → StandsAt (S.stands shared) S.sizes settings.now d []) }
+    {
+        Ok(Demux {
+            frames: FrameReader::new(),
+            sources: Sources::new(alloc, settings)?,
+            taken: 0,
+            broken: false,
+        })
+    }
+
+    /// Takes the next bytes of the frames, and writes the lines that they add. A fault of a stream stops that stream
+    /// alone. The error means that a write failed; then nothing more is taken, and it is broken.
+    pub fn take_piece<K: Sink>(
+        &mut self,
+        shared: &S::Shared,
+        piece: &[u8],
+        sink: &mut K,
+    ) -> Result<(), Failed>
+        requires whole { self.old.broken ≡ false }
+        requires few { self.old.taken + length piece.now ≤ 2 ^ 30 }
+        ensures stands { (s : Sizes) (bytes : List ℕ) → StandsAt (S.stands shared.now) S.sizes s self.old bytes → IsOk result
+            → StandsAt (S.stands shared.now) S.sizes s self.new (bytes ++ piece.now) }
+        ensures gains { (s : Sizes) (bytes : List ℕ) → StandsAt (S.stands shared.now) S.sizes s self.old bytes
+            → Gains (S.listing shared.now s) bytes piece.now (K.state sink.old) (K.state sink.new) result }
+        ensures cause { HasCause (K.state sink.old) (K.state sink.new) result }
+        ensures shows { ShowsAsBefore (K.state sink.old) (K.state sink.new) }
+        ensures broken { IsTrue self.new.broken ↔ IsErr result }
+        ensures taken { IsOk result → self.new.taken ≡ self.old.taken + length piece.now }
+    {
+        for byte in piece {
+            self.taken += 1;
+            match take_byte(&mut self.frames, &mut self.sources, shared, *byte, sink) {
+                Ok(()) => {}
+                Err(failed) => {
+                    self.broken = true;
+                    return Err(failed);
+                }
+            }
+        }
+        Ok(())
+    }
+
+    /// Whether a write failed. Then it takes no more bytes, and is abandoned.
+    pub fn broken(&self) -> bool
+        ensures { result ≡ self.now.broken }
+    {
+        self.broken
+    }
+
+    /// How many bytes of frames were taken.
+    pub fn taken(&self) -> u64
+        ensures value { result ≡ self.now.taken }
+        ensures all { (shared : S.Shared) (s : Sizes) (bytes : List ℕ) → StandsAt (S.stands shared) S.sizes s self.now bytes
+            → result ≡ length bytes }
+    {
+        self.taken
+    }
+
+    /// What became of the P0 elements of all streams.
+    pub fn ledger(&self) -> Counts
+        ensures value { result ≡ total no_counts (map S.counts self.now.streams) }
+        ensures tallied { (shared : S.Shared) (s : Sizes) (bytes : List ℕ) → StandsAt (S.stands shared) S.sizes s self.now bytes
+            → AllTallied (S.tallies shared s) (map S.counts self.now.streams) (unframed bytes) }
+    {
+        self.sources.ledger()
+    }
+
+    /// Writes the line of how each stream ends that had a byte, by ID, and then one where a frame was begun and is not
+    /// full. Says whether there is no fault and no such frame.
+    pub fn finish<K: Sink>(self, sink: &mut K) -> Result<bool, Failed>
+        requires { self.broken ≡ false }
+        ensures ending { (shared : S.Shared) (s : Sizes) (bytes : List ℕ) → StandsAt (S.stands shared) S.sizes s self bytes
+            → (lines : List Printed) × (faulty : Bool)
+            × IsEnding (S.listing shared s) (unframed bytes) (length (begun_frame bytes)) lines faulty
+            × Writes (K.state sink.old) (K.state sink.new) result (text_of lines) × IfOk result (λ whole. whole ≡ not faulty) }
+        ensures cause { HasCause (K.state sink.old) (K.state sink.new) result }
+        ensures shows { ShowsAsBefore (K.state sink.old) (K.state sink.new) }
+    {
+        let Demux {
+            frames,
+            sources,
+            taken: _,
+            broken: _,
+        } = self;
+        let left = frames.left();
+        let whole = sources.finish(sink)?;
+        if left == 0 {
+            return Ok(whole);
+        }
+        write_frame_cut(left, sink)?;
+        Ok(false)
+    }
+
+    /// Ends it without a line. The ledger has what became of the P0 elements of all streams.
+    pub fn abandon(self) -> Ledger
+        ensures value { result ≡ total no_counts (map S.counts_left self.streams) }
+    {
+        let Demux {
+            frames: _,
+            sources,
+            taken: _,
+            broken: _,
+        } = self;
+        sources.abandon()
+    }
+}
+
+/// Takes the next byte of frames, and the bytes that the frame carries which it fills.
+fn take_byte<S: Stream, K: Sink>(
+    frames: &mut FrameReader,
+    sources: &mut Sources<S>,
+    shared: &S::Shared,
+    byte: u8,
+    sink: &mut K,
+) -> Result<(), Failed>
+    requires { All (IsReady S.broken S.taken (2 ^ 61)) sources.old }
+    ensures frames { (bytes : List ℕ) → reader.StandsAt frames.old bytes → reader.StandsAt frames.new (bytes ++ byte ∷ []) }
+    ensures stands { (s : Sizes) (bytes : List ℕ) → reader.StandsAt frames.old bytes
+        → AllStand (S.stands shared.now) S.sizes s sources.old (unframed bytes) → IsOk result
+        → AllStand (S.stands shared.now) S.sizes s sources.new (unframed (bytes ++ byte ∷ [])) }
+    ensures gains { (s : Sizes) (bytes : List ℕ) → reader.StandsAt frames.old bytes
+        → AllStand (S.stands shared.now) S.sizes s sources.old (unframed bytes)
+        → Gains (S.listing shared.now s) bytes (byte ∷ []) (K.state sink.old) (K.state sink.new) result }
+    ensures cause { HasCause (K.state sink.old) (K.state sink.new) result }
+    ensures shows { ShowsAsBefore (K.state sink.old) (K.state sink.new) }
+    ensures ready { (most : ℕ) → All (IsReady S.broken S.taken most) sources.old → IsOk result
+        → All (IsReady S.broken S.taken (most + 15)) sources.new }
+{
+    match frames.take(byte) {
+        Some(frame) => take_frame(sources, shared, &frame, sink),
+        None => Ok(()),
+    }
+}
+
+/// Takes the bytes that a frame carries, in order.
+fn take_frame<S: Stream, K: Sink>(
+    sources: &mut Sources<S>,
+    shared: &S::Shared,
+    frame: &FrameBytes,
+    sink: &mut K,
+) -> Result<(), Failed>
+    requires { All (IsReady S.broken S.taken (2 ^ 61)) sources.old }
+    ensures stands { (s : Sizes) (pairs : List (ℕ × ℕ)) → AllStand (S.stands shared.now) S.sizes s sources.old pairs → IsOk result
+        → AllStand (S.stands shared.now) S.sizes s sources.new (pairs ++ frame.now) }
+    ensures adds { (s : Sizes) (pairs : List (ℕ × ℕ)) → AllStand (S.stands shared.now) S.sizes s sources.old pairs
+        → Adds (S.listing shared.now s) pairs frame.now (K.state sink.old) (K.state sink.new) result }
+    ensures cause { HasCause (K.state sink.old) (K.state sink.new) result }
+    ensures shows { ShowsAsBefore (K.state sink.old) (K.state sink.new) }
+    ensures ready { (most : ℕ) → All (IsReady S.broken S.taken most) sources.old → IsOk result
+        → All (IsReady S.broken S.taken (most + 15)) sources.new }
+{
+    for place in 0..frame.len() {
+        let (id, byte) = frame.get(place).unwrap();
+        sources.take(shared, id, byte, sink)?;
+    }
+    Ok(())
+}

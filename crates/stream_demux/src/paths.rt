@@ -1,0 +1,62 @@
+//! The path of a stream among others.
+
+use crate::stream::Stream;
+use element_queue::{Counts, Ledger};
+use etm_types::{Id, Settings};
+use program_image::Image;
+use std::alloc::{AllocError, Global};
+use stream_decoder::StreamDecoder;
+use trace_io::{Failed, Sink};
+
+/// What all streams share is the image of the program.
+impl Stream for StreamDecoder {
+    ghost use Rattle.element_queue.specs.Counting.{counts_after};
+    ghost use Rattle.element_queue.specs.Pending.{losing};
+    ghost use Rattle.std.specs.Prelude.{◌++◌};
+    ghost use Rattle.stream_decoder.specs.Stands.{StandsAt};
+    ghost use Rattle.stream_demux.specs.Paths.{PathTallies, paths};
+
+    type Shared = Image;
+
+    ghost sizes = { λ d. d.decoding.reader.settings };
+
+    ghost broken = { λ d. d.broken };
+
+    ghost taken = { λ d. d.decoding.reader.taken };
+
+    ghost counts = { λ d. d.decoding.counts };
+
+    ghost counts_left = { λ d. counts_after d.decoding.counts 0 (losing (d.decoding.due ++ d.decoding.pending.held)) };
+
+    ghost stands = { StandsAt };
+
+    ghost tallies = { PathTallies };
+
+    ghost listing = { paths };
+
+    fn new(alloc: Global, settings: &Settings) -> Result<StreamDecoder, AllocError> {
+        StreamDecoder::new(alloc, settings)
+    }
+
+    fn take<K: Sink>(
+        &mut self,
+        image: &Image,
+        id: Id,
+        byte: u8,
+        sink: &mut K,
+    ) -> Result<(), Failed> {
+        StreamDecoder::take(self, image, id, byte, sink)
+    }
+
+    fn ledger(&self) -> Counts {
+        StreamDecoder::ledger(self)
+    }
+
+    fn finish<K: Sink>(self, id: Id, sink: &mut K) -> Result<bool, Failed> {
+        StreamDecoder::finish(self, id, sink)
+    }
+
+    fn abandon(self) -> Ledger {
+        StreamDecoder::abandon(self)
+    }
+}

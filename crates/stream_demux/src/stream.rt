@@ -1,0 +1,92 @@
+//! One stream among many, whatever is printed of it.
+ghost use Rattle.std.specs.Prelude.{◌≡◌, ◌<◌, ◌+◌, ◌^◌, ◌++◌, ◌∷◌, [], ◌↔◌, ℕ, List, Bool, false, not, IsOk, IsErr, IsTrue, IfOk};
+ghost use Rattle.std.specs.List.{concat};
+ghost use Rattle.element_queue.specs.declared.ledger.Counts.{Counts};
+ghost use Rattle.etm_types.specs.Settings.{Sizes};
+ghost use Rattle.path_text.specs.Writing.{Writes};
+ghost use Rattle.stream_demux.specs.Texts.{Listing, Printed, StreamEnds, text_of};
+ghost use Rattle.trace_io.specs.Bytes.{ShowsAsBefore};
+ghost use Rattle.trace_io.specs.Causes.{HasCause};
+
+use element_queue::{Counts, Ledger};
+use etm_types::{Id, Settings};
+use std::alloc::{AllocError, Global};
+use trace_io::{Failed, Sink};
+
+/// One stream, of which lines are printed as its bytes come. It has no drop: it ends by `finish` or `abandon`.
+pub trait Stream {
+    /// What all streams of a capture share.
+    type Shared;
+
+    /// The sizes of the stream's trace unit.
+    ghost sizes: { Self → Sizes };
+
+    /// Whether a write failed.
+    ghost broken: { Self → Bool };
+
+    /// How many bytes were taken.
+    ghost taken: { Self → ℕ };
+
+    /// What became of its P0 elements.
+    ghost counts: { Self → Counts };
+
+    /// The same once it is abandoned.
+    ghost counts_left: { Self → Counts };
+
+    /// These bytes were taken.
+    ghost stands: { Self.Shared → Self → List ℕ → Type 0 };
+
+    /// These counts are such as bytes have under these sizes.
+    ghost tallies: { Self.Shared → Sizes → List ℕ → Counts → Type 0 };
+
+    /// What is printed of a stream under these sizes.
+    ghost listing: { Self.Shared → Sizes → Listing };
+
+    /// A stream of which nothing was taken. This is the one call that takes memory, and the error means want of it.
+    fn new(alloc: Global, settings: &Settings) -> Result<Self, AllocError>
+        ensures stands { IfOk result (λ s. (shared : Self.Shared) → stands shared s []) }
+        ensures sizes { IfOk result (λ s. sizes s ≡ settings.now) }
+        ensures ready { IfOk result (λ s. (broken s ≡ false) × (taken s ≡ 0)) };
+
+    /// Takes the next byte, and writes the lines that it adds. The error means that a write failed; then the
+    /// stream is broken.
+    fn take<K: Sink>(
+        &mut self,
+        shared: &Self::Shared,
+        id: Id,
+        byte: u8,
+        sink: &mut K,
+    ) -> Result<(), Failed>
+        requires whole { broken self.old ≡ false }
+        requires few { taken self.old < 2 ^ 62 }
+        ensures stands { IsOk result → (bytes : List ℕ) → stands shared.now self.old bytes → stands shared.now self.new (bytes ++ byte ∷ []) }
+        ensures gains { (bytes : List ℕ) → stands shared.now self.old bytes
+            → (lines : List (List ℕ)) × (listing shared.now (sizes self.old)).gains id bytes byte lines
+            × Writes (K.state sink.old) (K.state sink.new) result (concat lines) }
+        ensures cause { HasCause (K.state sink.old) (K.state sink.new) result }
+        ensures shows { ShowsAsBefore (K.state sink.old) (K.state sink.new) }
+        ensures broken { IsTrue (broken self.new) ↔ IsErr result }
+        ensures taken { taken self.new ≡ taken self.old + 1 }
+        ensures sizes { sizes self.new ≡ sizes self.old };
+
+    /// What became of its P0 elements.
+    fn ledger(&self) -> Counts
+        ensures value { result ≡ counts self.now }
+        ensures tallied { (shared : Self.Shared) (bytes : List ℕ) → stands shared self.now bytes → tallies shared (sizes self.now) bytes result };
+
+    /// Writes the line of how the stream ends, and says whether it ends without a fault. Nothing is written of a
+    /// stream without bytes.
+    fn finish<K: Sink>(self, id: Id, sink: &mut K) -> Result<bool, Failed>
+        requires { broken self ≡ false }
+        ensures ends { (shared : Self.Shared) (bytes : List ℕ) → stands shared self bytes
+            → (lines : List Printed) × (faulty : Bool) × StreamEnds (listing shared (sizes self)) id bytes lines faulty
+            × Writes (K.state sink.old) (K.state sink.new) result (text_of lines) × IfOk result (λ whole. whole ≡ not faulty) }
+        ensures cause { HasCause (K.state sink.old) (K.state sink.new) result }
+        ensures shows { ShowsAsBefore (K.state sink.old) (K.state sink.new) };
+
+    /// Ends it without a line. It would have had one, by the bytes that it took.
+    fn abandon(self) -> Ledger
+        ensures value { result ≡ counts_left self }
+        ensures ends { (shared : Self.Shared) (id : ℕ) (bytes : List ℕ) → stands shared self bytes
+            → (lines : List Printed) × (faulty : Bool) × StreamEnds (listing shared (sizes self)) id bytes lines faulty };
+}
