@@ -214,12 +214,25 @@ fn an_image_that_is_bad_is_told_by_its_first_line(rt: HostRuntime) -> Result<(),
             ImageWhy::Syntax,
             b"image line 1: syntax\n",
         ),
-        // lines of two reasons: the earlier one of the order is told
+    ] {
+        assert_eq!(rt;
+            answer(&rt, rt.alloc(), image, &[], &[told])?,
+            Status::ImageBad { line, why }
+        );
+    }
+    let last_word = b"@fffffffffffffffc\n1f2003d5\n";
+    assert_eq!(rt; answer(&rt, rt.alloc(), last_word, &[], &[])?, Status::Done);
+    Ok(())
+}
+
+#[test]
+fn of_a_line_that_is_bad_for_two_reasons_the_earlier_is_told(rt: HostRuntime) -> Result<(), Fail> {
+    for (image, line, why, told) in [
         (
-            b"@1002 1f2003d5\n",
+            &b"@1002 1f2003d5\n"[..],
             1,
             ImageWhy::Syntax,
-            b"image line 1: syntax\n",
+            &b"image line 1: syntax\n"[..],
         ),
         (
             b"@fffffffffffffffc\n1f2003d5 1f20\n",
@@ -239,8 +252,6 @@ fn an_image_that_is_bad_is_told_by_its_first_line(rt: HostRuntime) -> Result<(),
             Status::ImageBad { line, why }
         );
     }
-    let last_word = b"@fffffffffffffffc\n1f2003d5\n";
-    assert_eq!(rt; answer(&rt, rt.alloc(), last_word, &[], &[])?, Status::Done);
     Ok(())
 }
 

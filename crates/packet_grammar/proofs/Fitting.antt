@@ -81,7 +81,8 @@ stamp_grows more b high small big (fits, inr (groups, some, most, e)) =
 
 stamp_next : (more b : ℕ) (x : Stamp) (bytes : List ℕ) (test : Bool) → nat_lt b 128 ≡ test → b < 256
     → ((high : Stamp) → StampWithin more (Ok high) bytes → StampFits more high)
-    → Where {A = Stamp} test (Known (Ok (record { bits = 7; low = b }))) (As (StampWithin more) (λ high. record { bits = 7 + high.bits; low = b - 128 + 128 * high.low })) (Ok x) bytes
+    → Where {A = Stamp} test (Known (Ok (record { bits = 7; low = b })))
+    (As (StampWithin more) (λ high. record { bits = 7 + high.bits; low = b - 128 + 128 * high.low })) (Ok x) bytes
     → StampFits (suc more) x
 stamp_next more b x [] true low small later is =
     let one : Stamp = record { bits = 7; low = b } in

@@ -131,7 +131,8 @@ info_fits s p [] small is = absurd is
 info_fits s p (control ∷ bytes) small is = info_next s control p bytes (nat_lt control 16) (small_tail control bytes small) is
 
 few_cases : (a b c : Bool)
-    → IsFewAtoms (if a then record { count = 0; first = false } else if b then record { count = 1; first = true } else if c then record { count = 2; first = true } else record { count = 1; first = false })
+    → IsFewAtoms (if a then record { count = 0; first = false } else if b then record { count = 1; first = true }
+    else if c then record { count = 2; first = true } else record { count = 1; first = false })
 few_cases true b c = inl refl
 few_cases false true c = inr (inl refl)
 few_cases false false true = inr (inr (inl refl))

@@ -23,7 +23,8 @@ use Rattle.packet_grammar.specs.Fields.{bit}
 use Rattle.packet_grammar.specs.Contexts.{Context, ShortAddress, LongAddress32, LongAddress64, address_of}
 use Rattle.packet_grammar.specs.Headers.{few_atoms, refused_headers, fault_in}
 use Rattle.packet_grammar.proofs.Table.{Body, alone, atoms, extension, trace_info, time_stamp, exception, commit, cancel, context, short_address, long_32}
-use Rattle.packet_grammar.proofs.Table.{long_64, long_32_with_context, long_64_with_context, headers, body_in, body_of, pick, whole, Follows, Told, AfterZero, AtomsOf, Exception}
+use Rattle.packet_grammar.proofs.Table.{long_64, long_32_with_context, long_64_with_context, headers, body_in}
+use Rattle.packet_grammar.proofs.Table.{body_of, pick, whole, Follows, Told, AfterZero, AtomsOf, Exception}
 use Rattle.packet_grammar.specs.Spelling.{Section, Mode, TraceInfo, SpellsPacket, OneOf}
 use Rattle.packet_grammar.specs.Faults.{SpellsFault, ShowsAt, Place, in_header, in_sync}
 use Rattle.packet_grammar.specs.Faults.{in_info, in_exception, in_number, in_context, in_context_of_32, in_context_of_64}
@@ -518,7 +519,8 @@ as_err part made f bytes (inl (x, front, b ∷ back, parts, is, e)) = absurd e
 as_err part made f bytes (inr (g, e, is)) = let same : f ≡ g = cc in subst (λ k. part (Err k) bytes) (sym same) is
 
 stamp_more : (more b : ℕ) (f : PacketFault) (bytes : List ℕ) (test : Bool) → (StampWithin more (Err f) bytes → ⊥)
-    → Where {A = Stamp} test (Known (Ok (record { bits = 7; low = b }))) (As (StampWithin more) (λ high. record { bits = 7 + high.bits; low = b - 128 + 128 * high.low })) (Err f) bytes → ⊥
+    → Where {A = Stamp} test (Known (Ok (record { bits = 7; low = b })))
+    (As (StampWithin more) (λ high. record { bits = 7 + high.bits; low = b - 128 + 128 * high.low })) (Err f) bytes → ⊥
 stamp_more more b f [] true later is = absurd cc
 stamp_more more b f (c ∷ bytes) true later is = absurd is
 stamp_more more b f bytes false later is = later

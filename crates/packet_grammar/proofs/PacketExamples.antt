@@ -368,7 +368,8 @@ context_vmid = (
   inl (Some 171, 0xab ∷ [], [], refl, inl (0xab ∷ [], 0xab ∷ [], [], refl, (refl, refl), refl), inl (None, [], [], refl, refl, refl)),
 )
 
-pub context_id : Spells one_and_four (Ok (CtxInfo (record { el = 2; ns = false; vmid = None; cid = Some 305419896 }))) (0x81 ∷ 0x9e ∷ 0x78 ∷ 0x56 ∷ 0x34 ∷ 0x12 ∷ [])
+pub context_id : Spells one_and_four (Ok (CtxInfo (record { el = 2; ns = false; vmid = None; cid = Some 305419896 })))
+    (0x81 ∷ 0x9e ∷ 0x78 ∷ 0x56 ∷ 0x34 ∷ 0x12 ∷ [])
 context_id = (
   0x9e ∷ 0x78 ∷ 0x56 ∷ 0x34 ∷ 0x12 ∷ [],
   refl,
@@ -389,7 +390,8 @@ context_id = (
   ),
 )
 
-pub context_both : Spells one_and_four (Ok (CtxInfo (record { el = 1; ns = true; vmid = Some 5; cid = Some 16909060 }))) (0x81 ∷ 0xf1 ∷ 0x05 ∷ 0x04 ∷ 0x03 ∷ 0x02 ∷ 0x01 ∷ [])
+pub context_both : Spells one_and_four (Ok (CtxInfo (record { el = 1; ns = true; vmid = Some 5; cid = Some 16909060 })))
+    (0x81 ∷ 0xf1 ∷ 0x05 ∷ 0x04 ∷ 0x03 ∷ 0x02 ∷ 0x01 ∷ [])
 context_both = (
   0xf1 ∷ 0x05 ∷ 0x04 ∷ 0x03 ∷ 0x02 ∷ 0x01 ∷ [],
   refl,
@@ -424,7 +426,8 @@ context_of_two_bytes = (
   ),
 )
 
-pub context_of_four_and_four : Spells four_and_four (Ok (CtxInfo (record { el = 0; ns = false; vmid = Some 16909060; cid = Some 84281096 }))) (0x81 ∷ 0xd0 ∷ 0x04 ∷ 0x03 ∷ 0x02 ∷ 0x01 ∷ 0x08 ∷ 0x07 ∷ 0x06 ∷ 0x05 ∷ [])
+pub context_of_four_and_four : Spells four_and_four (Ok (CtxInfo (record { el = 0; ns = false; vmid = Some 16909060; cid = Some 84281096 })))
+    (0x81 ∷ 0xd0 ∷ 0x04 ∷ 0x03 ∷ 0x02 ∷ 0x01 ∷ 0x08 ∷ 0x07 ∷ 0x06 ∷ 0x05 ∷ [])
 context_of_four_and_four = (
   0xd0 ∷ 0x04 ∷ 0x03 ∷ 0x02 ∷ 0x01 ∷ 0x08 ∷ 0x07 ∷ 0x06 ∷ 0x05 ∷ [],
   refl,
@@ -449,7 +452,8 @@ pub context_of_no_size : Spells none (Ok (CtxInfo (record { el = 0; ns = true; v
 context_of_no_size = (0xf0 ∷ [], refl, inl (None, [], [], refl, refl, inl (None, [], [], refl, refl, refl)))
 
 -- Address with Context packet: of 32 bits and of 64, where bit 7 of the two first bytes is passed over
-pub address_32_context : Spells one_and_four (Ok (Addr (Long32 0x40021010) (Some (record { el = 2; ns = false; vmid = Some 7; cid = None })))) (0x82 ∷ 0x84 ∷ 0x88 ∷ 0x02 ∷ 0x40 ∷ 0x52 ∷ 0x07 ∷ [])
+pub address_32_context : Spells one_and_four (Ok (Addr (Long32 0x40021010) (Some (record { el = 2; ns = false; vmid = Some 7; cid = None }))))
+    (0x82 ∷ 0x84 ∷ 0x88 ∷ 0x02 ∷ 0x40 ∷ 0x52 ∷ 0x07 ∷ [])
 address_32_context = (
   0x84 ∷ 0x88 ∷ 0x02 ∷ 0x40 ∷ [],
   0x52 ∷ 0x07 ∷ [],
@@ -459,7 +463,8 @@ address_32_context = (
 )
 
 pub address_64_context : (s : Sizes)
-    → Spells s (Ok (Addr (Long64 0x1000) (Some (record { el = 0; ns = false; vmid = None; cid = None })))) (0x85 ∷ 0x00 ∷ 0x08 ∷ 0x00 ∷ 0x00 ∷ 0x00 ∷ 0x00 ∷ 0x00 ∷ 0x00 ∷ 0x10 ∷ [])
+    → Spells s (Ok (Addr (Long64 0x1000) (Some (record { el = 0; ns = false; vmid = None; cid = None }))))
+    (0x85 ∷ 0x00 ∷ 0x08 ∷ 0x00 ∷ 0x00 ∷ 0x00 ∷ 0x00 ∷ 0x00 ∷ 0x00 ∷ 0x10 ∷ [])
 address_64_context s = (
   0x00 ∷ 0x08 ∷ 0x00 ∷ 0x00 ∷ 0x00 ∷ 0x00 ∷ 0x00 ∷ 0x00 ∷ [],
   0x10 ∷ [],
@@ -475,7 +480,9 @@ address_64_context s = (
   inl (None, [], [], refl, refl, inl (None, [], [], refl, refl, refl)),
 )
 
-pub address_64_both : Spells one_and_four (Ok (Addr (Long64 0x8807060584832008) (Some (record { el = 2; ns = true; vmid = Some 9; cid = Some 168496141 })))) (0x85 ∷ 0x02 ∷ 0x10 ∷ 0x83 ∷ 0x84 ∷ 0x05 ∷ 0x06 ∷ 0x07 ∷ 0x88 ∷ 0xf2 ∷ 0x09 ∷ 0x0d ∷ 0x0c ∷ 0x0b ∷ 0x0a ∷ [])
+pub address_64_both : Spells one_and_four
+    (Ok (Addr (Long64 0x8807060584832008) (Some (record { el = 2; ns = true; vmid = Some 9; cid = Some 168496141 }))))
+    (0x85 ∷ 0x02 ∷ 0x10 ∷ 0x83 ∷ 0x84 ∷ 0x05 ∷ 0x06 ∷ 0x07 ∷ 0x88 ∷ 0xf2 ∷ 0x09 ∷ 0x0d ∷ 0x0c ∷ 0x0b ∷ 0x0a ∷ [])
 address_64_both = (
   0x02 ∷ 0x10 ∷ 0x83 ∷ 0x84 ∷ 0x05 ∷ 0x06 ∷ 0x07 ∷ 0x88 ∷ [],
   0xf2 ∷ 0x09 ∷ 0x0d ∷ 0x0c ∷ 0x0b ∷ 0x0a ∷ [],

@@ -10,4 +10,5 @@ pub mod Hunt
 pub mod Adds
 pub mod OneAnswer
 pub mod Asked
+pub mod Endings
 mod Fronts

@@ -14,7 +14,7 @@ use crate::state::Progress;
 use crate::step::Step;
 use crate::sync::{LENGTH_OF_SYNC, ends_sync};
 use etm_types::{AtomRun, Settings};
-use packet_grammar::{Packet, PacketFault};
+use packet_grammar::{End, Packet, PacketFault};
 use std::marker::Model;
 
 /// Reads the packets of a stream, from its first A-sync on.
@@ -39,7 +39,9 @@ impl Model for PacketReader {
 
 impl PacketReader {
     ghost use Rattle.packet_grammar.specs.Fields.{bit};
+    ghost use Rattle.packet_grammar.specs.Ends.{end_of};
     ghost use Rattle.packet_grammar.specs.Parsed.{Ending, FirstSync, IsStream};
+    ghost use Rattle.packet_reader.specs.Answered.{fault_of};
     ghost use Rattle.packet_reader.specs.Stands.{StandsAt, Gains, TakesPacket, is_synced, rest_in, rest_of};
 
     /// A reader that has taken nothing.
@@ -152,6 +154,22 @@ impl PacketReader {
             → (packets : List (ℕ × Packet)) × (ending : Ending) × IsStream self.now.settings bytes packets ending × (result ≡ rest_of ending) }
     {
         rest_in(self.phase, self.start, self.taken)
+    }
+
+    /// How the stream ends if no byte more comes, where its bytes showed no fault.
+    pub fn end_without_fault(&self) -> End
+        requires { AreSettings self.now.settings }
+        ensures { (bytes : List ℕ) (packets : List (ℕ × Packet)) (ending : Ending) → StandsAt self.now bytes
+            → IsStream self.now.settings bytes packets ending → fault_of ending ≡ None → result ≡ end_of ending }
+    {
+        let count = self.rest();
+        if !self.synced() {
+            End::NoSync
+        } else if count == 0 {
+            End::Clean
+        } else {
+            End::Cut(count)
+        }
     }
 }
 

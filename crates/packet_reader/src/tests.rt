@@ -93,47 +93,46 @@ fn address_taken(bytes: &[u8]) -> Option<(u64, Address, usize)> {
 
 #[test]
 fn addresses_that_are_all_there_are_taken_at_once(rt: HostRuntime) {
-    let ctx = CtxBits {
-        el: 1,
-        ns: true,
-        vmid: Some(7),
-        cid: Some(0x0403_0201),
-    };
-    for (bytes, form, ctx, left) in [
-        (&[0x95, 0x7f][..], AddrForm::Short1(0x1fc), None, 0),
-        (
-            &[0x95, 0x81, 0x02, 0xf7][..],
-            AddrForm::Short2(0x404),
-            None,
-            1,
-        ),
-        (&[0x92][..], AddrForm::Match(2), None, 0),
+    for (bytes, form, left) in [
+        (&[0x95, 0x7f][..], AddrForm::Short1(0x1fc), 0),
+        (&[0x95, 0x81, 0x02, 0xf7][..], AddrForm::Short2(0x404), 1),
+        (&[0x92][..], AddrForm::Match(2), 0),
         (
             &[0x9a, 0x01, 0x02, 0x03, 0x04][..],
             AddrForm::Long32(0x0403_0404),
-            None,
             0,
         ),
         (
             &[0x9d, 0x01, 0x02, 0x03, 0x04, 0x05, 0x06, 0x07, 0x08][..],
             AddrForm::Long64(0x0807_0605_0403_0404),
-            None,
             0,
         ),
-        (
-            &[
-                0x85, 0, 0, 0, 0, 0, 0, 0, 0, 0xf1, 7, 1, 2, 3, 4, 0xf7, 0xf7,
-            ][..],
-            AddrForm::Long64(0),
-            Some(ctx),
-            2,
-        ),
     ] {
+        let ctx = None;
         assert_eq!(rt;
             address_taken(bytes),
             Some((12, Address { form, ctx }, left))
         );
     }
+}
+
+#[test]
+fn an_address_is_taken_at_once_with_its_context(rt: HostRuntime) {
+    let bytes = &[
+        0x85, 0, 0, 0, 0, 0, 0, 0, 0, 0xf1, 7, 1, 2, 3, 4, 0xf7, 0xf7,
+    ];
+    let form = AddrForm::Long64(0);
+    let ctx = Some(CtxBits {
+        el: 1,
+        ns: true,
+        vmid: Some(7),
+        cid: Some(0x0403_0201),
+    });
+    assert_eq!(rt; address_taken(bytes), Some((12, Address { form, ctx }, 2)));
+}
+
+#[test]
+fn what_is_no_whole_address_is_not_taken_at_once(rt: HostRuntime) {
     assert_eq!(rt; address_taken(&[0x95, 0x81]), None);
     assert_eq!(rt; address_taken(&[0x93]), None);
 }

@@ -4,6 +4,7 @@ use Rattle.std.proofs.Common.{append_assoc, append-nil, length-append}
 use Rattle.std.specs.Prelude.{slice_get}
 use Rattle.std.proofs.lemmas.List.{map-append, take_at}
 use Rattle.element_queue.specs.Pending.{Pending, Taken, taken}
+use Rattle.element_queue.proofs.Joined.{one_by_one}
 use Rattle.element_queue.specs.Resolved.{Resolved, at_first, unresolved, with_done, resolve, then_resolve, resolve_all}
 use Rattle.etm_types.specs.declared.element.Elem.{Elem}
 use Rattle.etm_types.specs.declared.element.Thing.{Thing}
@@ -28,18 +29,6 @@ use Rattle.program_image.specs.declared.image.Image.{Image}
 
 -- ---- elements are resolved one by one
 
-then_again : (s : Result Resolved QueueFault) (f g h : Resolved → Result Resolved QueueFault) → ((r : Resolved) → h r ≡ then_resolve (f r) g)
-    → then_resolve s h ≡ then_resolve (then_resolve s f) g
-then_again (Ok r) f g h same = same r
-then_again (Err fault) f g h same = refl
-
-pub resolve_all-append : (depth : ℕ) (r : Resolved) (xs ys : List Elem)
-    → resolve_all depth r (xs ++ ys) ≡ then_resolve (resolve_all depth r xs) (λ next. resolve_all depth next ys)
-resolve_all-append depth r [] ys = refl
-resolve_all-append depth r (x ∷ xs) ys =
-    then_again (resolve depth r x) (λ next. resolve_all depth next xs) (λ next. resolve_all depth next ys) (λ next. resolve_all depth next (xs ++ ys))
-    (λ next. resolve_all-append depth next xs ys)
-
 then_one : (s : Result Resolved QueueFault) → then_resolve s (λ next. Ok next) ≡ s
 then_one (Ok r) = refl
 then_one (Err f) = refl
@@ -50,7 +39,7 @@ pub resolved_on : (depth : ℕ) (elements : List (ℕ × Elem)) (p : Pending) (d
     → resolve_all depth unresolved (unplaced (elements ++ x ∷ [])) ≡ with_done done (taken depth p x.1)
 resolved_on depth elements p done x e =
     ap (resolve_all depth unresolved) (map-append (λ (y : ℕ × Elem). y.1) elements (x ∷ []))
-    ∙ resolve_all-append depth unresolved (unplaced elements) (x.1 ∷ [])
+    ∙ one_by_one depth unresolved (unplaced elements) (x.1 ∷ [])
     ∙ ap (λ s. then_resolve s (λ next. resolve_all depth next (x.1 ∷ []))) e
     ∙ then_one (resolve depth (at p done) x.1)
 

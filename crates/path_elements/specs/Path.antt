@@ -1,4 +1,6 @@
--- The path of a stream: the items that its committed P0 elements lead through over an image, and how it ends.
+-- The path of a stream: the items that its committed P0 elements lead through over an image, and how it ends (Arm IHI 0064,
+-- "Speculation", "P0 elements", "Descriptions of Trace Elements"). Which faults there are, and that the first of them ends the path, is
+-- this project's own choice.
 use Rattle.std.specs.Prelude.{◌≡◌, ◌⊎◌, ℕ, ◌+◌, List, map, take, Option, Some, None, Ok, Err, slice_get}
 use Rattle.element_queue.specs.Resolved.{Resolved, unresolved, resolve_all}
 use Rattle.etm_types.specs.Settings.{Sizes}
@@ -20,7 +22,8 @@ use Rattle.program_image.specs.declared.image.Image.{Image}
 abbrev pub unplaced : List (ℕ × Elem) → List Elem
 unplaced elements = map (λ (e : ℕ × Elem). e.1) elements
 
--- the elements have no fault, nor has the walk of what they committed, which shows these items
+-- The elements have no fault ("Speculation"), nor has the walk of what they committed, which shows these items ("P0 elements",
+-- "Descriptions of Trace Elements").
 pub record WalksAll (image : Image) (depth : ℕ) (elements : List (ℕ × Elem)) (items : List Item) : Type 0 where
   pub resolved : Resolved
   pub after : State
@@ -59,12 +62,13 @@ abbrev pub end_behind : Option ℕ → Ending → End
 end_behind None ending = end_of ending
 end_behind (Some at) ending = end.Fault at AddressAwaited
 
--- the path of packets that end so
+-- the path of packets that end so ("Descriptions of Trace Elements": which elements a packet has)
 abbrev pub IsPathOfPackets : Image → ℕ → List (ℕ × Packet) → Ending → List Item → End → List (ℕ × Elem) → Type 0
 IsPathOfPackets image depth packets ending items last took =
     IsPathOfElements image depth ((all_elements untold packets).elements) (end_behind ((all_elements untold packets).awaited) ending) items last took
 
--- the path of a stream's bytes, and the elements that it took
+-- the path of a stream's bytes, and the elements that it took ("Alignment Synchronization packet", "Descriptions of Trace Packets":
+-- which packets the bytes are)
 abbrev pub IsPathTaking : Image → Sizes → List ℕ → List Item → End → List (ℕ × Elem) → Type 0
 IsPathTaking image s bytes items last took =
     (packets : List (ℕ × Packet)) × (ending : Ending) × IsStream s bytes packets ending × IsPathOfPackets image s.depth packets ending items last took

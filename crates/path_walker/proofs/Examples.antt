@@ -131,7 +131,14 @@ goes image address stack taken plain class pc run there next = record
 -- what an entry shows that leads somewhere
 shows : (image : Image) (s : State) (entry : Entry) (count : ℕ) (pc : Pc) (stack : List ℕ) → mismatch_of (pc_before s entry.pre) entry.pre.addr ≡ None
     → Leads image (start_of s entry.pre).at (start_of s entry.pre).stack entry.p0 count pc stack
-    → Shows image s entry (record { on = entry.pre.on; unknown = is_none (start_of s entry.pre).at; ctx = context_of s entry.pre; start = unwrap_or (start_of s entry.pre).at 0; count = count; exc = mark_of entry.p0 })
+    → Shows image s entry (record {
+      on = entry.pre.on;
+      unknown = is_none (start_of s entry.pre).at;
+      ctx = context_of s entry.pre;
+      start = unwrap_or (start_of s entry.pre).at 0;
+      count = count;
+      exc = mark_of entry.p0;
+    })
     (at pc stack (context_of s entry.pre))
 shows image s entry count pc stack agrees leads = record
     { agrees = agrees; leads = leads; on = refl; unknown = refl; start = refl; ctx = refl; kept = refl; exc = refl }

@@ -1,6 +1,7 @@
 -- What each step of a ring does to the cells does the same to its items.
 use Rattle.std.proofs.Common.{◌≡◌, ℕ, zero, suc, ◌+◌, ◌-◌, ◌^◌, ◌<◌, ◌≤◌, inl, inr, List, [], ◌∷◌, ◌++◌, map, length, take}
-use Rattle.std.proofs.Common.{drop, set, get_or, replicate, slice_get, Option, Some, None, refl, sym, ap, ◌∙◌, subst, arith, length-append, length-set, get_or-set_same, ext_get_or, append-nil}
+use Rattle.std.proofs.Common.{drop, set, get_or, replicate, slice_get, Option, Some, None, refl, sym, ap, ◌∙◌}
+use Rattle.std.proofs.Common.{subst, arith, length-append, length-set, get_or-set_same, ext_get_or, append-nil}
 use Rattle.std.proofs.lemmas.List.{append_assoc, map-append, length-map, length-replicate, replicate-append-replicate, set-append_left}
 use Rattle.std.proofs.lemmas.Bool.{cases_lt}
 use Rattle.std.proofs.Math.Seq.{set-append_seam, take-append_seam}

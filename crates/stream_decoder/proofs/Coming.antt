@@ -58,7 +58,8 @@ use Rattle.packet_reader.specs.declared.step.Step.TheVariants.{Skipped, More, Wh
 use Rattle.path_elements.proofs.BytePaths.{fault_stays}
 use Rattle.path_elements.proofs.Grows.{each_packet_adds}
 use Rattle.path_elements.proofs.Paths.{last_of, runs_to_path}
-use Rattle.path_elements.proofs.Runs.{ended, ended_or_stopped, goes, goes_or_halts, halts, runs_all, runs_append, same_ended, same_goes, same_walking, walking_or_halting}
+use Rattle.path_elements.proofs.Runs.{ended, ended_or_stopped, goes, goes_or_halts, halts, runs_all}
+use Rattle.path_elements.proofs.Runs.{runs_append, same_ended, same_goes, same_walking, walking_or_halting}
 use Rattle.path_elements.specs.Elements.{Gained, all_elements, elements_of, is_misplaced, placed, told_after, untold}
 use Rattle.path_elements.specs.Elements as told_so
 use Rattle.path_elements.specs.Laws.{with_packet}
@@ -431,7 +432,8 @@ module _ (image : Image) (bytes : List ℕ) (byte : ℕ) (items : List Item) (d 
           let before : d.counts ≡ tally (depth_of m) at_first no_counts (unplaced took) =
           came.counts (ap is_walk_fault (unmet_before d.fault refl opens)) ∙ ap (λ (n : ℕ). tally n at_first no_counts (unplaced took)) depth in
           let small_count : (m.counts).committed < 2 ^ 64 =
-          subst (λ (c : Counts). c.committed < 2 ^ 64) (sym (k.kept_counts ∙ before)) (tally_small (depth_of m) at_first no_counts (unplaced took) (omega arith)) in
+          subst (λ (c : Counts). c.committed < 2 ^ 64) (sym (k.kept_counts ∙ before))
+          (tally_small (depth_of m) at_first no_counts (unplaced took) (omega arith)) in
           let there = runs_take image (depth_of m) at_first first_state took items (m.pending, m.walk) took no_counts opened.runs in
           let ends : tally (depth_of m) at_first no_counts (unplaced took) ≡ there.0 =
           ap (tally (depth_of m) at_first no_counts) (sym (append-nil (unplaced took)))
@@ -460,7 +462,8 @@ module _ (image : Image) (bytes : List ℕ) (byte : ℕ) (items : List Item) (d 
             opened.gained ∙ ap (λ (l : List (ℕ × Elem)). gains l None m.told) same ∙ ap (gains (took ++ took') None) (sym told_same),
             subst (λ (n : ℕ). Runs image n at_first first_state (took ++ took') (items ++ others) (Ok (d'.pending, d'.walk)) (took ++ took'))
                 (ap (λ (r : reader.Standing). (r.settings).depth) (sym reads))
-                (subst (λ (l : List (ℕ × Elem)). Runs image (depth_of m) at_first first_state l (items ++ others) (Ok (d'.pending, d'.walk)) (took ++ took')) same runs),
+                (subst (λ (l : List (ℕ × Elem)). Runs image (depth_of m) at_first first_state l (items ++ others)
+                (Ok (d'.pending, d'.walk)) (took ++ took')) same runs),
           )
 
       -- all that was left to do is done

@@ -6,7 +6,6 @@ pub mod Lefts
 pub mod Taking
 pub mod Stepping
 pub mod Waits
-pub mod Endings
 pub mod Printing
 pub mod Standing
 pub mod Growing

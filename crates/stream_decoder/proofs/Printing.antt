@@ -1,5 +1,6 @@
 -- What a decoder prints, and at which bytes it stands then.
-use Rattle.std.proofs.Common.{◌≡◌, ℕ, ◌<◌, Bool, true, false, List, [], ◌∷◌, ◌++◌, length, Option, Some, None, Result, Ok, Err, refl, sym, ap, subst, ◌∙◌, inl, inr, append-nil, append_assoc}
+use Rattle.std.proofs.Common.{◌≡◌, ℕ, ◌<◌, Bool, true, false, List, [], ◌∷◌, ◌++◌, length, Option, Some, None}
+use Rattle.std.proofs.Common.{Result, Ok, Err, refl, sym, ap, subst, ◌∙◌, inl, inr, append-nil, append_assoc}
 use Rattle.std.specs.Prelude.{All, IsOk}
 use Rattle.std.proofs.lemmas.List.Elements.{All-nil, All-cons, All-head, All-tail}
 use Rattle.element_queue.specs.Pending.{Pending}
@@ -103,7 +104,8 @@ module _ (image : Image) (id : ℕ) (d e : Decoding) (shown now : Option Ctx) (o
           items = p.items ++ more;
           goes = goes_on image d e next p.items more p.goes goes;
           context = is ∙ ap (λ (c : Option Ctx). shown_after_all c more) p.context ∙ sym (shown_after_all-append shown p.items more);
-          wrote = subst (λ (t : List ℕ). Wrote old new t) (lines_on more) (wrote_more old mid new (lines_of id shown p.items) (lines_of id now more) p.wrote wrote);
+          wrote = subst (λ (t : List ℕ). Wrote old new t) (lines_on more)
+              (wrote_more old mid new (lines_of id shown p.items) (lines_of id now more) p.wrote wrote);
         }
 
     -- a write fails

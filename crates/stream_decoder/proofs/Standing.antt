@@ -1,5 +1,6 @@
 -- What the bytes at which a decoding stands say of it.
-use Rattle.std.proofs.Common.{◌≡◌, ℕ, ◌==◌, Bool, false, if◌then◌else◌, List, [], ◌∷◌, length, inl, inr, arith, Option, Some, None, Ok, refl, sym, ap, subst, ◌∙◌}
+use Rattle.std.proofs.Common.{◌≡◌, ℕ, ◌==◌, Bool, false, if◌then◌else◌, List, [], ◌∷◌, length, inl}
+use Rattle.std.proofs.Common.{inr, arith, Option, Some, None, Ok, refl, sym, ap, subst, ◌∙◌}
 use Rattle.element_queue.specs.Counting.{no_counts, tally}
 use Rattle.element_queue.specs.Resolved.{at_first}
 use Rattle.element_queue.specs.declared.ledger.Counts.{Counts}
@@ -52,8 +53,13 @@ module _ (image : Image) (d : Decoding) (bytes : List ℕ) (items : List Item) w
         ending = c.1;
         stream = c.2;
         free = λ none. c.3;
-        path = subst (λ (f : Option (ℕ × Fault)). IsPathTaking image ((d.reader).settings) bytes items (end_at f c.1) took) (sym is)
-            (c.0, c.1, c.2, subst (λ (g : Gained). IsPathOfElements image (depth_of d) g.elements (end_behind g.awaited c.1) items (end_of c.1) took) (sym c.4) path);
+        path = subst (λ (f : Option (ℕ × Fault)). IsPathTaking image ((d.reader).settings) bytes items (end_at f c.1) took) (sym is) (
+          c.0,
+          c.1,
+          c.2,
+          subst (λ (g : Gained). IsPathOfElements image (depth_of d) g.elements (end_behind g.awaited c.1) items (end_of c.1) took)
+              (sym c.4) path,
+        );
       }
 
   pub ends_so : (came : Came image d bytes items) → EndsSo image d bytes items came.took

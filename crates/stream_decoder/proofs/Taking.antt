@@ -91,7 +91,8 @@ module _ (r : Standing) (t : Told) (l : Left) (w w' : Waiting) (s : State) (f : 
       record {
         made = (ap (λ (c : Counts). c.made) (ap (λ (x : Waiting). x.counts) others) ∙ same_count w.counts.made range.made) k;
         committed = (ap (λ (c : Counts). add c.committed (entries w'.due)) (ap (λ (x : Waiting). x.counts) others)
-            ∙ two_parts w.counts.committed (entries (thing ∷ [])) (entries w'.due) ∙ ap (add w.counts.committed) (sym (entries_so thing w'.due) ∙ ap entries (sym order))) k;
+            ∙ two_parts w.counts.committed (entries (thing ∷ [])) (entries w'.due)
+            ∙ ap (add w.counts.committed) (sym (entries_so thing w'.due) ∙ ap entries (sym order))) k;
         cancelled = (ap (λ (c : Counts). c.cancelled) (ap (λ (x : Waiting). x.counts) others) ∙ same_count w.counts.cancelled range.cancelled) k;
         lost = (ap (λ (c : Counts). c.lost) (ap (λ (x : Waiting). x.counts) others) ∙ same_count w.counts.lost range.lost) k;
       }
@@ -111,7 +112,8 @@ module _ (r : Standing) (t : Told) (l : Left) (w w' : Waiting) (s : State) (f : 
 
   pub due_aligned : IsDecoding here → All IsAlignedThing (thing ∷ [])
   due_aligned is =
-      let all : All IsAlignedThing (thing ∷ (w'.due ++ w.pending.held)) = subst (λ (d : List Thing). All IsAlignedThing (d ++ w.pending.held)) order is.things in
+      let all : All IsAlignedThing (thing ∷ (w'.due ++ w.pending.held)) =
+      subst (λ (d : List Thing). All IsAlignedThing (d ++ w.pending.held)) order is.things in
       All-cons IsAlignedThing thing [] (All-head IsAlignedThing thing (w'.due ++ w.pending.held) all) (All-nil IsAlignedThing)
 
   pub holds_due : (w.depth ≡ (r.settings).depth) × IsDecoding here → IsWaiting w' → (w'.depth ≡ (r.settings).depth) × IsDecoding next
@@ -131,7 +133,8 @@ module _ (r : Standing) (t : Told) (l : Left) (w w' : Waiting) (s : State) (f : 
           address = subst (λ (p : Pending). ToldIsAligned p.pre.addr) (sym same) d.address;
           elements = d.elements;
           walk = d.walk;
-          begins = λ e. absurd (let none = (d.begins (ap (λ (p : Pending). p.informed) (sym same) ∙ e)).0 in let bad : [] ≡ thing ∷ w'.due = sym none ∙ order in cc);
+          begins = λ e.
+              absurd (let none = (d.begins (ap (λ (p : Pending). p.informed) (sym same) ∙ e)).0 in let bad : [] ≡ thing ∷ w'.due = sym none ∙ order in cc);
           stopped = λ met. absurd (let none = (d.stopped met).due in let bad : [] ≡ thing ∷ w'.due = sym none ∙ order in cc);
         },
       )

@@ -144,7 +144,8 @@ leads_so : (image : Image) (d : Decoding) (p' : Pending) (w' : State) (due' xs :
 leads_so image d p' w' due' xs [] todo' items still by walks rest outcome more yields =
     leads_by image (depth_of d) d.at d.pending p' d.walk w' d.due due' xs d.todo todo' items by.0 by.1 still walks rest outcome more yields
 leads_so image d p' w' due' xs (e ∷ []) todo' items still by walks rest outcome more yields =
-    rw by.0 (rw still (leads_by_element image (depth_of d) d.at e d.pending p' d.walk w' due' xs todo' (by.1).0 items (by.1).1 (by.1).2 walks rest outcome more yields))
+    rw by.0 (rw still (leads_by_element image (depth_of d) d.at e d.pending p' d.walk w' due' xs todo' (by.1).0 items (by.1).1 (by.1).2 walks rest
+    outcome more yields))
 leads_so image d p' w' due' xs (e ∷ f ∷ took) todo' items still by walks rest outcome more yields = absurd by
 
 -- what is taken by one of these steps is taken without a fault
@@ -201,11 +202,13 @@ goes_on image d m d' items others a b =
           ap (λ (n : ℕ). placed d.at a.took ++ (placed n b.took ++ more)) at ∙ sym (append_assoc (placed d.at a.took) (placed d.at b.took) more)
           ∙ ap (λ (l : List (ℕ × Elem)). l ++ more) (sym (placed_append d.at a.took b.took)) in
           subst (λ (l : List (ℕ × Elem)). Yields image d ((items ++ others) ++ rest) outcome l) joined
-          (subst (λ (l : List Item). Yields image d l outcome (placed d.at a.took ++ (placed m.at b.took ++ more))) (sym (append_assoc items others rest)) first);
+          (subst (λ (l : List Item). Yields image d l outcome (placed d.at a.took ++ (placed m.at b.took ++ more)))
+          (sym (append_assoc items others rest)) first);
       rest = b.rest ∙ ap (λ (x : Decoding). record x { pending = d'.pending; due = d'.due; walk = d'.walk; todo = d'.todo; counts = d'.counts }) a.rest;
     }
 
-pub goes_to_end : (image : Image) (d m d' : Decoding) (items others : List Item) → Goes image d items m → Ends image m others d' → Ends image d (items ++ others) d'
+pub goes_to_end : (image : Image) (d m d' : Decoding) (items others : List Item) → Goes image d items m → Ends image m others d'
+    → Ends image d (items ++ others) d'
 goes_to_end image d m d' items others a b =
     let depth : depth_of m ≡ depth_of d = ap depth_of a.rest in
     let took = placed d.at a.took ++ b.took in
@@ -219,7 +222,8 @@ goes_to_end image d m d' items others a b =
       done = b.done;
       made = b.made ∙ ap (λ (c : Counts). c.made) tallied;
       counts = λ free. b.counts free ∙ tallied;
-      rest = b.rest ∙ ap (λ (x : Decoding). record x { pending = d'.pending; due = []; walk = d'.walk; todo = []; fault = d'.fault; counts = d'.counts }) a.rest;
+      rest = b.rest
+          ∙ ap (λ (x : Decoding). record x { pending = d'.pending; due = []; walk = d'.walk; todo = []; fault = d'.fault; counts = d'.counts }) a.rest;
     }
 
 -- ---- the end

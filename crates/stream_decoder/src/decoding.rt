@@ -2,7 +2,6 @@
 ghost use Rattle.std.specs.Prelude.{◌≡◌, ◌<◌, ◌+◌, ◌^◌, ◌++◌, ◌∷◌, [], List, ℕ, Ok, Err, Some, None, IfOk, IsErr, IsTrue, false, All, ◌↔◌, option_to_list};
 ghost use Rattle.element_queue.specs.Counting.{Balances, counts_after};
 ghost use Rattle.element_queue.specs.Pending.{losing};
-ghost use Rattle.etm_types.specs.Settings.{AreSettings};
 ghost use Rattle.etm_types.specs.declared.queue_fault.QueueFault.{QueueFault};
 ghost use Rattle.etm_types.specs.declared.walk_fault.WalkFault.{WalkFault};
 ghost use Rattle.packet_grammar.specs.Ends.{end_of};
@@ -247,7 +246,7 @@ impl Decoding {
     {
         match self.fault {
             Some((at, fault)) => End::Fault { at, fault },
-            None => end_without_fault(&self.reader),
+            None => self.reader.end_without_fault(),
         }
     }
 
@@ -280,21 +279,5 @@ impl Decoding {
             fault: _,
         } = self;
         waiting.close()
-    }
-}
-
-/// How the stream ends whose bytes the reader took, where it met no fault.
-fn end_without_fault(reader: &PacketReader) -> End
-    requires { AreSettings reader.now.settings }
-    ensures { (bytes : List ℕ) (packets : List (ℕ × Packet)) (ending : Ending) → stands.StandsAt reader.now bytes
-        → IsStream reader.now.settings bytes packets ending → fault_of ending ≡ None → result ≡ end_of ending }
-{
-    let count = reader.rest();
-    if !reader.synced() {
-        End::NoSync
-    } else if count == 0 {
-        End::Clean
-    } else {
-        End::Cut(count)
     }
 }

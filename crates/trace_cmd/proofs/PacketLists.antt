@@ -3,8 +3,6 @@ use Rattle.trace_io.specs.State.{IoState}
 use Rattle.std.proofs.Common.{
   ◌≡◌,
   ℕ,
-  zero,
-  suc,
   ◌+◌,
   ◌<◌,
   ◌==◌,
@@ -16,7 +14,6 @@ use Rattle.std.proofs.Common.{
   ◌∷◌,
   ◌++◌,
   length,
-  drop,
   get_or,
   Option,
   Result,
@@ -29,31 +26,28 @@ use Rattle.std.proofs.Common.{
   ap,
   subst,
   ◌∙◌,
-  inl,
-  inr,
   arith,
   append_assoc,
   append-nil,
   length-append,
 }
-use Rattle.std.specs.Prelude.{All, is_some, if◌then◌else◌}
+use Rattle.std.specs.Prelude.{All, is_some}
 use Rattle.std.proofs.lemmas.List.Elements.{All-from_get_or}
 use Rattle.etm_types.specs.Settings.{Sizes, AreSettings}
 use Rattle.packet_grammar.specs.declared.packet.Packet.{Packet}
 use Rattle.packet_grammar.specs.declared.packet.Packet.TheVariants.{Mispredict, Cancel2, Atoms}
 use Rattle.packet_grammar.specs.declared.fault.PacketFault.{PacketFault}
-use Rattle.packet_grammar.specs.Parsed.{Ending, no_sync, clean, cut, fault, FirstSync, IsStream, Parses}
+use Rattle.packet_grammar.specs.Parsed.{Ending, no_sync, clean, cut, fault, IsStream}
 use Rattle.packet_grammar.specs.Ranges.{IsPacket}
 use Rattle.packet_grammar.proofs.Fitting.{small_back}
 use Rattle.packet_grammar.proofs.Streams.{each_is_a_stream, one_stream, parsed}
 use Rattle.packet_reader.specs.declared.step.Step.{Step}
 use Rattle.packet_reader.specs.declared.step.Step.TheVariants.{Whole}
-use Rattle.packet_reader.specs.Stands.{Gains, GainsPacket, Standing, StandsAt, rest_of}
+use Rattle.packet_reader.specs.Stands.{Gains, GainsPacket, Standing, StandsAt}
 use Rattle.packet_reader.specs.Answered.{told, fault_after, fault_of}
 use Rattle.packet_reader.proofs.Stream.{stream_on, fault_stays}
 use Rattle.packet_reader.proofs.Adds.{Told, gains_more, nothing_is_a_stream, nothing_told}
 use Rattle.packet_grammar.specs.declared.end.End.{End}
-use Rattle.packet_grammar.specs.declared.end.End.TheVariants.{Clean, Cut}
 use Rattle.path_text.specs.PacketLines.{HasText, packet_line}
 use Rattle.path_text.specs.EndLines.{end_line}
 use Rattle.path_text.specs.Writing.{Writes}
@@ -61,48 +55,7 @@ use Rattle.trace_io.specs.declared.traits.Failed.{Failed}
 use Rattle.packet_grammar.specs.Ends.{end_of}
 use Rattle.trace_cmd.specs.PacketList.{TakesFront, packet_lines, is_faulty, list_text, IsPacketList}
 use Rattle.std.proofs.lemmas.Bool.{eqb-true}
-use Rattle.path_walker.proofs.Search.{cases}
 use Rattle.path_text.proofs.Wrote.{Wrote, wrote_nothing, wrote_more, writes_all, fails_after}
-
--- ---- how a stream ends
-
-never_without_sync : (s : Sizes) (at : ℕ) (bytes : List ℕ) (packets : List (ℕ × Packet)) → Parses s at bytes packets no_sync → ⊥
-never_without_sync s at bytes [] is = is
-never_without_sync s at bytes (p ∷ packets) (text, rest, starts, parts, spells, is) = never_without_sync s (at + length text) rest packets is
-
-cut_has_bytes : (s : Sizes) (at : ℕ) (bytes : List ℕ) (packets : List (ℕ × Packet)) (n : ℕ) → Parses s at bytes packets (cut n) → 0 < n
-cut_has_bytes s at bytes [] n is = is.1
-cut_has_bytes s at bytes (p ∷ packets) n (text, rest, starts, parts, spells, is) = cut_has_bytes s (at + length text) rest packets n is
-
-abbrev pub by_rest : ℕ → End
-by_rest n = if n == 0 then Clean else Cut n
-
-by_some : (n : ℕ) → 0 < n → by_rest n ≡ Cut n
-by_some n some = elim (cases (n == 0)) [ inl t ↦ absurd (omega (arith, eqb-true n 0 t, some)) | inr f ↦ rw f refl ]
-
-pub end_when_none : (n : ℕ) (last : End) → by_rest n ≡ last → n ≡ 0 → Clean ≡ last
-end_when_none n last e none = subst (λ k. by_rest k ≡ last) none e
-
-pub end_when_some : (n : ℕ) (last : End) → by_rest n ≡ last → (n ≡ 0 → ⊥) → Cut n ≡ last
-end_when_some zero last e some = absurd (some refl)
-end_when_some (suc n) last e some = sym (by_some (suc n) (omega arith)) ∙ e
-
-end_behind_sync : (s : Sizes) (bytes : List ℕ) (packets : List (ℕ × Packet)) (ending : Ending) → (at : ℕ) → FirstSync at bytes
-    → IsStream s bytes packets ending → fault_of ending ≡ None
-    → by_rest (rest_of ending) ≡ end_of ending
-end_behind_sync s bytes packets no_sync place found (inl (at, first, is)) none = absurd (never_without_sync s at (drop at bytes) packets is)
-end_behind_sync s bytes packets no_sync place found (inr (nowhere, e, f)) none = absurd (nowhere place found.here)
-end_behind_sync s bytes packets clean place found is none = refl
-end_behind_sync s bytes packets (cut n) place found (inl (at, first, is)) none = by_some n (cut_has_bytes s at (drop at bytes) packets n is)
-end_behind_sync s bytes packets (cut n) place found (inr (nowhere, e, f)) none = absurd cc
-end_behind_sync s bytes packets (fault at f) place found is none = absurd cc
-
--- the bytes of the begun packet tell how a stream ends in which an A-sync stands, and no fault
-pub end_by_rest : (s : Sizes) → AreSettings s → (bytes : List ℕ) (packets others : List (ℕ × Packet)) (ending other : Ending) (n at : ℕ) → FirstSync at bytes
-    → IsStream s bytes packets ending → IsStream s bytes others other → n ≡ rest_of other → fault_of ending ≡ None → by_rest n ≡ end_of ending
-end_by_rest s are bytes packets others ending other n at found is also e none =
-    let same = one_stream s are bytes packets others ending other is also in
-    ap by_rest (e ∙ ap rest_of (sym same.1)) ∙ end_behind_sync s bytes packets ending at found is none
 
 -- ---- how far the list has come
 

@@ -135,7 +135,13 @@ module _ (image : Image) (s : Sizes) (are : AreSettings s) (id : ℕ) (old : IoS
           (sym (lines_of-append id None (grows.items ++ more) later) ∙ ap (lines_of id None) (sym (grown.0).1)) in (
             lines_of id None all.0 ++ end_line id all.1,
             is_fault all.1,
-            record { items = all.0; last = all.1; path = (all.2, all.3); printed = some_printed id (front ++ rest) all.0 all.1 (not_empty bytes rest byte); fault = refl },
+            record {
+              items = all.0;
+              last = all.1;
+              path = (all.2, all.3);
+              printed = some_printed id (front ++ rest) all.0 all.1 (not_empty bytes rest byte);
+              fault = refl;
+            },
             fails_after old here new e d xs ys behind (lines_of id None all.0 ++ end_line id all.1) text wrote_before writes,
           )
 

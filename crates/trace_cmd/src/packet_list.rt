@@ -105,22 +105,6 @@ fn write_packets<K: Sink>(
     Ok(None)
 }
 
-/// How the stream ends whose bytes the reader took, where it met no fault.
-fn end_without_fault(reader: &PacketReader) -> End
-    requires { AreSettings reader.now.settings }
-    ensures { (bytes : List ℕ) (packets : List (ℕ × Packet)) (ending : Ending) → StandsAt reader.now bytes
-        → IsStream reader.now.settings bytes packets ending → fault_of ending ≡ None → result ≡ end_of ending }
-{
-    let count = reader.rest();
-    if !reader.synced() {
-        End::NoSync
-    } else if count == 0 {
-        End::Clean
-    } else {
-        End::Cut(count)
-    }
-}
-
 /// How the stream ends that has this fault, or of which the reader took all bytes and met none.
 fn end_at(reader: &PacketReader, fault: Option<(u64, PacketFault)>) -> End
     requires { AreSettings reader.now.settings }
@@ -132,7 +116,7 @@ fn end_at(reader: &PacketReader, fault: Option<(u64, PacketFault)>) -> End
             at,
             fault: Fault::Packet(fault),
         },
-        None => end_without_fault(reader),
+        None => reader.end_without_fault(),
     }
 }
 

@@ -22,10 +22,13 @@ loop-found-preserved g c =
     let state = g.K.Sink.state in
     let image = c.args.image.now in let id = c.args.id in
     let goes = c.next.ensures.found c.in-Some.found c.in-Some.is in
-    let wrote = wrote_by (state c.loop-found.sink) (state c.write_found.new.sink) tt (lines_of id c.loop-found.shown (items_of_found c.in-Some.found)) c.in-Ok.ensures.lines in
+    let wrote = wrote_by (state c.loop-found.sink) (state c.write_found.new.sink) tt (lines_of id c.loop-found.shown (items_of_found c.in-Some.found))
+    c.in-Ok.ensures.lines in
     record {
-      printed = printed_on image id c.args.decoding.now c.loop-found.decoding c.args.shown.now c.loop-found.shown (state c.args.sink.now) (state c.loop-found.sink)
-          (state c.write_found.new.sink) c.loop-found.invariant.printed c.in-Some.found c.next.new.self goes c.write_found.new.shown c.in-Ok.ensures.shown wrote;
+      printed = printed_on image id c.args.decoding.now c.loop-found.decoding c.args.shown.now c.loop-found.shown
+          (state c.args.sink.now) (state c.loop-found.sink)
+          (state c.write_found.new.sink) c.loop-found.invariant.printed c.in-Some.found c.next.new.self goes
+          c.write_found.new.shown c.in-Ok.ensures.shown wrote;
       rest = λ done. absurd (
           let still = subst AtRest (sym (c.loop-found.invariant.rest done).0) done in
           let e : None ≡ Some c.in-Some.found = sym (c.next.ensures.stopped still).0 ∙ c.in-Some.is in cc);
@@ -36,7 +39,8 @@ pub returns-in-Err-clause-prints : goal.returns-in-Err-clause-prints
 returns-in-Err-clause-prints g c none =
     let state = g.K.Sink.state in
     let goes = c.next.ensures.found c.in-Some.found c.in-Some.is in
-    prints_front c.args.image.now c.args.id c.args.decoding.now c.loop-found.decoding c.args.shown.now c.loop-found.shown (state c.args.sink.now) (state c.loop-found.sink)
+    prints_front c.args.image.now c.args.id c.args.decoding.now c.loop-found.decoding c.args.shown.now c.loop-found.shown
+    (state c.args.sink.now) (state c.loop-found.sink)
     (state c.write_found.new.sink) c.loop-found.invariant.printed c.in-Some.found c.next.new.self goes c.next.new.self c.write_found.new.shown c.in-Err.failed
     c.has_gap.ensures c.next.ensures.holds c.in-Err.ensures.lines
 
@@ -44,5 +48,6 @@ pub returns-clause-prints : goal.returns-clause-prints
 returns-clause-prints g c none =
     let state = g.K.Sink.state in
     let whole : c.loop-found.decoding.fault ≡ None = ap (λ (d : Decoding). d.fault) c.loop-found.invariant.printed.goes.rest ∙ none in
-    prints_all c.args.image.now c.args.id c.args.decoding.now c.loop-found.decoding c.args.shown.now c.loop-found.shown (state c.args.sink.now) (state c.loop-found.sink)
+    prints_all c.args.image.now c.args.id c.args.decoding.now c.loop-found.decoding c.args.shown.now c.loop-found.shown
+    (state c.args.sink.now) (state c.loop-found.sink)
     (state c.loop-found.sink) c.loop-found.invariant.printed c.next.new.self (c.next.ensures.ends c.in_default.is whole)

@@ -1,6 +1,11 @@
 -- `get` shows the value of a cell.
-use Rattle.spend_ring.proofs.Steps.{◌≡◌, refl, ◌∙◌, ◌+◌, ◌*◌, ◌<◌, ◌^◌, arith, List, [], ◌∷◌, ◌++◌, length, get_or, full_share, never, SProp, id⊢, ftrue, fat, flft, Fn, inst_fn, Val, vptr, Env, WpFn, prop, ‵, raw, ◌⊛◌, at_ret, ◌$◌, ◌∵◌, !, qed, by, move, keep, drop, use0, use1, split, join, fsplit, fjoin, feq_i, feq_l, flt_l, rewrite, regoal, whole, sub, enter, of_opd}
-use Rattle.spend_ring.proofs.Steps.{addr, bin, size_lit, stop, fld, first_of, blocks, exec, returns, alloc_all, pass_all, free_all, look_at, get, get_in, through, sets, sets_last, take_at, give_at, env, fact, fact_i, tables, yes, no, owns, layout, Ptr, in_a_block, usize, RefOf, plain, types_at, nothing, heard, Stays, stay_dropped, walk_of, Goes-dropped, Some, None, Option, proved_at, leaves, word, word-Good, after, El, R, args, el_x, Cells, First, first_had}
+use Rattle.spend_ring.proofs.Steps.{◌≡◌, refl, ◌∙◌, ◌+◌, ◌*◌, ◌<◌, ◌^◌, arith, List, [], ◌∷◌, ◌++◌, length, get_or, full_share, never, SProp, id⊢}
+use Rattle.spend_ring.proofs.Steps.{ftrue, fat, flft, Fn, inst_fn, Val, vptr, Env, WpFn, prop, ‵, raw, ◌⊛◌, at_ret, ◌$◌, ◌∵◌, !, qed, by, move, keep}
+use Rattle.spend_ring.proofs.Steps.{drop, use0, use1, split, join, fsplit, fjoin, feq_i, feq_l, flt_l, rewrite, regoal, whole, sub, enter, of_opd}
+use Rattle.spend_ring.proofs.Steps.{addr, bin, size_lit, stop, fld, first_of, blocks, exec, returns, alloc_all, pass_all, free_all, look_at, get}
+use Rattle.spend_ring.proofs.Steps.{get_in, through, sets, sets_last, take_at, give_at, env, fact, fact_i, tables, yes, no, owns, layout, Ptr}
+use Rattle.spend_ring.proofs.Steps.{in_a_block, usize, RefOf, plain, types_at, nothing, heard, Stays, stay_dropped, walk_of, Goes-dropped, Some}
+use Rattle.spend_ring.proofs.Steps.{None, Option, proved_at, leaves, word, word-Good, after, El, R, args, el_x, Cells, First, first_had}
 use base.Logic.{emp}
 use contract.BorrowLft.{◌⊑◌}
 use denote.Opens.{hide, unhide}

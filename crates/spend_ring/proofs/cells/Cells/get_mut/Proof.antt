@@ -1,6 +1,13 @@
 -- `get_mut` lends the value of a cell, and the cells follow it.
-use Rattle.spend_ring.proofs.Steps.{◌≡◌, refl, sym, subst, ◌∙◌, ℕ, ◌+◌, ◌*◌, ◌<◌, ◌^◌, arith, List, [], ◌∷◌, ◌++◌, length, get_or, set, length-set, full_share, never, SProp, id⊢, ftrue, fat, flft, Fn, named, inst_fn, Val, vptr, Env, WpFn, prop, ‵, raw, ◌⊛◌, some, later, pick, await, group, fjoin3, fpack, at_ret, ◌$◌, ◌∵◌, !, qed, by, done, move, keep, use0, use1, use2, split, join, fsplit, fsplit3, fjoin, feq_l, flt_i, flt_l, rewrite, regoal, whole, sub, enter, of_opd}
-use Rattle.spend_ring.proofs.Steps.{addr, bin, size_lit, stop, fld, first_of, blocks, exec, returns, alloc_all, pass_all, free_all, look_at, get, get_in, through, sets, sets_last, take_at, give_at, env, fact, fact_i, tables, yes, no, owns, layout, Ptr, in_a_block, MutBor, MutRef, mut_ref_to, mem, cell_at, block_ptr, Mark, Ura, Logic, sem, ent, Fml, GName, fsep, usize, plain, types_at, nothing, heard, opens, Stays, stay_dropped, walk_of, Goes-spent_ref, Goes-dropped, Some, None, Option, proved_at, leaves, word, word-Good, after, El, R, args, el_x, Cells, First, first_had}
+use Rattle.spend_ring.proofs.Steps.{◌≡◌, refl, sym, subst, ◌∙◌, ℕ, ◌+◌, ◌*◌, ◌<◌, ◌^◌, arith, List, [], ◌∷◌, ◌++◌, length, get_or, set, length-set}
+use Rattle.spend_ring.proofs.Steps.{full_share, never, SProp, id⊢, ftrue, fat, flft, Fn, named, inst_fn, Val, vptr, Env, WpFn, prop, ‵, raw, ◌⊛◌}
+use Rattle.spend_ring.proofs.Steps.{some, later, pick, await, group, fjoin3, fpack, at_ret, ◌$◌, ◌∵◌, !, qed, by, done, move, keep, use0, use1, use2}
+use Rattle.spend_ring.proofs.Steps.{split, join, fsplit, fsplit3, fjoin, feq_l, flt_i, flt_l, rewrite, regoal, whole, sub, enter, of_opd}
+use Rattle.spend_ring.proofs.Steps.{addr, bin, size_lit, stop, fld, first_of, blocks, exec, returns, alloc_all, pass_all, free_all, look_at, get}
+use Rattle.spend_ring.proofs.Steps.{get_in, through, sets, sets_last, take_at, give_at, env, fact, fact_i, tables, yes, no, owns, layout, Ptr}
+use Rattle.spend_ring.proofs.Steps.{in_a_block, MutBor, MutRef, mut_ref_to, mem, cell_at, block_ptr, Mark, Ura, Logic, sem, ent, Fml, GName, fsep}
+use Rattle.spend_ring.proofs.Steps.{usize, plain, types_at, nothing, heard, opens, Stays, stay_dropped, walk_of, Goes-spent_ref, Goes-dropped, Some}
+use Rattle.spend_ring.proofs.Steps.{None, Option, proved_at, leaves, word, word-Good, after, El, R, args, el_x, Cells, First, first_had}
 use base.Logic.{emp}
 use base.Logic.{sep}
 use contract.BorrowLft.{◌⊑◌}
@@ -28,7 +35,8 @@ module _ (E : El) (d : (Cells E).Denot) (place : ℕ) where
 
 module _ (E : El) {M : Type 1} {𝓤 : Ura M} (𝓛 : Logic 𝓤) (d : (Cells E).Denot) (place rb ro : ℕ) (vs : List Val) (b o : ℕ) where
   back : d.at ≡ block_ptr b o → place < length d.held → length d.held * type_size (R E) < 2 ^ 63
-      → (w : el_x E) → ent 𝓤 (sep 𝓤 (sem 𝓛 ((mem (R E)).own_at w b (place * type_size (R E) + o))) (sem 𝓛 (Left E d place rb ro vs b o))) (sem 𝓛 ((mem (Cells E)).own_at (changed E d place w) rb ro))
+      → (w : el_x E) → ent 𝓤 (sep 𝓤 (sem 𝓛 ((mem (R E)).own_at w b (place * type_size (R E) + o))) (sem 𝓛 (Left E d place rb ro vs b o)))
+      (sem 𝓛 ((mem (Cells E)).own_at (changed E d place w) rb ro))
   unfolding part_of
   back at inside small w =
       let new = changed E d place w in

@@ -1,6 +1,13 @@
 -- `put` fills an empty cell.
-use Rattle.spend_ring.proofs.Steps.{◌≡◌, refl, sym, subst, ◌∙◌, ◌+◌, ◌*◌, ◌<◌, ◌^◌, arith, List, [], ◌∷◌, ◌++◌, length, get_or, set, length-set, full_share, never, SProp, id⊢, ftrue, fat, flft, Fn, inst_fn, Val, vptr, vunit, Env, WpFn, prop, ‵, raw, ◌⊛◌, at_ret, ◌$◌, ◌∵◌, !, qed, by, move, keep, use0, use1, use2, split, join, fsplit, fsplit3, fjoin, fjoin3, feq_i, feq_l, flt_i, flt_l, rewrite, regoal, whole, sub, enter}
-use Rattle.spend_ring.proofs.Steps.{of_opd, unit_lit, bin, size_lit, init, stop, fld, assigns_last, first_of, blocks, exec, returns, alloc_all, pass_all, free_all, look_at, get, get_in, through, sets, take_at, give_at, env, fact, fact_i, tables, yes, no, owns, layout, Ptr, in_a_block, usize, plain, types_at, nothing, heard, opens, closes, Stays, stay_ref, stay_dropped, walk_of, Goes-ref, Goes-dropped, Some, None, Option, proved_at, leaves, as_written, word, word-Good, after, El, R, args, el_x, elτ, Cells, First, first_had, value_had}
+use Rattle.spend_ring.proofs.Steps.{◌≡◌, refl, sym, subst, ◌∙◌, ◌+◌, ◌*◌, ◌<◌, ◌^◌, arith, List, [], ◌∷◌, ◌++◌, length, get_or, set}
+use Rattle.spend_ring.proofs.Steps.{length-set, full_share, never, SProp, id⊢, ftrue, fat, flft, Fn, inst_fn, Val, vptr, vunit, Env}
+use Rattle.spend_ring.proofs.Steps.{WpFn, prop, ‵, raw, ◌⊛◌, at_ret, ◌$◌, ◌∵◌, !, qed, by, move, keep, use0, use1, use2, split, join}
+use Rattle.spend_ring.proofs.Steps.{fsplit, fsplit3, fjoin, fjoin3, feq_i, feq_l, flt_i, flt_l, rewrite, regoal, whole, sub, enter}
+use Rattle.spend_ring.proofs.Steps.{of_opd, unit_lit, bin, size_lit, init, stop, fld, assigns_last, first_of, blocks, exec, returns}
+use Rattle.spend_ring.proofs.Steps.{alloc_all, pass_all, free_all, look_at, get, get_in, through, sets, take_at, give_at, env, fact, fact_i}
+use Rattle.spend_ring.proofs.Steps.{tables, yes, no, owns, layout, Ptr, in_a_block, usize, plain, types_at, nothing, heard, opens, closes}
+use Rattle.spend_ring.proofs.Steps.{Stays, stay_ref, stay_dropped, walk_of, Goes-ref, Goes-dropped, Some, None, Option, proved_at, leaves}
+use Rattle.spend_ring.proofs.Steps.{as_written, word, word-Good, after, El, R, args, el_x, elτ, Cells, First, first_had, value_had}
 use base.Logic.{emp}
 use contract.BorrowLft.{◌⊑◌}
 use Rattle.core.proofs.ptr.Rows.{times_below, one_below, el_in}

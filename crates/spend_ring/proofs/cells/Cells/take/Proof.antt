@@ -1,6 +1,13 @@
 -- `take` moves a value out, and leaves its cell empty.
-use Rattle.spend_ring.proofs.Steps.{◌≡◌, refl, sym, subst, ◌∙◌, ◌+◌, ◌*◌, ◌<◌, ◌^◌, arith, List, [], ◌∷◌, ◌++◌, length, get_or, set, length-set, full_share, never, SProp, id⊢, ftrue, fat, froom, flft, Fn, inst_fn, Val, vptr, Env, WpFn, prop, ‵, raw, ◌⊛◌, some, given, pick, learn, at_ret, ◌$◌, ◌∵◌, !, qed, by, move, keep, use0, use1, use2, split, join, fsplit, fsplit3, fjoin, fjoin3, feq_i, feq_l, flt_i, flt_l, rewrite, regoal, whole}
-use Rattle.spend_ring.proofs.Steps.{sub, enter, of_opd, load, look, bin, size_lit, stop, fld, first_of, blocks, exec, returns, alloc_all, pass_all, free_all, look_at, get, get_in, through, sets, sets_last, take_at, give_at, env, fact, fact_i, tables, yes, no, owns, layout, Ptr, in_a_block, usize, plain, types_at, nothing, heard, opens, closes, Stays, stay_ref, stay_dropped, walk_of, Goes-ref, Goes-dropped, Some, None, Option, proved_at, leaves, as_raw, word, word-Good, after, El, R, args, el_x, elτ, Cells, First, first_had, Good}
+use Rattle.spend_ring.proofs.Steps.{◌≡◌, refl, sym, subst, ◌∙◌, ◌+◌, ◌*◌, ◌<◌, ◌^◌, arith, List, [], ◌∷◌, ◌++◌, length, get_or, set}
+use Rattle.spend_ring.proofs.Steps.{length-set, full_share, never, SProp, id⊢, ftrue, fat, froom, flft, Fn, inst_fn, Val, vptr, Env, WpFn}
+use Rattle.spend_ring.proofs.Steps.{prop, ‵, raw, ◌⊛◌, some, given, pick, learn, at_ret, ◌$◌, ◌∵◌, !, qed, by, move, keep, use0, use1, use2}
+use Rattle.spend_ring.proofs.Steps.{split, join, fsplit, fsplit3, fjoin, fjoin3, feq_i, feq_l, flt_i, flt_l, rewrite, regoal, whole}
+use Rattle.spend_ring.proofs.Steps.{sub, enter, of_opd, load, look, bin, size_lit, stop, fld, first_of, blocks, exec, returns, alloc_all}
+use Rattle.spend_ring.proofs.Steps.{pass_all, free_all, look_at, get, get_in, through, sets, sets_last, take_at, give_at, env, fact, fact_i}
+use Rattle.spend_ring.proofs.Steps.{tables, yes, no, owns, layout, Ptr, in_a_block, usize, plain, types_at, nothing, heard, opens, closes}
+use Rattle.spend_ring.proofs.Steps.{Stays, stay_ref, stay_dropped, walk_of, Goes-ref, Goes-dropped, Some, None, Option, proved_at, leaves}
+use Rattle.spend_ring.proofs.Steps.{as_raw, word, word-Good, after, El, R, args, el_x, elτ, Cells, First, first_had, Good}
 use base.Logic.{emp}
 use contract.BorrowLft.{◌⊑◌}
 use Rattle.core.proofs.ptr.Rows.{times_below, one_below, el_out}

@@ -1,6 +1,13 @@
 -- `give_back` makes the block of its empty cells again, and hands it to the allocator with its token.
-use Rattle.spend_ring.proofs.Steps.{◌≡◌, refl, sym, ap, subst, ◌∙◌, ℕ, ◌*◌, ◌<◌, ◌^◌, arith, List, [], ◌∷◌, ◌++◌, replicate, length-replicate, SProp, never, id⊢, Incl-trans, ftrue, froom, flft, Fn, w64, inst_fn, Val, vint, vunit, Env, WpFn, prop, ‵, raw, ◌⊛◌, later, given, at_ret, ◌$◌, ◌∵◌, !, qed, by, move, keep, use1, split, join, group, fsplit, fjoin, feq_i, feq_l, flt_l, await, learn, rewrite, regoal}
-use Rattle.spend_ring.proofs.Steps.{whole, sub, enter, of_opd, unit_lit, bin, size_word, align_word, stop, fld, and_then, no_more, first_of, blocks, exec, returns, alloc_all, pass_all, free_all, look_at, get, get_in, sets, is_so, env, fact, tables, yes, no, RattleType, owns, ptr_val, in_a_block, Ptr, RefOf, usize, plain, types_at, nothing, heard, Stays, stay_dropped, walk_of, Goes-dropped, Option, None, proved_at, leaves, as_raw, word-Good, after, El, R, el_x, elτ, Cells, First, first_had, mark_had}
+use Rattle.spend_ring.proofs.Steps.{◌≡◌, refl, sym, ap, subst, ◌∙◌, ℕ, ◌*◌, ◌<◌, ◌^◌, arith, List, [], ◌∷◌, ◌++◌, replicate}
+use Rattle.spend_ring.proofs.Steps.{length-replicate, SProp, never, id⊢, Incl-trans, ftrue, froom, flft, Fn, w64, inst_fn, Val, vint}
+use Rattle.spend_ring.proofs.Steps.{vunit, Env, WpFn, prop, ‵, raw, ◌⊛◌, later, given, at_ret, ◌$◌, ◌∵◌, !, qed, by, move, keep}
+use Rattle.spend_ring.proofs.Steps.{use1, split, join, group, fsplit, fjoin, feq_i, feq_l, flt_l, await, learn, rewrite, regoal}
+use Rattle.spend_ring.proofs.Steps.{whole, sub, enter, of_opd, unit_lit, bin, size_word, align_word, stop, fld, and_then, no_more}
+use Rattle.spend_ring.proofs.Steps.{first_of, blocks, exec, returns, alloc_all, pass_all, free_all, look_at, get, get_in, sets, is_so}
+use Rattle.spend_ring.proofs.Steps.{env, fact, tables, yes, no, RattleType, owns, ptr_val, in_a_block, Ptr, RefOf, usize, plain}
+use Rattle.spend_ring.proofs.Steps.{types_at, nothing, heard, Stays, stay_dropped, walk_of, Goes-dropped, Option, None, proved_at}
+use Rattle.spend_ring.proofs.Steps.{leaves, as_raw, word-Good, after, El, R, el_x, elτ, Cells, First, first_had, mark_had}
 use lib.Dec.{T as Holds}
 use mir.Syntax.{ty_array, ty_unit}
 use mir.Val.{has_ty, WT}

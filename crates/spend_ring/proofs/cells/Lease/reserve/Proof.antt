@@ -1,6 +1,13 @@
 -- `reserve` makes empty cells of a new block, and keeps the right to give it back.
-use Rattle.spend_ring.proofs.Steps.{◌≡◌, refl, sym, ap, subst, ◌*◌, ◌<◌, ◌^◌, arith, List, [], ◌∷◌, ◌++◌, replicate, length-replicate, length, SProp, ent, Incl-trans, ftrue, flft, Fn, Body, w64, inst_fn, Val, vint, vstruct, vcons, vnil, Env, WpFn, Logic, sem, prop, ‵, raw, ◌⊛◌, later, at_ret, ◌$◌, ◌∵◌, !, qed, by, move, keep, use0, use1, use2, use3, split, join, fsplit, fjoin, fpack, feq_i, feq_l, flt_i, flt_l, await, regoal}
-use Rattle.spend_ring.proofs.Steps.{done, whole, agg, enter, of_opd, lit, bin, size_word, align_word, stop, fld, and_then, no_more, first_of, exec, returns, alloc_all, pass_all, free_all, look_at, get, get_in, sets, sets_last, is_so, env, fact, fact_i, tables, yes, RattleType, Valss, owns, layout, Ptr, block_ptr, RefOf, usize, plain, types_at, nothing, heard, Stays, stay_dropped, walk_of, Goes-dropped, None, proved_at, leaves, as_written, word, word-Good, after, El, R, elτ, Cells, First, Mark, mark, mark_made, first_made, Ura}
+use Rattle.spend_ring.proofs.Steps.{◌≡◌, refl, sym, ap, subst, ◌*◌, ◌<◌, ◌^◌, arith, List, [], ◌∷◌, ◌++◌, replicate, length-replicate}
+use Rattle.spend_ring.proofs.Steps.{length, SProp, ent, Incl-trans, ftrue, flft, Fn, Body, w64, inst_fn, Val, vint, vstruct, vcons, vnil}
+use Rattle.spend_ring.proofs.Steps.{Env, WpFn, Logic, sem, prop, ‵, raw, ◌⊛◌, later, at_ret, ◌$◌, ◌∵◌, !, qed, by, move, keep, use0, use1}
+use Rattle.spend_ring.proofs.Steps.{use2, use3, split, join, fsplit, fjoin, fpack, feq_i, feq_l, flt_i, flt_l, await, regoal}
+use Rattle.spend_ring.proofs.Steps.{done, whole, agg, enter, of_opd, lit, bin, size_word, align_word, stop, fld, and_then, no_more}
+use Rattle.spend_ring.proofs.Steps.{first_of, exec, returns, alloc_all, pass_all, free_all, look_at, get, get_in, sets, sets_last, is_so}
+use Rattle.spend_ring.proofs.Steps.{env, fact, fact_i, tables, yes, RattleType, Valss, owns, layout, Ptr, block_ptr, RefOf, usize, plain}
+use Rattle.spend_ring.proofs.Steps.{types_at, nothing, heard, Stays, stay_dropped, walk_of, Goes-dropped, None, proved_at, leaves}
+use Rattle.spend_ring.proofs.Steps.{as_written, word, word-Good, after, El, R, elτ, Cells, First, Mark, mark, mark_made, first_made, Ura}
 use base.Logic.{emp, sep}
 use lib.Dec.{lit<}
 use mir.Syntax.{ty_array}
@@ -42,7 +49,8 @@ three u v w = vstruct (vcons u (vcons v (vcons w vnil)))
 
 -- what a tuple of three owns is what each part owns
 three_made : {M : Type 1} {𝓤 : Ura M} (𝓛 : Logic 𝓤) (A B C : RattleType) (x : A.Denot) (y : B.Denot) (z : C.Denot) (u v w : Val)
-    → ent 𝓤 (sep 𝓤 (sem 𝓛 (A.own_val x (u ∷ []))) (sep 𝓤 (sem 𝓛 (B.own_val y (v ∷ []))) (sem 𝓛 (C.own_val z (w ∷ []))))) (sem 𝓛 ((Tuple (A ∷ B ∷ C ∷ [])).own_val (x, y, z) (three u v w ∷ [])))
+    → ent 𝓤 (sep 𝓤 (sem 𝓛 (A.own_val x (u ∷ []))) (sep 𝓤 (sem 𝓛 (B.own_val y (v ∷ []))) (sem 𝓛 (C.own_val z (w ∷ [])))))
+    (sem 𝓛 ((Tuple (A ∷ B ∷ C ∷ [])).own_val (x, y, z) (three u v w ∷ [])))
 three_made 𝓛 A B C x y z u v w =
     qed 𝓛 (‵ (A.own_val x (u ∷ [])) ∷ ‵ (B.own_val y (v ∷ [])) ∷ ‵ (C.own_val z (w ∷ [])) ∷ []) ∵
     nothing ! $ move ! (3 ∷ 0 ∷ []) $ fjoin ! $ move ! (2 ∷ 0 ∷ []) $ fjoin ! $ move ! (1 ∷ 0 ∷ []) $ fjoin ! $ feq_i ! (List Val) (three u v w ∷ [])
@@ -70,7 +78,8 @@ reserve_spec 𝓤 𝓛 𝓜 𝓡 wired X W LX LW g d dd met md =
     let other_tokens = ‵ (flft κs.1.0 qs.1.0) ⊛ ‵ (flft κs.1.1.0 qs.1.1.0) ⊛ ‵ ftrue in
     let Block : Out.Denot → Type 0 =
     λ r. IfOk r (λ t. IsBlock t.0 t.1 t.2 count a) in let Empty : Out.Denot → Type 0 = λ r. IfOk r (λ t. t.1.held ≡ replicate count None) in
-    let ends : (r : Out.Denot) (v : Val) → Block r → Empty r → ent 𝓤 (⋆ 𝓛 (‵ (Out.own_val r (v ∷ [])) ∷ ‵ (flft κs.0 qs.0) ∷ ‵ ftrue ∷ other_tokens ∷ [])) (Post v) =
+    let ends : (r : Out.Denot) (v : Val) → Block r → Empty r
+    → ent 𝓤 (⋆ 𝓛 (‵ (Out.own_val r (v ∷ [])) ∷ ‵ (flft κs.0 qs.0) ∷ ‵ ftrue ∷ other_tokens ∷ [])) (Post v) =
     λ r v block none.
     (qed 𝓛 (‵ (Out.own_val r (v ∷ [])) ∷ ‵ (flft κs.0 qs.0) ∷ ‵ ftrue ∷ other_tokens ∷ []) ∵
     use0 𝓛 (raw (fact 𝓤 (Empty r))) (fact_i 𝓤 (Empty r) (emp 𝓤) none) $ use0 𝓛 (raw (fact 𝓤 (Block r))) (fact_i 𝓤 (Block r) (emp 𝓤) block) $ join ! $ nothing

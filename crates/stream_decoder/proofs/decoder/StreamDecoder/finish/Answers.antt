@@ -60,5 +60,8 @@ returns-in-Err-clause-line g c image bytes items last stands path =
     end_known image c.args.self.decoding bytes stands.items stands.came are items last path.0 path.1 c.end-end.result
     (λ packets ending stream free. ends bytes packets ending stands.came.reads stream free) in
     let a = g.K.Sink.state c.args.sink.now in let b = g.K.Sink.state c.write_end.new.sink in
-    let wrote = answers_err {U = Bool} a b c.in-Err.failed c.in-Err.failed (end_line c.args.id c.end-end.result) c.in-Err.ensures in
-    (subst (λ (t : List ℕ). Writes {T = Bool} {E = Failed} a b (Err c.in-Err.failed) t) (ap (end_line c.args.id) known ∙ printed_end c.args.id bytes last some) wrote, tt)
+    let wrote = answers_err {U = Bool} a b c.in-Err.failed c.in-Err.failed (end_line c.args.id c.end-end.result) c.in-Err.ensures in (
+      subst (λ (t : List ℕ). Writes {T = Bool} {E = Failed} a b (Err c.in-Err.failed) t)
+          (ap (end_line c.args.id) known ∙ printed_end c.args.id bytes last some) wrote,
+      tt,
+    )

@@ -55,7 +55,8 @@ returns-in-Ok-clause-grows g c bytes stands =
     (λ none.
     let p = c.in-Ok.ensures.prints none in (
       p.items,
-      grows_on image bytes c.args.byte c.ranges.byte.fits stands.items d m are settings begun stands.came c.args.self.now.shown stands.shown none p.items p.outcome p.took
+      grows_on image bytes c.args.byte c.ranges.byte.fits stands.items d m are settings begun stands.came c.args.self.now.shown
+          stands.shown none p.items p.outcome p.took
           p.yields,
       subst (λ (s : Option Ctx). Writes {T = Unit {0}} {E = Failed} a b (Ok tt) (lines_of c.args.id s p.items)) shown p.writes,
     ))
@@ -79,7 +80,8 @@ returns-in-Err-clause-grows g c bytes stands =
     (λ none.
     let p = c.in-Err.ensures.prints none in (
       p.items,
-      grows_on image bytes c.args.byte c.ranges.byte.fits stands.items d m are settings begun stands.came c.args.self.now.shown stands.shown none p.items p.outcome p.took
+      grows_on image bytes c.args.byte c.ranges.byte.fits stands.items d m are settings begun stands.came c.args.self.now.shown
+          stands.shown none p.items p.outcome p.took
           p.yields,
       subst (λ (s : Option Ctx). Writes {T = Unit {0}} {E = Failed} a b (Err c.in-Err.failed) (lines_of c.args.id s p.items)) shown p.writes,
     ))

@@ -10,25 +10,29 @@ use Rattle.stream_decoder.proofs.decoding.Decoding.begin.Goals as goal
 pub invariant_of-self : goal.invariant_of-self
 invariant_of-self c =
     let i = c.self.inside in let t = c.take-step in
-    kept_reading i.reader t.new.self c.args.byte c.ranges.byte.fits t.result t.ensures.settings t.ensures.stands t.ensures.gains i.maker i.todo i.waiting i.walker i.fault
+    kept_reading i.reader t.new.self c.args.byte c.ranges.byte.fits t.result t.ensures.settings t.ensures.stands
+    t.ensures.gains i.maker i.todo i.waiting i.walker i.fault
     c.self.invariant
 
 pub returns-then-is_some-clause-begun : goal.returns-then-is_some-clause-begun
 returns-then-is_some-clause-begun c =
     let i = c.self.inside in let t = c.take-step in
-    begun_behind_fault i.reader t.new.self c.args.byte c.ranges.byte.fits t.result t.ensures.settings t.ensures.stands t.ensures.gains i.maker i.todo i.waiting i.walker
+    begun_behind_fault i.reader t.new.self c.args.byte c.ranges.byte.fits t.result t.ensures.settings t.ensures.stands
+    t.ensures.gains i.maker i.todo i.waiting i.walker
     i.fault c.args.self.now c.self.view_is _ refl c.if-is_some.ensures refl
 
 pub returns-then-is_some-clause-holds : goal.returns-then-is_some-clause-holds
 returns-then-is_some-clause-holds c =
     let i = c.self.inside in let t = c.take-step in
-    (kept_reading i.reader t.new.self c.args.byte c.ranges.byte.fits t.result t.ensures.settings t.ensures.stands t.ensures.gains i.maker i.todo i.waiting i.walker i.fault
+    (kept_reading i.reader t.new.self c.args.byte c.ranges.byte.fits t.result t.ensures.settings t.ensures.stands
+    t.ensures.gains i.maker i.todo i.waiting i.walker i.fault
     c.self.invariant).1
 
 pub invariant_of-self-in-Whole : goal.invariant_of-self-in-Whole
 invariant_of-self-in-Whole c =
     let i = c.self.inside in let t = c.take-step in
-    kept_reading i.reader t.new.self c.args.byte c.ranges.byte.fits t.result t.ensures.settings t.ensures.stands t.ensures.gains i.maker i.todo i.waiting i.walker i.fault
+    kept_reading i.reader t.new.self c.args.byte c.ranges.byte.fits t.result t.ensures.settings t.ensures.stands
+    t.ensures.gains i.maker i.todo i.waiting i.walker i.fault
     c.self.invariant
 
 pub open-requires-clause-packet : goal.open-requires-clause-packet
@@ -39,13 +43,15 @@ open-requires-clause-packet c =
 pub invariant_of-self-in-Bad : goal.invariant_of-self-in-Bad
 invariant_of-self-in-Bad c =
     let i = c.self.inside in let t = c.take-step in
-    kept_faulted i.reader t.new.self c.args.byte c.ranges.byte.fits t.result t.ensures.settings t.ensures.stands t.ensures.gains i.maker i.todo i.waiting i.walker i.fault
+    kept_faulted i.reader t.new.self c.args.byte c.ranges.byte.fits t.result t.ensures.settings t.ensures.stands
+    t.ensures.gains i.maker i.todo i.waiting i.walker i.fault
     c.self.invariant (c.in-Bad.at, fault.Packet c.in-Bad.fault) (subst AtRest (sym c.self.view_is) c.requires.rest)
 
 pub invariant_of-self-in-Skipped : goal.invariant_of-self-in-Skipped
 invariant_of-self-in-Skipped c =
     let i = c.self.inside in let t = c.take-step in
-    kept_reading i.reader t.new.self c.args.byte c.ranges.byte.fits t.result t.ensures.settings t.ensures.stands t.ensures.gains i.maker i.todo i.waiting i.walker i.fault
+    kept_reading i.reader t.new.self c.args.byte c.ranges.byte.fits t.result t.ensures.settings t.ensures.stands
+    t.ensures.gains i.maker i.todo i.waiting i.walker i.fault
     c.self.invariant
 
 pub returns-in-Whole-clause-begun : goal.returns-in-Whole-clause-begun
@@ -53,7 +59,8 @@ returns-in-Whole-clause-begun c =
     let i = c.self.inside in let t = c.take-step in
     let here = decoding_of i.reader i.maker i.todo i.waiting i.walker i.fault in
     let opens : Opens here t.result c.open.new.self = subst (λ (x : Step). Opens here x c.open.new.self) (sym c.in-Whole.is) c.open.ensures.opens in
-    begun_opening i.reader t.new.self c.args.byte c.ranges.byte.fits t.result t.ensures.settings t.ensures.stands t.ensures.gains i.maker i.todo i.waiting i.walker
+    begun_opening i.reader t.new.self c.args.byte c.ranges.byte.fits t.result t.ensures.settings t.ensures.stands
+    t.ensures.gains i.maker i.todo i.waiting i.walker
     i.fault c.args.self.now c.self.view_is c.open.new.self c.open.ensures.reader (unmet i.fault (sym c.is_some.ensures ∙ c.if-is_some.false)) opens
 
 pub returns-in-Bad-clause-begun : goal.returns-in-Bad-clause-begun
@@ -62,7 +69,8 @@ returns-in-Bad-clause-begun c =
     let here = decoding_of i.reader i.maker i.todo i.waiting i.walker i.fault in
     let now : Decoding = record here { reader = t.new.self; fault = Some (c.in-Bad.at, fault.Packet c.in-Bad.fault) } in
     let opens : Opens here t.result now = subst (λ (x : Step). Opens here x now) (sym c.in-Bad.is) refl in
-    begun_opening i.reader t.new.self c.args.byte c.ranges.byte.fits t.result t.ensures.settings t.ensures.stands t.ensures.gains i.maker i.todo i.waiting i.walker
+    begun_opening i.reader t.new.self c.args.byte c.ranges.byte.fits t.result t.ensures.settings t.ensures.stands
+    t.ensures.gains i.maker i.todo i.waiting i.walker
     i.fault c.args.self.now c.self.view_is now refl (unmet i.fault (sym c.is_some.ensures ∙ c.if-is_some.false)) opens
 
 pub returns-in-Bad-clause-holds : goal.returns-in-Bad-clause-holds
@@ -82,7 +90,8 @@ returns-in-Skipped c =
       ]
     ] in
     record {
-      begun = begun_opening i.reader t.new.self c.args.byte c.ranges.byte.fits t.result t.ensures.settings t.ensures.stands t.ensures.gains i.maker i.todo i.waiting
+      begun = begun_opening i.reader t.new.self c.args.byte c.ranges.byte.fits t.result t.ensures.settings t.ensures.stands
+          t.ensures.gains i.maker i.todo i.waiting
           i.walker i.fault c.args.self.now c.self.view_is now refl (unmet i.fault (sym c.is_some.ensures ∙ c.if-is_some.false)) opens;
       taken = t.ensures.taken ∙ ap (λ (d : Decoding). d.reader.taken + 1) c.self.view_is;
       settings = t.ensures.settings ∙ ap (λ (d : Decoding). d.reader.settings) c.self.view_is;

@@ -16,7 +16,8 @@ loop-self-smaller c = c.in-Ok-None.ensures.fewer
 pub loop-self-preserved : goal.loop-self-preserved
 loop-self-preserved c =
     let old = c.args.self.now in let here = c.loop-self.self in let next = c.step.new.self in
-    let step : Goes c.args.image.now here [] next = subst (λ (f : Option Found). Goes c.args.image.now here (items_found f) next) c.in-Ok-None.field-0-is c.in-Ok-None.ensures.goes in
+    let step : Goes c.args.image.now here [] next = subst (λ (f : Option Found). Goes c.args.image.now here (items_found f) next)
+    c.in-Ok-None.field-0-is c.in-Ok-None.ensures.goes in
     record {
       goes = goes_on c.args.image.now old here next [] [] c.loop-self.invariant.goes step;
       fewer = let less = c.in-Ok-None.ensures.fewer in let before = c.loop-self.invariant.fewer in omega (arith, less, before);
