@@ -14,7 +14,7 @@ use Rattle.std.proofs.lemmas.List.{length-replicate}
 use Rattle.formatter_frames.proofs.Pieces.{length-left_over}
 use Rattle.formatter_frames.proofs.Places.{bits_fit}
 
-abbrev IsSymbol : Symbol → Type 0
+abbrev pub IsSymbol : Symbol → Type 0
 IsSymbol (NewId id) = id < 128
 IsSymbol (Data byte) = byte < 256
 

@@ -106,3 +106,11 @@ begun = refl
 
 nothing_begun : unframed (0x03 ∷ 0x11 ∷ []) ≡ []
 nothing_begun = refl
+
+-- the ID that a frame leaves holds in the next one, which tells none
+goes_on : unframed (mixed ++ replicate 16 0x10) ≡ carried None mixed ++ all_of 3 (replicate 8 0x10 ++ 0x11 ∷ replicate 6 0x10)
+goes_on = refl
+
+-- and not before the frame that tells it
+not_before : unframed (replicate 16 0x10 ++ mixed) ≡ carried None mixed
+not_before = refl

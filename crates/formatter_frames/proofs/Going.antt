@@ -14,6 +14,9 @@ module _ (bytes more : List ℕ) where
   symbols_more = ap (flat_map symbols_in) (whole_pieces-append 16 bytes more (lit< tt))
       ∙ flat_map-append symbols_in (whole_pieces 16 bytes) (whole_pieces 16 (left_over 16 bytes ++ more))
 
+  pub more_pairs : unframed (bytes ++ more) ≡ unframed bytes ++ pairs_of (id_after_frames bytes) (symbols_of_frames (left_over 16 bytes ++ more))
+  more_pairs = ap (pairs_of None) symbols_more ∙ pairs_of-append None (symbols_of_frames bytes) (symbols_of_frames (left_over 16 bytes ++ more))
+
   module _ (few : length (left_over 16 bytes ++ more) < 16) where
     same_symbols : symbols_of_frames (bytes ++ more) ≡ symbols_of_frames bytes
     same_symbols = symbols_more ∙ ap (λ ps. symbols_of_frames bytes ++ flat_map symbols_in ps) (few_whole 16 (left_over 16 bytes ++ more) few)

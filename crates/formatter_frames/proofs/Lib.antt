@@ -3,6 +3,8 @@ pub mod Places
 pub mod Pieces
 pub mod Bytes
 pub mod Going
+pub mod Reading
+pub mod Ranges
 pub mod RoundTrip
 pub mod Writing
 pub mod Examples

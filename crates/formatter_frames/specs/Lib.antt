@@ -4,4 +4,5 @@ pub mod Framed
 pub mod Pieces
 pub mod Symbols
 pub mod Unframed
+pub mod Reader
 pub mod Writer

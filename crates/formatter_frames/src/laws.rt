@@ -16,7 +16,8 @@ pub fn framed_pairs_come_back()
 {}
 
 /// Unframing begins with no ID. With the bytes that fill a frame it goes on with what that frame
-/// carries, and bytes that do not fill it are left over.
+/// carries, and bytes that do not fill it are left over. So more bytes only add pairs, fewer bytes than
+/// a frame are left over at any time, and what bytes carry is in its ranges.
 pub fn unframing_goes_on()
     ensures nothing { (unframed [] ≡ []) × (id_after_frames [] ≡ None) × (begun_frame [] ≡ []) }
     ensures frame { (bytes more : List ℕ) → length (begun_frame bytes ++ more) ≡ frame_bytes
@@ -28,4 +29,7 @@ pub fn unframing_goes_on()
         → (unframed (bytes ++ more) ≡ unframed bytes) × (id_after_frames (bytes ++ more) ≡ id_after_frames bytes) }
     ensures left { (bytes more : List ℕ) → length (begun_frame bytes ++ more) < frame_bytes
         → begun_frame (bytes ++ more) ≡ begun_frame bytes ++ more }
+    ensures grows { (bytes more : List ℕ) → (gained : List (ℕ × ℕ)) × (unframed (bytes ++ more) ≡ unframed bytes ++ gained) }
+    ensures few { (bytes : List ℕ) → length (begun_frame bytes) < frame_bytes }
+    ensures ranges { (bytes : List ℕ) → All IsByte bytes → All IsPair (unframed bytes) }
 {}

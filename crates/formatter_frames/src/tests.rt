@@ -5,6 +5,24 @@ use std::alloc::Global;
 use std::test::Fail;
 use trace_io::{Failed, MemSink};
 
+/// A trace stream: A-sync, trace info, and an address with a context.
+const STREAM: [u8; 29] = [
+    0x00, 0x00, 0x00, 0x00, 0x00, 0x00, 0x00, 0x00, 0x00, 0x00, 0x00, 0x80, 0x01, 0x01, 0x00, 0x04,
+    0x85, 0x00, 0x08, 0x00, 0x00, 0x00, 0x00, 0x00, 0x00, 0x31, 0xda, 0x2d, 0x02,
+];
+
+/// Its frames, with the ID 1.
+const FRAMES: [[u8; FRAME_BYTES]; 2] = [
+    [
+        0x03, 0x00, 0x00, 0x00, 0x00, 0x00, 0x00, 0x00, 0x00, 0x00, 0x00, 0x00, 0x80, 0x01, 0x00,
+        0x80,
+    ],
+    [
+        0x00, 0x04, 0x84, 0x00, 0x08, 0x00, 0x00, 0x00, 0x00, 0x00, 0x00, 0x31, 0xda, 0x2d, 0x02,
+        0x02,
+    ],
+];
+
 /// Writes the frames of these bytes, each of which has its ID.
 fn write_frames(pairs: &[(Id, u8)], sink: &mut MemSink) -> Result<(), Failed> {
     let mut writer = FrameWriter::new();
@@ -38,6 +56,22 @@ fn pairs_of(alloc: Global, frames: &[[u8; FRAME_BYTES]]) -> Result<Vec<(u8, u8)>
         }
     }
     Ok(pairs)
+}
+
+/// The pairs that these bytes give a reader one by one, and how many bytes were left after each.
+fn pairs_byte_by_byte(alloc: Global, bytes: &[u8]) -> Result<(Vec<(u8, u8)>, Vec<u8>), Fail> {
+    let mut reader = FrameReader::new();
+    let mut pairs = Vec::new(alloc);
+    let mut left = Vec::new(alloc);
+    for byte in bytes {
+        if let Some(gained) = reader.take(*byte) {
+            for i in 0..gained.len() {
+                pairs.push(gained.get(i).ok_or("it is in range")?)?;
+            }
+        }
+        left.push(reader.left())?;
+    }
+    Ok((pairs, left))
 }
 
 #[test]
@@ -100,29 +134,35 @@ fn the_null_id_fills_a_frame_at_an_odd_place(rt: HostRuntime) -> Result<(), Fail
 #[test]
 fn a_stream_comes_back_from_its_frames(rt: HostRuntime) -> Result<(), Fail> {
     let alloc = rt.alloc();
-    let stream = [
-        0x00, 0x00, 0x00, 0x00, 0x00, 0x00, 0x00, 0x00, 0x00, 0x00, 0x00, 0x80, 0x01, 0x01, 0x00,
-        0x04, 0x85, 0x00, 0x08, 0x00, 0x00, 0x00, 0x00, 0x00, 0x00, 0x31, 0xda, 0x2d, 0x02,
-    ];
-    let frames = [
-        [
-            0x03, 0x00, 0x00, 0x00, 0x00, 0x00, 0x00, 0x00, 0x00, 0x00, 0x00, 0x00, 0x80, 0x01,
-            0x00, 0x80,
-        ],
-        [
-            0x00, 0x04, 0x84, 0x00, 0x08, 0x00, 0x00, 0x00, 0x00, 0x00, 0x00, 0x31, 0xda, 0x2d,
-            0x02, 0x02,
-        ],
-    ];
     let mut pairs = Vec::new(alloc);
-    for byte in stream {
+    for byte in STREAM {
         pairs.push((1, byte))?;
     }
     let written = frames_of(alloc, &pairs)?;
-    assert_eq!(rt; written.get(..16), Some(frames[0].as_slice()));
-    assert_eq!(rt; written.get(16..), Some(frames[1].as_slice()));
-    let back = pairs_of(alloc, &frames)?;
+    assert_eq!(rt; written.get(..16), Some(FRAMES[0].as_slice()));
+    assert_eq!(rt; written.get(16..), Some(FRAMES[1].as_slice()));
+    let back = pairs_of(alloc, &FRAMES)?;
     assert_eq!(rt; back.as_slice(), pairs.as_slice());
+    Ok(())
+}
+
+#[test]
+fn a_stream_comes_back_byte_by_byte(rt: HostRuntime) -> Result<(), Fail> {
+    let alloc = rt.alloc();
+    let mut bytes = Vec::new(alloc);
+    for frame in &FRAMES {
+        bytes.extend_from_slice(frame)?;
+    }
+    bytes.push(0x11)?;
+    let (pairs, left) = pairs_byte_by_byte(alloc, &bytes)?;
+    assert_eq!(rt; pairs.len(), STREAM.len());
+    for (i, byte) in STREAM.iter().enumerate() {
+        assert_eq!(rt; pairs.get(i), Some(&(0x01, *byte)), "at {i}");
+    }
+    assert_eq!(rt; left.len(), 2 * FRAME_BYTES + 1);
+    for (i, count) in left.iter().enumerate() {
+        assert_eq!(rt; *count as usize, (i + 1) % FRAME_BYTES, "after {i}");
+    }
     Ok(())
 }
 

@@ -18,14 +18,15 @@ pub struct FrameBytes {
 }
 
 impl Model for FrameBytes {
-    ghost use Rattle.std.specs.Prelude.{◌≡◌, ℕ, ◌≤◌, List, length, take};
+    ghost use Rattle.std.specs.Prelude.{◌≡◌, ℕ, ◌≤◌, List, length, take, All};
     ghost use Rattle.formatter_frames.specs.Sizes.{frame_symbols};
 
     ghost Value = { List (ℕ × ℕ) };
 
     ghost view = { λ bytes. take bytes.count bytes.pairs };
 
-    ghost invariant = { λ bytes. (bytes.count ≤ frame_symbols) × (length bytes.pairs ≡ frame_symbols) };
+    ghost invariant = { λ bytes. (bytes.count ≤ frame_symbols) × (length bytes.pairs ≡ frame_symbols)
+        × All (λ pair. pair.0 ≤ 127) bytes.pairs };
 }
 
 impl FrameBytes {
@@ -41,6 +42,7 @@ impl FrameBytes {
     pub fn get(&self, i: usize) -> Option<(u8, u8)>
         ensures value { result ≡ slice_get self.now i }
         ensures none { IsNone result ↔ (length self.now ≤ i) }
+        ensures within { IfSome result (λ pair. pair.0 ≤ 127) }
     {
         if i < self.count {
             Some(self.pairs[i])
@@ -60,11 +62,12 @@ impl FrameBytes {
 
     /// Takes one symbol: a new ID, or a byte of the current ID, where there is one.
     fn take(&mut self, symbol: Symbol, current: &mut Option<u8>)
-        requires { length self.old < SYMBOLS }
+        requires room { length self.old < SYMBOLS }
+        requires held { IfSome current.old (λ id. id ≤ 127) }
         ensures pairs { self.new ≡ self.old ++ pairs_of current.old (symbol ∷ []) }
         ensures current { current.new ≡ id_after current.old (symbol ∷ []) }
         ensures few { length self.new ≤ length self.old + 1 }
-        ensures within { IfSome current.old (λ id. id ≤ 127) → IfSome current.new (λ id. id ≤ 127) }
+        ensures within { IfSome current.new (λ id. id ≤ 127) }
     {
         match symbol {
             Symbol::NewId(id) => *current = Some(id.get()),

@@ -34,7 +34,7 @@ loop-n-preserved c =
           (one_passed _ c.loop-n.current _ symbols.0 (symbols.1 ∷ rest) (c.loop-n.invariant.current ∙ ap (id_after c.loop-n.current) read)
           c.take.ensures.current)
           c.take-in-loop-n.ensures.current;
-      within = c.take-in-loop-n.ensures.within (c.take.ensures.within c.loop-n.invariant.within);
+      within = c.take-in-loop-n.ensures.within;
     }
 
 pub returns-clause-pairs : goal.returns-clause-pairs
