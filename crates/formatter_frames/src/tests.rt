@@ -138,10 +138,11 @@ fn a_stream_comes_back_from_its_frames(rt: HostRuntime) -> Result<(), Fail> {
     for byte in STREAM {
         pairs.push((1, byte))?;
     }
+    let frames = FRAMES;
     let written = frames_of(alloc, &pairs)?;
-    assert_eq!(rt; written.get(..16), Some(FRAMES[0].as_slice()));
-    assert_eq!(rt; written.get(16..), Some(FRAMES[1].as_slice()));
-    let back = pairs_of(alloc, &FRAMES)?;
+    assert_eq!(rt; written.get(..16), Some(frames[0].as_slice()));
+    assert_eq!(rt; written.get(16..), Some(frames[1].as_slice()));
+    let back = pairs_of(alloc, &frames)?;
     assert_eq!(rt; back.as_slice(), pairs.as_slice());
     Ok(())
 }
