@@ -7,8 +7,11 @@ use Rattle.std.proofs.lemmas.Slice.Eq.{bytes_eq-Decides}
 use Rattle.std.specs.Option.{option_map, option_and_then}
 use Rattle.std.specs.Str.{bytes_eq}
 use Rattle.etm_types.specs.Settings.{Sizes, AreSettings, is_vmid_size, is_cid_size}
-use Rattle.trace_cmd.specs.Words.{Command, Path, Packets, is_image_word, number_of, option_at, sizes_of, sizes_at, only_image, path_of, packets_of, meaning}
-use Rattle.trace_cmd.specs.CommandLines.{IsOption, IsPathLine, IsPacketsLine}
+use Rattle.trace_cmd.specs.declared.words.Layout.{Layout}
+use Rattle.trace_cmd.specs.declared.words.Layout.TheVariants.{Raw, Frames}
+use Rattle.trace_cmd.specs.Words.{Command, Path, Packets, is_image_word, layout_at, number_of, option_at, sizes_of, sizes_at, only_image}
+use Rattle.trace_cmd.specs.Words.{path_of, packets_of, meaning}
+use Rattle.trace_cmd.specs.CommandLines.{IsLayout, IsOption, IsPathLine, IsPacketsLine}
 
 -- ---- an option
 
@@ -132,6 +135,51 @@ sizes_said vmid cid rest s vmid_is cid_is are no_vmid no_cid =
     (other_option (codes "--vmid") (codes "--cid") 1 4 cid s.cid_bytes rest cid_is refl no_vmid) in
     let c = taken (codes "--cid") 4 cid s.cid_bytes rest cid_is no_cid in let z = sizes_there s are in simp (v, c, z)
 
+-- ---- the layout
+
+-- a layout that was found stands at the front of the words
+record LayoutFound (words : List (List ℕ)) (layout : Layout) (rest : List (List ℕ)) : Type 0 where
+  raw : List (List ℕ)
+  is : IsLayout raw layout
+  row : words ≡ raw ++ rest
+
+layout_by : (word : List ℕ) (rest : List (List ℕ)) (b : Bool) → bytes_eq word (codes "--raw") ≡ b
+    → LayoutFound (word ∷ rest) (layout_at (word ∷ rest)).0 (layout_at (word ∷ rest)).1
+layout_by word rest true is =
+    let found : layout_at (word ∷ rest) ≡ (Raw, rest) = simp is in
+    rw found (record { raw = word ∷ []; is = ((bytes_eq-Decides word (codes "--raw")).0 is, refl); row = refl })
+layout_by word rest false is =
+    let found : layout_at (word ∷ rest) ≡ (Frames, word ∷ rest) = simp is in rw found (record { raw = []; is = refl; row = refl })
+
+layout_found : (words : List (List ℕ)) → LayoutFound words (layout_at words).0 (layout_at words).1
+layout_found [] = record { raw = []; is = refl; row = refl }
+layout_found (word ∷ rest) = layout_by word rest (bytes_eq word (codes "--raw")) refl
+
+-- a layout is found, where the words behind it do not begin with `--raw`
+layout_said : (raw : List (List ℕ)) (layout : Layout) (rest : List (List ℕ)) → IsLayout raw layout → layout_at rest ≡ (Frames, rest)
+    → layout_at (raw ++ rest) ≡ (layout, rest)
+layout_said [] layout rest is other = other ∙ ap (λ (l : Layout). (l, rest)) (sym is)
+layout_said (word ∷ []) layout rest (same, is) other =
+    let test : bytes_eq word (codes "--raw") ≡ true = (bytes_eq-Decides word (codes "--raw")).1 same in rw is (simp test)
+layout_said (word ∷ more ∷ words) layout rest is other = absurd is
+
+-- an option is no layout
+option_no_layout : (name : List ℕ) (default : ℕ) (front : List (List ℕ)) (n : ℕ) (rest : List (List ℕ)) → IsOption name default front n
+    → bytes_eq name (codes "--raw") ≡ false → layout_at rest ≡ (Frames, rest) → layout_at (front ++ rest) ≡ (Frames, front ++ rest)
+option_no_layout name default [] n rest is differ e = e
+option_no_layout name default (word ∷ []) n rest is differ e = absurd is
+option_no_layout name default (word ∷ number ∷ []) n rest (same, is) differ e = rw same (simp differ)
+option_no_layout name default (word ∷ number ∷ more ∷ words) n rest is differ e = absurd is
+
+-- nor is the name of an image
+image_by_name : (image : List ℕ) (b : Bool) → bytes_eq image (codes "--raw") ≡ b → is_image_word image ≡ true → layout_at (image ∷ []) ≡ (Frames, image ∷ [])
+image_by_name image false is name = simp is
+image_by_name image true is name =
+    let bad : is_image_word (codes "--raw") ≡ true = subst (λ w. is_image_word w ≡ true) ((bytes_eq-Decides image (codes "--raw")).0 is) name in absurd cc
+
+image_no_layout : (image : List ℕ) → is_image_word image ≡ true → layout_at (image ∷ []) ≡ (Frames, image ∷ [])
+image_no_layout image name = image_by_name image (bytes_eq image (codes "--raw")) refl name
+
 -- ---- whole lines
 
 image_by : (word image : List ℕ) (b : Bool) → is_image_word word ≡ b → only_image (word ∷ []) ≡ Some image → (word ≡ image) × (is_image_word image ≡ true)
@@ -143,22 +191,29 @@ one_image [] image e = absurd cc
 one_image (word ∷ []) image e = let p = image_by word image (is_image_word word) refl e in (ap (λ w. w ∷ []) p.0, p.1)
 one_image (word ∷ more ∷ words) image e = absurd cc
 
--- words behind `path --raw` that mean a command
-path_found : (words : List (List ℕ)) (command : Command) → path_of words ≡ Some command
-    → (image : List ℕ) × (s : Sizes) × (command ≡ Path image s) × IsPathLine (codes "path" ∷ codes "--raw" ∷ words) image s
-path_found words command e =
-    let d = then_some (option_at (codes "--depth") 16 words) _ command e in let z = then_some (sizes_at d.0.0 d.0.1) _ command d.2 in
-    let i = map_some (only_image z.0.1) _ command z.2 in let depth = found (codes "--depth") 16 words d.0.0 d.0.1 d.1 in
+-- words behind the name of a command, with the options among them
+line_row : (name : List ℕ) (words raw rest options : List (List ℕ)) → words ≡ raw ++ rest → rest ≡ options → name ∷ words ≡ name ∷ (raw ++ options)
+line_row name words raw rest options row same = ap (λ r. name ∷ r) (row ∙ ap (λ r. raw ++ r) same)
+
+-- words behind `path` that mean a command
+path_found : (words : List (List ℕ)) (layout : Layout) (rest : List (List ℕ)) (command : Command) → LayoutFound words layout rest
+    → path_of layout rest ≡ Some command
+    → (image : List ℕ) × (s : Sizes) × (command ≡ Path image s layout) × IsPathLine (codes "path" ∷ words) image s layout
+path_found words layout rest command front e =
+    let d = then_some (option_at (codes "--depth") 16 rest) _ command e in let z = then_some (sizes_at d.0.0 d.0.1) _ command d.2 in
+    let i = map_some (only_image z.0.1) _ command z.2 in let depth = found (codes "--depth") 16 rest d.0.0 d.0.1 d.1 in
     let sizes = sizes_found d.0.0 d.0.1 z.0.0 z.0.1 z.1 in let image = one_image z.0.1 i.0 i.1 in (
       i.0,
       z.0.0,
       sym i.2,
       record {
+        raw = front.raw;
         depth = depth.front;
         vmid = sizes.vmid;
         cid = sizes.cid;
-        row = ap (λ r. codes "path" ∷ codes "--raw" ∷ r)
+        row = line_row (codes "path") words front.raw rest (depth.front ++ (sizes.vmid ++ (sizes.cid ++ i.0 ∷ []))) front.row
             (depth.row ∙ ap (λ r. depth.front ++ r) (sizes.row ∙ ap (λ r. sizes.vmid ++ (sizes.cid ++ r)) image.0));
+        layout_is = front.is;
         depth_is = subst (IsOption (codes "--depth") 16 depth.front) (sym sizes.depth_is) depth.is;
         vmid_is = sizes.vmid_is;
         cid_is = sizes.cid_is;
@@ -167,24 +222,28 @@ path_found words command e =
       },
     )
 
-end_by : (words : List (List ℕ)) (s : Sizes) (command : Command) (b : Bool) → (length words == 0) ≡ b
-    → (if length words == 0 then Some (Packets s) else None) ≡ Some command → (command ≡ Packets s) × (words ≡ [])
-end_by [] s command b is e = (sym cc, refl)
-end_by (word ∷ words) s command b is e = let some : (length (word ∷ words) == 0) ≡ false = grind (arith, nat_tests) in let f = simp some at e in absurd cc
+end_by : (words : List (List ℕ)) (s : Sizes) (layout : Layout) (command : Command) (b : Bool) → (length words == 0) ≡ b
+    → (if length words == 0 then Some (Packets s layout) else None) ≡ Some command → (command ≡ Packets s layout) × (words ≡ [])
+end_by [] s layout command b is e = (sym cc, refl)
+end_by (word ∷ words) s layout command b is e =
+    let some : (length (word ∷ words) == 0) ≡ false = grind (arith, nat_tests) in let f = simp some at e in absurd cc
 
--- words behind `packets --raw` that mean a command
-packets_found : (words : List (List ℕ)) (command : Command) → packets_of words ≡ Some command
-    → (s : Sizes) × (command ≡ Packets s) × IsPacketsLine (codes "packets" ∷ codes "--raw" ∷ words) s
-packets_found words command e =
-    let z = then_some (sizes_at 16 words) _ command e in let sizes = sizes_found 16 words z.0.0 z.0.1 z.1 in
-    let done = end_by z.0.1 z.0.0 command (length z.0.1 == 0) refl z.2 in (
+-- words behind `packets` that mean a command
+packets_found : (words : List (List ℕ)) (layout : Layout) (rest : List (List ℕ)) (command : Command) → LayoutFound words layout rest
+    → packets_of layout rest ≡ Some command
+    → (s : Sizes) × (command ≡ Packets s layout) × IsPacketsLine (codes "packets" ∷ words) s layout
+packets_found words layout rest command front e =
+    let z = then_some (sizes_at 16 rest) _ command e in let sizes = sizes_found 16 rest z.0.0 z.0.1 z.1 in
+    let done = end_by z.0.1 z.0.0 layout command (length z.0.1 == 0) refl z.2 in (
       z.0.0,
       done.0,
       record {
+        raw = front.raw;
         vmid = sizes.vmid;
         cid = sizes.cid;
-        row = ap (λ r. codes "packets" ∷ codes "--raw" ∷ r)
+        row = line_row (codes "packets") words front.raw rest (sizes.vmid ++ sizes.cid) front.row
             (sizes.row ∙ ap (λ r. sizes.vmid ++ (sizes.cid ++ r)) done.1 ∙ ap (λ r. sizes.vmid ++ r) (append-nil sizes.cid));
+        layout_is = front.is;
         depth_is = sizes.depth_is;
         vmid_is = sizes.vmid_is;
         cid_is = sizes.cid_is;
@@ -192,64 +251,72 @@ packets_found words command e =
       },
     )
 
--- the first two words, and what the others mean behind them
-abbrev BeginsLine : List ℕ → List ℕ → List (List ℕ) → Command → Type 0
-BeginsLine command raw words c =
-    ((command ≡ codes "path") × (raw ≡ codes "--raw") × (path_of words ≡ Some c))
-    ⊎ ((command ≡ codes "packets") × (raw ≡ codes "--raw") × (packets_of words ≡ Some c))
+-- the first word, and what the others mean behind it and the layout
+abbrev BeginsLine : List ℕ → Layout → List (List ℕ) → Command → Type 0
+BeginsLine name layout rest c =
+    ((name ≡ codes "path") × (path_of layout rest ≡ Some c)) ⊎ ((name ≡ codes "packets") × (packets_of layout rest ≡ Some c))
 
-line_by : (command raw : List ℕ) (words : List (List ℕ)) (c : Command) (a b d : Bool) → bytes_eq raw (codes "--raw") ≡ a
-    → bytes_eq command (codes "path") ≡ b → bytes_eq command (codes "packets") ≡ d → meaning (command ∷ raw ∷ words) ≡ Some c
-    → BeginsLine command raw words c
-line_by command raw words c true true d x y z e =
-    inl ((bytes_eq-Decides command (codes "path")).0 y, (bytes_eq-Decides raw (codes "--raw")).0 x, simp (x, y) at e)
-line_by command raw words c true false true x y z e =
-    inr ((bytes_eq-Decides command (codes "packets")).0 z, (bytes_eq-Decides raw (codes "--raw")).0 x, simp (x, y, z) at e)
-line_by command raw words c true false false x y z e = let f = simp (x, y, z) at e in absurd cc
-line_by command raw words c false b d x y z e = let f = simp x at e in absurd cc
+line_by : (name : List ℕ) (words : List (List ℕ)) (c : Command) (a b : Bool) → bytes_eq name (codes "path") ≡ a → bytes_eq name (codes "packets") ≡ b
+    → meaning (name ∷ words) ≡ Some c → BeginsLine name (layout_at words).0 (layout_at words).1 c
+line_by name words c true b x y e = inl ((bytes_eq-Decides name (codes "path")).0 x, simp x at e)
+line_by name words c false true x y e = inr ((bytes_eq-Decides name (codes "packets")).0 y, simp (x, y) at e)
+line_by name words c false false x y e = let f = simp (x, y) at e in absurd cc
 
-line : (command raw : List ℕ) (words : List (List ℕ)) (c : Command) → meaning (command ∷ raw ∷ words) ≡ Some c
-    → BeginsLine command raw words c
-line command raw words c e =
-    line_by command raw words c (bytes_eq raw (codes "--raw")) (bytes_eq command (codes "path")) (bytes_eq command (codes "packets")) refl refl refl e
+line : (name : List ℕ) (words : List (List ℕ)) (c : Command) → meaning (name ∷ words) ≡ Some c
+    → BeginsLine name (layout_at words).0 (layout_at words).1 c
+line name words c e = line_by name words c (bytes_eq name (codes "path")) (bytes_eq name (codes "packets")) refl refl e
 
-pub path_line : (words : List (List ℕ)) (image : List ℕ) (s : Sizes) → meaning words ≡ Some (Path image s) → IsPathLine words image s
-path_line [] image s e = absurd cc
-path_line (command ∷ []) image s e = absurd cc
-path_line (command ∷ raw ∷ words) image s e =
-    elim (line command raw words (Path image s) e) [
+pub path_line : (words : List (List ℕ)) (image : List ℕ) (s : Sizes) (layout : Layout) → meaning words ≡ Some (Path image s layout)
+    → IsPathLine words image s layout
+path_line [] image s layout e = absurd cc
+path_line (name ∷ words) image s layout e =
+    elim (line name words (Path image s layout) e) [
       | inl p ↦
-          let f = path_found words (Path image s) p.2 in let name : f.0 ≡ image = let g = f.2 in cc in let sizes : f.1 ≡ s = let g = f.2 in cc in
-          rw p.0 (rw p.1 (subst (λ n. IsPathLine (codes "path" ∷ codes "--raw" ∷ words) n s) name
-          (subst (λ z. IsPathLine (codes "path" ∷ codes "--raw" ∷ words) f.0 z) sizes f.3)))
-      | inr p ↦ let f = packets_found words (Path image s) p.2 in let g = f.1 in absurd cc
+          let f = path_found words (layout_at words).0 (layout_at words).1 (Path image s layout) (layout_found words) p.1 in
+          let image_is : f.0 ≡ image = let g = f.2 in cc in let sizes_are : f.1 ≡ s = let g = f.2 in cc in
+          let layout_is : (layout_at words).0 ≡ layout = let g = f.2 in cc in
+          rw p.0 (subst (λ n. IsPathLine (codes "path" ∷ words) n s layout) image_is
+          (subst (λ z. IsPathLine (codes "path" ∷ words) f.0 z layout) sizes_are
+          (subst (λ l. IsPathLine (codes "path" ∷ words) f.0 f.1 l) layout_is f.3)))
+      | inr p ↦
+          let f = packets_found words (layout_at words).0 (layout_at words).1 (Path image s layout) (layout_found words) p.1 in
+          let g = f.1 in absurd cc
     ]
 
-pub packets_line : (words : List (List ℕ)) (s : Sizes) → meaning words ≡ Some (Packets s) → IsPacketsLine words s
-packets_line [] s e = absurd cc
-packets_line (command ∷ []) s e = absurd cc
-packets_line (command ∷ raw ∷ words) s e =
-    elim (line command raw words (Packets s) e) [
-      | inl p ↦ let f = path_found words (Packets s) p.2 in let g = f.2 in absurd cc
+pub packets_line : (words : List (List ℕ)) (s : Sizes) (layout : Layout) → meaning words ≡ Some (Packets s layout) → IsPacketsLine words s layout
+packets_line [] s layout e = absurd cc
+packets_line (name ∷ words) s layout e =
+    elim (line name words (Packets s layout) e) [
+      | inl p ↦
+          let f = path_found words (layout_at words).0 (layout_at words).1 (Packets s layout) (layout_found words) p.1 in let g = f.2 in absurd cc
       | inr p ↦
-          let f = packets_found words (Packets s) p.2 in let sizes : f.0 ≡ s = let g = f.1 in cc in
-          rw p.0 (rw p.1 (subst (λ z. IsPacketsLine (codes "packets" ∷ codes "--raw" ∷ words) z) sizes f.2))
+          let f = packets_found words (layout_at words).0 (layout_at words).1 (Packets s layout) (layout_found words) p.1 in
+          let sizes_are : f.0 ≡ s = let g = f.1 in cc in let layout_is : (layout_at words).0 ≡ layout = let g = f.1 in cc in
+          rw p.0 (subst (λ z. IsPacketsLine (codes "packets" ∷ words) z layout) sizes_are
+          (subst (λ l. IsPacketsLine (codes "packets" ∷ words) f.0 l) layout_is f.2))
     ]
 
 -- and what is spelled so means it
-pub path_said : (words : List (List ℕ)) (image : List ℕ) (s : Sizes) → IsPathLine words image s → meaning words ≡ Some (Path image s)
-path_said words image s l =
-    let rest = l.vmid ++ (l.cid ++ image ∷ []) in
-    let other = other_option (codes "--depth") (codes "--vmid") 16 1 l.vmid s.vmid_bytes (l.cid ++ image ∷ []) l.vmid_is refl
+pub path_said : (words : List (List ℕ)) (image : List ℕ) (s : Sizes) (layout : Layout) → IsPathLine words image s layout
+    → meaning words ≡ Some (Path image s layout)
+path_said words image s layout l =
+    let name : is_image_word image ≡ true = l.image_is in let behind = l.cid ++ image ∷ [] in let rest = l.vmid ++ behind in
+    let other = other_option (codes "--depth") (codes "--vmid") 16 1 l.vmid s.vmid_bytes behind l.vmid_is refl
     (other_option (codes "--depth") (codes "--cid") 16 4 l.cid s.cid_bytes (image ∷ []) l.cid_is refl refl) in
     let depth = taken (codes "--depth") 16 l.depth s.depth rest l.depth_is other in
-    let sizes = sizes_said l.vmid l.cid (image ∷ []) s l.vmid_is l.cid_is l.within refl refl in let name : is_image_word image ≡ true = l.image_is in
-    rw l.row (simp (depth, sizes, name))
+    let sizes = sizes_said l.vmid l.cid (image ∷ []) s l.vmid_is l.cid_is l.within refl refl in
+    let no_raw = option_no_layout (codes "--depth") 16 l.depth s.depth rest l.depth_is refl
+    (option_no_layout (codes "--vmid") 1 l.vmid s.vmid_bytes behind l.vmid_is refl
+    (option_no_layout (codes "--cid") 4 l.cid s.cid_bytes (image ∷ []) l.cid_is refl (image_no_layout image name))) in
+    let layout_is = layout_said l.raw layout (l.depth ++ rest) l.layout_is no_raw in rw l.row (simp (layout_is, depth, sizes, name))
 
-pub packets_said : (words : List (List ℕ)) (s : Sizes) → IsPacketsLine words s → meaning words ≡ Some (Packets s)
-packets_said words s l =
+pub packets_said : (words : List (List ℕ)) (s : Sizes) (layout : Layout) → IsPacketsLine words s layout → meaning words ≡ Some (Packets s layout)
+packets_said words s layout l =
     let sizes = sizes_said l.vmid l.cid [] s l.vmid_is l.cid_is l.within refl refl in
     let found : ◌≡◌ {A = Option (Sizes × List (List ℕ))} (sizes_at 16 (l.vmid ++ l.cid)) (Some (s, [])) =
     subst (λ (c : List (List ℕ)). ◌≡◌ {A = Option (Sizes × List (List ℕ))} (sizes_at 16 (l.vmid ++ c)) (Some (s, []))) (append-nil l.cid)
     (subst (λ (d : ℕ). ◌≡◌ {A = Option (Sizes × List (List ℕ))} (sizes_at d (l.vmid ++ (l.cid ++ []))) (Some (s, []))) l.depth_is sizes) in
-    rw l.row (simp found)
+    let no_raw = option_no_layout (codes "--vmid") 1 l.vmid s.vmid_bytes l.cid l.vmid_is refl
+    (subst (λ (c : List (List ℕ)). layout_at c ≡ (Frames, c)) (append-nil l.cid)
+    (option_no_layout (codes "--cid") 4 l.cid s.cid_bytes [] l.cid_is refl refl)) in
+    let layout_is = layout_said l.raw layout (l.vmid ++ l.cid) l.layout_is no_raw in rw l.row (simp (layout_is, found))

@@ -1,6 +1,7 @@
 -- Command lines with their meaning, and near misses.
 use Rattle.std.proofs.Common.{◌≡◌, ℕ, List, [], ◌∷◌, codes, Option, Some, None, refl, ap, arith}
 use Rattle.etm_types.specs.Settings.{Sizes}
+use Rattle.trace_cmd.specs.declared.words.Layout.TheVariants.{Raw, Frames}
 use Rattle.trace_cmd.specs.Words.{Command, Path, Packets, meaning, image_of}
 
 -- words that begin so, and go on so
@@ -10,58 +11,85 @@ path_raw words = meaning (codes "path" ∷ codes "--raw" ∷ words)
 abbrev packets_raw : List (List ℕ) → Option Command
 packets_raw words = meaning (codes "packets" ∷ codes "--raw" ∷ words)
 
+abbrev path : List (List ℕ) → Option Command
+path words = meaning (codes "path" ∷ words)
+
+abbrev packets : List (List ℕ) → Option Command
+packets words = meaning (codes "packets" ∷ words)
+
 abbrev sizes : ℕ → ℕ → ℕ → Sizes
 sizes depth vmid cid = record { depth = depth; vmid_bytes = vmid; cid_bytes = cid }
 
 -- ---- the forms
 
 -- path --raw img
-pub path_with_defaults : path_raw (codes "img" ∷ []) ≡ Some (Path (codes "img") (sizes 16 1 4))
+pub path_with_defaults : path_raw (codes "img" ∷ []) ≡ Some (Path (codes "img") (sizes 16 1 4) Raw)
 path_with_defaults = refl
 
 -- path --raw --depth 0 img
-pub path_of_a_depth : path_raw (codes "--depth" ∷ codes "0" ∷ codes "img" ∷ []) ≡ Some (Path (codes "img") (sizes 0 1 4))
+pub path_of_a_depth : path_raw (codes "--depth" ∷ codes "0" ∷ codes "img" ∷ []) ≡ Some (Path (codes "img") (sizes 0 1 4) Raw)
 path_of_a_depth = refl
 
 -- path --raw --vmid 2 img
-pub path_of_a_vmid : path_raw (codes "--vmid" ∷ codes "2" ∷ codes "img" ∷ []) ≡ Some (Path (codes "img") (sizes 16 2 4))
+pub path_of_a_vmid : path_raw (codes "--vmid" ∷ codes "2" ∷ codes "img" ∷ []) ≡ Some (Path (codes "img") (sizes 16 2 4) Raw)
 path_of_a_vmid = refl
 
 -- path --raw --cid 0 img
-pub path_of_a_context_id : path_raw (codes "--cid" ∷ codes "0" ∷ codes "img" ∷ []) ≡ Some (Path (codes "img") (sizes 16 1 0))
+pub path_of_a_context_id : path_raw (codes "--cid" ∷ codes "0" ∷ codes "img" ∷ []) ≡ Some (Path (codes "img") (sizes 16 1 0) Raw)
 path_of_a_context_id = refl
 
 -- path --raw --depth 4096 --vmid 4 --cid 4 -
 pub path_of_all : path_raw (codes "--depth" ∷ codes "4096" ∷ codes "--vmid" ∷ codes "4" ∷ codes "--cid" ∷ codes "4" ∷ codes "-" ∷ [])
-    ≡ Some (Path (codes "-") (sizes 4096 4 4))
+    ≡ Some (Path (codes "-") (sizes 4096 4 4) Raw)
 path_of_all = refl
 
 -- path --raw --depth 8 --cid 0 img: a pair in the middle is absent
-pub path_without_a_pair : path_raw (codes "--depth" ∷ codes "8" ∷ codes "--cid" ∷ codes "0" ∷ codes "img" ∷ []) ≡ Some (Path (codes "img") (sizes 8 1 0))
+pub path_without_a_pair : path_raw (codes "--depth" ∷ codes "8" ∷ codes "--cid" ∷ codes "0" ∷ codes "img" ∷ []) ≡ Some (Path (codes "img") (sizes 8 1 0) Raw)
 path_without_a_pair = refl
 
 -- an empty word names an image, and so does a number, or the name of a command
-pub path_of_an_empty_name : path_raw ([] ∷ []) ≡ Some (Path [] (sizes 16 1 4))
+pub path_of_an_empty_name : path_raw ([] ∷ []) ≡ Some (Path [] (sizes 16 1 4) Raw)
 path_of_an_empty_name = refl
 
-pub path_of_a_number_as_name : path_raw (codes "4" ∷ []) ≡ Some (Path (codes "4") (sizes 16 1 4))
+pub path_of_a_number_as_name : path_raw (codes "4" ∷ []) ≡ Some (Path (codes "4") (sizes 16 1 4) Raw)
 path_of_a_number_as_name = refl
 
 -- packets --raw, and packets --raw --vmid 0 --cid 0
-pub packets_with_defaults : packets_raw [] ≡ Some (Packets (sizes 16 1 4))
+pub packets_with_defaults : packets_raw [] ≡ Some (Packets (sizes 16 1 4) Raw)
 packets_with_defaults = refl
 
-pub packets_of_all : packets_raw (codes "--vmid" ∷ codes "0" ∷ codes "--cid" ∷ codes "0" ∷ []) ≡ Some (Packets (sizes 16 0 0))
+pub packets_of_all : packets_raw (codes "--vmid" ∷ codes "0" ∷ codes "--cid" ∷ codes "0" ∷ []) ≡ Some (Packets (sizes 16 0 0) Raw)
 packets_of_all = refl
 
--- packets read no image
+-- path img, path --depth 0 img and path --depth 4096 --vmid 4 --cid 4 -: formatter frames
+pub path_of_frames : path (codes "img" ∷ []) ≡ Some (Path (codes "img") (sizes 16 1 4) Frames)
+path_of_frames = refl
+
+pub path_of_frames_and_a_depth : path (codes "--depth" ∷ codes "0" ∷ codes "img" ∷ []) ≡ Some (Path (codes "img") (sizes 0 1 4) Frames)
+path_of_frames_and_a_depth = refl
+
+pub path_of_frames_and_all : path (codes "--depth" ∷ codes "4096" ∷ codes "--vmid" ∷ codes "4" ∷ codes "--cid" ∷ codes "4" ∷ codes "-" ∷ [])
+    ≡ Some (Path (codes "-") (sizes 4096 4 4) Frames)
+path_of_frames_and_all = refl
+
+-- packets, and packets --vmid 0 --cid 0
+pub packets_of_frames : packets [] ≡ Some (Packets (sizes 16 1 4) Frames)
+packets_of_frames = refl
+
+pub packets_of_frames_and_all : packets (codes "--vmid" ∷ codes "0" ∷ codes "--cid" ∷ codes "0" ∷ []) ≡ Some (Packets (sizes 16 0 0) Frames)
+packets_of_frames_and_all = refl
+
+-- packets read no image, and path reads one of frames too
 pub no_image_of_packets : image_of (packets_raw []) ≡ None
 no_image_of_packets = refl
+
+pub image_of_a_path_of_frames : image_of (path (codes "img" ∷ [])) ≡ Some (codes "img")
+image_of_a_path_of_frames = refl
 
 -- ---- numbers
 
 -- ten digits, of which the first eight are zeros
-pub ten_digits : path_raw (codes "--depth" ∷ codes "0000000016" ∷ codes "img" ∷ []) ≡ Some (Path (codes "img") (sizes 16 1 4))
+pub ten_digits : path_raw (codes "--depth" ∷ codes "0000000016" ∷ codes "img" ∷ []) ≡ Some (Path (codes "img") (sizes 16 1 4) Raw)
 ten_digits = refl
 
 -- eleven are too many, and none too few
@@ -133,11 +161,54 @@ packets_of_a_depth = refl
 pub packets_of_an_image : packets_raw (codes "img" ∷ []) ≡ None
 packets_of_an_image = refl
 
-pub without_raw : meaning (codes "path" ∷ codes "--depth" ∷ codes "4" ∷ codes "img" ∷ []) ≡ None
-without_raw = refl
+pub frames_of_an_image : packets (codes "img" ∷ []) ≡ None
+frames_of_an_image = refl
+
+pub frames_without_an_image : path [] ≡ None
+frames_without_an_image = refl
+
+pub two_images_of_frames : path (codes "img" ∷ codes "img" ∷ []) ≡ None
+two_images_of_frames = refl
+
+-- --raw stands directly behind the command, once, and is no image; no word like it stands there either
+pub raw_without_an_image : path_raw [] ≡ None
+raw_without_an_image = refl
+
+pub raw_twice : path_raw (codes "--raw" ∷ codes "img" ∷ []) ≡ None
+raw_twice = refl
+
+pub raw_twice_of_packets : packets_raw (codes "--raw" ∷ []) ≡ None
+raw_twice_of_packets = refl
+
+pub raw_behind_a_depth : path (codes "--depth" ∷ codes "4" ∷ codes "--raw" ∷ codes "img" ∷ []) ≡ None
+raw_behind_a_depth = refl
+
+pub raw_as_a_depth : path (codes "--depth" ∷ codes "--raw" ∷ codes "img" ∷ []) ≡ None
+raw_as_a_depth = refl
+
+pub raw_behind_a_vmid : packets (codes "--vmid" ∷ codes "0" ∷ codes "--raw" ∷ []) ≡ None
+raw_behind_a_vmid = refl
+
+pub raw_behind_the_image : path (codes "img" ∷ codes "--raw" ∷ []) ≡ None
+raw_behind_the_image = refl
+
+pub raw_before_the_command : meaning (codes "--raw" ∷ codes "path" ∷ codes "img" ∷ []) ≡ None
+raw_before_the_command = refl
+
+pub raw_cut_short : path (codes "--ra" ∷ codes "img" ∷ []) ≡ None
+raw_cut_short = refl
+
+pub raw_with_a_value : path (codes "--raw=1" ∷ codes "img" ∷ []) ≡ None
+raw_with_a_value = refl
+
+pub end_of_options : path (codes "--" ∷ codes "img" ∷ []) ≡ None
+end_of_options = refl
 
 pub another_command : meaning (codes "retired" ∷ codes "--raw" ∷ codes "img" ∷ []) ≡ None
 another_command = refl
+
+pub another_command_of_frames : meaning (codes "retired" ∷ codes "img" ∷ []) ≡ None
+another_command_of_frames = refl
 
 pub no_words : meaning [] ≡ None
 no_words = refl
@@ -146,17 +217,17 @@ no_words = refl
 
 -- the depth and the size of a context ID that are told, 0 where none is
 abbrev depth_in : Option Command → ℕ
-depth_in (Some (Path image s)) = s.depth
-depth_in (Some (Packets s)) = s.depth
+depth_in (Some (Path image s layout)) = s.depth
+depth_in (Some (Packets s layout)) = s.depth
 depth_in None = 0
 
 abbrev cid_in : Option Command → ℕ
-cid_in (Some (Path image s)) = s.cid_bytes
-cid_in (Some (Packets s)) = s.cid_bytes
+cid_in (Some (Path image s layout)) = s.cid_bytes
+cid_in (Some (Packets s layout)) = s.cid_bytes
 cid_in None = 0
 
 -- the default of the depth is not 0
-pub not_depth_0 : path_raw (codes "img" ∷ []) ≡ Some (Path (codes "img") (sizes 0 1 4)) → ⊥
+pub not_depth_0 : path_raw (codes "img" ∷ []) ≡ Some (Path (codes "img") (sizes 0 1 4) Raw) → ⊥
 not_depth_0 e = let same : ◌≡◌ {A = ℕ} 16 0 = ap depth_in e in absurd (omega (arith, same))
 
 -- zeros in front of a number and behind it are not the same
@@ -165,9 +236,16 @@ pub not_a_number_with_zeros_behind :
 not_a_number_with_zeros_behind e = let same : ◌≡◌ {A = ℕ} 16 160 = ap depth_in e in absurd (omega (arith, same))
 
 -- an option and its number are no image
-pub not_an_image : path_raw (codes "--vmid" ∷ codes "2" ∷ codes "img" ∷ []) ≡ Some (Path (codes "--vmid") (sizes 16 1 4)) → ⊥
+pub not_an_image : path_raw (codes "--vmid" ∷ codes "2" ∷ codes "img" ∷ []) ≡ Some (Path (codes "--vmid") (sizes 16 1 4) Raw) → ⊥
 not_an_image e = absurd cc
 
 -- the sizes do not change places
-pub not_the_context_id : packets_raw (codes "--vmid" ∷ codes "0" ∷ []) ≡ Some (Packets (sizes 16 1 0)) → ⊥
+pub not_the_context_id : packets_raw (codes "--vmid" ∷ codes "0" ∷ []) ≡ Some (Packets (sizes 16 1 0) Raw) → ⊥
 not_the_context_id e = let same : ◌≡◌ {A = ℕ} 4 0 = ap cid_in e in absurd (omega (arith, same))
+
+-- --raw tells the layout
+pub not_frames : path_raw (codes "img" ∷ []) ≡ path (codes "img" ∷ []) → ⊥
+not_frames e = absurd cc
+
+pub not_raw : packets [] ≡ Some (Packets (sizes 16 1 4) Raw) → ⊥
+not_raw e = absurd cc

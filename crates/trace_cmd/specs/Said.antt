@@ -5,9 +5,9 @@ use Rattle.trace_cmd.specs.declared.words.Command.{Command as Told}
 use Rattle.trace_cmd.specs.declared.words.Command.TheVariants as told
 
 abbrev pub said : Told → Command
-said (told.Path image settings) = Path image.now settings
-said (told.Packets settings) = Packets settings
+said (told.Path image settings layout) = Path image.now settings layout
+said (told.Packets settings layout) = Packets settings layout
 
 abbrev pub sizes_in : Told → Sizes
-sizes_in (told.Path image settings) = settings
-sizes_in (told.Packets settings) = settings
+sizes_in (told.Path image settings layout) = settings
+sizes_in (told.Packets settings layout) = settings

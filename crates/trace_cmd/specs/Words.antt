@@ -7,6 +7,8 @@ use Rattle.std.specs.Char.{is_ascii_digit}
 use Rattle.std.specs.Str.{bytes_eq}
 use Rattle.std.specs.Str.Parse.{digits_value}
 use Rattle.etm_types.specs.Settings.{Sizes, is_vmid_size, is_cid_size}
+use Rattle.trace_cmd.specs.declared.words.Layout.{Layout}
+use Rattle.trace_cmd.specs.declared.words.Layout.TheVariants.{Raw, Frames}
 
 -- the bytes of each word
 abbrev pub texts : {Z : Type 0} → List (String Z) → List (List ℕ)
@@ -14,10 +16,10 @@ texts words = map (λ word. string_bytes word) words
 
 -- a command that is there today, with what its words say
 pub data Command : Type 0 where
-  -- the path of one stream that is not framed: the name of its image, and the trace unit's sizes
-  Path : List ℕ → Sizes → Command
-  -- the packets of one stream that is not framed, under the trace unit's sizes
-  Packets : Sizes → Command
+  -- the path of each stream: the name of the image, the trace unit's sizes, and how the input is laid out
+  Path : List ℕ → Sizes → Layout → Command
+  -- the packets of each stream: the trace unit's sizes, and how the input is laid out
+  Packets : Sizes → Layout → Command
 
 -- ---- a word
 
@@ -38,6 +40,11 @@ sizes_of depth vmid cid =
 
 -- ---- words in a row
 
+-- `[--raw]` at the front of words: one stream where it is there, formatter frames where it is not, and the words behind it
+abbrev pub layout_at : List (List ℕ) → Layout × List (List ℕ)
+layout_at [] = (Frames, [])
+layout_at (word ∷ rest) = if bytes_eq word (codes "--raw") then (Raw, rest) else (Frames, word ∷ rest)
+
 -- `[NAME N]` at the front of words: N, or the default where NAME is not there, and the words behind it
 abbrev pub option_at : List ℕ → ℕ → List (List ℕ) → Option (ℕ × List (List ℕ))
 option_at name default (word ∷ number ∷ rest) =
@@ -56,26 +63,27 @@ only_image (image ∷ []) = if is_image_word image then Some image else None
 only_image words = None
 
 -- `[--depth N] [--vmid N] [--cid N] IMAGE`
-abbrev pub path_of : List (List ℕ) → Option Command
-path_of words =
+abbrev pub path_of : Layout → List (List ℕ) → Option Command
+path_of layout words =
     option_and_then (λ (depth : ℕ × List (List ℕ)). option_and_then (λ (s : Sizes × List (List ℕ)).
-    option_map (λ image. Path image s.0) (only_image s.1)) (sizes_at depth.0 depth.1)) (option_at (codes "--depth") 16 words)
+    option_map (λ image. Path image s.0 layout) (only_image s.1)) (sizes_at depth.0 depth.1)) (option_at (codes "--depth") 16 words)
 
 -- `[--vmid N] [--cid N]`, and no more words; no packet depends on the depth
-abbrev pub packets_of : List (List ℕ) → Option Command
-packets_of words = option_and_then (λ (s : Sizes × List (List ℕ)). if length s.1 == 0 then Some (Packets s.0) else None) (sizes_at 16 words)
+abbrev pub packets_of : Layout → List (List ℕ) → Option Command
+packets_of layout words =
+    option_and_then (λ (s : Sizes × List (List ℕ)). if length s.1 == 0 then Some (Packets s.0 layout) else None) (sizes_at 16 words)
 
--- `path --raw [--depth N] [--vmid N] [--cid N] IMAGE` and `packets --raw [--vmid N] [--cid N]`, in this order; all other words
--- mean nothing
+-- `path [--raw] [--depth N] [--vmid N] [--cid N] IMAGE` and `packets [--raw] [--vmid N] [--cid N]`, in this order; all other
+-- words mean nothing
 abbrev pub meaning : List (List ℕ) → Option Command
-meaning (command ∷ raw ∷ words) =
-    if not (bytes_eq raw (codes "--raw")) then None
-    else if bytes_eq command (codes "path") then path_of words
-    else if bytes_eq command (codes "packets") then packets_of words
+meaning [] = None
+meaning (command ∷ words) =
+    let behind = layout_at words in
+    if bytes_eq command (codes "path") then path_of behind.0 behind.1
+    else if bytes_eq command (codes "packets") then packets_of behind.0 behind.1
     else None
-meaning words = None
 
 abbrev pub image_of : Option Command → Option (List ℕ)
 image_of None = None
-image_of (Some (Path image sizes)) = Some image
-image_of (Some (Packets sizes)) = None
+image_of (Some (Path image sizes layout)) = Some image
+image_of (Some (Packets sizes layout)) = None

@@ -7,6 +7,7 @@ ghost use Rattle.trace_cmd.specs.CommandLines.{IsPathLine, IsPacketsLine};
 ghost use Rattle.trace_cmd.specs.PacketList.{IsPacketList};
 ghost use Rattle.trace_cmd.specs.Path.{IsPathText};
 ghost use Rattle.trace_cmd.specs.Words.{Path, Packets, meaning};
+ghost use Rattle.trace_cmd.specs.declared.words.Layout.{Layout};
 
 /// Over an image and under given sizes, an input has one path and no other: one text that is printed of
 /// it, and one answer to whether it ends with a fault.
@@ -25,8 +26,11 @@ pub fn an_input_has_one_packet_list()
         → (text : List ℕ) × (faulty : Bool) × IsPacketList s id bytes text faulty }
 {}
 
-/// Words mean a command exactly where they stand in its row: each option at most once, in one order, with its number.
+/// Words mean a command exactly where they stand in its row: `--raw`, which tells the layout, and each option with its number
+/// at most once, in one order.
 pub fn words_mean_what_they_spell()
-    ensures path { (words : List (List ℕ)) (image : List ℕ) (s : Sizes) → (meaning words ≡ Some (Path image s)) ↔ IsPathLine words image s }
-    ensures packets { (words : List (List ℕ)) (s : Sizes) → (meaning words ≡ Some (Packets s)) ↔ IsPacketsLine words s }
+    ensures path { (words : List (List ℕ)) (image : List ℕ) (s : Sizes) (layout : Layout)
+        → (meaning words ≡ Some (Path image s layout)) ↔ IsPathLine words image s layout }
+    ensures packets { (words : List (List ℕ)) (s : Sizes) (layout : Layout)
+        → (meaning words ≡ Some (Packets s layout)) ↔ IsPacketsLine words s layout }
 {}

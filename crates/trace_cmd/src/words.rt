@@ -3,7 +3,8 @@ ghost use Rattle.std.specs.Prelude.{◌≡◌, IfSome};
 ghost use Rattle.std.specs.List.{list_all};
 ghost use Rattle.std.specs.Char.{is_ascii_digit};
 ghost use Rattle.std.specs.Option.{option_map};
-ghost use Rattle.trace_cmd.specs.Words.{is_image_word, meaning, only_image, path_of, packets_of, image_of, number_of, option_at, sizes_of, sizes_at, texts};
+ghost use Rattle.trace_cmd.specs.Words.{is_image_word, layout_at, meaning, only_image, path_of, packets_of, image_of, number_of};
+ghost use Rattle.trace_cmd.specs.Words.{option_at, sizes_of, sizes_at, texts};
 ghost use Rattle.etm_types.specs.Settings.{AreSettings};
 ghost use Rattle.trace_cmd.specs.Said.{said, sizes_in};
 
@@ -21,13 +22,29 @@ const CID_BYTES: u64 = 4;
 /// The most digits of a number.
 const NUMBER_DIGITS: usize = 10;
 
+/// How the input is laid out.
+#[derive(Clone, Copy, Debug, PartialEq, Eq)]
+pub enum Layout {
+    /// One stream that is not framed (`--raw`).
+    Raw,
+    /// Formatter frames of many streams (Arm CoreSight architecture, IHI 0029).
+    Frames,
+}
+
 /// A command, with what its words say.
 #[derive(Clone, Copy, Debug)]
 pub enum Command<'a> {
-    /// The path of one stream that is not framed, over the image of this name.
-    Path { image: &'a str, settings: Settings },
-    /// The packets of one stream that is not framed.
-    Packets { settings: Settings },
+    /// The path of each stream, over the image of this name.
+    Path {
+        image: &'a str,
+        settings: Settings,
+        layout: Layout,
+    },
+    /// The packets of each stream.
+    Packets {
+        settings: Settings,
+        layout: Layout,
+    },
 }
 
 /// Whether a word may name an image: `-` alone, or a word that does not begin with `-`.
@@ -55,6 +72,16 @@ fn number(word: &str) -> Option<u64>
         return None;
     }
     word.parse().ok()
+}
+
+/// The layout that the front of the words tells, which is `--raw` or nothing, and the words behind it.
+fn take_layout(words: &[String]) -> (Layout, &[String])
+    ensures { (result.0, texts result.1.now) ≡ layout_at (texts words.now) }
+{
+    match words {
+        [word, rest @ ..] if word.as_str() == "--raw" => (Layout::Raw, rest),
+        _ => (Layout::Frames, words),
+    }
 }
 
 /// An option at the front of the words: its number, or the default where the option is absent, and the words behind it.
@@ -101,9 +128,9 @@ fn only_image(words: &[String]) -> Option<&str>
     }
 }
 
-/// The command of the words behind `path --raw`.
-fn path_of(words: &[String]) -> Option<Command<'_>>
-    ensures value { option_map said result ≡ path_of (texts words.now) }
+/// The command of the words behind `path` and the layout.
+fn path_of(layout: Layout, words: &[String]) -> Option<Command<'_>>
+    ensures value { option_map said result ≡ path_of layout (texts words.now) }
     ensures within { IfSome result (λ command. AreSettings (sizes_in command)) }
 {
     let (depth, words) = take_option(words, "--depth", DEPTH)?;
@@ -111,19 +138,23 @@ fn path_of(words: &[String]) -> Option<Command<'_>>
         return None;
     };
     let image = only_image(words)?;
-    Some(Command::Path { image, settings })
+    Some(Command::Path {
+        image,
+        settings,
+        layout,
+    })
 }
 
-/// The command of the words behind `packets --raw`.
-fn packets_of(words: &[String]) -> Option<Command<'_>>
-    ensures value { option_map said result ≡ packets_of (texts words.now) }
+/// The command of the words behind `packets` and the layout.
+fn packets_of(layout: Layout, words: &[String]) -> Option<Command<'_>>
+    ensures value { option_map said result ≡ packets_of layout (texts words.now) }
     ensures within { IfSome result (λ command. AreSettings (sizes_in command)) }
 {
     let Some((settings, words)) = take_settings(DEPTH, words) else {
         return None;
     };
     if words.is_empty() {
-        Some(Command::Packets { settings })
+        Some(Command::Packets { settings, layout })
     } else {
         None
     }
@@ -134,12 +165,11 @@ pub fn command_of(words: &[String]) -> Option<Command<'_>>
     ensures value { option_map said result ≡ meaning (texts words.now) }
     ensures within { IfSome result (λ command. AreSettings (sizes_in command)) }
 {
-    match words {
-        [command, raw, rest @ ..] if raw.as_str() == "--raw" => match command.as_str() {
-            "path" => path_of(rest),
-            "packets" => packets_of(rest),
-            _ => None,
-        },
+    let (command, words) = words.split_first()?;
+    let (layout, words) = take_layout(words);
+    match command.as_str() {
+        "path" => path_of(layout, words),
+        "packets" => packets_of(layout, words),
         _ => None,
     }
 }

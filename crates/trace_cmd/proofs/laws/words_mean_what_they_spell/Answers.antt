@@ -2,7 +2,7 @@ use Rattle.trace_cmd.proofs.CommandLines.{path_line, packets_line, path_said, pa
 use Rattle.trace_cmd.proofs.laws.words_mean_what_they_spell.Goals as goal
 
 pub returns-clause-path : goal.returns-clause-path
-returns-clause-path c = λ words image s. (path_line words image s, path_said words image s)
+returns-clause-path c = λ words image s layout. (path_line words image s layout, path_said words image s layout)
 
 pub returns-clause-packets : goal.returns-clause-packets
-returns-clause-packets c = λ words s. (packets_line words s, packets_said words s)
+returns-clause-packets c = λ words s layout. (packets_line words s layout, packets_said words s layout)
