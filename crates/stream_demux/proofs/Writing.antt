@@ -3,7 +3,6 @@ use Rattle.std.proofs.Common.{◌≡◌, ℕ, List, [], ◌∷◌, ◌++◌, Res
 use Rattle.std.specs.List.{concat}
 use Rattle.path_text.proofs.Wrote.{Wrote, fails_after, wrote_by, wrote_more, wrote_nothing, writes_all}
 use Rattle.path_text.specs.Writing.{Writes}
-use Rattle.formatter_frames.specs.Unframed.{unframed}
 use Rattle.stream_demux.specs.Demuxed.{Gains}
 use Rattle.stream_demux.specs.Streams.{Adds}
 use Rattle.stream_demux.specs.Texts.{BodyFrom, Listing, PairGains, Printed, lines_under, text_of}
@@ -74,62 +73,63 @@ added g before pairs a b x adds =
     let all : adds.took ≡ pairs = sym (append-nil adds.took) ∙ ap (λ (t : List (ℕ × ℕ)). adds.took ++ t) (sym (adds.all refl)) ∙ sym adds.parts in
     record { lines = adds.lines; body = subst (λ p. BodyFrom g before p adds.lines) all adds.body; wrote = wrote_by a b x (text_of adds.lines) adds.writes }
 
--- ---- pieces of frames
+-- ---- pieces, in whatever layout
 
--- the lines that a piece adds behind other bytes were written, in calls that did not fail
-pub record Gained (g : Listing) (bytes piece : List ℕ) (old new : IoState) : Type 0 where
-  pub pairs : List (ℕ × ℕ)
-  pub carried : unframed (bytes ++ piece) ≡ unframed bytes ++ pairs
-  pub written : Written g (unframed bytes) pairs old new
+module _ (carry : List ℕ → List (ℕ × ℕ)) where
+  -- the lines that a piece adds behind other bytes were written, in calls that did not fail
+  pub record Gained (g : Listing) (bytes piece : List ℕ) (old new : IoState) : Type 0 where
+    pub pairs : List (ℕ × ℕ)
+    pub grows : carry (bytes ++ piece) ≡ carry bytes ++ pairs
+    pub written : Written g (carry bytes) pairs old new
 
-pub nothing_gained : (g : Listing) (bytes : List ℕ) (a : IoState) → Gained g bytes [] a a
-nothing_gained g bytes a =
-    record {
-      pairs = [];
-      carried = ap unframed (append-nil bytes) ∙ sym (append-nil (unframed bytes));
-      written = nothing_written g (unframed bytes) a;
-    }
-
-module _ (g : Listing) (bytes piece : List ℕ) (a b : IoState) (was : Gained g bytes piece a b) (more : List ℕ) (pairs : List (ℕ × ℕ))
-    (carried : unframed ((bytes ++ piece) ++ more) ≡ unframed (bytes ++ piece) ++ pairs) where
-  joined_pairs : unframed (bytes ++ (piece ++ more)) ≡ unframed bytes ++ (was.pairs ++ pairs)
-  joined_pairs =
-      ap unframed (sym (append_assoc bytes piece more)) ∙ carried ∙ ap (λ l. l ++ pairs) was.carried ∙ append_assoc (unframed bytes) was.pairs pairs
-
-  -- more bytes carry no pair
-  pub more_gained : (c : IoState) → Written g (unframed (bytes ++ piece)) pairs b c → Gained g bytes (piece ++ more) a c
-  more_gained c next =
+  pub nothing_gained : (g : Listing) (bytes : List ℕ) (a : IoState) → Gained g bytes [] a a
+  nothing_gained g bytes a =
       record {
-        pairs = was.pairs ++ pairs;
-        carried = joined_pairs;
-        written = more_written g (unframed bytes) was.pairs a b c was.written pairs (subst (λ l. Written g l pairs b c) was.carried next);
+        pairs = [];
+        grows = ap carry (append-nil bytes) ∙ sym (append-nil (carry bytes));
+        written = nothing_written g (carry bytes) a;
       }
 
-  -- where a write fails, a front of the lines of the pairs of all bytes is written
-  pub gain_fails : {T U E : Type 0} (c : IoState) (e d : E) → Adds {T = T} g (unframed (bytes ++ piece)) pairs b c (Err e) → (rest : List ℕ) (later : List (ℕ × ℕ))
-      → unframed ((bytes ++ (piece ++ more)) ++ rest) ≡ unframed (bytes ++ (piece ++ more)) ++ later
-      → Gains {T = U} g bytes ((piece ++ more) ++ rest) a c (Err d)
-  gain_fails {T} {U} c e d adds rest later further =
-      let all = (was.pairs ++ pairs) ++ later in
-      let adds' = subst (λ l. Adds {T = T} g l pairs b c (Err e)) was.carried adds in
-      let parts : (was.pairs ++ adds'.took) ++ (adds'.others ++ later) ≡ all =
-      sym (append_assoc (was.pairs ++ adds'.took) adds'.others later)
-      ∙ ap (λ l. l ++ later) (append_assoc was.pairs adds'.took adds'.others ∙ ap (λ l. was.pairs ++ l) (sym adds'.parts)) in
-      record {
-        pairs = all;
-        carried = ap unframed (sym (append_assoc bytes (piece ++ more) rest)) ∙ further ∙ ap (λ l. l ++ later) joined_pairs
-            ∙ append_assoc (unframed bytes) (was.pairs ++ pairs) later;
-        adds = subst (λ l. Adds {T = U} g (unframed bytes) l a c (Err d)) parts
-            (more_fail g (unframed bytes) was.pairs a b c was.written e d adds'.took (adds'.others ++ later) adds'.lines adds'.body adds'.writes);
-      }
+  module _ (g : Listing) (bytes piece : List ℕ) (a b : IoState) (was : Gained g bytes piece a b) (more : List ℕ) (pairs : List (ℕ × ℕ))
+      (grows : carry ((bytes ++ piece) ++ more) ≡ carry (bytes ++ piece) ++ pairs) where
+    joined_pairs : carry (bytes ++ (piece ++ more)) ≡ carry bytes ++ (was.pairs ++ pairs)
+    joined_pairs =
+        ap carry (sym (append_assoc bytes piece more)) ∙ grows ∙ ap (λ l. l ++ pairs) was.grows ∙ append_assoc (carry bytes) was.pairs pairs
 
-pub all_gained : {T E : Type 0} (g : Listing) (bytes piece : List ℕ) (a b : IoState) (x : T) → Gained g bytes piece a b
-    → Gains {T = T} {E = E} g bytes piece a b (Ok x)
-all_gained g bytes piece a b x was =
-    record { pairs = was.pairs; carried = was.carried; adds = all_added g (unframed bytes) was.pairs a b x was.written }
+    -- more bytes carry no pair
+    pub more_gained : (c : IoState) → Written g (carry (bytes ++ piece)) pairs b c → Gained g bytes (piece ++ more) a c
+    more_gained c next =
+        record {
+          pairs = was.pairs ++ pairs;
+          grows = joined_pairs;
+          written = more_written g (carry bytes) was.pairs a b c was.written pairs (subst (λ l. Written g l pairs b c) was.grows next);
+        }
 
--- a byte more that was taken
-pub byte_gained : {T E : Type 0} (g : Listing) (bytes piece : List ℕ) (byte : ℕ) (a b c : IoState) (x : T) → Gained g bytes piece a b
-    → Gains {T = T} {E = E} g (bytes ++ piece) (byte ∷ []) b c (Ok x) → Gained g bytes (piece ++ byte ∷ []) a c
-byte_gained g bytes piece byte a b c x was gains =
-    more_gained g bytes piece a b was (byte ∷ []) gains.pairs gains.carried c (added g (unframed (bytes ++ piece)) gains.pairs b c x gains.adds)
+    -- where a write fails, a front of the lines of the pairs of all bytes is written
+    pub gain_fails : {T U E : Type 0} (c : IoState) (e d : E) → Adds {T = T} g (carry (bytes ++ piece)) pairs b c (Err e) → (rest : List ℕ) (later : List (ℕ × ℕ))
+        → carry ((bytes ++ (piece ++ more)) ++ rest) ≡ carry (bytes ++ (piece ++ more)) ++ later
+        → Gains {T = U} carry g bytes ((piece ++ more) ++ rest) a c (Err d)
+    gain_fails {T} {U} c e d adds rest later further =
+        let all = (was.pairs ++ pairs) ++ later in
+        let adds' = subst (λ l. Adds {T = T} g l pairs b c (Err e)) was.grows adds in
+        let parts : (was.pairs ++ adds'.took) ++ (adds'.others ++ later) ≡ all =
+        sym (append_assoc (was.pairs ++ adds'.took) adds'.others later)
+        ∙ ap (λ l. l ++ later) (append_assoc was.pairs adds'.took adds'.others ∙ ap (λ l. was.pairs ++ l) (sym adds'.parts)) in
+        record {
+          pairs = all;
+          grows = ap carry (sym (append_assoc bytes (piece ++ more) rest)) ∙ further ∙ ap (λ l. l ++ later) joined_pairs
+              ∙ append_assoc (carry bytes) (was.pairs ++ pairs) later;
+          adds = subst (λ l. Adds {T = U} g (carry bytes) l a c (Err d)) parts
+              (more_fail g (carry bytes) was.pairs a b c was.written e d adds'.took (adds'.others ++ later) adds'.lines adds'.body adds'.writes);
+        }
+
+  pub all_gained : {T E : Type 0} (g : Listing) (bytes piece : List ℕ) (a b : IoState) (x : T) → Gained g bytes piece a b
+      → Gains {T = T} {E = E} carry g bytes piece a b (Ok x)
+  all_gained g bytes piece a b x was =
+      record { pairs = was.pairs; grows = was.grows; adds = all_added g (carry bytes) was.pairs a b x was.written }
+
+  -- a byte more that was taken
+  pub byte_gained : {T E : Type 0} (g : Listing) (bytes piece : List ℕ) (byte : ℕ) (a b c : IoState) (x : T) → Gained g bytes piece a b
+      → Gains {T = T} {E = E} carry g (bytes ++ piece) (byte ∷ []) b c (Ok x) → Gained g bytes (piece ++ byte ∷ []) a c
+  byte_gained g bytes piece byte a b c x was gains =
+      more_gained g bytes piece a b was (byte ∷ []) gains.pairs gains.grows c (added g (carry (bytes ++ piece)) gains.pairs b c x gains.adds)

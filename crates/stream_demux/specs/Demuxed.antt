@@ -1,5 +1,5 @@
 -- What contracts see of frames that are parted into streams.
-use Rattle.std.specs.Prelude.{◌≡◌, ℕ, ◌^◌, Bool, false, List, ◌++◌, length, Option, Result, refl}
+use Rattle.std.specs.Prelude.{◌≡◌, ℕ, ◌^◌, Bool, false, List, ◌++◌, length, map, Option, Result, refl}
 use Rattle.std.specs.Coded.{Coded, code_by, coded×, coded_list, coded_ℕ, coded_bool, coded_option}
 use Rattle.etm_types.specs.Settings.{Sizes}
 use Rattle.formatter_frames.specs.Reader as frames
@@ -37,8 +37,27 @@ pub record StandsAt {X : Type 0} (stands : X → List ℕ → Type 0) (sizes : X
   pub frames : frames.StandsAt d.frames bytes
   pub streams : AllStand stands sizes s d.streams (unframed bytes)
 
--- A piece is taken behind other bytes, and the lines that it adds are written: those of the pairs that its frames carry.
-pub record Gains {T E : Type 0} (g : Listing) (bytes piece : List ℕ) (old new : IoState) (result : Result T E) : Type 0 where
+-- A piece is taken behind other bytes, and the lines that it adds are written: those of the pairs that it carries in this layout.
+pub record Gains {T E : Type 0} (carried : List ℕ → List (ℕ × ℕ)) (g : Listing) (bytes piece : List ℕ) (old new : IoState) (result : Result T E)
+    : Type 0 where
   pub pairs : List (ℕ × ℕ)
-  pub carried : unframed (bytes ++ piece) ≡ unframed bytes ++ pairs
-  pub adds : Adds g (unframed bytes) pairs old new result
+  pub grows : carried (bytes ++ piece) ≡ carried bytes ++ pairs
+  pub adds : Adds g (carried bytes) pairs old new result
+
+-- ---- one stream that is not framed
+
+-- the ID under which it is printed
+abbrev pub raw_id : ℕ
+raw_id = 1
+
+-- each byte is one of it
+abbrev pub raw_pairs : List ℕ → List (ℕ × ℕ)
+raw_pairs bytes = map (λ (byte : ℕ). (raw_id, byte)) bytes
+
+-- these bytes of it were taken, and no write failed
+pub record RawStandsAt {X : Type 0} (stands : X → List ℕ → Type 0) (sizes : X → Sizes) (broken : X → Bool) (taken : X → ℕ) (s : Sizes) (stream : X)
+    (bytes : List ℕ) : Type 0 where
+  pub whole : broken stream ≡ false
+  pub count : taken stream ≡ length bytes
+  pub stand : stands stream bytes
+  pub same : sizes stream ≡ s

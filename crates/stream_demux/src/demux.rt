@@ -76,7 +76,7 @@ impl<S: Stream> Demux<S> {
         ensures stands { (s : Sizes) (bytes : List ℕ) → StandsAt (S.stands shared.now) S.sizes s self.old bytes → IsOk result
             → StandsAt (S.stands shared.now) S.sizes s self.new (bytes ++ piece.now) }
         ensures gains { (s : Sizes) (bytes : List ℕ) → StandsAt (S.stands shared.now) S.sizes s self.old bytes
-            → Gains (S.listing shared.now s) bytes piece.now (K.state sink.old) (K.state sink.new) result }
+            → Gains unframed (S.listing shared.now s) bytes piece.now (K.state sink.old) (K.state sink.new) result }
         ensures cause { HasCause (K.state sink.old) (K.state sink.new) result }
         ensures shows { ShowsAsBefore (K.state sink.old) (K.state sink.new) }
         ensures broken { IsTrue self.new.broken ↔ IsErr result }
@@ -175,7 +175,7 @@ fn take_byte<S: Stream, K: Sink>(
         → AllStand (S.stands shared.now) S.sizes s sources.new (unframed (bytes ++ byte ∷ [])) }
     ensures gains { (s : Sizes) (bytes : List ℕ) → reader.StandsAt frames.old bytes
         → AllStand (S.stands shared.now) S.sizes s sources.old (unframed bytes)
-        → Gains (S.listing shared.now s) bytes (byte ∷ []) (K.state sink.old) (K.state sink.new) result }
+        → Gains unframed (S.listing shared.now s) bytes (byte ∷ []) (K.state sink.old) (K.state sink.new) result }
     ensures cause { HasCause (K.state sink.old) (K.state sink.new) result }
     ensures shows { ShowsAsBefore (K.state sink.old) (K.state sink.new) }
     ensures ready { (most : ℕ) → All (IsReady S.broken S.taken most) sources.old → IsOk result

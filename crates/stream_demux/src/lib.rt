@@ -3,9 +3,11 @@
 
 mod demux;
 mod paths;
+mod raw;
 mod sources;
 mod stream;
 
 pub use demux::Demux;
+pub use raw::RawStream;
 pub use sources::Sources;
 pub use stream::Stream;

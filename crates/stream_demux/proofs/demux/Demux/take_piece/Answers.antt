@@ -21,8 +21,8 @@ returns-in-Err-clause-gains g c s bytes stands =
     let there = i.stands s bytes stands in
     let gains = c.in-Err.ensures.gains s (bytes ++ front) there.frames there.streams in
     let all = bytes ++ (front ++ byte ∷ []) in let later = pairs_of (id_after_frames all) (symbols_of_frames (begun_frame all ++ rest)) in
-    subst (λ l. Gains {T = Unit {0}} listing bytes l old new (Err c.in-Err.failed)) parts
-    (gain_fails listing bytes front old here (i.gained s bytes stands) (byte ∷ []) gains.pairs gains.carried new c.in-Err.failed c.in-Err.failed gains.adds rest later (more_pairs all rest))
+    subst (λ l. Gains {T = Unit {0}} unframed listing bytes l old new (Err c.in-Err.failed)) parts
+    (gain_fails unframed listing bytes front old here (i.gained s bytes stands) (byte ∷ []) gains.pairs gains.grows new c.in-Err.failed c.in-Err.failed gains.adds rest later (more_pairs all rest))
 
 pub loop-byte-preserved : goal.loop-byte-preserved
 loop-byte-preserved g c =
@@ -47,8 +47,8 @@ loop-byte-preserved g c =
           });
       gained = λ s bytes stands.
           let listing = g.S.Stream.listing c.args.shared.now s in let there = i.stands s bytes stands in
-          subst (λ l. Gained listing bytes l old new) (sym more)
-          (byte_gained listing bytes front byte old here new tt (i.gained s bytes stands) (c.in-Ok.ensures.gains s (bytes ++ front) there.frames there.streams));
+          subst (λ l. Gained unframed listing bytes l old new) (sym more)
+          (byte_gained unframed listing bytes front byte old here new tt (i.gained s bytes stands) (c.in-Ok.ensures.gains s (bytes ++ front) there.frames there.streams));
       kept = c.in-Ok.ensures.cause.kept ∙ i.kept;
       shows = c.take_byte.ensures.shows ∙ i.shows;
       taken = omega (arith, i.taken);
@@ -61,5 +61,5 @@ pub returns-clause-gains : goal.returns-clause-gains
 returns-clause-gains g c s bytes stands =
     let state = g.K.Sink.state in let n = c.loop-byte.byte-index in let piece = c.args.piece.now in
     let whole = take_all n piece (omega (arith, c.loop-byte-test.false)) in let listing = g.S.Stream.listing c.args.shared.now s in
-    all_gained listing bytes piece (state c.args.sink.now) (state c.loop-byte.sink) tt
-    (subst (λ l. Gained listing bytes l (state c.args.sink.now) (state c.loop-byte.sink)) whole (c.loop-byte.invariant.gained s bytes stands))
+    all_gained unframed listing bytes piece (state c.args.sink.now) (state c.loop-byte.sink) tt
+    (subst (λ l. Gained unframed listing bytes l (state c.args.sink.now) (state c.loop-byte.sink)) whole (c.loop-byte.invariant.gained s bytes stands))

@@ -1,6 +1,7 @@
 use Rattle.std.proofs.Common.{◌≡◌, ◌+◌, ◌*◌, ◌≤◌, ℕ, List, ◌++◌, length, take, false}
 use Rattle.std.specs.Prelude.{All}
 use Rattle.etm_types.specs.Settings.{Sizes}
+use Rattle.formatter_frames.specs.Unframed.{unframed}
 use Rattle.stream_demux.specs.Demuxed.{Demuxed, StandsAt}
 use Rattle.stream_demux.specs.Streams.{IsReady}
 use Rattle.stream_demux.proofs.Writing.{Gained}
@@ -16,7 +17,7 @@ invariant-loop-byte g l =
       stands : (s : Sizes) (bytes : List ℕ) → StandsAt at g.S.Stream.sizes s l.fn.self bytes
           → StandsAt at g.S.Stream.sizes s d (bytes ++ take l.byte-index l.piece);
       gained : (s : Sizes) (bytes : List ℕ) → StandsAt at g.S.Stream.sizes s l.fn.self bytes
-          → Gained (g.S.Stream.listing l.shared s) bytes (take l.byte-index l.piece) (state l.fn.sink) (state l.sink);
+          → Gained unframed (g.S.Stream.listing l.shared s) bytes (take l.byte-index l.piece) (state l.fn.sink) (state l.sink);
       kept : KeepsFaults (state l.fn.sink) (state l.sink);
       shows : ShowsAsBefore (state l.fn.sink) (state l.sink);
       taken : l.self-inside.taken ≡ l.fn.self.taken + l.byte-index;

@@ -1,0 +1,95 @@
+//! One stream that is not framed, taken by pieces.
+ghost use Rattle.std.specs.Prelude.{◌≡◌, ◌<◌, ◌≤◌, ◌+◌, ◌^◌, ◌++◌, ◌∷◌, ◌↔◌, [], ℕ, List, Bool, false, not, length, IsOk, IsErr, IsTrue, IfOk};
+ghost use Rattle.etm_types.specs.Settings.{Sizes};
+ghost use Rattle.path_text.specs.Writing.{Writes};
+ghost use Rattle.stream_demux.specs.Demuxed.{Gains, RawStandsAt, raw_id, raw_pairs};
+ghost use Rattle.stream_demux.specs.Texts.{IsEnding, Printed, text_of};
+ghost use Rattle.trace_io.specs.Bytes.{ShowsAsBefore};
+ghost use Rattle.trace_io.specs.Causes.{HasCause};
+
+use crate::stream::Stream;
+use element_queue::Ledger;
+use etm_types::{Id, Settings};
+use std::alloc::{AllocError, Global};
+use std::marker::Model;
+use trace_io::{Failed, Sink};
+
+/// Takes the bytes of one stream that is not framed piece by piece, and writes the lines that they add, under the ID 01. It has
+/// no drop: it ends by `finish` or `abandon`.
+#[must_use]
+pub struct RawStream<S: Stream> {
+    stream: S,
+}
+
+impl<S: Stream> Model for RawStream<S> {
+    ghost Value = { S };
+
+    ghost coded = { S.code };
+
+    ghost view = { λ r. r.stream };
+}
+
+impl<S: Stream> RawStream<S> {
+    /// A stream that has taken nothing. This is the one call that takes memory, and the error means want of it.
+    pub fn new(alloc: Global, settings: &Settings) -> Result<RawStream<S>, AllocError>
+        ensures stands { IfOk result (λ r. (shared : S.Shared) → RawStandsAt (S.stands shared) S.sizes S.broken S.taken settings.now r []) }
+    {
+        Ok(RawStream {
+            stream: S::new(alloc, settings)?,
+        })
+    }
+
+    /// Takes the next bytes, and writes the lines that they add. The error means that a write failed; then nothing more is taken, and
+    /// it is broken.
+    pub fn take_piece<K: Sink>(
+        &mut self,
+        shared: &S::Shared,
+        piece: &[u8],
+        sink: &mut K,
+    ) -> Result<(), Failed>
+        requires whole { S.broken self.old ≡ false }
+        requires few { S.taken self.old + length piece.now ≤ 2 ^ 30 }
+        ensures stands { (s : Sizes) (bytes : List ℕ) → RawStandsAt (S.stands shared.now) S.sizes S.broken S.taken s self.old bytes → IsOk result
+            → RawStandsAt (S.stands shared.now) S.sizes S.broken S.taken s self.new (bytes ++ piece.now) }
+        ensures gains { (s : Sizes) (bytes : List ℕ) → RawStandsAt (S.stands shared.now) S.sizes S.broken S.taken s self.old bytes
+            → Gains raw_pairs (S.listing shared.now s) bytes piece.now (K.state sink.old) (K.state sink.new) result }
+        ensures cause { HasCause (K.state sink.old) (K.state sink.new) result }
+        ensures shows { ShowsAsBefore (K.state sink.old) (K.state sink.new) }
+        ensures broken { IsTrue (S.broken self.new) ↔ IsErr result }
+        ensures taken { IsOk result → S.taken self.new ≡ S.taken self.old + length piece.now }
+    {
+        let id = raw_id();
+        for byte in piece {
+            self.stream.take(shared, id, *byte, sink)?;
+        }
+        Ok(())
+    }
+
+    /// Writes the line of how the stream ends, where it had a byte, and says whether it ends without a fault.
+    pub fn finish<K: Sink>(self, sink: &mut K) -> Result<bool, Failed>
+        requires { S.broken self ≡ false }
+        ensures ending { (shared : S.Shared) (s : Sizes) (bytes : List ℕ) → RawStandsAt (S.stands shared) S.sizes S.broken S.taken s self bytes
+            → (lines : List Printed) × (faulty : Bool) × IsEnding (S.listing shared s) (raw_pairs bytes) 0 lines faulty
+            × Writes (K.state sink.old) (K.state sink.new) result (text_of lines) × IfOk result (λ whole. whole ≡ not faulty) }
+        ensures cause { HasCause (K.state sink.old) (K.state sink.new) result }
+        ensures shows { ShowsAsBefore (K.state sink.old) (K.state sink.new) }
+    {
+        let RawStream { stream } = self;
+        stream.finish(raw_id(), sink)
+    }
+
+    /// Ends it without a line.
+    pub fn abandon(self) -> Ledger
+        ensures value { result ≡ S.counts_left self }
+    {
+        let RawStream { stream } = self;
+        stream.abandon()
+    }
+}
+
+/// The ID under which a stream is printed that is not framed.
+fn raw_id() -> Id
+    ensures { result ≡ raw_id }
+{
+    Id::new(1).unwrap()
+}
