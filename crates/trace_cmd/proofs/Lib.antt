@@ -1,6 +1,6 @@
-mod WordLemmas
-mod WordExamples
 mod CommandLines
+pub mod Interrupts
 pub mod PacketLists
-pub mod AnswerLemmas
-pub mod PathTexts
+pub mod Pieces
+mod WordExamples
+mod WordLemmas
