@@ -51,7 +51,7 @@ module _ (carried : List ℕ → List (ℕ × ℕ)) (left : List ℕ → ℕ) (g
     abbrev lines : List Printed
     lines = took.6.0 ++ ending
 
-    text : IsText g (carried bytes) (left bytes) lines faulty
+    abbrev text : IsText g (carried bytes) (left bytes) lines faulty
     text = record { body = took.6.0; ending = ending; gained = took.6.1; ended = ended; all = refl }
 
     pub completes : (whole : Bool) → Writes {T = Bool} {E = Failed} here new (Ok whole) (text_of ending) → Completes carried left g a c old new faulty
