@@ -14,6 +14,7 @@ mod status;
 mod words;
 
 pub use command::run;
-pub use laws::{an_input_has_one_packet_list, an_input_has_one_path, words_mean_what_they_spell};
+pub use laws::{an_input_has_one_path, packets_have_one_list, words_mean_what_they_spell};
+pub use packet_list::PacketStream;
 pub use status::Status;
 pub use words::image_name;
