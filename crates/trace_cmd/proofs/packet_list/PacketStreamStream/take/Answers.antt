@@ -1,4 +1,4 @@
-use Rattle.std.proofs.Common.{ℕ, List, sym, subst}
+use Rattle.std.proofs.Common.{ℕ, sym, subst}
 use Rattle.trace_cmd.specs.PacketList.{HasRead, Listed, PacketGains}
 use Rattle.trace_cmd.proofs.packet_list.PacketStreamStream.take.Goals as goal
 
