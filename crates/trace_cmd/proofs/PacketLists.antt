@@ -1,24 +1,25 @@
 -- At which bytes the packet list of a stream stands, what a byte adds to it, and how it ends.
-use Rattle.std.proofs.Common.{◌≡◌, ℕ, ◌<◌, Bool, false, List, [], ◌∷◌, ◌++◌, length, Option, None, refl, sym, ap, subst, ◌∙◌, arith}
-use Rattle.std.specs.Prelude.{All}
+use Rattle.std.proofs.Common.{◌≡◌, ℕ, ◌<◌, Bool, true, false, List, [], ◌∷◌, ◌++◌, length, Option, None, refl, sym, ap, subst, ◌∙◌, arith, append-nil}
+use Rattle.std.specs.Prelude.{All, is_some, not}
 use Rattle.std.proofs.lemmas.List.{append_cancel_left}
 use Rattle.std.proofs.lemmas.List.Elements.{All-append, All-cons, All-nil}
 use Rattle.etm_types.specs.Settings.{Sizes, AreSettings}
 use Rattle.packet_grammar.specs.declared.packet.Packet.{Packet}
 use Rattle.packet_grammar.specs.declared.packet.Packet.TheVariants.{Mispredict, Cancel2, Atoms}
 use Rattle.packet_grammar.specs.declared.fault.PacketFault.{PacketFault}
+use Rattle.packet_grammar.specs.declared.end.End.{End}
 use Rattle.packet_grammar.specs.Ends.{end_of, is_fault}
-use Rattle.packet_grammar.specs.Parsed.{Ending, no_sync, IsStream}
+use Rattle.packet_grammar.specs.Parsed.{Ending, no_sync, clean, cut, fault, IsStream}
 use Rattle.packet_grammar.specs.Ranges.{IsPacket}
 use Rattle.packet_grammar.proofs.Longer.{begins_alike}
 use Rattle.packet_grammar.proofs.Streams.{each_is_a_stream, one_stream}
 use Rattle.packet_reader.specs.declared.step.Step.{Step}
 use Rattle.packet_reader.specs.Stands.{Gains, Standing, StandsAt}
-use Rattle.packet_reader.specs.Answered.{told, fault_after}
+use Rattle.packet_reader.specs.Answered.{told, fault_after, fault_of}
 use Rattle.packet_reader.proofs.Adds.{Told, gains_more, nothing_is_a_stream}
 use Rattle.path_text.specs.EndLines.{end_line}
 use Rattle.path_text.specs.PacketLines.{HasText}
-use Rattle.stream_demux.specs.Texts.{Printed, StreamEnds, lines_under}
+use Rattle.stream_demux.specs.Texts.{Printed, StreamEnds, lines_under, text_of}
 use Rattle.trace_cmd.specs.PacketList.{HasRead, IsReading, PacketEnds, PacketGains, packet_lines, packet_lists}
 
 pub has_text : (s : Sizes) (packet : Packet) → IsPacket s packet → HasText packet
@@ -84,11 +85,27 @@ module _ (s : Sizes) (id : ℕ) where
   stream_ends [] packets ending some is = absurd (some refl)
   stream_ends (b ∷ bytes) packets ending some is = (end_line id (end_of ending), (packets, ending, is, refl, refl), refl)
 
+  pub whole_line : (known : End) (ending : Ending) → known ≡ end_of ending
+      → end_line id known ≡ text_of (lines_under id (end_line id (end_of ending) ∷ []))
+  whole_line known ending same = ap (end_line id) same ∙ sym (append-nil (end_line id (end_of ending)))
+
   pub some_end : (bytes : List ℕ) (packets : List (ℕ × Packet)) (ending : Ending) → IsStream s bytes packets ending
       → (lines : List Printed) × (faulty : Bool) × StreamEnds (packet_lists s) id bytes lines faulty
-  some_end [] packets ending is = ([], false, refl, refl)
+  some_end [] packets ending is = ([], false, (refl, refl))
   some_end (b ∷ bytes) packets ending is =
       (lines_under id (end_line id (end_of ending) ∷ []), is_fault (end_of ending), stream_ends (b ∷ bytes) packets ending (λ none. omega (arith, none)) is)
+
+faulty_where : (ending : Ending) → is_fault (end_of ending) ≡ is_some (fault_of ending)
+faulty_where no_sync = refl
+faulty_where clean = refl
+faulty_where (cut n) = refl
+faulty_where (fault at f) = refl
+
+-- it ends without a fault where none was found
+pub whole_where : (ending : Ending) (found : Option (ℕ × PacketFault)) (whole : Bool) → fault_of ending ≡ found → is_some found ≡ not whole
+    → whole ≡ not (is_fault (end_of ending))
+whole_where ending found true e none = ap not (sym (faulty_where ending ∙ ap is_some e ∙ none))
+whole_where ending found false e none = ap not (sym (faulty_where ending ∙ ap is_some e ∙ none))
 
 -- ---- one list
 
@@ -112,16 +129,18 @@ module _ (s : Sizes) (are : AreSettings s) (id : ℕ) (bytes : List ℕ) where
       let is = each_is_a_stream s are (bytes ++ byte ∷ []) (one_more bytes byte small fits) in
       let more = begins_alike s are bytes (byte ∷ []) was.packets is.packets was.ending is.ending was.is is.is in (
         packet_lines id more.0,
-        was.packets,
-        more.0,
-        was.ending,
-        is.ending,
-        was.is,
-        subst (λ (p : List (ℕ × Packet)). IsStream s (bytes ++ byte ∷ []) p is.ending) more.1 is.is,
-        refl,
+        (
+          was.packets,
+          more.0,
+          was.ending,
+          is.ending,
+          was.is,
+          subst (λ (p : List (ℕ × Packet)). IsStream s (bytes ++ byte ∷ []) p is.ending) more.1 is.is,
+          refl,
+        ),
       )
 
   pub some_line : All (λ b. b < 256) bytes → (line : List ℕ) × (faulty : Bool) × PacketEnds s id bytes line faulty
   some_line small =
       let all = each_is_a_stream s are bytes small in
-      (end_line id (end_of all.ending), is_fault (end_of all.ending), all.packets, all.ending, all.is, refl, refl)
+      (end_line id (end_of all.ending), is_fault (end_of all.ending), (all.packets, all.ending, all.is, refl, refl))

@@ -1,12 +1,15 @@
 //! The packets of a stream: a line each, and then the line of how it ends.
-ghost use Rattle.std.specs.Prelude.{◌≡◌, ◌<◌, ◌+◌, ◌^◌, ◌++◌, ◌∷◌, ℕ, List, [], None, not};
+ghost use Rattle.std.specs.Prelude.{◌≡◌, ◌<◌, ◌+◌, ◌^◌, ◌++◌, ◌∷◌, ℕ, List, []};
 ghost use Rattle.std.specs.List.{concat};
+ghost use Rattle.etm_types.specs.Settings.{AreSettings};
 ghost use Rattle.packet_grammar.specs.declared.packet.Packet.{Packet};
-ghost use Rattle.packet_grammar.specs.Ends.{end_of, is_fault};
+ghost use Rattle.packet_grammar.specs.Ends.{end_of};
 ghost use Rattle.packet_reader.specs.Answered.{told, fault_after};
 ghost use Rattle.path_text.specs.PacketLines.{HasText};
 ghost use Rattle.path_text.specs.Writing.{Writes};
 ghost use Rattle.trace_cmd.specs.PacketList.{HasRead, IsReading, PacketGains, packet_lines};
+ghost use Rattle.trace_io.specs.Bytes.{ShowsAsBefore};
+ghost use Rattle.trace_io.specs.Causes.{HasCause};
 
 use element_queue::{Counts, Ledger};
 use etm_types::{Id, Settings};
@@ -43,6 +46,26 @@ impl Model for PacketStream {
     ghost invariant = { λ p. IsReading p.reader p.fault × (p.line ≡ p.id) };
 }
 
+impl PacketStream {
+    ghost use Rattle.trace_cmd.specs.PacketList.{ListedAt};
+
+    /// A stream of which nothing was taken.
+    fn begin(settings: &Settings) -> PacketStream
+        ensures settings { result.reader.settings ≡ settings.now }
+        ensures stands { ListedAt result [] }
+    {
+        are_settings(settings);
+        let id = first_id();
+        PacketStream {
+            reader: PacketReader::new(settings),
+            fault: None,
+            id,
+            line: PacketLine::new(id),
+            broken: false,
+        }
+    }
+}
+
 /// Streams share nothing.
 impl Stream for PacketStream {
     ghost use Rattle.element_queue.specs.Counting.{no_counts};
@@ -67,14 +90,7 @@ impl Stream for PacketStream {
     ghost listing = { λ shared. packet_lists };
 
     fn new(_alloc: Global, settings: &Settings) -> Result<PacketStream, AllocError> {
-        let id = first_id();
-        Ok(PacketStream {
-            reader: PacketReader::new(settings),
-            fault: None,
-            id,
-            line: PacketLine::new(id),
-            broken: false,
-        })
+        Ok(PacketStream::begin(settings))
     }
 
     fn take<K: Sink>(
@@ -120,6 +136,13 @@ impl Stream for PacketStream {
     }
 }
 
+/// The numbers of settings are such as a trace unit has. Only the contract is asked for.
+fn are_settings(settings: &Settings)
+    ensures { AreSettings settings.now }
+{
+    settings.depth();
+}
+
 /// The ID of a line that is not used yet.
 fn first_id() -> Id {
     Id::new(1).unwrap()
@@ -154,6 +177,8 @@ fn take_byte<K: Sink>(
     ensures gains { (bytes : List ℕ) → HasRead reader.old fault.old bytes
         → (lines : List (List ℕ)) × PacketGains reader.old.settings line.old bytes byte lines
         × Writes (K.state sink.old) (K.state sink.new) result (concat lines) }
+    ensures cause { HasCause (K.state sink.old) (K.state sink.new) result }
+    ensures shows { ShowsAsBefore (K.state sink.old) (K.state sink.new) }
 {
     if let Some((at, run)) = reader.take_atoms(byte) {
         return line.write_atoms(at, &run, sink);
@@ -186,8 +211,7 @@ fn write_step<K: Sink>(
 /// How the stream ends that has this fault, or of which the reader took all bytes and met none.
 fn end_at(reader: &PacketReader, fault: Option<(u64, PacketFault)>) -> End
     requires { IsReading reader.now fault }
-    ensures end { (bytes : List ℕ) (read : HasRead reader.now fault bytes) → result ≡ end_of read.ending }
-    ensures faulty { (bytes : List ℕ) (read : HasRead reader.now fault bytes) → is_none fault ≡ not (is_fault (end_of read.ending)) }
+    ensures { (bytes : List ℕ) (read : HasRead reader.now fault bytes) → result ≡ end_of read.ending }
 {
     match fault {
         Some((at, fault)) => End::Fault {
