@@ -1,3 +1,4 @@
+pub mod AnswerLemmas
 mod CommandLines
 pub mod Interrupts
 pub mod PacketLists

@@ -1,0 +1,148 @@
+-- Answers of a call from those of its parts, and behind the flush.
+use Rattle.std.proofs.Common.{◌≡◌, ◌⊎◌, ℕ, ◌≤◌, true, false, List, [], None, Result, Ok, Err, refl, sym, ap, subst, ◌∙◌, inl, inr, arith}
+use Rattle.std.specs.Prelude.{IfOk}
+use Rattle.std.proofs.KnownBytes.{Appends-kept, Appends-nil}
+use Rattle.path_text.specs.Writing.{Writes}
+use Rattle.program_image.specs.Answers.{TakesNoImage}
+use Rattle.program_image.specs.declared.fault.ImageWhy.{ImageWhy}
+use Rattle.trace_cmd.specs.Answers.{Answers, AnswersSo, Asks, Call, IsCall, IsImageBad, IsImageFault, IsNoMemory, IsPathCall, IsUsage, IsWriteFault}
+use Rattle.trace_cmd.specs.Answers.{Prints, PrintsFront, image_line, usage_line}
+use Rattle.trace_cmd.specs.Grows.{Grow, frames_grow, raw_grows}
+use Rattle.trace_cmd.specs.Listed.{Breaks, Completes, Exceeds, Interrupts, Listed}
+use Rattle.trace_cmd.specs.Printing.{What, PathsOf, PacketsOf, layout_of, left_of, listing_of, pairs_in, pairs_of}
+use Rattle.trace_cmd.specs.Words.{meaning}
+use Rattle.trace_cmd.specs.declared.status.Status.{Status}
+use Rattle.trace_cmd.specs.declared.status.Status.TheVariants as status
+use Rattle.trace_cmd.specs.declared.words.Layout.{Layout}
+use Rattle.trace_cmd.specs.declared.words.Layout.TheVariants.{Raw, Frames}
+use Rattle.trace_cmd.proofs.Interrupts.{broken_cut, completed_cut, exceeded_cut}
+use Rattle.trace_io.specs.Bytes.{AppendsAll, AppendsFront, KeepsBytes}
+use Rattle.trace_io.specs.Causes.{HasCause, Rose}
+use Rattle.trace_io.specs.State.{IoState}
+use Rattle.trace_io.specs.declared.traits.Failed.{Failed}
+use Rattle.trace_io.proofs.Known.{front_kept, front_of_all}
+
+-- ---- before the flush
+
+pub layout_grows : (layout : Layout) → Grow (pairs_in layout)
+layout_grows Raw = raw_grows
+layout_grows Frames = frames_grow
+
+-- what is asked for was printed of the input, or a write failed
+pub so_of_listed : (c : Call) (what : What) → Asks c what → (old new : IoState) (r : Result Status Failed)
+    → Listed (pairs_of what) (left_of what) (listing_of what) c.input c.input' old new r → HasCause old new r → AnswersSo c old new r
+so_of_listed c what asks old new (Ok status.Done) listed cause = (what, asks, listed)
+so_of_listed c what asks old new (Ok status.Faulted) listed cause = (what, asks, listed)
+so_of_listed c what asks old new (Ok status.ReadFault) listed cause = inr (what, asks, listed)
+so_of_listed c what asks old new (Ok status.InputTooLong) listed cause = (what, asks, listed)
+so_of_listed c what asks old new (Ok status.Usage) listed cause = absurd listed
+so_of_listed c what asks old new (Ok (status.ImageBad line why)) listed cause = absurd listed
+so_of_listed c what asks old new (Ok status.WriteFault) listed cause = absurd listed
+so_of_listed c what asks old new (Ok status.NoMemory) listed cause = absurd listed
+so_of_listed c what asks old new (Err e) listed cause = (cause.failed, inr (inr (inl (what, asks, listed))))
+
+-- nothing was printed
+pub nothing_printed : (old new : IoState) → new ≡ old → AppendsAll old new []
+nothing_printed old new same = subst (λ (s : IoState). AppendsAll old s []) (sym same) (Appends-nil old.bytes)
+
+pub so_of_memory : (c : Call) (old new : IoState) → IsCall c.words → c.input' ≡ c.input → new ≡ old → IsNoMemory c old new
+so_of_memory c old new command untouched same = record { command = command; untouched = untouched; printed = nothing_printed old new same }
+
+pub so_of_image_fault : (c : Call) (old : IoState) → IsPathCall c.words → Rose c.image c.image' → c.input' ≡ c.input → IsImageFault c old old
+so_of_image_fault c old command rose untouched =
+    record { command = command; rose = rose; untouched = untouched; printed = nothing_printed old old refl }
+
+-- either of these two
+pub so_by : (c : Call) (what : What) → Asks c what → (old new : IoState) (r : Result Status Failed) → IsCall c.words → HasCause old new r
+    → (r ≡ Ok status.NoMemory → (c.input' ≡ c.input) × (new ≡ old))
+    → (r ≡ Ok status.NoMemory) ⊎ Listed (pairs_of what) (left_of what) (listing_of what) c.input c.input' old new r → AnswersSo c old new r
+so_by c what asks old new r command cause memory (inr listed) = so_of_listed c what asks old new r listed cause
+so_by c what asks old new r command cause memory (inl none) =
+    let kept = memory none in
+    subst (AnswersSo c old new) (sym none) (so_of_memory c old new command kept.0 kept.1)
+
+-- the line of usage
+pub so_of_usage : (c : Call) (old new : IoState) (r : Result Status Failed) → meaning c.words ≡ None → Writes old new r usage_line
+    → IfOk r (λ s. s ≡ status.Usage) → AnswersSo c old new r
+so_of_usage c old new (Ok s) none w same =
+    subst (λ (t : Status). Answers c old new t) (sym same) (usage_line, record { meaningless = none; printed = refl }, w.whole)
+so_of_usage c old new (Err e) none w same = (w.cause.failed, inl (usage_line, record { meaningless = none; printed = refl }, w.front))
+
+-- the line of an image that is bad
+pub so_of_bad_image : (c : Call) (old new : IoState) (line : ℕ) (why : ImageWhy) → IsPathCall c.words → TakesNoImage c.image c.image' line why
+    → AppendsAll old new (image_line line why) → Prints (IsImageBad c line why) old new
+so_of_bad_image c old new line why command bad printed = (image_line line why, record { command = command; refused = bad; printed = refl }, printed)
+
+pub bad_image_fails : (c : Call) (old new : IoState) (e d : Failed) (line : ℕ) (why : ImageWhy) → IsPathCall c.words → TakesNoImage c.image c.image' line why
+    → Writes {T = Unit {0}} old new (Err e) (image_line line why) → AnswersSo c old new (Err d)
+bad_image_fails c old new e d line why command bad w =
+    (w.cause.failed, inr (inl (line, why, (image_line line why, record { command = command; refused = bad; printed = refl }, w.front))))
+
+-- ---- behind the flush
+
+module _ (c : Call) (old new newer : IoState) (kept : KeepsBytes new newer) where
+  kept_all : (text : List ℕ) → AppendsAll old new text → AppendsAll old newer text
+  kept_all text all = Appends-kept old.bytes new.bytes newer.bytes text all kept
+
+  kept_line : (kind : List ℕ → Type 0) → Prints kind old new → Prints kind old newer
+  kept_line kind (text, is, all) = (text, is, kept_all text all)
+
+  line_front : (kind : List ℕ → Type 0) → Prints kind old new → PrintsFront kind old newer
+  line_front kind (text, is, all) = (text, is, front_of_all old newer text (kept_all text all))
+
+  kept_front : (kind : List ℕ → Type 0) → PrintsFront kind old new → PrintsFront kind old newer
+  kept_front kind (text, is, front) = (text, is, front_kept old new newer text front kept)
+
+  kept_image : IsImageFault c old new → IsImageFault c old newer
+  kept_image f = record { command = f.command; rose = f.rose; untouched = f.untouched; printed = kept_all [] f.printed }
+
+  kept_memory : IsNoMemory c old new → IsNoMemory c old newer
+  kept_memory f = record { command = f.command; untouched = f.untouched; printed = kept_all [] f.printed }
+
+  -- a write failed before it
+  kept_fault : IsWriteFault c old new → IsWriteFault c old newer
+  kept_fault (inl front) = inl (kept_front (IsUsage c) front)
+  kept_fault (inr (inl (line, why, front))) = inr (inl (line, why, kept_front (IsImageBad c line why) front))
+  kept_fault (inr (inr (inl (what, asks, i)))) =
+      inr (inr (inl (what, asks, record {
+        bytes = i.bytes; took = i.took; few = i.few; shown = i.shown; printed = kept_all i.shown i.printed; late = i.late; early = i.early })))
+  kept_fault (inr (inr (inr (inl f)))) = inr (inr (inr (inl (kept_image f))))
+  kept_fault (inr (inr (inr (inr f)))) = inr (inr (inr (inr (kept_memory f))))
+
+  -- it succeeds
+  pub all_flushed : (s : Status) → new.faults ≤ newer.faults → Answers c old new s → Answers c old newer s
+  all_flushed status.Done later (what, asks, done) =
+      (what, asks, record { bytes = done.bytes; read = done.read; few = done.few; lines = done.lines; shown = done.shown; printed = kept_all _ done.printed })
+  all_flushed status.Faulted later (what, asks, done) =
+      (what, asks, record { bytes = done.bytes; read = done.read; few = done.few; lines = done.lines; shown = done.shown; printed = kept_all _ done.printed })
+  all_flushed status.Usage later prints = kept_line (IsUsage c) prints
+  all_flushed (status.ImageBad line why) later prints = kept_line (IsImageBad c line why) prints
+  all_flushed status.ReadFault later (inl f) = inl (kept_image f)
+  all_flushed status.ReadFault later (inr (what, asks, b)) =
+      inr (what, asks, record { bytes = b.bytes; took = b.took; few = b.few; printed = (b.printed.0, b.printed.1, kept_all _ b.printed.2); rose = b.rose })
+  all_flushed status.InputTooLong later (what, asks, b) =
+      (what, asks, record { bytes = b.bytes; byte = b.byte; took = b.took; many = b.many; printed = (b.printed.0, b.printed.1, kept_all _ b.printed.2) })
+  all_flushed status.NoMemory later f = kept_memory f
+  all_flushed status.WriteFault later (rose, f) = (omega (arith, rose, later), kept_fault f)
+
+  -- it fails behind an answer
+  cut : (s : Status) → Answers c old new s → IsWriteFault c old newer
+  cut status.Done (what, asks, done) =
+      inr (inr (inl (what, asks, completed_cut (pairs_of what) (left_of what) (layout_grows (layout_of what)) (listing_of what) c.input c.input' old new newer false done kept)))
+  cut status.Faulted (what, asks, done) =
+      inr (inr (inl (what, asks, completed_cut (pairs_of what) (left_of what) (layout_grows (layout_of what)) (listing_of what) c.input c.input' old new newer true done kept)))
+  cut status.Usage prints = inl (line_front (IsUsage c) prints)
+  cut (status.ImageBad line why) prints = inr (inl (line, why, line_front (IsImageBad c line why) prints))
+  cut status.ReadFault (inl f) = inr (inr (inr (inl (kept_image f))))
+  cut status.ReadFault (inr (what, asks, b)) =
+      inr (inr (inl (what, asks, broken_cut (pairs_of what) (left_of what) (layout_grows (layout_of what)) (listing_of what) c.input c.input' old new newer b kept)))
+  cut status.InputTooLong (what, asks, b) =
+      inr (inr (inl (what, asks, exceeded_cut (pairs_of what) (left_of what) (layout_grows (layout_of what)) (listing_of what) c.input c.input' old new newer b kept)))
+  cut status.NoMemory f = inr (inr (inr (inr (kept_memory f))))
+  cut status.WriteFault (rose, f) = kept_fault f
+
+  pub flush_fails : (s : Status) → Answers c old new s → old.faults ≤ new.faults → Rose new newer → Answers c old newer status.WriteFault
+  flush_fails s answers later rose = (omega (arith, later, rose), cut s answers)
+
+  pub write_fails : (e : Failed) → AnswersSo c old new (Err e) → new.faults ≤ newer.faults → Answers c old newer status.WriteFault
+  write_fails e (rose, f) later = let was : Rose old new = rose in (omega (arith, was, later), kept_fault f)
