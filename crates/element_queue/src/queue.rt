@@ -104,6 +104,7 @@ impl Queue {
     }
 
     /// One more P0 element. Where more than the depth would be held, the oldest is committed.
+    #[inline(always)]
     pub fn push(&mut self, p0: P0) -> Option<Committed>
         ensures takes { Takes self.old (elem.P0 p0) (committing (things_of result)) self.new }
         ensures full { IsSome result ↔ (self.old.depth ≤ length self.old.held) }

@@ -204,6 +204,7 @@ impl Elems {
     }
 
     /// The atoms of a run, oldest first.
+    #[inline(always)]
     pub(crate) fn of_run(run: &AtomRun) -> Elems
         requires { run.now.count ≤ most_atoms }
         ensures { result ≡ atoms (atoms_in run.now) }

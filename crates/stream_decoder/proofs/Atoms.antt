@@ -1,6 +1,6 @@
 -- An atom is taken that commits one before which nothing was given, and that one is walked.
-use Rattle.std.proofs.Common.{◌≡◌, ◌≢◌, ℕ, ◌<◌, Bool, List, [], ◌∷◌, ◌++◌, Option, Some, None, Ok, refl, sym, ap, subst, ◌∙◌, inl, append-nil}
-use Rattle.std.specs.Prelude.{IfSome, option_to_list}
+use Rattle.std.proofs.Common.{◌≡◌, ◌≢◌, ℕ, ◌<◌, Bool, List, [], ◌∷◌, Option, Some, None, Ok, refl, sym, ap, subst, ◌∙◌, inl, append-nil}
+use Rattle.std.specs.Prelude.{IfSome}
 use Rattle.element_queue.specs.Pending.{Taken, committing}
 use Rattle.element_queue.specs.Queued.{Queued, Takes}
 use Rattle.etm_types.specs.Walked.{items_of}

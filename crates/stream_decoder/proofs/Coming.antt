@@ -1,38 +1,8 @@
 -- From the bytes at which a decoding stands to those and one more.
-use Rattle.std.proofs.Common.{
-  ◌≡◌,
-  ◌⊎◌,
-  ℕ,
-  ◌+◌,
-  ◌%◌,
-  ◌^◌,
-  ◌<◌,
-  Bool,
-  true,
-  false,
-  List,
-  [],
-  ◌∷◌,
-  ◌++◌,
-  Option,
-  Some,
-  None,
-  Result,
-  Ok,
-  Err,
-  refl,
-  sym,
-  ap,
-  subst,
-  ◌∙◌,
-  inl,
-  inr,
-  append_assoc,
-  append-nil,
-}
+use Rattle.std.proofs.Common.{◌≡◌, ℕ, ◌+◌, ◌%◌, ◌^◌, ◌<◌, Bool, true, false, List, [], ◌∷◌, ◌++◌, Option, Some, None, Result, Ok, Err, refl, sym, ap, subst, ◌∙◌, inl, inr, append-nil}
 use Rattle.std.proofs.Common.{arith}
 use Rattle.std.proofs.Math.Nat.{mod-eq_of_lt, mod-lt}
-use Rattle.std.specs.Prelude.{All, if◌then◌else◌, is_some}
+use Rattle.std.specs.Prelude.{All, if◌then◌else◌}
 use Rattle.element_queue.specs.Counting.{add, counts_after, entries, made_by, no_counts, tally, tally_step}
 use Rattle.element_queue.specs.Pending.{Gone, Pending, Taken, taken}
 use Rattle.element_queue.specs.Resolved.{at_first}
@@ -58,7 +28,7 @@ use Rattle.packet_reader.specs.declared.step.Step.TheVariants.{Skipped, More, Wh
 use Rattle.path_elements.proofs.BytePaths.{fault_stays}
 use Rattle.path_elements.proofs.Grows.{each_packet_adds}
 use Rattle.path_elements.proofs.Paths.{last_of, runs_to_path}
-use Rattle.path_elements.proofs.Runs.{ended, ended_or_stopped, goes, goes_or_halts, halts, runs_all, runs_append, same_ended, same_goes, same_walking, walking_or_halting}
+use Rattle.path_elements.proofs.Runs.{ended_or_stopped, goes, goes_or_halts, runs_all, runs_append, same_ended, same_goes, same_walking, walking_or_halting}
 use Rattle.path_elements.specs.Elements.{Gained, all_elements, elements_of, is_misplaced, placed, told_after, untold}
 use Rattle.path_elements.specs.Elements as told_so
 use Rattle.path_elements.specs.Laws.{with_packet}
@@ -67,9 +37,9 @@ use Rattle.path_elements.specs.Running.{Outcome, Runs, TakesSo, walked}
 use Rattle.path_walker.specs.State.{State, first_state}
 use Rattle.program_image.specs.declared.image.Image.{Image}
 use Rattle.stream_decoder.proofs.Yielding.{tally_on}
-use Rattle.stream_decoder.specs.Decoding.{AtRest, Decoding, counted, depth_of}
-use Rattle.stream_decoder.specs.Stands.{Came, ComesTo, end_at}
-use Rattle.stream_decoder.specs.Yields.{Ends, Opens, OpensBehind, OpensPacket, TakesAll, Yields, YieldsFrom, is_walk_fault, outcome_at}
+use Rattle.stream_decoder.specs.Decoding.{Decoding, counted, depth_of}
+use Rattle.stream_decoder.specs.Stands.{Came, ComesTo}
+use Rattle.stream_decoder.specs.Yields.{Ends, Opens, OpensBehind, TakesAll, Yields, YieldsFrom, is_walk_fault, outcome_at}
 
 abbrev gains : List (ℕ × Elem) → Option ℕ → told_so.Told → Gained
 gains elements awaited so_far = record { elements = elements; awaited = awaited; told = so_far }

@@ -22,7 +22,7 @@ use crate::found::Found;
 use crate::todo::Todo;
 use crate::waiting::Waiting;
 use element_queue::{Counts, Ledger};
-use etm_types::{QueueFault, Settings, Thing, Walked};
+use etm_types::{AtomRun, QueueFault, Settings, Thing, Walked};
 use packet_grammar::{End, Fault, Packet};
 use packet_reader::{PacketReader, Step};
 use path_elements::{Awaited, ElemMaker};
@@ -89,7 +89,7 @@ impl Decoding {
             return self.begin_any(byte);
         }
         match self.reader.take_atoms(byte) {
-            Some((at, run)) => self.open(at, &Packet::Atoms(run)),
+            Some((at, run)) => self.open_atoms(at, run),
             None => self.begin_any(byte),
         }
     }
@@ -115,8 +115,24 @@ impl Decoding {
         }
     }
 
-    /// Leaves the elements of a packet to do, or sets its fault where it may not come.
+    /// Leaves the elements of a packet of atoms to do, or sets its fault where it may not come.
     #[inline(always)]
+    fn open_atoms(&mut self, at: u64, run: AtomRun)
+        requires packet { CanBeTaken (Packet.Atoms run) }
+        requires rest { AtRest self.old }
+        requires whole { self.old.fault ≡ None }
+        ensures opens { OpensPacket self.old at (Packet.Atoms run) self.new }
+        ensures reader { self.new.reader ≡ self.old.reader }
+        ensures holds { IsDecoding self.new }
+    {
+        match self.maker.atoms_of(&run) {
+            Some(elems) => self.todo = Todo::of(at, elems),
+            None => self.open(at, &Packet::Atoms(run)),
+        }
+    }
+
+    /// Leaves the elements of a packet to do, or sets its fault where it may not come.
+    #[inline(never)]
     fn open(&mut self, at: u64, packet: &Packet)
         requires packet { CanBeTaken packet.now }
         requires rest { AtRest self.old }
@@ -132,8 +148,6 @@ impl Decoding {
     }
 
     /// What is shown next of what is left to do. Nothing means that all of it is done, up to the first fault.
-    ///
-    /// Mostly that is an atom and commits one before which nothing was given: these go the short way.
     #[inline(always)]
     pub fn next(&mut self, image: &Image) -> Option<Found>
         ensures found { (found : Found) → result ≡ Some found → Goes image.now self.old (items_of_found found) self.new }
@@ -144,9 +158,6 @@ impl Decoding {
         ensures reader { self.new.reader ≡ self.old.reader }
         ensures holds { IsDecoding self.new }
     {
-        if let Some(walked) = self.next_atom(image) {
-            return Some(Found::Walked(walked));
-        }
         if self.is_at_rest() {
             return None;
         }
@@ -154,13 +165,15 @@ impl Decoding {
     }
 
     /// Takes the next element where it is an atom and commits one before which nothing was given, and walks that one. Else,
-    /// and where the walk has a fault, nothing changes.
+    /// and where the walk has a fault, nothing changes: [`next`](Decoding::next) goes on from there.
+    ///
+    /// Most elements are such, and what is found of them stays where it is used.
     #[inline(always)]
-    fn next_atom(&mut self, image: &Image) -> Option<Walked>
+    pub fn next_atom(&mut self, image: &Image) -> Option<Walked>
         ensures goes { IfSome result (λ walked. Goes image.now self.old (items_of walked) self.new) }
         ensures fewer { IfSome result (λ walked. left self.new < left self.old) }
-        ensures some { IfSome result (λ walked. AtRest self.old → ⊥) }
         ensures none { result ≡ None → self.new ≡ self.old }
+        ensures stopped { AtRest self.old → result ≡ None }
         ensures reader { self.new.reader ≡ self.old.reader }
         ensures holds { IsDecoding self.new }
     {

@@ -1,13 +1,12 @@
-use Rattle.std.proofs.Common.{◌≡◌, ℕ, false, List, [], ◌∷◌, ◌++◌, Option, Some, None, Ok, Err, refl, sym, ap, subst, ◌∙◌}
+use Rattle.std.proofs.Common.{◌≡◌, false, [], ◌∷◌, ◌++◌, Option, None, Ok, Err, refl, sym, ap, subst, ◌∙◌}
 use Rattle.etm_types.specs.Settings.{AreSettings}
 use Rattle.etm_types.specs.declared.context.Ctx.{Ctx}
-use Rattle.etm_types.specs.declared.item.Item.{Item}
 use Rattle.path_text.proofs.LineLemmas.{shown_after_all-append}
 use Rattle.path_text.proofs.Wrote.{wrote_nothing, writes_all}
 use Rattle.path_text.specs.PathLines.{lines_of, shown_after_all}
 use Rattle.path_text.specs.Writing.{Writes}
 use Rattle.stream_decoder.specs.Decoding.{Decoder, Decoding}
-use Rattle.stream_decoder.specs.Stands.{Came, Grows, StandsAt}
+use Rattle.stream_decoder.specs.Stands.{Came}
 use Rattle.stream_decoder.specs.Yields.{Begun}
 use Rattle.stream_decoder.proofs.Growing.{by_fault, grows_on, grows_stopped, not_none, stands_on, stands_stopped}
 use Rattle.trace_io.specs.declared.traits.Failed.{Failed}

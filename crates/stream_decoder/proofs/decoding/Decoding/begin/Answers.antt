@@ -1,4 +1,4 @@
-use Rattle.std.proofs.Common.{◌≡◌, ℕ, ◌+◌, List, [], ◌∷◌, None, refl, sym, ap, ◌∙◌, subst}
+use Rattle.std.proofs.Common.{refl, sym, ap, ◌∙◌, subst}
 use Rattle.packet_grammar.specs.declared.packet.Packet.TheVariants.{Atoms}
 use Rattle.packet_reader.specs.Stands.{Standing}
 use Rattle.packet_reader.specs.declared.step.Step.TheVariants.{Whole}
@@ -14,15 +14,15 @@ invariant_of-self c =
     kept_reading i.reader c.take_atoms.new.self c.args.byte c.ranges.byte.fits (Whole c.in-Some.at packet) takes.settings takes.stands takes.gains
     i.maker i.todo i.waiting i.walker i.fault c.self.invariant
 
-pub open-requires-clause-packet : goal.open-requires-clause-packet
-open-requires-clause-packet c = in_range c.self.inside.reader.settings (Atoms c.in-Some.run') c.in-Some.ensures.takes.values
+pub open_atoms-requires-clause-packet : goal.open_atoms-requires-clause-packet
+open_atoms-requires-clause-packet c = in_range c.self.inside.reader.settings (Atoms c.in-Some.run') c.in-Some.ensures.takes.values
 
 pub returns-in-Some-clause-begun : goal.returns-in-Some-clause-begun
 returns-in-Some-clause-begun c =
     let i = c.self.inside in let packet = Atoms c.in-Some.run' in let takes = c.in-Some.ensures.takes in
     begun_opening i.reader c.take_atoms.new.self c.args.byte c.ranges.byte.fits (Whole c.in-Some.at packet) takes.settings takes.stands takes.gains
-    i.maker i.todo i.waiting i.walker i.fault c.args.self.now c.self.view_is c.open.new.self c.open.ensures.reader
-    (unmet i.fault (sym c.is_some.ensures ∙ c.if-is_some.false)) c.open.ensures.opens
+    i.maker i.todo i.waiting i.walker i.fault c.args.self.now c.self.view_is c.open_atoms.new.self c.open_atoms.ensures.reader
+    (unmet i.fault (sym c.is_some.ensures ∙ c.if-is_some.false)) c.open_atoms.ensures.opens
 
 pub returns-in-None-clause-begun : goal.returns-in-None-clause-begun
 returns-in-None-clause-begun c =

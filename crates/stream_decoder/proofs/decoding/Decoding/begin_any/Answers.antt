@@ -1,4 +1,4 @@
-use Rattle.std.proofs.Common.{◌≡◌, ℕ, ◌+◌, Some, refl, sym, ap, ◌∙◌, subst, inl, inr}
+use Rattle.std.proofs.Common.{◌+◌, Some, refl, sym, ap, ◌∙◌, subst, inl, inr}
 use Rattle.packet_grammar.specs.declared.stream_fault.Fault.TheVariants as fault
 use Rattle.packet_reader.specs.declared.step.Step.{Step}
 use Rattle.path_elements.proofs.Taken.{in_range}

@@ -1,4 +1,4 @@
-use Rattle.std.proofs.Common.{◌≡◌, ◌≤◌, ℕ, []}
+use Rattle.std.proofs.Common.{◌≡◌, ◌≤◌, []}
 use Rattle.stream_decoder.specs.Decoding.{AtRest}
 use Rattle.stream_decoder.specs.Yields.{Goes, left}
 use Rattle.stream_decoder.proofs.decoding.Decoding.next_any.Given as goal

@@ -1,8 +1,7 @@
-use Rattle.std.proofs.Common.{◌≡◌, ◌∷◌, [], List, Some, None, refl, sym, ap, subst, ◌∙◌}
-use Rattle.etm_types.specs.declared.element.Elem.{Elem}
+use Rattle.std.proofs.Common.{ap, subst, ◌∙◌}
 use Rattle.stream_decoder.specs.Decoding.{Decoding, decoding_of}
 use Rattle.stream_decoder.specs.Yields.{Leaves}
-use Rattle.stream_decoder.proofs.Taking.{fewer_taken, holds_taken, leaves_taken, taken_given}
+use Rattle.stream_decoder.proofs.Taking.{holds_taken, leaves_taken, taken_given}
 use Rattle.stream_decoder.proofs.decoding.Decoding.take_element.Goals as goal
 
 pub invariant_of-self : goal.invariant_of-self

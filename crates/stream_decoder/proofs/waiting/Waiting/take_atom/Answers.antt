@@ -1,4 +1,4 @@
-use Rattle.std.proofs.Common.{◌≡◌, List, refl, sym, ap, subst, ◌∙◌}
+use Rattle.std.proofs.Common.{List, refl, ap, subst, ◌∙◌}
 use Rattle.etm_types.specs.declared.element.Elem.TheVariants as elem
 use Rattle.etm_types.specs.declared.element.P0.TheVariants.{Atom}
 use Rattle.etm_types.specs.declared.element.Thing.{Thing}
