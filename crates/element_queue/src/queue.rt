@@ -317,14 +317,13 @@ fn bare_atom(entry: &Entry) -> Option<bool>
 {
     match *entry {
         Entry {
-            pre:
-                Pre {
-                    flush: false,
-                    on: false,
-                    lost: false,
-                    ctx: None,
-                    addr: None,
-                },
+            pre: Pre {
+                flush: false,
+                on: false,
+                lost: false,
+                ctx: None,
+                addr: None,
+            },
             p0: P0::Atom(taken),
         } => Some(taken),
         _ => None,

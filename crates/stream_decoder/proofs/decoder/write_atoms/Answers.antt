@@ -23,11 +23,11 @@ pub loop-walked-preserved : goal.loop-walked-preserved
 loop-walked-preserved g c =
     let state = g.K.Sink.state in
     let image = c.args.image.now in let id = c.args.id in
-    let wrote = wrote_by (state c.loop-walked.sink) (state c.write_walked.new.sink) tt (lines_of id c.loop-walked.shown (items_of c.in-Some.walked)) c.in-Ok.ensures.lines in
+    let more = items_of c.in-Some.walked in let was = state c.loop-walked.sink in let now = state c.write_walked.new.sink in
+    let wrote = wrote_by was now tt (lines_of id c.loop-walked.shown more) c.in-Ok.ensures.lines in
     record {
-      printed = printed_on image id c.args.decoding.now c.loop-walked.decoding c.args.shown.now c.loop-walked.shown (state c.args.sink.now) (state c.loop-walked.sink)
-          (state c.write_walked.new.sink) c.loop-walked.invariant.printed (items_of c.in-Some.walked) c.next_atom.new.self c.in-Some.ensures.goes c.write_walked.new.shown
-          c.in-Ok.ensures.shown wrote;
+      printed = printed_on image id c.args.decoding.now c.loop-walked.decoding c.args.shown.now c.loop-walked.shown (state c.args.sink.now) was now
+          c.loop-walked.invariant.printed more c.next_atom.new.self c.in-Some.ensures.goes c.write_walked.new.shown c.in-Ok.ensures.shown wrote;
       rest = λ done. absurd (
           let still = subst AtRest (sym (c.loop-walked.invariant.rest done).0) done in
           let e : None ≡ Some c.in-Some.walked = sym (c.next_atom.ensures.stopped still) ∙ c.in-Some.is in cc);
@@ -39,8 +39,8 @@ returns-in-Err-clause-prints g c =
     let state = g.K.Sink.state in let image = c.args.image.now in let p = c.loop-walked.invariant.printed in let more = items_of c.in-Some.walked in (
       p.items ++ more,
       goes_on image c.args.decoding.now c.loop-walked.decoding c.next_atom.new.self p.items more p.goes c.in-Some.ensures.goes,
-      writes_front image c.args.id c.args.decoding.now c.loop-walked.decoding c.args.shown.now c.loop-walked.shown (state c.args.sink.now) (state c.loop-walked.sink)
-          (state c.write_walked.new.sink) p more c.next_atom.new.self c.in-Some.ensures.goes c.in-Err.failed c.in-Err.ensures.lines,
+      writes_front image c.args.id c.args.decoding.now c.loop-walked.decoding c.args.shown.now c.loop-walked.shown (state c.args.sink.now)
+          (state c.loop-walked.sink) (state c.write_walked.new.sink) p more c.next_atom.new.self c.in-Some.ensures.goes c.in-Err.failed c.in-Err.ensures.lines,
       tt,
     )
 

@@ -9,20 +9,22 @@ use Rattle.stream_decoder.proofs.decoding.Decoding.next_atom.Goals as goal
 
 pub invariant_of-self-2 : goal.invariant_of-self-2
 invariant_of-self-2 c =
-    holds_by_atom c.self.inside.reader c.self.inside.maker c.self.inside.todo c.advance.new.self c.self.inside.waiting c.take_atom.new.self c.self.inside.walker
-    c.walk_bare.new.self c.self.inside.fault c.in_ok-taken.taken c.in_ok-committed.committed c.in_ok-taken.ensures.0 c.in_ok-taken.ensures.1
+    let i = c.self.inside in
+    holds_by_atom i.reader i.maker i.todo c.advance.new.self i.waiting c.take_atom.new.self i.walker
+    c.walk_bare.new.self i.fault c.in_ok-taken.taken c.in_ok-committed.committed c.in_ok-taken.ensures.0 c.in_ok-taken.ensures.1
     (c.advance.ensures (elem.P0 (Atom c.in_ok-taken.taken)) c.in_ok-taken.ensures.0 c.in_ok-taken.ensures.1)
     c.in_ok-committed.ensures.0 c.in_ok-committed.ensures.1 c.self.invariant c.take_atom.ensures.commits c.take_atom.ensures.holds
     c.in_ok-walked.ensures.state
 
 pub returns-clause-goes : goal.returns-clause-goes
 returns-clause-goes c =
-    let goes = goes_by_atom c.self.inside.reader c.self.inside.maker c.self.inside.todo c.advance.new.self c.self.inside.waiting c.take_atom.new.self c.self.inside.walker
-    c.walk_bare.new.self c.self.inside.fault c.in_ok-taken.taken c.in_ok-committed.committed c.in_ok-taken.ensures.0 c.in_ok-taken.ensures.1
+    let i = c.self.inside in
+    let goes = goes_by_atom i.reader i.maker i.todo c.advance.new.self i.waiting c.take_atom.new.self i.walker
+    c.walk_bare.new.self i.fault c.in_ok-taken.taken c.in_ok-committed.committed c.in_ok-taken.ensures.0 c.in_ok-taken.ensures.1
     (c.advance.ensures (elem.P0 (Atom c.in_ok-taken.taken)) c.in_ok-taken.ensures.0 c.in_ok-taken.ensures.1)
     c.in_ok-committed.ensures.0 c.in_ok-committed.ensures.1 c.self.invariant c.take_atom.ensures.commits c.take_atom.ensures.holds
     c.args.image.now c.in_ok-walked.walked c.in_ok-walked.ensures.shows in
-    let i = c.self.inside in let after = decoding_of i.reader i.maker c.advance.new.self c.take_atom.new.self c.walk_bare.new.self i.fault in
+    let after = decoding_of i.reader i.maker c.advance.new.self c.take_atom.new.self c.walk_bare.new.self i.fault in
     subst (λ (d : Decoding). Goes c.args.image.now d (items_of c.in_ok-walked.walked) after) c.self.view_is goes
 
 pub returns-clause-holds : goal.returns-clause-holds

@@ -12,6 +12,7 @@ invariant_of-self c =
       inv.0,
       holds_opened i.reader i.reader i.maker i.todo i.waiting i.walker i.fault inv.1 (inv.1).reads refl c.args.at (Atoms c.args.run)
           c.in-Some.elems i.maker c.of-self-inside.result
-          (subst AtRest (sym c.self.view_is) c.requires.rest) (ap (λ (d : Decoding). d.fault) c.self.view_is ∙ c.requires.whole) some.1 (sym some.2) c.of-self-inside.ensures
+          (subst AtRest (sym c.self.view_is) c.requires.rest) (ap (λ (d : Decoding). d.fault) c.self.view_is ∙ c.requires.whole) some.1 (sym some.2)
+          c.of-self-inside.ensures
           c.in-Some.ensures.within,
     )
