@@ -1,4 +1,4 @@
-use Rattle.std.proofs.Common.{ℕ, ◌<◌, List, slice_get, arith, ◌∙◌, sym, ap}
+use Rattle.std.proofs.Common.{◌<◌, List, slice_get, arith, ◌∙◌, sym, ap}
 use Rattle.etm_types.specs.declared.element.Elem.{Elem}
 use Rattle.path_elements.specs.Held.{rest_in}
 use Rattle.path_elements.proofs.AtomElems.{count_all, atom_at}
