@@ -1,4 +1,9 @@
+pub mod Alone
+pub mod AlonePaths
 pub mod Bodies
 pub mod Ending
 pub mod Standing
+pub mod OneText
+pub mod Parted
+pub mod PathTexts
 pub mod Writing
