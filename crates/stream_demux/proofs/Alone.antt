@@ -1,8 +1,8 @@
 -- The lines of one stream are those of its own bytes.
-use Rattle.std.proofs.Common.{◌≡◌, ◌≢◌, ℕ, zero, suc, ◌+◌, ◌<◌, ◌≤◌, ◌==◌, if◌then◌else◌, Bool, true, false, List, [], ◌∷◌, ◌++◌, map, inl, inr, Option, Some, None}
-use Rattle.std.proofs.Common.{refl, sym, ap, subst, ◌∙◌, arith, append-nil, append_assoc}
+use Rattle.std.proofs.Common.{◌≡◌, ◌≢◌, ℕ, zero, suc, ◌+◌, ◌<◌, ◌≤◌, ◌==◌, if◌then◌else◌, Bool, true, false, List, [], ◌∷◌, ◌++◌, inl, inr, Some, None}
+use Rattle.std.proofs.Common.{refl, sym, ap, subst, ◌∙◌, arith, append-nil}
 use Rattle.std.specs.Prelude.{nat_lt, nat_le, ◌&&◌}
-use Rattle.std.specs.List.{filter, range_with_len}
+use Rattle.std.specs.List.{range_with_len}
 use Rattle.std.proofs.lemmas.Bool.{eq-eqb, ltb-true, leb-true}
 use Rattle.std.proofs.lemmas.Bool.Decides.{eqb_tells}
 use Rattle.std.proofs.lemmas.List.{map-append}
@@ -10,7 +10,7 @@ use Rattle.std.proofs.lemmas.List.Elements.{filter-append}
 use Rattle.etm_types.specs.Id.{IsId}
 use Rattle.path_text.specs.EndLines.{frame_cut_line}
 use Rattle.stream_demux.specs.Laws.{EndsOnce, GainsOnce, OthersDoNotCount, OthersHaveNone, SourceIsAlone, StreamBody, StreamLines, has_id, lines_with}
-use Rattle.stream_demux.specs.Texts.{BodyFrom, EndsOf, GainsIf, IsText, Listing, Printed, StreamEnds, cut_lines, is_source, lines_under, of, sources}
+use Rattle.stream_demux.specs.Texts.{BodyFrom, EndsOf, GainsIf, Listing, Printed, StreamEnds, cut_lines, is_source, lines_under, of, sources}
 use Rattle.stream_demux.proofs.Bodies.{of_other, of_this}
 use Rattle.stream_demux.proofs.OneText.{stream_ends_once}
 use Rattle.stream_demux.proofs.Parted.{of_others}
@@ -80,7 +80,8 @@ module _ (g : Listing) (id : ℕ) (source : IsId id) where
       record {
         gained = was.gained;
         body = subst (λ (l : List ℕ). StreamBody g id (of id before) l was.gained) (sym (of_others id other byte pairs differs)) later;
-        same = with-append id (lines_under other first) rest ∙ ap (λ (l : List Printed). l ++ lines_with id rest) (with_others id other first differs) ∙ was.same;
+        same = with-append id (lines_under other first) rest
+            ∙ ap (λ (l : List Printed). l ++ lines_with id rest) (with_others id other first differs) ∙ was.same;
       }
 
   one_apart : (before pairs : List (ℕ × ℕ)) (other byte : ℕ) (first : List (List ℕ)) (rest : List Printed)
@@ -88,10 +89,10 @@ module _ (g : Listing) (id : ℕ) (source : IsId id) where
       → Apart g id before ((other, byte) ∷ pairs) (lines_under other first ++ rest)
   one_apart before pairs other byte first rest gains was = elim (eqb_tells other id) [
     | inl is ↦
-      let here = subst (λ (i : ℕ). GainsIf (is_source i) g before (i, byte) first) is.1 gains in
-      let adds = subst (λ (t : Bool). GainsIf t g before (id, byte) first) (is_one id source) here in
-      let own = own_byte before pairs byte first rest adds (subst (λ (i : ℕ). Apart g id (before ++ (i, byte) ∷ []) pairs rest) is.1 was) in
-      subst (λ (i : ℕ). Apart g id before ((i, byte) ∷ pairs) (lines_under i first ++ rest)) (sym is.1) own
+        let here = subst (λ (i : ℕ). GainsIf (is_source i) g before (i, byte) first) is.1 gains in
+        let adds = subst (λ (t : Bool). GainsIf t g before (id, byte) first) (is_one id source) here in
+        let own = own_byte before pairs byte first rest adds (subst (λ (i : ℕ). Apart g id (before ++ (i, byte) ∷ []) pairs rest) is.1 was) in
+        subst (λ (i : ℕ). Apart g id before ((i, byte) ∷ pairs) (lines_under i first ++ rest)) (sym is.1) own
     | inr differ ↦ other_byte before pairs other byte first rest differ.1 was
   ]
 
@@ -131,16 +132,22 @@ module _ (g : Listing) (pairs : List (ℕ × ℕ)) (id : ℕ) where
   one_among from zero lines faulty low high none = absurd (omega (arith, low, high))
   one_among from (suc count) lines faulty low high (first, rest, f, o, here, later, is, fault) = elim (eqb_tells from id) [
     | inl same ↦
-      let own = subst (λ (i : ℕ). StreamEnds g i (of i pairs) first f) same.1 here in
-      let behind = none_among (from + 1) count rest o (λ k within e. omega (arith, e, same.1)) later in
-      (first, f, own,
-       ap (lines_with id) is ∙ with-append id first rest ∙ ap (λ (l : List Printed). l ++ lines_with id rest) (own_end (of id pairs) first f own)
-       ∙ ap (λ (l : List Printed). first ++ l) behind ∙ append-nil first)
+        let own = subst (λ (i : ℕ). StreamEnds g i (of i pairs) first f) same.1 here in
+        let behind = none_among (from + 1) count rest o (λ k within e. omega (arith, e, same.1)) later in (
+          first,
+          f,
+          own,
+          ap (lines_with id) is ∙ with-append id first rest ∙ ap (λ (l : List Printed). l ++ lines_with id rest) (own_end (of id pairs) first f own)
+              ∙ ap (λ (l : List Printed). first ++ l) behind ∙ append-nil first,
+        )
     | inr differ ↦
-      let none = other_end from (of from pairs) first f differ.1 here in
-      let behind = one_among (from + 1) count rest o (omega (arith, low, differ.1)) (omega (arith, high)) later in
-      (behind.0, behind.1, behind.2,
-       ap (lines_with id) is ∙ with-append id first rest ∙ ap (λ (l : List Printed). l ++ lines_with id rest) none ∙ behind.3)
+        let none = other_end from (of from pairs) first f differ.1 here in
+        let behind = one_among (from + 1) count rest o (omega (arith, low, differ.1)) (omega (arith, high)) later in (
+          behind.0,
+          behind.1,
+          behind.2,
+          ap (lines_with id) is ∙ with-append id first rest ∙ ap (λ (l : List Printed). l ++ lines_with id rest) none ∙ behind.3,
+        )
   ]
 
   end_here : (lines : List Printed) (faulty : Bool) → IsId id → EndsOf g pairs sources lines faulty → EndsHere lines

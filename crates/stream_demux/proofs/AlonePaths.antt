@@ -1,6 +1,6 @@
 -- The lines of one stream among paths are those of the path of its own bytes.
-use Rattle.std.proofs.Common.{◌≡◌, ℕ, zero, suc, ◌==◌, if◌then◌else◌, Bool, true, false, List, [], ◌∷◌, ◌++◌, map, Option, Some, None, inl, inr, refl, sym, ap, subst, ◌∙◌}
-use Rattle.std.proofs.Common.{append-nil, append_assoc}
+use Rattle.std.proofs.Common.{◌≡◌, ℕ, zero, suc, ◌==◌, if◌then◌else◌, Bool, true, false, List, [], ◌∷◌, ◌++◌, Option, Some, None, inl, inr}
+use Rattle.std.proofs.Common.{sym, ap, subst, ◌∙◌, append-nil, append_assoc}
 use Rattle.std.specs.Prelude.{All}
 use Rattle.std.proofs.lemmas.List.{map-append}
 use Rattle.std.proofs.lemmas.List.Elements.{All-append, All-cons, All-map, All-nil}
@@ -22,7 +22,7 @@ use Rattle.path_text.proofs.LineLists.{line_list-append, list_each}
 use Rattle.program_image.specs.declared.image.Image.{Image}
 use Rattle.stream_demux.specs.Laws.{EachIsALine, PathIsAlone, PathPrinted, StreamBody, StreamLines, lines_with}
 use Rattle.stream_demux.specs.Paths.{paths}
-use Rattle.stream_demux.specs.Texts.{BodyFrom, EndsOf, GainsIf, Listing, Printed, StreamEnds, cut_lines, is_source, lines_under, of, sources}
+use Rattle.stream_demux.specs.Texts.{BodyFrom, EndsOf, GainsIf, Printed, StreamEnds, cut_lines, is_source, lines_under, of, sources}
 use Rattle.stream_demux.proofs.Alone.{source_is_alone}
 use Rattle.stream_demux.proofs.PathTexts.{one_path}
 
@@ -56,12 +56,14 @@ module _ (image : Image) (s : Sizes) (are : AreSettings s) (id : ℕ) where
       let whole = subst (λ (l : List ℕ). IsPath image s l items next) (sym (append_assoc before (b ∷ []) bytes)) is in
       let behind = grown (before ++ b ∷ []) bytes rest (front ++ more) items grows.next next now whole later in
       let shown_first = shown_after_all None front in
-      let context : shown ≡ shown_first = grows.context ∙ ap (shown_after_all None) here.0 in
-      (more ++ behind.0, behind.1 ∙ append_assoc front more behind.0,
-       all ∙ ap (λ (l : List (List ℕ)). l ++ rest) (adds ∙ ap (λ (c : Option Ctx). line_list id c more) context)
-       ∙ ap (λ (l : List (List ℕ)). line_list id shown_first more ++ l)
-       (behind.2 ∙ ap (λ (c : Option Ctx). line_list id c behind.0) (shown_after_all-append None front more))
-       ∙ sym (line_list-append id shown_first more behind.0))
+      let context : shown ≡ shown_first = grows.context ∙ ap (shown_after_all None) here.0 in (
+        more ++ behind.0,
+        behind.1 ∙ append_assoc front more behind.0,
+        all ∙ ap (λ (l : List (List ℕ)). l ++ rest) (adds ∙ ap (λ (c : Option Ctx). line_list id c more) context)
+            ∙ ap (λ (l : List (List ℕ)). line_list id shown_first more ++ l)
+            (behind.2 ∙ ap (λ (c : Option Ctx). line_list id c behind.0) (shown_after_all-append None front more))
+            ∙ sym (line_list-append id shown_first more behind.0),
+      )
 
   -- what all bytes add is the lines of all items
   lines_of_path : (b : ℕ) (bytes : List ℕ) (lines : List (List ℕ)) (items : List Item) (last : End) → IsPath image s (b ∷ bytes) items last
@@ -79,11 +81,14 @@ module _ (image : Image) (s : Sizes) (are : AreSettings s) (id : ℕ) where
     where
       printed : StreamEnds (paths image s) id (b ∷ bytes) is.ending is.faulty → PathPrinted image s id (b ∷ bytes) lines
       printed (line, (items, last, path, line_is, fault_is), ending) =
-          let body = lines_of_path b bytes is.gained items last path is.body in
-          (items, last, path,
-           is.all ∙ ap (λ (l : List (List ℕ)). lines_under id l ++ is.ending) body
-           ∙ ap (λ (l : List Printed). lines_under id (line_list id None items) ++ l) (ending ∙ ap (λ (l : List ℕ). lines_under id (l ∷ [])) line_is)
-           ∙ sym (map-append (λ (l : List ℕ). record { id = Some id; line = l }) (line_list id None items) (end_line id last ∷ [])))
+          let body = lines_of_path b bytes is.gained items last path is.body in (
+            items,
+            last,
+            path,
+            is.all ∙ ap (λ (l : List (List ℕ)). lines_under id l ++ is.ending) body
+                ∙ ap (λ (l : List Printed). lines_under id (line_list id None items) ++ l) (ending ∙ ap (λ (l : List ℕ). lines_under id (l ∷ [])) line_is)
+                ∙ sym (map-append (λ (l : List ℕ). record { id = Some id; line = l }) (line_list id None items) (end_line id last ∷ [])),
+          )
 
 pub path_is_alone : PathIsAlone
 path_is_alone image s are pairs left lines faulty id source is =

@@ -1,9 +1,9 @@
 -- Where each stream gains and ends in one way, pairs have one text; where each has some way, they have some.
-use Rattle.std.proofs.Common.{◌≡◌, ℕ, ◌<◌, ◌==◌, if◌then◌else◌, Bool, true, false, List, [], ◌∷◌, ◌++◌, inl, inr, refl, sym, ap, subst, ◌∙◌}
+use Rattle.std.proofs.Common.{◌≡◌, ℕ, ◌<◌, ◌==◌, if◌then◌else◌, Bool, true, false, List, [], ◌∷◌, ◌++◌, refl, sym, ap, ◌∙◌}
 use Rattle.std.specs.Prelude.{All, ◌||◌, nat_lt}
 use Rattle.std.proofs.lemmas.List.Elements.{All-cons, All-head, All-nil, All-push, All-tail}
 use Rattle.stream_demux.specs.Laws.{EndsAlways, EndsOnce, GainsAlways, GainsOnce, HasByte, OneBody, OneEnding, OneText, SomeBody, SomeEnding, SomeText}
-use Rattle.stream_demux.specs.Texts.{BodyFrom, EndsOf, GainsIf, Listing, Printed, StreamEnds, cut_lines, is_source, lines_under, of, sources}
+use Rattle.stream_demux.specs.Texts.{EndsOf, GainsIf, Listing, Printed, StreamEnds, cut_lines, is_source, lines_under, of, sources}
 
 -- ---- one
 
@@ -29,17 +29,20 @@ stream_ends_once g once id (b ∷ bytes) lines others faulty also (line, ends, i
 all_end_once : (g : Listing) → EndsOnce g → (pairs : List (ℕ × ℕ)) (ids : List ℕ) (lines others : List Printed) (faulty also : Bool)
     → EndsOf g pairs ids lines faulty → EndsOf g pairs ids others also → (lines ≡ others) × (faulty ≡ also)
 all_end_once g once pairs [] lines others faulty also (none, whole) (none', whole') = (none ∙ sym none', whole ∙ sym whole')
-all_end_once g once pairs (id ∷ ids) lines others faulty also (first, rest, f, o, here, later, is, fault) (first', rest', f', o', here', later', is', fault') =
+all_end_once g once pairs (id ∷ ids) lines others faulty also (first, rest, f, o, here, later, is, fault)
+    (first', rest', f', o', here', later', is', fault') =
     let same = stream_ends_once g once id (of id pairs) first first' f f' here here' in
-    let behind = all_end_once g once pairs ids rest rest' o o' later later' in
-    (is ∙ ap (λ (l : List Printed). l ++ rest) same.0 ∙ ap (λ (l : List Printed). first' ++ l) behind.0 ∙ sym is',
-     fault ∙ ap (λ (b : Bool). b || o) same.1 ∙ ap (λ (b : Bool). f' || b) behind.1 ∙ sym fault')
+    let behind = all_end_once g once pairs ids rest rest' o o' later later' in (
+      is ∙ ap (λ (l : List Printed). l ++ rest) same.0 ∙ ap (λ (l : List Printed). first' ++ l) behind.0 ∙ sym is',
+      fault ∙ ap (λ (b : Bool). b || o) same.1 ∙ ap (λ (b : Bool). f' || b) behind.1 ∙ sym fault',
+    )
 
 pub one_ending : (g : Listing) → OneEnding g
 one_ending g once pairs left lines others faulty also is too =
-    let same = all_end_once g once pairs sources is.ends too.ends is.some_fault too.some_fault is.ended too.ended in
-    (is.all ∙ ap (λ (l : List Printed). l ++ cut_lines left) same.0 ∙ sym too.all,
-     is.fault ∙ ap (λ (b : Bool). b || nat_lt 0 left) same.1 ∙ sym too.fault)
+    let same = all_end_once g once pairs sources is.ends too.ends is.some_fault too.some_fault is.ended too.ended in (
+      is.all ∙ ap (λ (l : List Printed). l ++ cut_lines left) same.0 ∙ sym too.all,
+      is.fault ∙ ap (λ (b : Bool). b || nat_lt 0 left) same.1 ∙ sym too.fault,
+    )
 
 pub one_text : (g : Listing) → OneText g
 one_text g once ends_once pairs left lines others faulty also is too =

@@ -1,5 +1,5 @@
 -- The paths of streams have one text.
-use Rattle.std.proofs.Common.{◌≡◌, ℕ, ◌<◌, List, [], ◌∷◌, ◌++◌, length, Option, None, refl, sym, ap, subst, ◌∙◌, arith}
+use Rattle.std.proofs.Common.{◌≡◌, ℕ, ◌<◌, List, [], ◌∷◌, ◌++◌, Option, None, refl, sym, ap, subst, ◌∙◌, arith}
 use Rattle.std.specs.Prelude.{All}
 use Rattle.std.proofs.lemmas.List.{append_cancel_left, get_or_append_left, length-append}
 use Rattle.etm_types.specs.Settings.{Sizes, AreSettings}
@@ -56,15 +56,22 @@ module _ (image : Image) (s : Sizes) (are : AreSettings s) where
       let now = path.some_path image s is are (bytes ++ byte ∷ []) small in
       let grows = path.path_grows image s are bytes (byte ∷ []) was.0 now.0 was.1 now.1 was.2 now.2 was.3 now.3 in
       let more = grows.0.0 in
-      let shown = shown_after_all None was.0 in
-      (line_list id shown more, (shown, more, record {
-        items = was.0;
-        last = was.1;
-        next = now.1;
-        was = (was.2, was.3);
-        is = (now.2, subst (λ (i : List Item). IsPathTaking image s (bytes ++ byte ∷ []) i now.1 now.2) grows.0.1 now.3);
-        context = refl;
-      }, refl))
+      let shown = shown_after_all None was.0 in (
+        line_list id shown more,
+        (
+          shown,
+          more,
+          record {
+            items = was.0;
+            last = was.1;
+            next = now.1;
+            was = (was.2, was.3);
+            is = (now.2, subst (λ (i : List Item). IsPathTaking image s (bytes ++ byte ∷ []) i now.1 now.2) grows.0.1 now.3);
+            context = refl;
+          },
+          refl,
+        ),
+      )
 
   pub paths_end_always : IsImage image → EndsAlways (paths image s)
   paths_end_always is id bytes small =

@@ -1,10 +1,9 @@
 -- What holds of bytes that are parted, of their lines and of their texts, whatever is printed of a stream.
-use Rattle.std.specs.Prelude.{◌≡◌, ◌≢◌, ◌<◌, ◌==◌, ℕ, All, Bool, false, List, [], ◌∷◌, ◌++◌, map, replicate, Option, Some, None}
+use Rattle.std.specs.Prelude.{◌≡◌, ◌≢◌, ◌<◌, ◌==◌, ℕ, All, Bool, false, List, [], ◌∷◌, ◌++◌, replicate, Option, Some, None}
 use Rattle.std.specs.List.{filter}
 use Rattle.etm_types.specs.Id.{IsId}
 use Rattle.etm_types.specs.Settings.{Sizes, AreSettings}
 use Rattle.etm_types.specs.declared.item.Item.{Item}
-use Rattle.formatter_frames.specs.Unframed.{unframed}
 use Rattle.packet_grammar.specs.declared.end.End.{End}
 use Rattle.path_elements.specs.Path.{IsPath}
 use Rattle.path_elements.specs.PathLaws.{BeginsWith}
@@ -15,7 +14,7 @@ use Rattle.program_image.specs.Part.{IsImage}
 use Rattle.program_image.specs.declared.image.Image.{Image}
 use Rattle.stream_demux.specs.Demuxed.{raw_id, raw_pairs}
 use Rattle.stream_demux.specs.Paths.{paths}
-use Rattle.stream_demux.specs.Texts.{BodyFrom, IsEnding, IsText, Listing, Printed, StreamEnds, cut_lines, lines_under, of}
+use Rattle.stream_demux.specs.Texts.{BodyFrom, IsEnding, IsText, Listing, Printed, StreamEnds, lines_under, of}
 
 -- ---- bytes are parted
 
