@@ -3,6 +3,7 @@ pub mod AlonePaths
 pub mod Bodies
 pub mod Ending
 pub mod Standing
+pub mod Examples
 pub mod OneText
 pub mod Parted
 pub mod PathTexts
