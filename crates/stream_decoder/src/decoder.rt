@@ -140,6 +140,7 @@ impl StreamDecoder {
             → IsPath image self.decoding.reader.settings bytes items last
             → Writes (K.state sink.old) (K.state sink.new) result (if length bytes == 0 then [] else end_line id last)
             × IfOk result (λ whole. whole ≡ not (is_fault last)) }
+        ensures nothing { self.decoding.reader.taken ≡ 0 → IfOk result (λ whole. whole ≡ true) }
         ensures cause { HasCause (K.state sink.old) (K.state sink.new) result }
         ensures shows { ShowsAsBefore (K.state sink.old) (K.state sink.new) }
     {

@@ -7,6 +7,7 @@ use Rattle.trace_io.specs.Causes.{Rose}
 use Rattle.trace_io.specs.Bytes.{AppendsFront, KeepsBytes, TakesAll}
 use Rattle.trace_io.proofs.Known.{front_of_all, front_kept}
 use Rattle.etm_types.specs.Settings.{Sizes}
+use Rattle.trace_cmd.specs.Words.{meaning}
 use Rattle.program_image.specs.declared.image.Image.{Image}
 use Rattle.program_image.specs.Answers.{TakesImage, TakesNoImage}
 use Rattle.trace_io.specs.declared.traits.Failed.{Failed}
@@ -15,7 +16,6 @@ use Rattle.trace_cmd.specs.declared.status.Status.TheVariants as status
 use Rattle.path_text.specs.Writing.{Writes}
 use Rattle.trace_cmd.specs.Answers.{
   usage_line,
-  raw_meaning,
   image_line,
   PrintsFront,
   most_input,
@@ -138,7 +138,7 @@ so_of_packets c z old new r command a =
 -- ---- words
 
 -- the line of usage is the answer to words that mean nothing
-pub so_of_usage : (c : Call) (old new : IoState) (r : Result Status Failed) → raw_meaning c.words ≡ None → Writes old new r usage_line
+pub so_of_usage : (c : Call) (old new : IoState) (r : Result Status Failed) → meaning c.words ≡ None → Writes old new r usage_line
     → IfOk r (λ s. s ≡ status.Usage) → AnswersSo (IsAnswer c) {E = Failed} old new r
 so_of_usage c old new r none w same =
     record { status = status.Usage; text = usage_line; answer = record { meaningless = none; printed = refl }; writes = w; same = same }

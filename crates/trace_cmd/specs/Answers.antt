@@ -1,5 +1,5 @@
 -- What each answer of a call means, and the text that comes with it.
-use Rattle.std.specs.Prelude.{◌≡◌, ◌⊎◌, ℕ, ◌+◌, ◌^◌, ◌≤◌, Bool, true, false, List, [], ◌∷◌, ◌++◌, length, codes, Option, Some, None, Result, IfOk}
+use Rattle.std.specs.Prelude.{◌≡◌, ◌⊎◌, ℕ, ◌+◌, ◌^◌, ◌≤◌, Bool, true, false, List, [], ◌∷◌, ◌++◌, length, codes, Some, None, Result, IfOk}
 use Rattle.trace_io.specs.State.{IoState}
 use Rattle.trace_io.specs.Bytes.{TakesAll, TakesCount, AppendsAll, AppendsFront}
 use Rattle.trace_io.specs.Causes.{KeepsFaults, Rose}
@@ -9,9 +9,7 @@ use Rattle.program_image.specs.Faults.{why_text}
 use Rattle.program_image.specs.declared.fault.ImageWhy.{ImageWhy}
 use Rattle.trace_cmd.specs.declared.status.Status.{Status}
 use Rattle.trace_cmd.specs.declared.status.Status.TheVariants as status
-use Rattle.trace_cmd.specs.Words.{Command, Path, Packets, meaning}
-use Rattle.trace_cmd.specs.declared.words.Layout.{Layout}
-use Rattle.trace_cmd.specs.declared.words.Layout.TheVariants.{Raw}
+use Rattle.trace_cmd.specs.Words.{Path, Packets, meaning}
 use Rattle.path_text.specs.Lines.{decimal}
 use Rattle.etm_types.specs.Settings.{Sizes}
 use Rattle.trace_cmd.specs.Path.{IsPathText}
@@ -56,25 +54,16 @@ pub record Call : Type 0 where
 abbrev pub call : List (List ℕ) → IoState → IoState → IoState → IoState → Call
 call words image image' input input' = record { words = words; image = image; image' = image'; input = input; input' = input' }
 
--- for now, a command over formatter frames is answered as words that mean nothing
-abbrev raw_only : Option Command → Option Command
-raw_only (Some (Path image s Raw)) = Some (Path image s Raw)
-raw_only (Some (Packets s Raw)) = Some (Packets s Raw)
-raw_only _ = None
-
-abbrev pub raw_meaning : List (List ℕ) → Option Command
-raw_meaning words = raw_only (meaning words)
-
 -- the words ask for the path under these sizes
 abbrev pub IsPathUnder : Sizes → List (List ℕ) → Type 0
-IsPathUnder s words = (image : List ℕ) × (layout : Layout) × (raw_meaning words ≡ Some (Path image s layout))
+IsPathUnder s words = (image : List ℕ) × (meaning words ≡ Some (Path image s))
 
 abbrev pub IsPathCall : List (List ℕ) → Type 0
 IsPathCall words = (s : Sizes) × IsPathUnder s words
 
 -- the words ask for the packets under these sizes
 abbrev pub IsPacketsUnder : Sizes → List (List ℕ) → Type 0
-IsPacketsUnder s words = (layout : Layout) × (raw_meaning words ≡ Some (Packets s layout))
+IsPacketsUnder s words = meaning words ≡ Some (Packets s)
 
 abbrev pub IsPacketsCall : List (List ℕ) → Type 0
 IsPacketsCall words = (s : Sizes) × IsPacketsUnder s words
@@ -98,7 +87,7 @@ NoReadFailed c = KeepsFaults c.image c.image' × KeepsFaults c.input c.input'
 
 -- Usage: the words mean nothing
 pub record IsUsage (c : Call) (text : List ℕ) : Type 0 where
-  pub meaningless : raw_meaning c.words ≡ None
+  pub meaningless : meaning c.words ≡ None
   pub printed : text ≡ usage_line
 
 -- ImageBad: the image's text, read to its end or past the most that is read, has this fault first

@@ -1,19 +1,17 @@
 //! The top call: words, image and input, in this order, and what is written.
-ghost use Rattle.std.specs.Prelude.{◌≡◌, ◌⊎◌, ℕ, ◌≤◌, List, None, Ok, IfOk, IfSome, IsTrue};
-ghost use Rattle.std.specs.Option.{option_map};
+ghost use Rattle.std.specs.Prelude.{◌≡◌, ◌⊎◌, ℕ, ◌≤◌, List, None, Ok, IfOk, IsTrue};
 ghost use Rattle.etm_types.specs.Settings.{AreSettings};
 ghost use Rattle.trace_io.specs.State.{IoState};
 ghost use Rattle.trace_io.specs.Bytes.{ShowsAsBefore};
 ghost use Rattle.trace_io.specs.Causes.{KeepsFaults};
-ghost use Rattle.trace_cmd.specs.Words.{texts};
-ghost use Rattle.trace_cmd.specs.Said.{said, sizes_in};
+ghost use Rattle.trace_cmd.specs.Words.{meaning, texts};
 ghost use Rattle.path_text.specs.Writing.{Writes};
-ghost use Rattle.trace_cmd.specs.Answers.{usage_line, image_line, call, raw_meaning, IsPathUnder, IsPacketsCall, NoReadFailed};
+ghost use Rattle.trace_cmd.specs.Answers.{usage_line, image_line, call, IsPathUnder, IsPacketsCall, NoReadFailed};
 ghost use Rattle.trace_cmd.specs.Answers.{ReadsImage, ReadsFirst, IsAnswer, AnswersSo, Answers};
 
 use crate::input::{answer_packets, answer_path};
 use crate::status::Status;
-use crate::words::{Command, Layout, command_of};
+use crate::words::{Command, command_of};
 use etm_types::Settings;
 use path_text::Line;
 use program_image::{Image, ImageFault, ImageWhy};
@@ -33,24 +31,6 @@ fn write_image_bad<K: Sink>(line: u64, why: ImageWhy, out: &mut K) -> Result<(),
     text.text(b": ");
     text.text(why.text().as_bytes());
     text.write(out)
-}
-
-/// The command over one stream that is not framed. For now, no other is answered.
-fn raw_command_of(words: &[String]) -> Option<Command<'_>>
-    ensures value { option_map said result ≡ raw_meaning (texts words.now) }
-    ensures within { IfSome result (λ command. AreSettings (sizes_in command)) }
-{
-    let Some(command) = command_of(words) else {
-        return None;
-    };
-    let layout = match &command {
-        Command::Path { layout, .. } => *layout,
-        Command::Packets { layout, .. } => *layout,
-    };
-    match layout {
-        Layout::Raw => Some(command),
-        Layout::Frames => None,
-    }
 }
 
 /// Reads the image, and answers by it and the input.
@@ -110,7 +90,7 @@ fn answer_words<I: Source, J: Source, K: Sink>(
         ⊎ (KeepsFaults (I.state image.old) (I.state image.new) × KeepsFaults (J.state input.old) (J.state input.new)) }
     ensures order { (input.new ≡ input.old)
         ⊎ ReadsFirst (call (texts words.now) (I.state image.old) (I.state image.new) (J.state input.old) (J.state input.new)) }
-    ensures words_first { raw_meaning (texts words.now) ≡ None → (image.new ≡ image.old) × (input.new ≡ input.old) }
+    ensures words_first { meaning (texts words.now) ≡ None → (image.new ≡ image.old) × (input.new ≡ input.old) }
     ensures image_untouched { IsPacketsCall (texts words.now) → image.new ≡ image.old }
     ensures image_failed { KeepsFaults (I.state image.old) (I.state image.new) ⊎ (input.new ≡ input.old) }
     ensures image_first { (line : ℕ) (why : ImageWhy) → result ≡ Ok (Status.ImageBad line why) → input.new ≡ input.old }
@@ -119,12 +99,12 @@ fn answer_words<I: Source, J: Source, K: Sink>(
     ensures input_shows { ShowsAsBefore (J.state input.old) (J.state input.new) }
     ensures input_later { (J.state input.old).faults ≤ (J.state input.new).faults }
 {
-    let Some(command) = raw_command_of(words) else {
+    let Some(command) = command_of(words) else {
         return answer_usage(out);
     };
     match &command {
         Command::Path { settings, .. } => answer_path_call(alloc, settings, image, input, out),
-        Command::Packets { settings, .. } => answer_packets(alloc, settings, input, out),
+        Command::Packets { settings } => answer_packets(alloc, settings, input, out),
     }
 }
 
@@ -143,11 +123,11 @@ pub fn run<I: Source, J: Source, K: Sink>(
     // The answer has its cause, and its text was written; of WriteFault, a front of the text that was due.
     ensures answer { Answers (call (texts words.now) (I.state image.old) (I.state image.new) (J.state input.old) (J.state input.new))
         (K.state out.old) (K.state out.new) result }
-    ensures meaningless { raw_meaning (texts words.now) ≡ None → (result ≡ Status.Usage) ⊎ (result ≡ Status.WriteFault) }
+    ensures meaningless { meaning (texts words.now) ≡ None → (result ≡ Status.Usage) ⊎ (result ≡ Status.WriteFault) }
     ensures flushed { (result ≡ Status.WriteFault) ⊎ IsTrue (K.flushed out.new) }
 
     // The words come first, then the image, then the input, which is touched only once the image is good, or for its packets.
-    ensures words_first { raw_meaning (texts words.now) ≡ None → (image.new ≡ image.old) × (input.new ≡ input.old) }
+    ensures words_first { meaning (texts words.now) ≡ None → (image.new ≡ image.old) × (input.new ≡ input.old) }
     ensures image_untouched { IsPacketsCall (texts words.now) → image.new ≡ image.old }
     ensures image_first { (line : ℕ) (why : ImageWhy) → result ≡ Status.ImageBad line why → input.new ≡ input.old }
     ensures image_failed { KeepsFaults (I.state image.old) (I.state image.new) ⊎ (input.new ≡ input.old) }
