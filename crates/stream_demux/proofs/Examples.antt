@@ -64,7 +64,8 @@ gains false before pair = refl
 body : (before pairs : List (ℕ × ℕ)) → BodyFrom tiny before pairs (body_of before pairs)
 body before [] = refl
 body before (pair ∷ pairs) =
-    (gained (is_source pair.0) before pair, body_of (before ++ pair ∷ []) pairs, gains (is_source pair.0) before pair, body (before ++ pair ∷ []) pairs, refl)
+    let source = is_source pair.0 in
+    (gained source before pair, body_of (before ++ pair ∷ []) pairs, gains source before pair, body (before ++ pair ∷ []) pairs, refl)
 
 stream_ends : (id : ℕ) (bytes : List ℕ) → StreamEnds tiny id bytes (end_of id bytes) (has_nine bytes)
 stream_ends id [] = (refl, refl)
@@ -102,7 +103,10 @@ prints pairs left =
       ended = ending;
       all = refl;
     } in
-    record { is = text; only = λ others also too. one_text tiny gains_once ends_once pairs left others (lines_of pairs left) also (fault_of pairs left) too text }
+    record {
+      is = text;
+      only = λ others also too. one_text tiny gains_once ends_once pairs left others (lines_of pairs left) also (fault_of pairs left) too text;
+    }
 
 -- ---- lines
 
