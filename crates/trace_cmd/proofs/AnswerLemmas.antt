@@ -1,199 +1,148 @@
--- Answers whose text was not written whole, and answers of a call from those of its parts.
-use Rattle.std.proofs.Common.{◌≡◌, ℕ, ◌≤◌, Bool, true, false, List, [], length, None, Result, Ok, Err, IfOk, refl, sym, ap, subst, ◌∙◌, inl, inr, arith}
-use Rattle.std.proofs.KnownBytes.{Appends-kept}
+-- Answers of a call from those of its parts, and behind the flush.
+use Rattle.std.proofs.Common.{◌≡◌, ◌⊎◌, ℕ, ◌≤◌, true, false, List, [], None, Result, Ok, Err, refl, sym, ap, subst, ◌∙◌, inl, inr, arith}
+use Rattle.std.specs.Prelude.{IfOk}
+use Rattle.std.proofs.KnownBytes.{Appends-kept, Appends-nil}
+use Rattle.path_text.specs.Writing.{Writes}
+use Rattle.program_image.specs.Answers.{TakesNoImage}
 use Rattle.program_image.specs.declared.fault.ImageWhy.{ImageWhy}
-use Rattle.trace_io.specs.State.{IoState}
-use Rattle.trace_io.specs.Causes.{Rose}
-use Rattle.trace_io.specs.Bytes.{AppendsFront, KeepsBytes, TakesAll}
-use Rattle.trace_io.proofs.Known.{front_of_all, front_kept}
-use Rattle.etm_types.specs.Settings.{Sizes}
+use Rattle.trace_cmd.specs.Answers.{Answers, AnswersSo, Asks, Call, IsCall, IsImageBad, IsImageFault, IsNoMemory, IsPathCall, IsUsage, IsWriteFault}
+use Rattle.trace_cmd.specs.Answers.{Prints, PrintsFront, image_line, usage_line}
+use Rattle.trace_cmd.specs.Grows.{Grow, frames_grow, raw_grows}
+use Rattle.trace_cmd.specs.Listed.{Breaks, Completes, Exceeds, Interrupts, Listed}
+use Rattle.trace_cmd.specs.Printing.{What, PathsOf, PacketsOf, layout_of, left_of, listing_of, pairs_in, pairs_of}
 use Rattle.trace_cmd.specs.Words.{meaning}
-use Rattle.program_image.specs.declared.image.Image.{Image}
-use Rattle.program_image.specs.Answers.{TakesImage, TakesNoImage}
-use Rattle.trace_io.specs.declared.traits.Failed.{Failed}
 use Rattle.trace_cmd.specs.declared.status.Status.{Status}
 use Rattle.trace_cmd.specs.declared.status.Status.TheVariants as status
-use Rattle.path_text.specs.Writing.{Writes}
-use Rattle.trace_cmd.specs.Answers.{
-  usage_line,
-  image_line,
-  PrintsFront,
-  most_input,
-  Call,
-  IsPathCall,
-  IsPathUnder,
-  IsPacketsUnder,
-  IsUnread,
-  IsAnswer,
-  IsInputAnswer,
-  PathShown,
-  PacketsShown,
-  Answers,
-  AnswersSo,
-  Prints,
-}
-use Rattle.path_text.proofs.Wrote.{wrote_nothing, writes_all, answers_ok, answers_err}
+use Rattle.trace_cmd.specs.declared.words.Layout.{Layout}
+use Rattle.trace_cmd.specs.declared.words.Layout.TheVariants.{Raw, Frames}
+use Rattle.trace_cmd.proofs.Interrupts.{broken_cut, completed_cut, exceeded_cut}
+use Rattle.trace_io.specs.Bytes.{AppendsAll, AppendsFront, KeepsBytes}
+use Rattle.trace_io.specs.Causes.{HasCause, Rose}
+use Rattle.trace_io.specs.State.{IoState}
+use Rattle.trace_io.specs.declared.traits.Failed.{Failed}
+use Rattle.trace_io.proofs.Known.{front_kept, front_of_all}
 
--- what is shown of the input could not be written
-pub input_fails : (Shown : List ℕ → List ℕ → Bool → Type 0) (input input' old new : IoState) (e d : Failed) (bytes text : List ℕ) (faulty : Bool)
-    → TakesAll input input' bytes
-    → length bytes ≤ most_input → Shown bytes text faulty → Writes {T = Bool} old new (Err e) text
-    → AnswersSo (IsInputAnswer Shown input input') {E = Failed} old new (Err d)
-input_fails Shown input input' old new e d bytes text true all few shown w =
-    record { status = status.Faulted; text = text; answer = (bytes, all, few, shown); writes = answers_err old new e d text w; same = tt }
-input_fails Shown input input' old new e d bytes text false all few shown w =
-    record { status = status.Done; text = text; answer = (bytes, all, few, shown); writes = answers_err old new e d text w; same = tt }
+-- ---- before the flush
 
--- what is shown of the input was written
-pub input_faulted : (Shown : List ℕ → List ℕ → Bool → Type 0) (input input' old new : IoState) (told faulty : Bool) (bytes text : List ℕ)
-    → TakesAll input input' bytes
-    → length bytes ≤ most_input → Shown bytes text faulty → Writes {T = Bool} {E = Failed} old new (Ok told) text → faulty ≡ true
-    → AnswersSo (IsInputAnswer Shown input input') {E = Failed} old new (Ok status.Faulted)
-input_faulted Shown input input' old new told faulty bytes text all few shown w is =
-    record {
-      status = status.Faulted;
-      text = text;
-      answer = (bytes, all, few, subst (λ b. Shown bytes text b) is shown);
-      writes =
-          answers_ok old new told status.Faulted text w;
-      same = refl;
-    }
+pub layout_grows : (layout : Layout) → Grow (pairs_in layout)
+layout_grows Raw = raw_grows
+layout_grows Frames = frames_grow
 
-pub input_done : (Shown : List ℕ → List ℕ → Bool → Type 0) (input input' old new : IoState) (told faulty : Bool) (bytes text : List ℕ)
-    → TakesAll input input' bytes
-    → length bytes ≤ most_input → Shown bytes text faulty → Writes {T = Bool} {E = Failed} old new (Ok told) text → faulty ≡ false
-    → AnswersSo (IsInputAnswer Shown input input') {E = Failed} old new (Ok status.Done)
-input_done Shown input input' old new told faulty bytes text all few shown w is =
-    record {
-      status = status.Done;
-      text = text;
-      answer = (bytes, all, few, subst (λ b. Shown bytes text b) is shown);
-      writes =
-          answers_ok old new told status.Done text w;
-      same = refl;
-    }
+-- what is asked for was printed of the input, or a write failed
+pub so_of_listed : (c : Call) (what : What) → Asks c what → (old new : IoState) (r : Result Status Failed)
+    → Listed (pairs_of what) (left_of what) (listing_of what) c.input c.input' old new r → HasCause old new r → AnswersSo c old new r
+so_of_listed c what asks old new (Ok status.Done) listed cause = (what, asks, listed)
+so_of_listed c what asks old new (Ok status.Faulted) listed cause = (what, asks, listed)
+so_of_listed c what asks old new (Ok status.ReadFault) listed cause = inr (what, asks, listed)
+so_of_listed c what asks old new (Ok status.InputTooLong) listed cause = (what, asks, listed)
+so_of_listed c what asks old new (Ok status.Usage) listed cause = absurd listed
+so_of_listed c what asks old new (Ok (status.ImageBad line why)) listed cause = absurd listed
+so_of_listed c what asks old new (Ok status.WriteFault) listed cause = absurd listed
+so_of_listed c what asks old new (Ok status.NoMemory) listed cause = absurd listed
+so_of_listed c what asks old new (Err e) listed cause = (cause.failed, inr (inr (inl (what, asks, listed))))
 
--- the input could not be read
-unread_is : (Shown : List ℕ → List ℕ → Bool → Type 0) (input input' : IoState) (s : Status) → IsUnread input input' s → IsInputAnswer Shown input input' s []
-unread_is Shown input input' status.InputTooLong is = (is, refl)
-unread_is Shown input input' status.ReadFault is = (is, refl)
-unread_is Shown input input' status.NoMemory is = (is, refl)
-unread_is Shown input input' s is = absurd is
+-- nothing was printed
+pub nothing_printed : (old new : IoState) → new ≡ old → AppendsAll old new []
+nothing_printed old new same = subst (λ (s : IoState). AppendsAll old s []) (sym same) (Appends-nil old.bytes)
 
-pub unread : (Shown : List ℕ → List ℕ → Bool → Type 0) (input input' out : IoState) (s : Status) → IsUnread input input' s
-    → AnswersSo (IsInputAnswer Shown input input') {E = Failed} out out (Ok s)
-unread Shown input input' out s is = record {
-  status = s;
-  text = [];
-  answer = unread_is Shown input input' s is;
-  writes =
-      writes_all out out s [] (wrote_nothing out);
-  same = refl;
-}
+pub so_of_memory : (c : Call) (old new : IoState) → IsCall c.words → c.input' ≡ c.input → new ≡ old → IsNoMemory c old new
+so_of_memory c old new command untouched same = record { command = command; untouched = untouched; printed = nothing_printed old new same }
 
--- that speaks of no image
-pub unread_without_image : (input input' : IoState) (s : Status) → IsUnread input input' s → (line : ℕ) (why : ImageWhy)
-    → ◌≡◌ {A = Result Status Failed} (Ok s) (Ok (status.ImageBad line why)) → ⊥
-unread_without_image input input' s is line why e = let same : s ≡ status.ImageBad line why = cc in subst (IsUnread input input') same is
+pub so_of_image_fault : (c : Call) (old : IoState) → IsPathCall c.words → Rose c.image c.image' → c.input' ≡ c.input → IsImageFault c old old
+so_of_image_fault c old command rose untouched =
+    record { command = command; rose = rose; untouched = untouched; printed = nothing_printed old old refl }
 
--- an answer by the input is one of the call, where the image was read
-of_path : (c : Call) (parts : Image) (z : Sizes) (s : Status) (text : List ℕ) → IsPathUnder z c.words → TakesImage c.image c.image' parts
-    → IsInputAnswer (PathShown parts z) c.input c.input' s text → IsAnswer c s text
-of_path c parts z status.Done text command read (bytes, all, few, shown) =
-    inl (record { sizes = z; command = command; parts = parts; bytes = bytes; image_read = read; input_read = all; few = few; shown = shown })
-of_path c parts z status.Faulted text command read (bytes, all, few, shown) =
-    inl (record { sizes = z; command = command; parts = parts; bytes = bytes; image_read = read; input_read = all; few = few; shown = shown })
-of_path c parts z status.InputTooLong text command read (many, none) = (record { first = inl ((z, command), (parts, read)); many = many }, none)
-of_path c parts z status.ReadFault text command read (rose, none) = (inl ((z, command), inr rose), none)
-of_path c parts z status.NoMemory text command read (free, none) = (inl (z, command), none)
-of_path c parts z status.Usage text command read is = absurd is.0
-of_path c parts z (status.ImageBad line why) text command read is = absurd is.0
-of_path c parts z status.WriteFault text command read is = absurd is.0
+-- either of these two
+pub so_by : (c : Call) (what : What) → Asks c what → (old new : IoState) (r : Result Status Failed) → IsCall c.words → HasCause old new r
+    → (r ≡ Ok status.NoMemory → (c.input' ≡ c.input) × (new ≡ old))
+    → (r ≡ Ok status.NoMemory) ⊎ Listed (pairs_of what) (left_of what) (listing_of what) c.input c.input' old new r → AnswersSo c old new r
+so_by c what asks old new r command cause memory (inr listed) = so_of_listed c what asks old new r listed cause
+so_by c what asks old new r command cause memory (inl none) =
+    let kept = memory none in
+    subst (AnswersSo c old new) (sym none) (so_of_memory c old new command kept.0 kept.1)
 
-pub so_of_path : (c : Call) (parts : Image) (z : Sizes) (old new : IoState) (r : Result Status Failed) → IsPathUnder z c.words
-    → TakesImage c.image c.image' parts → AnswersSo (IsInputAnswer (PathShown parts z) c.input c.input') {E = Failed} old new r
-    → AnswersSo (IsAnswer c) {E = Failed} old new r
-so_of_path c parts z old new r command read a =
-    record { status = a.status; text = a.text; answer = of_path c parts z a.status a.text command read a.answer; writes = a.writes; same = a.same }
-
--- and where the packets are asked for
-of_packets : (c : Call) (z : Sizes) (s : Status) (text : List ℕ) → IsPacketsUnder z c.words → IsInputAnswer (PacketsShown z) c.input c.input' s text
-    → IsAnswer c s text
-of_packets c z status.Done text command (bytes, all, few, shown) =
-    inr (record { sizes = z; command = command; bytes = bytes; input_read = all; few = few; shown = shown })
-of_packets c z status.Faulted text command (bytes, all, few, shown) =
-    inr (record { sizes = z; command = command; bytes = bytes; input_read = all; few = few; shown = shown })
-of_packets c z status.InputTooLong text command (many, none) = (record { first = inr (z, command); many = many }, none)
-of_packets c z status.ReadFault text command (rose, none) = (inr ((z, command), rose), none)
-of_packets c z status.NoMemory text command (free, none) = (inr (z, command), none)
-of_packets c z status.Usage text command is = absurd is.0
-of_packets c z (status.ImageBad line why) text command is = absurd is.0
-of_packets c z status.WriteFault text command is = absurd is.0
-
-pub so_of_packets : (c : Call) (z : Sizes) (old new : IoState) (r : Result Status Failed) → IsPacketsUnder z c.words
-    → AnswersSo (IsInputAnswer (PacketsShown z) c.input c.input') {E = Failed} old new r → AnswersSo (IsAnswer c) {E = Failed} old new r
-so_of_packets c z old new r command a =
-    record { status = a.status; text = a.text; answer = of_packets c z a.status a.text command a.answer; writes = a.writes; same = a.same }
-
--- ---- words
-
--- the line of usage is the answer to words that mean nothing
+-- the line of usage
 pub so_of_usage : (c : Call) (old new : IoState) (r : Result Status Failed) → meaning c.words ≡ None → Writes old new r usage_line
-    → IfOk r (λ s. s ≡ status.Usage) → AnswersSo (IsAnswer c) {E = Failed} old new r
-so_of_usage c old new r none w same =
-    record { status = status.Usage; text = usage_line; answer = record { meaningless = none; printed = refl }; writes = w; same = same }
+    → IfOk r (λ s. s ≡ status.Usage) → AnswersSo c old new r
+so_of_usage c old new (Ok s) none w same =
+    subst (λ (t : Status). Answers c old new t) (sym same) (usage_line, record { meaningless = none; printed = refl }, w.whole)
+so_of_usage c old new (Err e) none w same = (w.cause.failed, inl (usage_line, record { meaningless = none; printed = refl }, w.front))
 
--- the line of an image that is bad could not be written
-pub image_fails : (c : Call) (old new : IoState) (e d : Failed) (line line' : ℕ) (why why' : ImageWhy) → line' ≡ line → why' ≡ why → IsPathCall c.words
-    → TakesNoImage c.image c.image' line why
-    → Writes {T = Unit {0}} old new (Err e) (image_line line' why') → AnswersSo (IsAnswer c) {E = Failed} old new (Err d)
-image_fails c old new e d line line' why why' same_line same_why command bad w =
-    let text = ap (λ n. image_line n why') same_line ∙ ap (image_line line) same_why in
-    record {
-      status = status.ImageBad line why;
-      text = image_line line why;
-      answer = record { command = command; refused = bad; printed = refl };
-      writes = subst (λ t. Writes {T = Status} old new (Err d) t) text (answers_err old new e d (image_line line' why') w);
-      same = tt;
-    }
+-- the line of an image that is bad
+pub so_of_bad_image : (c : Call) (old new : IoState) (line : ℕ) (why : ImageWhy) → IsPathCall c.words → TakesNoImage c.image c.image' line why
+    → AppendsAll old new (image_line line why) → Prints (IsImageBad c line why) old new
+so_of_bad_image c old new line why command bad printed = (image_line line why, record { command = command; refused = bad; printed = refl }, printed)
+
+pub bad_image_fails : (c : Call) (old new : IoState) (e d : Failed) (line : ℕ) (why : ImageWhy) → IsPathCall c.words → TakesNoImage c.image c.image' line why
+    → Writes {T = Unit {0}} old new (Err e) (image_line line why) → AnswersSo c old new (Err d)
+bad_image_fails c old new e d line why command bad w =
+    (w.cause.failed, inr (inl (line, why, (image_line line why, record { command = command; refused = bad; printed = refl }, w.front))))
 
 -- ---- behind the flush
 
--- what was written of an answer's text is a front of it
-front_written : (old new : IoState) (r : Result Status Failed) (text : List ℕ) → Writes old new r text → AppendsFront old new text
-front_written old new (Ok s) text w = front_of_all old new text w.whole
-front_written old new (Err e) text w = w.front
+module _ (c : Call) (old new newer : IoState) (kept : KeepsBytes new newer) where
+  kept_all : (text : List ℕ) → AppendsAll old new text → AppendsAll old newer text
+  kept_all text all = Appends-kept old.bytes new.bytes newer.bytes text all kept
 
-front_printed : (c : Call) (old new newer : IoState) (r : Result Status Failed) → AnswersSo (IsAnswer c) {E = Failed} old new r → KeepsBytes new newer
-    → (due : Status) × PrintsFront (IsAnswer c due) old newer
-front_printed c old new newer r a kept = (a.status, (a.text, a.answer, front_kept old new newer a.text (front_written old new r a.text a.writes) kept))
+  kept_line : (kind : List ℕ → Type 0) → Prints kind old new → Prints kind old newer
+  kept_line kind (text, is, all) = (text, is, kept_all text all)
 
--- it failed
-pub flush_fails : (c : Call) (old new newer : IoState) (r : Result Status Failed) → AnswersSo (IsAnswer c) {E = Failed} old new r → KeepsBytes new newer
-    → Rose new newer
-    → Answers c old newer status.WriteFault
-flush_fails c old new newer r a kept rose = (omega (arith, rose, a.writes.cause.later), front_printed c old new newer r a kept)
+  line_front : (kind : List ℕ → Type 0) → Prints kind old new → PrintsFront kind old newer
+  line_front kind (text, is, all) = (text, is, front_of_all old newer text (kept_all text all))
 
--- a write before it failed
-pub write_fails : (c : Call) (old new newer : IoState) (e : Failed) → AnswersSo (IsAnswer c) {E = Failed} old new (Err e) → KeepsBytes new newer
-    → new.faults ≤ newer.faults
-    → Answers c old newer status.WriteFault
-write_fails c old new newer e a kept later =
-    let rose : Rose old new = a.writes.cause.failed in (omega (arith, rose, later), front_printed c old new newer (Err e) a kept)
+  kept_front : (kind : List ℕ → Type 0) → PrintsFront kind old new → PrintsFront kind old newer
+  kept_front kind (text, is, front) = (text, is, front_kept old new newer text front kept)
 
--- nothing failed
-by_status : (c : Call) (old new : IoState) (s : Status) → Prints (IsAnswer c s) old new → Answers c old new s
-by_status c old new status.Done p = p
-by_status c old new status.Usage p = p
-by_status c old new (status.ImageBad line why) p = p
-by_status c old new status.Faulted p = p
-by_status c old new status.ReadFault p = p
-by_status c old new status.WriteFault p = absurd p.1
-by_status c old new status.NoMemory p = p
-by_status c old new status.InputTooLong p = p
+  kept_image : IsImageFault c old new → IsImageFault c old newer
+  kept_image f = record { command = f.command; rose = f.rose; untouched = f.untouched; printed = kept_all [] f.printed }
 
-pub all_flushed : (c : Call) (old new newer : IoState) (s : Status) → AnswersSo (IsAnswer c) {E = Failed} old new (Ok s) → KeepsBytes new newer
-    → Answers c old newer s
-all_flushed c old new newer s a kept =
-    by_status c old newer s
-    (a.text, subst (λ (t : Status). IsAnswer c t a.text) (sym a.same) a.answer, Appends-kept old.bytes new.bytes newer.bytes a.text a.writes.whole kept)
+  kept_memory : IsNoMemory c old new → IsNoMemory c old newer
+  kept_memory f = record { command = f.command; untouched = f.untouched; printed = kept_all [] f.printed }
+
+  -- a write failed before it
+  kept_fault : IsWriteFault c old new → IsWriteFault c old newer
+  kept_fault (inl front) = inl (kept_front (IsUsage c) front)
+  kept_fault (inr (inl (line, why, front))) = inr (inl (line, why, kept_front (IsImageBad c line why) front))
+  kept_fault (inr (inr (inl (what, asks, i)))) =
+      inr (inr (inl (what, asks, record {
+        bytes = i.bytes; took = i.took; few = i.few; shown = i.shown; printed = kept_all i.shown i.printed; late = i.late; early = i.early })))
+  kept_fault (inr (inr (inr (inl f)))) = inr (inr (inr (inl (kept_image f))))
+  kept_fault (inr (inr (inr (inr f)))) = inr (inr (inr (inr (kept_memory f))))
+
+  -- it succeeds
+  pub all_flushed : (s : Status) → new.faults ≤ newer.faults → Answers c old new s → Answers c old newer s
+  all_flushed status.Done later (what, asks, done) =
+      (what, asks, record { bytes = done.bytes; read = done.read; few = done.few; lines = done.lines; shown = done.shown; printed = kept_all _ done.printed })
+  all_flushed status.Faulted later (what, asks, done) =
+      (what, asks, record { bytes = done.bytes; read = done.read; few = done.few; lines = done.lines; shown = done.shown; printed = kept_all _ done.printed })
+  all_flushed status.Usage later prints = kept_line (IsUsage c) prints
+  all_flushed (status.ImageBad line why) later prints = kept_line (IsImageBad c line why) prints
+  all_flushed status.ReadFault later (inl f) = inl (kept_image f)
+  all_flushed status.ReadFault later (inr (what, asks, b)) =
+      inr (what, asks, record { bytes = b.bytes; took = b.took; few = b.few; printed = (b.printed.0, b.printed.1, kept_all _ b.printed.2); rose = b.rose })
+  all_flushed status.InputTooLong later (what, asks, b) =
+      (what, asks, record { bytes = b.bytes; byte = b.byte; took = b.took; many = b.many; printed = (b.printed.0, b.printed.1, kept_all _ b.printed.2) })
+  all_flushed status.NoMemory later f = kept_memory f
+  all_flushed status.WriteFault later (rose, f) = (omega (arith, rose, later), kept_fault f)
+
+  -- it fails behind an answer
+  cut : (s : Status) → Answers c old new s → IsWriteFault c old newer
+  cut status.Done (what, asks, done) =
+      inr (inr (inl (what, asks, completed_cut (pairs_of what) (left_of what) (layout_grows (layout_of what)) (listing_of what) c.input c.input' old new newer false done kept)))
+  cut status.Faulted (what, asks, done) =
+      inr (inr (inl (what, asks, completed_cut (pairs_of what) (left_of what) (layout_grows (layout_of what)) (listing_of what) c.input c.input' old new newer true done kept)))
+  cut status.Usage prints = inl (line_front (IsUsage c) prints)
+  cut (status.ImageBad line why) prints = inr (inl (line, why, line_front (IsImageBad c line why) prints))
+  cut status.ReadFault (inl f) = inr (inr (inr (inl (kept_image f))))
+  cut status.ReadFault (inr (what, asks, b)) =
+      inr (inr (inl (what, asks, broken_cut (pairs_of what) (left_of what) (layout_grows (layout_of what)) (listing_of what) c.input c.input' old new newer b kept)))
+  cut status.InputTooLong (what, asks, b) =
+      inr (inr (inl (what, asks, exceeded_cut (pairs_of what) (left_of what) (layout_grows (layout_of what)) (listing_of what) c.input c.input' old new newer b kept)))
+  cut status.NoMemory f = inr (inr (inr (inr (kept_memory f))))
+  cut status.WriteFault (rose, f) = kept_fault f
+
+  pub flush_fails : (s : Status) → Answers c old new s → old.faults ≤ new.faults → Rose new newer → Answers c old newer status.WriteFault
+  flush_fails s answers later rose = (omega (arith, later, rose), cut s answers)
+
+  pub write_fails : (e : Failed) → AnswersSo c old new (Err e) → new.faults ≤ newer.faults → Answers c old newer status.WriteFault
+  write_fails e (rose, f) later = let was : Rose old new = rose in (omega (arith, was, later), kept_fault f)

@@ -1,6 +1,7 @@
-mod WordLemmas
-mod WordExamples
-mod CommandLines
-pub mod PacketLists
 pub mod AnswerLemmas
-pub mod PathTexts
+mod CommandLines
+pub mod Interrupts
+pub mod PacketLists
+pub mod Pieces
+mod WordExamples
+mod WordLemmas

@@ -1,6 +1,9 @@
-pub mod Words
-pub mod Said
-pub mod CommandLines
-pub mod PacketList
-pub mod Path
 pub mod Answers
+pub mod CommandLines
+pub mod Grows
+pub mod Listed
+pub mod PacketList
+pub mod Printing
+pub mod Reading
+pub mod Said
+pub mod Words

@@ -1,21 +1,23 @@
 //! The top call: words, image and input, in this order, and what is written.
 ghost use Rattle.std.specs.Prelude.{◌≡◌, ◌⊎◌, ℕ, ◌≤◌, List, None, Ok, IfOk, IsTrue};
-ghost use Rattle.etm_types.specs.Settings.{AreSettings};
-ghost use Rattle.trace_io.specs.State.{IoState};
 ghost use Rattle.trace_io.specs.Bytes.{ShowsAsBefore};
-ghost use Rattle.trace_io.specs.Causes.{KeepsFaults};
+ghost use Rattle.trace_io.specs.Causes.{HasCause, KeepsFaults};
 ghost use Rattle.trace_cmd.specs.Words.{meaning, texts};
 ghost use Rattle.path_text.specs.Writing.{Writes};
-ghost use Rattle.trace_cmd.specs.Answers.{usage_line, image_line, call, IsPathUnder, IsPacketsCall, NoReadFailed};
-ghost use Rattle.trace_cmd.specs.Answers.{ReadsImage, ReadsFirst, IsAnswer, AnswersSo, Answers};
+ghost use Rattle.trace_cmd.specs.Answers.{Answers, AnswersSo, IsPacketsCall, IsPathUnder, NoReadFailed, ReadsFirst, ReadsImage, call, image_line, usage_line};
+ghost use Rattle.trace_cmd.specs.Listed.{Listed};
+ghost use Rattle.trace_cmd.specs.Printing.{left_in, pairs_in};
 
-use crate::input::{answer_packets, answer_path};
+use crate::input::print_input;
+use crate::packet_list::PacketStream;
 use crate::status::Status;
-use crate::words::{Command, command_of};
+use crate::words::{Command, Layout, command_of};
 use etm_types::Settings;
 use path_text::Line;
 use program_image::{Image, ImageFault, ImageWhy};
 use std::alloc::Global;
+use stream_decoder::StreamDecoder;
+use stream_demux::{Demux, RawStream, Stream};
 use trace_io::{Failed, Sink, Source, write_all};
 
 /// The line that is printed where the words have no meaning.
@@ -33,30 +35,64 @@ fn write_image_bad<K: Sink>(line: u64, why: ImageWhy, out: &mut K) -> Result<(),
     text.write(out)
 }
 
-/// Reads the image, and answers by it and the input.
-fn answer_path_call<I: Source, J: Source, K: Sink>(
+/// Takes the memory for the streams of an input, and prints what is asked of them. Without the memory nothing is read.
+fn print_streams<S: Stream, J: Source, K: Sink>(
     alloc: Global,
     settings: &Settings,
+    layout: Layout,
+    shared: &S::Shared,
+    input: &mut J,
+    out: &mut K,
+) -> Result<Status, Failed>
+    ensures listed { (result ≡ Ok Status.NoMemory) ⊎ Listed (pairs_in layout) (left_in layout) (S.listing shared.now settings.now)
+        (J.state input.old) (J.state input.new) (K.state out.old) (K.state out.new) result }
+    ensures memory { result ≡ Ok Status.NoMemory → (input.new ≡ input.old) × (out.new ≡ out.old) }
+    ensures no_image { (line : ℕ) (why : ImageWhy) → result ≡ Ok (Status.ImageBad line why) → ⊥ }
+    ensures kept { (result ≡ Ok Status.ReadFault) ⊎ KeepsFaults (J.state input.old) (J.state input.new) }
+    ensures cause { HasCause (K.state out.old) (K.state out.new) result }
+    ensures shows { ShowsAsBefore (K.state out.old) (K.state out.new) }
+    ensures input_shows { ShowsAsBefore (J.state input.old) (J.state input.new) }
+    ensures input_later { (J.state input.old).faults ≤ (J.state input.new).faults }
+{
+    match layout {
+        Layout::Raw => match RawStream::<S>::new(alloc, settings) {
+            Ok(stream) => print_input(stream, shared, input, out),
+            Err(_) => Ok(Status::NoMemory),
+        },
+        Layout::Frames => match Demux::<S>::new(alloc, settings) {
+            Ok(demux) => print_input(demux, shared, input, out),
+            Err(_) => Ok(Status::NoMemory),
+        },
+    }
+}
+
+/// Reads the image, and prints the paths of the input over it.
+fn answer_path<I: Source, J: Source, K: Sink>(
+    alloc: Global,
+    settings: &Settings,
+    layout: Layout,
     image: &mut I,
     input: &mut J,
     out: &mut K,
 ) -> Result<Status, Failed>
-    requires { AreSettings settings.now }
-    ensures answer { (words : List (List ℕ)) → IsPathUnder settings.now words
-        → AnswersSo (IsAnswer (call words (I.state image.old) (I.state image.new) (J.state input.old) (J.state input.new)))
+    ensures answer { (words : List (List ℕ)) → IsPathUnder settings.now layout words
+        → AnswersSo (call words (I.state image.old) (I.state image.new) (J.state input.old) (J.state input.new))
         (K.state out.old) (K.state out.new) result }
     ensures kept { (result ≡ Ok Status.ReadFault)
         ⊎ (KeepsFaults (I.state image.old) (I.state image.new) × KeepsFaults (J.state input.old) (J.state input.new)) }
     ensures order { (input.new ≡ input.old) ⊎ ReadsImage (I.state image.old) (I.state image.new) }
     ensures image_failed { KeepsFaults (I.state image.old) (I.state image.new) ⊎ (input.new ≡ input.old) }
     ensures image_first { (line : ℕ) (why : ImageWhy) → result ≡ Ok (Status.ImageBad line why) → input.new ≡ input.old }
+    ensures memory { result ≡ Ok Status.NoMemory → input.new ≡ input.old }
     ensures image_shows { ShowsAsBefore (I.state image.old) (I.state image.new) }
     ensures image_later { (I.state image.old).faults ≤ (I.state image.new).faults }
     ensures input_shows { ShowsAsBefore (J.state input.old) (J.state input.new) }
     ensures input_later { (J.state input.old).faults ≤ (J.state input.new).faults }
+    ensures cause { HasCause (K.state out.old) (K.state out.new) result }
+    ensures shows { ShowsAsBefore (K.state out.old) (K.state out.new) }
 {
     match Image::read(alloc, image) {
-        Ok(image) => answer_path(alloc, &image, settings, input, out),
+        Ok(image) => print_streams::<StreamDecoder, J, K>(alloc, settings, layout, &image, input, out),
         Err(ImageFault::Bad { line, why }) => {
             write_image_bad(line, why, out)?;
             Ok(Status::ImageBad { line, why })
@@ -84,7 +120,7 @@ fn answer_words<I: Source, J: Source, K: Sink>(
     input: &mut J,
     out: &mut K,
 ) -> Result<Status, Failed>
-    ensures answer { AnswersSo (IsAnswer (call (texts words.now) (I.state image.old) (I.state image.new) (J.state input.old) (J.state input.new)))
+    ensures answer { AnswersSo (call (texts words.now) (I.state image.old) (I.state image.new) (J.state input.old) (J.state input.new))
         (K.state out.old) (K.state out.new) result }
     ensures kept { (result ≡ Ok Status.ReadFault)
         ⊎ (KeepsFaults (I.state image.old) (I.state image.new) × KeepsFaults (J.state input.old) (J.state input.new)) }
@@ -94,25 +130,32 @@ fn answer_words<I: Source, J: Source, K: Sink>(
     ensures image_untouched { IsPacketsCall (texts words.now) → image.new ≡ image.old }
     ensures image_failed { KeepsFaults (I.state image.old) (I.state image.new) ⊎ (input.new ≡ input.old) }
     ensures image_first { (line : ℕ) (why : ImageWhy) → result ≡ Ok (Status.ImageBad line why) → input.new ≡ input.old }
+    ensures memory { result ≡ Ok Status.NoMemory → input.new ≡ input.old }
     ensures image_shows { ShowsAsBefore (I.state image.old) (I.state image.new) }
     ensures image_later { (I.state image.old).faults ≤ (I.state image.new).faults }
     ensures input_shows { ShowsAsBefore (J.state input.old) (J.state input.new) }
     ensures input_later { (J.state input.old).faults ≤ (J.state input.new).faults }
+    ensures cause { HasCause (K.state out.old) (K.state out.new) result }
+    ensures shows { ShowsAsBefore (K.state out.old) (K.state out.new) }
 {
     let Some(command) = command_of(words) else {
         return answer_usage(out);
     };
     match &command {
-        Command::Path { settings, .. } => answer_path_call(alloc, settings, image, input, out),
-        Command::Packets { settings } => answer_packets(alloc, settings, input, out),
+        Command::Path { settings, layout, .. } => answer_path(alloc, settings, *layout, image, input, out),
+        Command::Packets { settings, layout } => {
+            print_streams::<PacketStream, J, K>(alloc, settings, *layout, &(), input, out)
+        }
     }
 }
 
-/// Runs the command that the words mean: `path --raw [--depth N] [--vmid N] [--cid N] IMAGE` prints the path of
-/// one stream that is not framed, and `packets --raw [--vmid N] [--cid N]` its packets. `image` is what the
-/// word IMAGE names, and `input` the bytes of the stream.
+/// Runs the command that the words mean: `path [--raw] [--depth N] [--vmid N] [--cid N] IMAGE` prints the path of
+/// each stream of an input, and `packets [--raw] [--vmid N] [--cid N]` its packets. The input is formatter frames
+/// of up to 111 streams, or with `--raw` one stream that is not framed. `image` is what the word IMAGE names.
 ///
-/// All is flushed before it answers, and a flush that fails is `WriteFault`.
+/// All memory is taken before the first byte of the input is read. The input is read by pieces of at most 4096
+/// bytes, whose lines are written and flushed before the next is read. All is flushed before it answers, and a flush
+/// that fails is `WriteFault`.
 pub fn run<I: Source, J: Source, K: Sink>(
     alloc: Global,
     words: &[String],
@@ -120,17 +163,19 @@ pub fn run<I: Source, J: Source, K: Sink>(
     input: &mut J,
     out: &mut K,
 ) -> Status
-    // The answer has its cause, and its text was written; of WriteFault, a front of the text that was due.
+    // The answer has its cause, and what was printed is told by it.
     ensures answer { Answers (call (texts words.now) (I.state image.old) (I.state image.new) (J.state input.old) (J.state input.new))
         (K.state out.old) (K.state out.new) result }
     ensures meaningless { meaning (texts words.now) ≡ None → (result ≡ Status.Usage) ⊎ (result ≡ Status.WriteFault) }
     ensures flushed { (result ≡ Status.WriteFault) ⊎ IsTrue (K.flushed out.new) }
 
-    // The words come first, then the image, then the input, which is touched only once the image is good, or for its packets.
+    // The words come first, then the image, then all memory, and then the input, which is touched only once the image is good,
+    // or for its packets.
     ensures words_first { meaning (texts words.now) ≡ None → (image.new ≡ image.old) × (input.new ≡ input.old) }
     ensures image_untouched { IsPacketsCall (texts words.now) → image.new ≡ image.old }
     ensures image_first { (line : ℕ) (why : ImageWhy) → result ≡ Status.ImageBad line why → input.new ≡ input.old }
     ensures image_failed { KeepsFaults (I.state image.old) (I.state image.new) ⊎ (input.new ≡ input.old) }
+    ensures memory { result ≡ Status.NoMemory → input.new ≡ input.old }
     ensures order { (input.new ≡ input.old)
         ⊎ ReadsFirst (call (texts words.now) (I.state image.old) (I.state image.new) (J.state input.old) (J.state input.new)) }
 

@@ -1,101 +1,146 @@
-//! The answers that the input decides: it is read whole, and then its path or its packets are written.
-ghost use Rattle.std.specs.Prelude.{◌≡◌, ℕ, ◌≤◌, Ok, Err, length, IfOk, ◌⊎◌};
-ghost use Rattle.etm_types.specs.Settings.{AreSettings};
-ghost use Rattle.program_image.specs.Part.{IsImage};
-ghost use Rattle.trace_io.specs.Bytes.{TakesAll, ShowsAsBefore};
-ghost use Rattle.trace_io.specs.Causes.{KeepsFaults};
-ghost use Rattle.trace_cmd.specs.Answers.{raw_id, most_input, IsUnread, IsInputAnswer, AnswersSo, PathShown, PacketsShown};
+//! The reading of the input by pieces. The lines of each piece are written and flushed before the next is read.
+ghost use Rattle.std.specs.Prelude.{◌≡◌, ◌⊎◌, ◌<◌, ◌≤◌, ◌+◌, ◌^◌, ◌++◌, [], ℕ, List, false, length, Ok, Err, IsOk};
+ghost use Rattle.etm_types.specs.Settings.{Sizes};
+ghost use Rattle.stream_demux.specs.Demuxed.{Gains};
+ghost use Rattle.trace_cmd.specs.Listed.{Listed, most_input};
+ghost use Rattle.trace_cmd.specs.Reading.{GivesBytes, StopsSo, Took};
+ghost use Rattle.trace_io.specs.Bytes.{ShowsAsBefore};
+ghost use Rattle.trace_io.specs.Causes.{HasCause, KeepsFaults};
 
-use crate::packet_list::write_packet_list;
-use crate::path::write_path;
+use crate::printer::Printer;
 use crate::status::Status;
-use etm_types::{Id, Settings};
-use program_image::{Image, ImageWhy};
-use std::alloc::Global;
-use stream_decoder::StreamDecoder;
-use trace_io::{Failed, ReadAllFault, Sink, Source, read_all};
+use trace_io::{Failed, Sink, Source};
 
 /// The most bytes of input.
 const MOST_INPUT: usize = 1 << 30;
 
-/// The ID under which a stream is printed that is not framed.
-fn raw_id() -> Id
-    ensures { result ≡ raw_id }
-{
-    Id::new(1).unwrap()
+/// The most bytes that are taken at once.
+const MOST_AT_ONCE: usize = 4096;
+
+/// Why no more of an input is taken.
+#[derive(Clone, Copy, Debug)]
+pub enum Stop {
+    /// It is at its end.
+    End,
+    /// It has more bytes than are taken.
+    TooLong,
+    /// A read failed.
+    ReadFault,
 }
 
-/// Reads the whole input, or says why that can't be done.
-fn read_input<J: Source>(alloc: Global, input: &mut J) -> Result<Vec<u8>, Status>
-    ensures bytes { IfOk result (λ bytes. TakesAll (J.state input.old) (J.state input.new) bytes.items × (length bytes.items ≤ most_input)) }
-    ensures unread { (status : Status) → result ≡ Err status → IsUnread (J.state input.old) (J.state input.new) status }
-    ensures kept { (result ≡ Err Status.ReadFault) ⊎ KeepsFaults (J.state input.old) (J.state input.new) }
+/// What a read gave.
+#[derive(Clone, Copy, Debug)]
+pub enum Piece {
+    /// So many bytes, at the front of the buffer.
+    Bytes(usize),
+    /// No bytes to take.
+    Stop(Stop),
+}
+
+/// Reads the next piece of an input of which `taken` bytes were taken. Once no more are taken, one byte more tells that
+/// the input is too long.
+fn read_piece<J: Source>(input: &mut J, taken: usize, buffer: &mut [u8; MOST_AT_ONCE]) -> Piece
+    requires { taken ≤ most_input }
+    ensures bytes { (count : ℕ) → result ≡ Piece.Bytes count → GivesBytes (J.state input.old) (J.state input.new) taken count buffer.new }
+    ensures stop { (stop : Stop) → result ≡ Piece.Stop stop → StopsSo (J.state input.old) (J.state input.new) taken stop }
     ensures shows { ShowsAsBefore (J.state input.old) (J.state input.new) }
     ensures later { (J.state input.old).faults ≤ (J.state input.new).faults }
 {
-    match read_all(alloc, input, MOST_INPUT) {
-        Ok(bytes) => Ok(bytes),
-        Err(ReadAllFault::Failed) => Err(Status::ReadFault),
-        Err(ReadAllFault::TooLong) => Err(Status::InputTooLong),
-        Err(ReadAllFault::Memory) => Err(Status::NoMemory),
+    let left = MOST_INPUT - taken;
+    let room = left.clamp(1, MOST_AT_ONCE);
+    match input.read(&mut buffer[..room]) {
+        Ok(0) => Piece::Stop(Stop::End),
+        Ok(_) if left == 0 => Piece::Stop(Stop::TooLong),
+        Ok(count) => Piece::Bytes(count),
+        Err(_) => Piece::Stop(Stop::ReadFault),
     }
 }
 
-/// Reads the input, and writes its path. The decoder takes its memory before anything is read.
-pub fn answer_path<J: Source, K: Sink>(
-    alloc: Global,
-    image: &Image,
-    settings: &Settings,
+/// Takes an input to its end, or up to what stops that. The error means that a write failed.
+fn take_input<P: Printer, J: Source, K: Sink>(
+    printer: &mut P,
+    shared: &P::Shared,
     input: &mut J,
     out: &mut K,
-) -> Result<Status, Failed>
-    requires image { IsImage image.now }
-    requires settings { AreSettings settings.now }
-    ensures answer { AnswersSo (IsInputAnswer (PathShown image.now settings.now) (J.state input.old) (J.state input.new))
-        (K.state out.old) (K.state out.new) result }
-    ensures kept { (result ≡ Ok Status.ReadFault) ⊎ KeepsFaults (J.state input.old) (J.state input.new) }
-    ensures shows { ShowsAsBefore (J.state input.old) (J.state input.new) }
-    ensures later { (J.state input.old).faults ≤ (J.state input.new).faults }
+) -> Result<Stop, Failed>
+    requires fresh { (P.broken printer.old ≡ false) × (P.taken printer.old ≡ 0) }
+    ensures took { (s : Sizes) → P.stands shared.now s printer.old [] → Took (P.stands shared.now s printer.new) P.carried P.left (P.listing shared.now s)
+        (J.state input.old) (J.state input.new) (K.state out.old) (K.state out.new) result }
+    ensures whole { (stop : Stop) → result ≡ Ok stop → P.broken printer.new ≡ false }
+    ensures kept { (result ≡ Ok Stop.ReadFault) ⊎ KeepsFaults (J.state input.old) (J.state input.new) }
+    ensures cause { HasCause (K.state out.old) (K.state out.new) result }
+    ensures shows { ShowsAsBefore (K.state out.old) (K.state out.new) }
+    ensures input_shows { ShowsAsBefore (J.state input.old) (J.state input.new) }
+    ensures input_later { (J.state input.old).faults ≤ (J.state input.new).faults }
 {
-    let Ok(decoder) = StreamDecoder::new(alloc, settings) else {
-        return Ok(Status::NoMemory);
-    };
-    let bytes = match read_input(alloc, input) {
-        Ok(bytes) => bytes,
-        Err(status) => {
-            decoder.abandon();
-            return Ok(status);
+    let mut buffer = [0; MOST_AT_ONCE];
+    let mut taken = 0;
+    loop {
+        match read_piece(input, taken, &mut buffer) {
+            Piece::Bytes(count) => {
+                print_piece(printer, shared, &buffer[..count], out)?;
+                taken += count;
+            }
+            Piece::Stop(stop) => return Ok(stop),
         }
-    };
-    if write_path(raw_id(), image, decoder, &bytes, out)? {
-        Ok(Status::Done)
-    } else {
-        Ok(Status::Faulted)
     }
 }
 
-/// Reads the input, and writes its packets.
-pub fn answer_packets<J: Source, K: Sink>(
-    alloc: Global,
-    settings: &Settings,
+/// Prints an input by pieces, and says how that ended. The error means that a write failed.
+pub fn print_input<P: Printer, J: Source, K: Sink>(
+    mut printer: P,
+    shared: &P::Shared,
     input: &mut J,
     out: &mut K,
 ) -> Result<Status, Failed>
-    requires { AreSettings settings.now }
-    ensures answer { AnswersSo (IsInputAnswer (PacketsShown settings.now) (J.state input.old) (J.state input.new))
-        (K.state out.old) (K.state out.new) result }
+    requires fresh { (P.broken printer ≡ false) × (P.taken printer ≡ 0) }
+    ensures answer { (s : Sizes) → P.stands shared.now s printer [] → Listed P.carried P.left (P.listing shared.now s)
+        (J.state input.old) (J.state input.new) (K.state out.old) (K.state out.new) result }
     ensures kept { (result ≡ Ok Status.ReadFault) ⊎ KeepsFaults (J.state input.old) (J.state input.new) }
-    ensures no_image { (line : ℕ) (why : ImageWhy) → result ≡ Ok (Status.ImageBad line why) → ⊥ }
-    ensures shows { ShowsAsBefore (J.state input.old) (J.state input.new) }
-    ensures later { (J.state input.old).faults ≤ (J.state input.new).faults }
+    ensures cause { HasCause (K.state out.old) (K.state out.new) result }
+    ensures shows { ShowsAsBefore (K.state out.old) (K.state out.new) }
+    ensures input_shows { ShowsAsBefore (J.state input.old) (J.state input.new) }
+    ensures input_later { (J.state input.old).faults ≤ (J.state input.new).faults }
 {
-    let bytes = match read_input(alloc, input) {
-        Ok(bytes) => bytes,
-        Err(status) => return Ok(status),
-    };
-    if write_packet_list(raw_id(), settings, &bytes, out)? {
-        Ok(Status::Faulted)
-    } else {
-        Ok(Status::Done)
+    match take_input(&mut printer, shared, input, out) {
+        Ok(Stop::End) => match printer.finish(out) {
+            Ok(true) => Ok(Status::Done),
+            Ok(false) => Ok(Status::Faulted),
+            Err(failed) => Err(failed),
+        },
+        Ok(Stop::TooLong) => {
+            printer.abandon();
+            Ok(Status::InputTooLong)
+        }
+        Ok(Stop::ReadFault) => {
+            printer.abandon();
+            Ok(Status::ReadFault)
+        }
+        Err(failed) => {
+            printer.abandon();
+            Err(failed)
+        }
     }
+}
+
+/// Prints what a piece adds, and flushes it.
+fn print_piece<P: Printer, K: Sink>(
+    printer: &mut P,
+    shared: &P::Shared,
+    piece: &[u8],
+    out: &mut K,
+) -> Result<(), Failed>
+    requires whole { P.broken printer.old ≡ false }
+    requires few { P.taken printer.old + length piece.now ≤ 2 ^ 30 }
+    ensures stands { (s : Sizes) (bytes : List ℕ) → P.stands shared.now s printer.old bytes → IsOk result
+        → P.stands shared.now s printer.new (bytes ++ piece.now) }
+    ensures gains { (s : Sizes) (bytes : List ℕ) → P.stands shared.now s printer.old bytes
+        → Gains P.carried (P.listing shared.now s) bytes piece.now (K.state out.old) (K.state out.new) result }
+    ensures cause { HasCause (K.state out.old) (K.state out.new) result }
+    ensures shows { ShowsAsBefore (K.state out.old) (K.state out.new) }
+    ensures whole { IsOk result → P.broken printer.new ≡ false }
+    ensures taken { IsOk result → P.taken printer.new ≡ P.taken printer.old + length piece.now }
+{
+    printer.take_piece(shared, piece, out)?;
+    out.flush()
 }

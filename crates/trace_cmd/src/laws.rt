@@ -1,29 +1,22 @@
-//! What the definitions of a path, of a packet list and of the words' meaning are as a whole.
+//! What the definitions of a packet list and of the words' meaning are as a whole.
 ghost use Rattle.std.specs.Prelude.{◌≡◌, ◌<◌, ◌↔◌, ℕ, List, Bool, All, Some};
 ghost use Rattle.etm_types.specs.Settings.{Sizes, AreSettings};
-ghost use Rattle.program_image.specs.Part.{IsImage};
-ghost use Rattle.program_image.specs.declared.image.Image.{Image};
 ghost use Rattle.trace_cmd.specs.CommandLines.{IsPathLine, IsPacketsLine};
-ghost use Rattle.trace_cmd.specs.PacketList.{IsPacketList};
-ghost use Rattle.trace_cmd.specs.Path.{IsPathText};
+ghost use Rattle.trace_cmd.specs.PacketList.{PacketEnds, PacketGains};
 ghost use Rattle.trace_cmd.specs.Words.{Path, Packets, meaning};
 ghost use Rattle.trace_cmd.specs.declared.words.Layout.{Layout};
 
-/// Over an image and under given sizes, an input has one path and no other: one text that is printed of
-/// it, and one answer to whether it ends with a fault.
-pub fn an_input_has_one_path()
-    ensures one { (image : Image) (s : Sizes) → AreSettings s → (id : ℕ) (bytes text other : List ℕ) (faulty also : Bool)
-        → IsPathText image s id bytes text faulty → IsPathText image s id bytes other also → (text ≡ other) × (faulty ≡ also) }
-    ensures some { (image : Image) (s : Sizes) → IsImage image → AreSettings s → (id : ℕ) (bytes : List ℕ) → All (λ b. b < 256) bytes
-        → (text : List ℕ) × (faulty : Bool) × IsPathText image s id bytes text faulty }
-{}
-
-/// Under given sizes, an input has one packet list and no other.
-pub fn an_input_has_one_packet_list()
-    ensures one { (s : Sizes) → AreSettings s → (id : ℕ) (bytes text other : List ℕ) (faulty also : Bool)
-        → IsPacketList s id bytes text faulty → IsPacketList s id bytes other also → (text ≡ other) × (faulty ≡ also) }
-    ensures some { (s : Sizes) → AreSettings s → (id : ℕ) (bytes : List ℕ) → All (λ b. b < 256) bytes
-        → (text : List ℕ) × (faulty : Bool) × IsPacketList s id bytes text faulty }
+/// Under given sizes, the lines of the packets that a byte adds to a stream are settled by its bytes, and so are the line
+/// of how it ends and whether that is a fault.
+pub fn packets_have_one_list()
+    ensures one_gain { (s : Sizes) → AreSettings s → (id : ℕ) (bytes : List ℕ) (byte : ℕ) (lines others : List (List ℕ))
+        → PacketGains s id bytes byte lines → PacketGains s id bytes byte others → lines ≡ others }
+    ensures one_end { (s : Sizes) → AreSettings s → (id : ℕ) (bytes line other : List ℕ) (faulty also : Bool)
+        → PacketEnds s id bytes line faulty → PacketEnds s id bytes other also → (line ≡ other) × (faulty ≡ also) }
+    ensures some_gain { (s : Sizes) → AreSettings s → (id : ℕ) (bytes : List ℕ) (byte : ℕ) → All (λ b. b < 256) bytes → byte < 256
+        → (lines : List (List ℕ)) × PacketGains s id bytes byte lines }
+    ensures some_end { (s : Sizes) → AreSettings s → (id : ℕ) (bytes : List ℕ) → All (λ b. b < 256) bytes
+        → (line : List ℕ) × (faulty : Bool) × PacketEnds s id bytes line faulty }
 {}
 
 /// Words mean a command exactly where they stand in its row: `--raw`, which tells the layout, and each option with its number

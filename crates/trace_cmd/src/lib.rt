@@ -9,11 +9,11 @@ mod command;
 mod input;
 mod laws;
 mod packet_list;
-mod path;
+mod printer;
 mod status;
 mod words;
 
 pub use command::run;
-pub use laws::{an_input_has_one_packet_list, an_input_has_one_path, words_mean_what_they_spell};
+pub use laws::{packets_have_one_list, words_mean_what_they_spell};
 pub use status::Status;
 pub use words::image_name;
