@@ -15,3 +15,10 @@ returns-in-Ok-clause-answer g c words means =
 
 pub returns-in-Ok-clause-order : goal.returns-in-Ok-clause-order
 returns-in-Ok-clause-order g c = inr (c.in-Ok.image, c.in-Ok.ensures.ok)
+
+pub returns-in-Err-ReadFault-clause-answer : goal.returns-in-Err-ReadFault-clause-answer
+returns-in-Err-ReadFault-clause-answer g c words means =
+    let image = g.I.Source.state in let input = g.J.Source.state in let out = g.K.Sink.state in
+    let asked = call words (image c.args.image.now) (image c.read.new.source) (input c.args.input.now) (input c.args.input.now) in
+    inl (so_of_image_fault asked (out c.args.out.now) (c.args.settings.now, c.args.layout, means)
+    (c.in-Err-ReadFault.ensures.read_fault (ap Err c.in-Err-ReadFault.field-0-is)) refl)

@@ -1,0 +1,30 @@
+use Rattle.std.proofs.Common.{◌≡◌, Some, inr, refl, sym, ap, ◌∙◌}
+use Rattle.std.specs.Option.{option_map}
+use Rattle.trace_cmd.specs.Answers.{call}
+use Rattle.trace_cmd.specs.Printing.{PacketsOf}
+use Rattle.trace_cmd.specs.Said.{said}
+use Rattle.trace_cmd.specs.Words.{texts}
+use Rattle.trace_cmd.specs.declared.words.Command.{Command as Told}
+use Rattle.trace_cmd.proofs.AnswerLemmas.{so_by, so_of_usage}
+use Rattle.trace_cmd.proofs.command.answer_words.Goals as goal
+
+pub returns-in-Path-clause-answer : goal.returns-in-Path-clause-answer
+returns-in-Path-clause-answer g c =
+    let means = sym c.command_of.ensures.value ∙ ap (option_map said) (c.in-Some.is ∙ ap (λ (command : Told). Some command) c.in-Path.is) in
+    c.answer_path.ensures.answer (texts c.args.words.now) (c.in-Path.image.now, means)
+
+pub returns-in-Packets-clause-answer : goal.returns-in-Packets-clause-answer
+returns-in-Packets-clause-answer g c =
+    let means = sym c.command_of.ensures.value ∙ ap (option_map said) (c.in-Some.is ∙ ap (λ (command : Told). Some command) c.in-Packets.is) in
+    let image = g.I.Source.state in let input = g.J.Source.state in let out = g.K.Sink.state in
+    let asked = call (texts c.args.words.now) (image c.args.image.now) (image c.args.image.now) (input c.args.input.now) (input c.print_streams.new.input) in
+    so_by asked (PacketsOf c.in-Packets.settings c.in-Packets.layout) means (out c.args.out.now) (out c.print_streams.new.out) c.print_streams.result
+    (inr (c.in-Packets.settings, c.in-Packets.layout, means)) c.print_streams.ensures.cause
+    (λ is. let kept = c.print_streams.ensures.memory is in (ap input kept.0, ap out kept.1)) c.print_streams.ensures.listed
+
+pub returns-in_default-clause-answer : goal.returns-in_default-clause-answer
+returns-in_default-clause-answer g c =
+    let none = sym c.command_of.ensures.value ∙ ap (option_map said) c.in_default.is in
+    let image = g.I.Source.state in let input = g.J.Source.state in let out = g.K.Sink.state in
+    let asked = call (texts c.args.words.now) (image c.args.image.now) (image c.args.image.now) (input c.args.input.now) (input c.args.input.now) in
+    so_of_usage asked (out c.args.out.now) (out c.answer_usage.new.out) c.answer_usage.result none c.answer_usage.ensures.0 c.answer_usage.ensures.1
