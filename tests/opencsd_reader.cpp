@@ -3,8 +3,8 @@
 //   opencsd_reader [--raw] [--depth N] [--vmid N] [--cid N] [--count] IMAGE <CAPTURE
 //
 // The words and IMAGE are those of `etm path` (docs/FORMATS.md). With --count only the number of instructions is printed, so
-// that a clock sees the decoder and not the printing. Ends with 1 where OpenCSD reports an error, and 2 where a word, the
-// image or a call that sets OpenCSD up is wrong. Build: c++ -O2 -o opencsd_reader opencsd_reader.cpp -lopencsd_c_api
+// that a clock sees the decoder and not the printing. Ends with 1 where OpenCSD reports an error, which is then told on
+// standard error, and with 2 where a word, the image or a call that sets OpenCSD up is wrong. Build: c++ -O2 -o opencsd_reader opencsd_reader.cpp -lopencsd_c_api
 #include <cinttypes>
 #include <cstdint>
 #include <cstdio>
@@ -94,7 +94,7 @@ std::vector<Part> parts_of(const std::string& name) {
 ocsd_etmv4_cfg unit_of(const Words& words, int id) {
   ocsd_etmv4_cfg unit{};
   unit.reg_idr0 = 1 << 9 | 8 << 24;                           // RETSTACK; TSSIZE: 64 bits
-  unit.reg_idr1 = 4 << 8;                                     // ETMv4.0
+  unit.reg_idr1 = 4 << 8 | 2 << 4;                             // ETMv4.2; 4.0 has VMIDs of one byte alone
   unit.reg_idr2 = 8 | words.cid << 5 | words.vmid << 10;      // IASIZE: 64 bits; CIDSIZE; VMIDSIZE
   unit.reg_idr8 = words.depth;                                // MAXSPEC
   unit.reg_configr = (words.cid ? 1 << 6 : 0) | (words.vmid ? 1 << 7 : 0) | 1 << 11 | 1 << 12;  // CID, VMID, TS, RS
@@ -135,22 +135,29 @@ dcd_tree_handle_t tree_of(const Words& words, const std::vector<Part>& parts, Fo
   return tree;
 }
 
-// Decodes standard input: whether OpenCSD reported no error.
-bool decode(dcd_tree_handle_t tree) {
+// Decodes standard input.
+void decode(dcd_tree_handle_t tree) {
   std::vector<uint8_t> piece(kPiece);
   uint64_t offset = 0;
-  bool good = true;
-  for (size_t count; (count = fread(piece.data(), 1, piece.size(), stdin)) > 0;) {
+  for (size_t count; (count = fread(piece.data(), 1, piece.size(), stdin)) > 0; offset += count) {
     for (size_t at = 0; at < count;) {
       uint32_t taken = 0;
       const auto answer = ocsd_dt_process_data(tree, OCSD_OP_DATA, offset + at, uint32_t(count - at), piece.data() + at, &taken);
-      good = good && !OCSD_DATA_RESP_IS_ERR(answer);
-      if (OCSD_DATA_RESP_IS_FATAL(answer) || taken == 0) return false;
+      if (OCSD_DATA_RESP_IS_FATAL(answer) || taken == 0) return;
       at += taken;
     }
-    offset += count;
   }
-  return good && !OCSD_DATA_RESP_IS_FATAL(ocsd_dt_process_data(tree, OCSD_OP_EOT, 0, 0, nullptr, nullptr));
+  ocsd_dt_process_data(tree, OCSD_OP_EOT, 0, 0, nullptr, nullptr);
+}
+
+// Whether OpenCSD reported no error; the last one is told. Its answers to data don't tell of all.
+bool is_good() {
+  ocsd_trc_index_t index = 0;
+  uint8_t id = 0;
+  char message[512] = "";
+  if (ocsd_get_last_err(&index, &id, message, sizeof message) == OCSD_OK) return true;
+  fprintf(stderr, "opencsd_reader: %s\n", message);
+  return false;
 }
 
 }  // namespace
@@ -161,10 +168,10 @@ int main(int count, char** given) {
   Found found;
   found.count = words.count;
   const auto tree = tree_of(words, parts, found);
-  const bool good = decode(tree);
+  decode(tree);
   found.flush();
   if (words.count) printf("%" PRIu64 "\n", found.instructions);
-  if (!good) fprintf(stderr, "opencsd_reader: OpenCSD reported an error\n");
+  const bool good = is_good();
   ocsd_destroy_dcd_tree(tree);
   return good ? 0 : 1;
 }
