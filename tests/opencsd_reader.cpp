@@ -4,7 +4,9 @@
 //
 // The words and IMAGE are those of `etm path` (docs/FORMATS.md). With --count only the number of instructions is printed, so
 // that a clock sees the decoder and not the printing. Ends with 1 where OpenCSD reports an error, which is then told on
-// standard error, and with 2 where a word, the image or a call that sets OpenCSD up is wrong. Build: c++ -O2 -o opencsd_reader opencsd_reader.cpp -lopencsd_c_api
+// standard error, and with 2 where a word, the image or a call that sets OpenCSD up is wrong.
+//
+//   c++ -O2 -o opencsd_reader opencsd_reader.cpp -lopencsd_c_api      (Debian: libopencsd-dev)
 #include <cinttypes>
 #include <cstdint>
 #include <cstdio>
@@ -58,7 +60,10 @@ Words words_of(int count, char** given) {
   Words words;
   for (int i = 1; i < count; ++i) {
     const std::string word = given[i];
-    const auto number = [&] { return i + 1 < count ? uint32_t(strtoul(given[++i], nullptr, 10)) : (stop("a number is missing"), 0); };
+    const auto number = [&] {
+      if (++i == count) stop("a number is missing");
+      return uint32_t(strtoul(given[i], nullptr, 10));
+    };
     if (word == "--raw") words.raw = true;
     else if (word == "--count") words.count = true;
     else if (word == "--depth") words.depth = number();
@@ -94,7 +99,7 @@ std::vector<Part> parts_of(const std::string& name) {
 ocsd_etmv4_cfg unit_of(const Words& words, int id) {
   ocsd_etmv4_cfg unit{};
   unit.reg_idr0 = 1 << 9 | 8 << 24;                           // RETSTACK; TSSIZE: 64 bits
-  unit.reg_idr1 = 4 << 8 | 2 << 4;                             // ETMv4.2; 4.0 has VMIDs of one byte alone
+  unit.reg_idr1 = 4 << 8 | 3 << 4;                           // ETMv4.3; of earlier ones OpenCSD takes no ignore packet
   unit.reg_idr2 = 8 | words.cid << 5 | words.vmid << 10;      // IASIZE: 64 bits; CIDSIZE; VMIDSIZE
   unit.reg_idr8 = words.depth;                                // MAXSPEC
   unit.reg_configr = (words.cid ? 1 << 6 : 0) | (words.vmid ? 1 << 7 : 0) | 1 << 11 | 1 << 12;  // CID, VMID, TS, RS
@@ -125,7 +130,8 @@ dcd_tree_handle_t tree_of(const Words& words, const std::vector<Part>& parts, Fo
   for (int id = kFirstId; id <= (words.raw ? kFirstId : kLastId); ++id) {
     const ocsd_etmv4_cfg unit = unit_of(words, id);
     unsigned char given = 0;
-    must(ocsd_dt_create_decoder(tree, OCSD_BUILTIN_DCD_ETMV4I, OCSD_CREATE_FLG_FULL_DECODER, &unit, &given), "ocsd_dt_create_decoder");
+    must(ocsd_dt_create_decoder(tree, OCSD_BUILTIN_DCD_ETMV4I, OCSD_CREATE_FLG_FULL_DECODER, &unit, &given),
+         "ocsd_dt_create_decoder");
   }
   for (const Part& part : parts)
     if (!part.bytes.empty())
@@ -142,7 +148,8 @@ void decode(dcd_tree_handle_t tree) {
   for (size_t count; (count = fread(piece.data(), 1, piece.size(), stdin)) > 0; offset += count) {
     for (size_t at = 0; at < count;) {
       uint32_t taken = 0;
-      const auto answer = ocsd_dt_process_data(tree, OCSD_OP_DATA, offset + at, uint32_t(count - at), piece.data() + at, &taken);
+      const auto answer =
+          ocsd_dt_process_data(tree, OCSD_OP_DATA, offset + at, uint32_t(count - at), piece.data() + at, &taken);
       if (OCSD_DATA_RESP_IS_FATAL(answer) || taken == 0) return;
       at += taken;
     }
