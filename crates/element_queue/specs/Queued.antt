@@ -1,6 +1,10 @@
 -- What contracts see of a queue.
-use Rattle.std.specs.Prelude.{◌≡◌, ◌≤◌, ℕ, Bool, true, None, Some, Option, List, [], ◌∷◌, All, length, Ok, Err, ⊤}
+use Rattle.std.specs.Prelude.{◌≡◌, ◌≤◌, ℕ, ◌-◌, Bool, true, None, Some, Option, List, [], ◌∷◌, ◌++◌, All, length, take, Ok, Err, ⊤}
 use Rattle.etm_types.specs.declared.element.Elem.{Elem}
+use Rattle.etm_types.specs.Pre.{nothing_told}
+use Rattle.etm_types.specs.declared.element.Entry.{Entry}
+use Rattle.etm_types.specs.declared.element.P0.{P0}
+use Rattle.etm_types.specs.declared.element.P0.TheVariants.{Atom}
 use Rattle.etm_types.specs.declared.element.Pre.{Pre}
 use Rattle.etm_types.specs.declared.element.Thing.{Thing}
 use Rattle.etm_types.specs.declared.element.Thing.TheVariants.{Seen, Unseen}
@@ -52,6 +56,14 @@ noted pre pre_elem.Info = record pre { flush = true }
 noted pre pre_elem.On = record pre { on = true; addr = None }
 noted pre (pre_elem.Ctx ctx) = record pre { ctx = Some ctx }
 noted pre (pre_elem.Addr addr) = record pre { addr = Some addr }
+
+-- what one P0 element more commits
+abbrev pub committed_by : Queued → P0 → List Thing
+committed_by q p0 = let all = q.held ++ Seen (record { pre = q.pre; p0 = p0 }) ∷ [] in take (length all - q.depth) all
+
+-- an atom before which nothing was given
+abbrev pub bare_atom : Bool → Entry
+bare_atom taken = record { pre = nothing_told; p0 = Atom taken }
 
 -- what is committed, as a thing
 abbrev pub thing_of : Committed → Thing

@@ -1,13 +1,14 @@
 //! The queue of P0 elements that are not committed.
 ghost use Rattle.std.specs.Prelude.{◌≡◌, ◌≤◌, ◌-◌, ◌↔◌, [], length, take, drop, map, replicate, Bool, Ok, Err};
-ghost use Rattle.std.specs.Prelude.{IfOk, IsOk, IsErr, IsSome, IsTrue};
+ghost use Rattle.std.specs.Prelude.{IfOk, IfSome, IsOk, IsErr, IsSome, IsTrue, ◌∷◌};
 ghost use Rattle.etm_types.specs.Pre.{trace_missing};
 ghost use Rattle.etm_types.specs.declared.element.Elem.TheVariants as elem;
+ghost use Rattle.etm_types.specs.declared.element.P0.TheVariants.{Atom};
 ghost use Rattle.etm_types.specs.declared.element.Thing.TheVariants.{Seen, Unseen};
 ghost use Rattle.etm_types.specs.declared.queue_fault.QueueFault.{QueueFault};
 ghost use Rattle.element_queue.specs.Counting.{AreCounts, Balances, counts_after, no_counts};
 ghost use Rattle.element_queue.specs.Pending.{cancelling, committing, flip_newest, losing, nothing_gone};
-ghost use Rattle.element_queue.specs.Queued.{IsQueued, Refuses, Takes, noted, things_of};
+ghost use Rattle.element_queue.specs.Queued.{IsQueued, Refuses, Takes, bare_atom, committed_by, noted, things_of};
 
 use crate::ledger::{Counts, Ledger};
 use crate::uncommitted::Uncommitted;
@@ -103,6 +104,7 @@ impl Queue {
     }
 
     /// One more P0 element. Where more than the depth would be held, the oldest is committed.
+    #[inline(always)]
     pub fn push(&mut self, p0: P0) -> Option<Committed>
         ensures takes { Takes self.old (elem.P0 p0) (committing (things_of result)) self.new }
         ensures full { IsSome result ↔ (self.old.depth ≤ length self.old.held) }
@@ -120,6 +122,24 @@ impl Queue {
             return Some(Committed::Unseen);
         }
         None
+    }
+
+    /// Which atom one atom more commits: the oldest that is held, or that one itself where the depth is 0. `None` where it
+    /// commits nothing, and where it commits anything but an atom before which nothing was given.
+    #[inline(always)]
+    pub fn next_committed(&self, taken: bool) -> Option<bool>
+        ensures { IfSome result (λ atom. committed_by self.now (Atom taken) ≡ Seen (bare_atom atom) ∷ []) }
+    {
+        if self.unseen > 0 || self.ring.len() as u32 != self.depth {
+            return None;
+        }
+        match self.ring.get(0) {
+            Some(oldest) => bare_atom(oldest.entry()),
+            None => bare_atom(&Entry {
+                pre: self.pre,
+                p0: P0::Atom(taken),
+            }),
+        }
     }
 
     /// Whether so many are held that can be committed.
@@ -287,5 +307,25 @@ fn newest_is_atom(ring: &SpendRing<Uncommitted>) -> bool
     match ring.get(seen - 1) {
         None => false,
         Some(newest) => matches!(newest.entry().p0, P0::Atom(_)),
+    }
+}
+
+/// The atom of an entry before which nothing was given, where it is one.
+#[inline(always)]
+fn bare_atom(entry: &Entry) -> Option<bool>
+    ensures { IfSome result (λ atom. entry.now ≡ bare_atom atom) }
+{
+    match *entry {
+        Entry {
+            pre: Pre {
+                flush: false,
+                on: false,
+                lost: false,
+                ctx: None,
+                addr: None,
+            },
+            p0: P0::Atom(taken),
+        } => Some(taken),
+        _ => None,
     }
 }

@@ -1,5 +1,7 @@
 //! The elements of one packet.
-ghost use Rattle.std.specs.Prelude.{◌≡◌, ◌≤◌, ◌+◌, ◌∷◌, ◌++◌, [], length, replicate, slice_get, All};
+ghost use Rattle.std.specs.Prelude.{◌≡◌, ◌≤◌, ◌+◌, ◌∷◌, ◌++◌, [], length, replicate, slice_get, All, IfSome, Some};
+ghost use Rattle.etm_types.specs.declared.element.Elem.TheVariants as elem;
+ghost use Rattle.etm_types.specs.declared.element.P0.TheVariants.{Atom};
 ghost use Rattle.etm_types.specs.Atoms.{atoms_in, most_atoms};
 ghost use Rattle.path_elements.specs.Elements.{atoms};
 ghost use Rattle.path_elements.specs.Held.{IsElem, elem_of, numbered, rest_in};
@@ -80,6 +82,18 @@ impl Elems {
         ensures most { result ≤ most_atoms }
     {
         usize::from(self.atoms.count) + self.rest.len()
+    }
+
+    /// The atom at `i`, counted from 0, where one stands there.
+    #[inline(always)]
+    pub fn atom(&self, i: usize) -> Option<bool>
+        ensures value { IfSome result (λ taken. slice_get self.now i ≡ Some (elem.P0 (Atom taken))) }
+    {
+        if i < usize::from(self.atoms.count) {
+            Some((self.atoms.bits >> i) % 2 == 1)
+        } else {
+            None
+        }
     }
 
     /// The element at `i`, counted from 0.
@@ -190,6 +204,7 @@ impl Elems {
     }
 
     /// The atoms of a run, oldest first.
+    #[inline(always)]
     pub(crate) fn of_run(run: &AtomRun) -> Elems
         requires { run.now.count ≤ most_atoms }
         ensures { result ≡ atoms (atoms_in run.now) }

@@ -2,10 +2,11 @@
 ghost use Rattle.std.specs.Prelude.{◌≡◌, ◌≤◌, ◌<◌, ◌∷◌, ◌++◌, [], false, true, Some, None, IfOk, IfSome, OnErr, if◌then◌else◌};
 ghost use Rattle.path_elements.specs.Elements.{untold, elements_of, told_after, is_misplaced, may_follow_exception, tells};
 ghost use Rattle.path_elements.specs.Held.{AreElems, CanBeTaken, IsTold, elem_of, numbered};
+ghost use Rattle.etm_types.specs.Atoms.{most_atoms};
 
 use crate::elems::{Elems, Kind, Values};
 use address_history::History;
-use etm_types::{AddrForm, Ctx, CtxBits, FewAtoms};
+use etm_types::{AddrForm, AtomRun, Ctx, CtxBits, FewAtoms};
 use packet_grammar::Packet;
 use std::marker::Model;
 
@@ -70,6 +71,22 @@ impl ElemMaker {
                 Ok(Elems::of_run(run))
             }
             _ => self.take_any(packet),
+        }
+    }
+
+    /// The elements of a packet of atoms, where it counts and may come: taking it changes nothing. Else it answers `None`, and
+    /// [`take`](ElemMaker::take) takes it.
+    #[inline(always)]
+    pub fn atoms_of(&self, run: &AtomRun) -> Option<Elems>
+        requires { run.now.count ≤ most_atoms }
+        ensures some { IfSome result (λ elems. (is_misplaced self.now (packet.Atoms run.now) ≡ false)
+            × (elems ≡ elements_of self.now (packet.Atoms run.now)) × (told_after self.now (packet.Atoms run.now) ≡ self.now)) }
+        ensures within { IfSome result (λ elems. AreElems elems) }
+    {
+        if self.informed && self.awaiting.is_none() {
+            Some(Elems::of_run(run))
+        } else {
+            None
         }
     }
 

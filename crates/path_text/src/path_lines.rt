@@ -172,6 +172,7 @@ fn write_exception<K: Sink>(id: Id, exc: &Option<ExcMark>, sink: &mut K) -> Resu
 
 /// Writes the lines of what the walk of one P0 element shows: `on`, then `?` or the instructions, then
 /// the exception. `shown` is the context that was printed last, here and before.
+#[inline(always)]
 pub fn write_walked<K: Sink>(
     id: Id,
     walked: &Walked,

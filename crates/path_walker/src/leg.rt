@@ -84,7 +84,7 @@ fn link_of(class: Class, addr: u64) -> Option<u64>
 }
 
 /// The plain words from an address on, and after them the P0 instruction of an atom.
-#[inline]
+#[inline(always)]
 pub fn leg_of_atom(image: &Image, pc: u64, taken: bool) -> Result<Leg, WalkFault>
     requires { pc % 4 ≡ 0 }
     ensures leads { IfOk result (IsLeg image.now (Some pc) (p0.Atom taken)) }

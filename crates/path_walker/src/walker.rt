@@ -1,5 +1,5 @@
 //! The walk of one entry after the other.
-ghost use Rattle.std.specs.Prelude.{◌≡◌, IfOk, IsOk, IsErr, true};
+ghost use Rattle.std.specs.Prelude.{◌≡◌, IfOk, IfSome, IsOk, IsErr, None, true};
 ghost use Rattle.etm_types.specs.declared.walk_fault.WalkFault.{WalkFault};
 
 use crate::leg::{Leg, leg_of, leg_of_atom};
@@ -71,7 +71,27 @@ impl Walker {
         }
     }
 
+    /// Walks an atom before which nothing was given, where the address is known and there is no fault. Else it answers `None`
+    /// and nothing changes: [`walk`](Walker::walk) walks it, or says why that can't be.
+    ///
+    /// Most entries are such, and an [`Entry`] has room for every one.
+    #[inline(always)]
+    pub fn walk_bare(&mut self, image: &Image, taken: bool) -> Option<Walked>
+        ensures shows { IfSome result (λ walked. Shows image.now self.old (bare_atom taken) walked self.new) }
+        ensures unchanged { result ≡ None → self.new ≡ self.old }
+        ensures state { IsState self.new }
+    {
+        let Pc::Known(pc) = self.pc else {
+            return None;
+        };
+        match self.walk_atom(image, pc, taken) {
+            Ok(walked) => Some(walked),
+            Err(_) => None,
+        }
+    }
+
     /// Walks an atom before which nothing was given, from a known address.
+    #[inline(always)]
     fn walk_atom(&mut self, image: &Image, pc: u64, taken: bool) -> Result<Walked, WalkFault>
         requires { self.old.pc ≡ Known pc }
         ensures shows { IfOk result (λ walked. Shows image.now self.old (bare_atom taken) walked self.new) }
@@ -135,6 +155,7 @@ impl Walker {
     }
 
     /// Goes on after a leg.
+    #[inline(always)]
     fn go_on(&mut self, stack: StackUse, leg: &Leg, ctx: Ctx)
         requires next { IsPc leg.now.next }
         requires link { ToldIsAligned leg.now.link }

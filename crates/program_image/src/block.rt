@@ -29,6 +29,7 @@ pub enum BlockEnd {
 }
 
 /// The end of a block at an address, by the class of the word there.
+#[inline(always)]
 pub fn end_at(class: Option<Class>, addr: u64) -> BlockEnd
     requires not_plain { class ≢ Some Plain }
     ensures { EndsAs class addr result }
@@ -41,6 +42,7 @@ pub fn end_at(class: Option<Class>, addr: u64) -> BlockEnd
 }
 
 /// The end of a block at an address, whose word is looked for in this part first.
+#[inline(always)]
 pub fn end_near(parts: &[Part], place: usize, addr: u64) -> BlockEnd
     requires image { IsImage parts.now }
     requires place { place < length parts.now }

@@ -87,6 +87,7 @@ impl Image {
     /// The plain words from an address on, one after the other modulo 2^64, and what stands after them.
     ///
     /// It costs the same whatever their number.
+    #[inline(always)]
     pub fn block(&self, pc: u64) -> Block
         requires { pc % 4 ≡ 0 }
         ensures block { IsBlock self.now pc result }

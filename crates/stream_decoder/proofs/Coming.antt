@@ -1,38 +1,9 @@
 -- From the bytes at which a decoding stands to those and one more.
-use Rattle.std.proofs.Common.{
-  ◌≡◌,
-  ◌⊎◌,
-  ℕ,
-  ◌+◌,
-  ◌%◌,
-  ◌^◌,
-  ◌<◌,
-  Bool,
-  true,
-  false,
-  List,
-  [],
-  ◌∷◌,
-  ◌++◌,
-  Option,
-  Some,
-  None,
-  Result,
-  Ok,
-  Err,
-  refl,
-  sym,
-  ap,
-  subst,
-  ◌∙◌,
-  inl,
-  inr,
-  append_assoc,
-  append-nil,
-}
+use Rattle.std.proofs.Common.{◌≡◌, ℕ, ◌+◌, ◌%◌, ◌^◌, ◌<◌, Bool, true, false, List, [], ◌∷◌, ◌++◌}
+use Rattle.std.proofs.Common.{Option, Some, None, Result, Ok, Err, refl, sym, ap, subst, ◌∙◌, inl, inr, append-nil}
 use Rattle.std.proofs.Common.{arith}
 use Rattle.std.proofs.Math.Nat.{mod-eq_of_lt, mod-lt}
-use Rattle.std.specs.Prelude.{All, if◌then◌else◌, is_some}
+use Rattle.std.specs.Prelude.{All, if◌then◌else◌}
 use Rattle.element_queue.specs.Counting.{add, counts_after, entries, made_by, no_counts, tally, tally_step}
 use Rattle.element_queue.specs.Pending.{Gone, Pending, Taken, taken}
 use Rattle.element_queue.specs.Resolved.{at_first}
@@ -58,8 +29,7 @@ use Rattle.packet_reader.specs.declared.step.Step.TheVariants.{Skipped, More, Wh
 use Rattle.path_elements.proofs.BytePaths.{fault_stays}
 use Rattle.path_elements.proofs.Grows.{each_packet_adds}
 use Rattle.path_elements.proofs.Paths.{last_of, runs_to_path}
-use Rattle.path_elements.proofs.Runs.{ended, ended_or_stopped, goes, goes_or_halts, halts, runs_all}
-use Rattle.path_elements.proofs.Runs.{runs_append, same_ended, same_goes, same_walking, walking_or_halting}
+use Rattle.path_elements.proofs.Runs.{ended_or_stopped, goes, goes_or_halts, runs_all, runs_append, same_ended, same_goes, same_walking, walking_or_halting}
 use Rattle.path_elements.specs.Elements.{Gained, all_elements, elements_of, is_misplaced, placed, told_after, untold}
 use Rattle.path_elements.specs.Elements as told_so
 use Rattle.path_elements.specs.Laws.{with_packet}
@@ -68,9 +38,9 @@ use Rattle.path_elements.specs.Running.{Outcome, Runs, TakesSo, walked}
 use Rattle.path_walker.specs.State.{State, first_state}
 use Rattle.program_image.specs.declared.image.Image.{Image}
 use Rattle.stream_decoder.proofs.Yielding.{tally_on}
-use Rattle.stream_decoder.specs.Decoding.{AtRest, Decoding, counted, depth_of}
-use Rattle.stream_decoder.specs.Stands.{Came, ComesTo, end_at}
-use Rattle.stream_decoder.specs.Yields.{Ends, Opens, OpensBehind, OpensPacket, TakesAll, Yields, YieldsFrom, is_walk_fault, outcome_at}
+use Rattle.stream_decoder.specs.Decoding.{Decoding, counted, depth_of}
+use Rattle.stream_decoder.specs.Stands.{Came, ComesTo}
+use Rattle.stream_decoder.specs.Yields.{Ends, Opens, OpensBehind, TakesAll, Yields, YieldsFrom, is_walk_fault, outcome_at}
 
 abbrev gains : List (ℕ × Elem) → Option ℕ → told_so.Told → Gained
 gains elements awaited so_far = record { elements = elements; awaited = awaited; told = so_far }
@@ -144,7 +114,8 @@ runs_take image depth p w (e ∷ es) items n took c (inr r) =
 tally_small : (depth : ℕ) (p : Pending) (c : Counts) (es : List Elem) → c.committed < 2 ^ 64 → (tally depth p c es).committed < 2 ^ 64
 tally_small depth p c [] small = small
 tally_small depth p c (e ∷ es) small =
-    step_small (taken depth p e) (λ t. tally_small depth t.0 (counts_after c (made_by e) t.1) es (mod-lt (c.committed + entries (t.1).committed) (omega arith)))
+    step_small (taken depth p e) (λ t. tally_small depth t.0 (counts_after c (made_by e) t.1) es
+    (mod-lt (c.committed + entries (t.1).committed) (omega arith)))
   where
     step_small : (t : Taken) → ((u : Pending × Gone) → (tally depth u.0 (counts_after c (made_by e) u.1) es).committed < 2 ^ 64)
         → (tally_step c e t (λ (q : Pending) (d : Counts). tally depth q d es)).committed < 2 ^ 64

@@ -1,6 +1,6 @@
 -- What one byte more brings.
-use Rattle.std.proofs.Common.{◌≡◌, ◌≢◌, ℕ, ◌<◌, List, [], ◌∷◌, ◌++◌, Option, Some, None, Result, Ok, Err, refl, sym, ap, subst, ◌∙◌, append-nil}
-use Rattle.std.specs.Prelude.{All, IsOk}
+use Rattle.std.proofs.Common.{◌≡◌, ◌≢◌, ℕ, ◌<◌, List, [], ◌∷◌, ◌++◌, Option, Some, None, refl, sym, subst, ◌∙◌, append-nil}
+use Rattle.std.specs.Prelude.{All}
 use Rattle.std.proofs.lemmas.List.Elements.{All-append, All-cons, All-nil}
 use Rattle.etm_types.specs.Settings.{AreSettings, Sizes}
 use Rattle.etm_types.specs.declared.context.Ctx.{Ctx}
@@ -8,7 +8,7 @@ use Rattle.etm_types.specs.declared.element.Elem.{Elem}
 use Rattle.etm_types.specs.declared.item.Item.{Item}
 use Rattle.packet_grammar.specs.declared.stream_fault.Fault.{Fault}
 use Rattle.packet_reader.specs.Stands.{Gains, StandsAt}
-use Rattle.path_elements.specs.Path.{IsPath, IsPathTaking}
+use Rattle.path_elements.specs.Path.{IsPathTaking}
 use Rattle.path_elements.specs.Running.{Outcome}
 use Rattle.path_text.specs.PathLines.{shown_after_all}
 use Rattle.program_image.specs.declared.image.Image.{Image}

@@ -1,28 +1,19 @@
 -- What holds at any time stays.
-use Rattle.std.proofs.Common.{◌≡◌, ◌≢◌, ◌⊎◌, ℕ, ◌+◌, ◌≤◌, Bool, true, false, List, [], ◌∷◌, ◌++◌}
-use Rattle.std.proofs.Common.{length, Option, Some, None, Ok, refl, sym, ap, subst, ◌∙◌, inl, inr}
-use Rattle.std.specs.Prelude.{All, if◌then◌else◌, is_some}
+use Rattle.std.proofs.Common.{◌≡◌, ◌⊎◌, ℕ, ◌≤◌, Bool, false, List, [], ◌∷◌, ◌++◌, length, Option, Some, None, refl, sym, ap, subst, ◌∙◌, inl, inr}
+use Rattle.std.specs.Prelude.{if◌then◌else◌}
 use Rattle.std.specs.Option.{unwrap_or}
-use Rattle.std.proofs.lemmas.List.Elements.{All-append, All-cons, All-nil, All-head, All-tail}
-use Rattle.element_queue.specs.Counting.{Balances, entries}
-use Rattle.element_queue.specs.Pending.{Gone, Pending, taken}
 use Rattle.etm_types.specs.declared.element.Elem.{Elem}
 use Rattle.etm_types.specs.declared.element.Elem.TheVariants as elem
-use Rattle.etm_types.specs.declared.element.Thing.{Thing}
 use Rattle.packet_grammar.specs.declared.packet.Packet.{Packet}
 use Rattle.packet_grammar.specs.declared.packet.Packet.TheVariants as packet
 use Rattle.packet_grammar.specs.declared.stream_fault.Fault.{Fault}
 use Rattle.packet_reader.specs.Stands.{Standing}
-use Rattle.path_elements.proofs.Places.{IsAlignedTaken, taken_aligned}
-use Rattle.path_elements.specs.Elements.{Told, elements_in, elements_of, is_misplaced, tells, told_after, told_by}
-use Rattle.path_elements.specs.Held.{AreElems, IsElem}
-use Rattle.path_elements.specs.Standing.{IsAlignedPending}
-use Rattle.path_walker.specs.State.{State, IsState}
-use Rattle.path_walker.specs.Things.{IsAlignedThing}
-use Rattle.path_walker.specs.Walk.{ToldIsAligned}
-use Rattle.stream_decoder.specs.Decoding.{AtRest, BeginsWithInfo, Decoding, IsDecoding, IsReading, decoding_of, depth_of}
+use Rattle.path_elements.specs.Elements.{Told, elements_in, elements_of, tells, told_after, told_by}
+use Rattle.path_elements.specs.Held.{AreElems}
+use Rattle.path_walker.specs.State.{State}
+use Rattle.stream_decoder.specs.Decoding.{AtRest, BeginsWithInfo, Decoding, IsDecoding, IsReading, decoding_of}
 use Rattle.stream_decoder.specs.Left.{Left}
-use Rattle.stream_decoder.specs.Waiting.{Commits, IsWaiting, Waiting}
+use Rattle.stream_decoder.specs.Waiting.{Waiting}
 
 -- ---- the first element is a trace info
 

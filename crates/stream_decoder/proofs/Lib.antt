@@ -1,3 +1,4 @@
+pub mod Atoms
 pub mod Yielding
 pub mod Coming
 pub mod Holds

@@ -1,19 +1,13 @@
 -- What a decoder prints, and at which bytes it stands then.
-use Rattle.std.proofs.Common.{◌≡◌, ℕ, ◌<◌, Bool, true, false, List, [], ◌∷◌, ◌++◌, length, Option, Some, None}
-use Rattle.std.proofs.Common.{Result, Ok, Err, refl, sym, ap, subst, ◌∙◌, inl, inr, append-nil, append_assoc}
-use Rattle.std.specs.Prelude.{All, IsOk}
+use Rattle.std.proofs.Common.{◌≡◌, ℕ, ◌<◌, List, [], ◌∷◌, ◌++◌, Option, Result, Ok, Err, refl, sym, ap, subst, ◌∙◌, inl, inr, append-nil, append_assoc}
+use Rattle.std.specs.Prelude.{All}
 use Rattle.std.proofs.lemmas.List.Elements.{All-nil, All-cons, All-head, All-tail}
-use Rattle.element_queue.specs.Pending.{Pending}
 use Rattle.etm_types.specs.Settings.{Sizes}
 use Rattle.etm_types.specs.declared.context.Ctx.{Ctx}
 use Rattle.etm_types.specs.declared.element.Elem.{Elem}
-use Rattle.etm_types.specs.declared.element.Thing.{Thing}
 use Rattle.etm_types.specs.declared.item.Item.{Item}
 use Rattle.etm_types.specs.declared.walk_fault.WalkFault.{WalkFault}
 use Rattle.packet_grammar.specs.Parsed.{no_sync}
-use Rattle.packet_grammar.specs.declared.end.End.{End}
-use Rattle.packet_grammar.specs.declared.end.End.TheVariants as end
-use Rattle.packet_grammar.specs.declared.stream_fault.Fault.{Fault}
 use Rattle.packet_grammar.specs.declared.stream_fault.Fault.TheVariants.{Walk}
 use Rattle.packet_reader.proofs.Adds.{nothing_is_a_stream}
 use Rattle.path_elements.proofs.InRange.{IsElemThere}
@@ -23,20 +17,19 @@ use Rattle.path_elements.specs.Held.{IsElem}
 use Rattle.path_elements.specs.Running.{Outcome}
 use Rattle.path_elements.specs.Standing.{ArePlacedElems, IsPlace}
 use Rattle.path_text.proofs.LineLemmas.{lines_of-append, shown_after_all-append}
-use Rattle.path_text.proofs.Wrote.{Wrote, fails_after, wrote_more, wrote_by, wrote_nothing, writes_all}
+use Rattle.path_text.proofs.Wrote.{Wrote, fails_after, wrote_more, wrote_by, wrote_nothing, writes_all, last_fails}
 use Rattle.path_text.specs.PathLines.{lines_of, shown_after_all}
 use Rattle.path_text.specs.Writing.{Writes}
 use Rattle.path_walker.proofs.OneTrail.{some_trail}
-use Rattle.path_walker.specs.State.{State, IsState, first_state}
-use Rattle.path_walker.specs.Things.{IsAlignedThing, Walks}
+use Rattle.path_walker.specs.State.{State, IsState}
+use Rattle.path_walker.specs.Things.{Walks}
 use Rattle.program_image.specs.Blocks.{HasGap}
 use Rattle.program_image.specs.declared.image.Image.{Image}
 use Rattle.stream_decoder.proofs.Taking.{back_aligned, front_aligned}
 use Rattle.stream_decoder.proofs.Yielding.{goes_nowhere, goes_on, goes_to_end}
 use Rattle.stream_decoder.specs.Decoding.{Begins, Decoding, IsDecoding, depth_of}
 use Rattle.stream_decoder.specs.Stands.{Came}
-use Rattle.stream_decoder.specs.Yields.{Ends, Goes, Prints, Yields, items_of_found, outcome_at}
-use Rattle.stream_decoder.specs.declared.found.Found.{Found}
+use Rattle.stream_decoder.specs.Yields.{Ends, Goes, Prints, Yields, outcome_at}
 use Rattle.trace_io.specs.State.{IoState}
 use Rattle.trace_io.specs.declared.traits.Failed.{Failed}
 
@@ -87,15 +80,17 @@ pub record Printed (image : Image) (id : ℕ) (d : Decoding) (shown : Option Ctx
 pub printed_first : (image : Image) (id : ℕ) (d : Decoding) (shown : Option Ctx) (a : IoState) → Printed image id d shown d shown a a
 printed_first image id d shown a = record { items = []; goes = goes_nowhere image d; context = refl; wrote = wrote_nothing a }
 
+pub printed_by : (image : Image) (id : ℕ) (d d' : Decoding) (shown shown' : Option Ctx) (a b : IoState) (items : List Item) → Goes image d items d'
+    → Writes {T = Unit {0}} {E = Failed} a b (Ok tt) (lines_of id shown items) → shown' ≡ shown_after_all shown items → Printed image id d shown d' shown' a b
+printed_by image id d d' shown shown' a b items goes writes context =
+    record { items = items; goes = goes; context = context; wrote = wrote_by a b tt (lines_of id shown items) writes }
+
 module _ (image : Image) (id : ℕ) (d e : Decoding) (shown now : Option Ctx) (old mid new : IoState) (p : Printed image id d shown e now old mid) where
   -- the lines behind those that are written
   lines_on : (others : List Item) → lines_of id shown p.items ++ lines_of id now others ≡ lines_of id shown (p.items ++ others)
   lines_on others = ap (λ (c : Option Ctx). lines_of id shown p.items ++ lines_of id c others) p.context ∙ sym (lines_of-append id shown p.items others)
 
-  module _ (found : Found) (next : Decoding) (goes : Goes image e (items_of_found found) next) where
-    abbrev more : List Item
-    more = items_of_found found
-
+  module _ (more : List Item) (next : Decoding) (goes : Goes image e more next) where
     -- what was found is written
     pub printed_on : (shown' : Option Ctx) → shown' ≡ shown_after_all now more → Wrote mid new (lines_of id now more)
         → Printed image id d shown next shown' old new
@@ -107,6 +102,12 @@ module _ (image : Image) (id : ℕ) (d e : Decoding) (shown now : Option Ctx) (o
           wrote = subst (λ (t : List ℕ). Wrote old new t) (lines_on more)
               (wrote_more old mid new (lines_of id shown p.items) (lines_of id now more) p.wrote wrote);
         }
+
+    -- a write of it fails
+    pub writes_front : (f : Failed) → Writes {T = Unit {0}} mid new (Err f) (lines_of id now more)
+        → Writes {T = Unit {0}} old new (Err f) (lines_of id shown (p.items ++ more))
+    writes_front f writes =
+        last_fails old mid new f f (lines_of id shown p.items) (lines_of id now more) (lines_of id shown (p.items ++ more)) (lines_on more) p.wrote writes
 
     -- a write fails
     pub prints_front : (d' : Decoding) (shown' : Option Ctx) (f : Failed) → HasGap image → IsDecoding next

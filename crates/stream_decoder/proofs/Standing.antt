@@ -1,9 +1,7 @@
 -- What the bytes at which a decoding stands say of it.
-use Rattle.std.proofs.Common.{◌≡◌, ℕ, ◌==◌, Bool, false, if◌then◌else◌, List, [], ◌∷◌, length, inl}
-use Rattle.std.proofs.Common.{inr, arith, Option, Some, None, Ok, refl, sym, ap, subst, ◌∙◌}
+use Rattle.std.proofs.Common.{◌≡◌, ℕ, ◌==◌, false, if◌then◌else◌, List, [], ◌∷◌, length, inl, inr, arith, Option, Some, None, Ok, refl, sym, ap, subst, ◌∙◌}
 use Rattle.element_queue.specs.Counting.{no_counts, tally}
 use Rattle.element_queue.specs.Resolved.{at_first}
-use Rattle.element_queue.specs.declared.ledger.Counts.{Counts}
 use Rattle.etm_types.specs.Settings.{AreSettings, Sizes}
 use Rattle.etm_types.specs.declared.element.Elem.{Elem}
 use Rattle.etm_types.specs.declared.item.Item.{Item}
@@ -21,7 +19,7 @@ use Rattle.path_walker.proofs.Search.{cases}
 use Rattle.path_walker.specs.State.{first_state}
 use Rattle.path_elements.proofs.BytePaths.{one_path}
 use Rattle.path_elements.proofs.Paths.{runs_to_path}
-use Rattle.path_elements.specs.Elements.{Gained, all_elements, untold}
+use Rattle.path_elements.specs.Elements.{Gained}
 use Rattle.path_elements.specs.Path.{end_behind, IsPathOfElements, IsPathTaking, unplaced}
 use Rattle.program_image.specs.declared.image.Image.{Image}
 use Rattle.stream_decoder.specs.Decoding.{Decoding, depth_of}

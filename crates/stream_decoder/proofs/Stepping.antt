@@ -1,5 +1,5 @@
 -- Answers of one step.
-use Rattle.std.proofs.Common.{◌≡◌, ◌<◌, ℕ, Option, Result, Ok, Err, refl, sym, ap, ◌∙◌, arith, length}
+use Rattle.std.proofs.Common.{◌≡◌, ◌<◌, Option, Result, Err, arith}
 use Rattle.packet_grammar.specs.declared.stream_fault.Fault.{Fault}
 use Rattle.stream_decoder.specs.Decoding.{AtRest, Decoding}
 use Rattle.stream_decoder.specs.Yields.{left}

@@ -1,12 +1,12 @@
 -- One thing or one element more.
-use Rattle.std.proofs.Common.{◌≡◌, ◌≢◌, ◌⊎◌, ℕ, zero, suc, ◌+◌, ◌*◌, ◌%◌, ◌^◌, ◌≤◌, ◌<◌, ◌==◌, Bool, true, false, List, [], ◌∷◌, ◌++◌, length}
+use Rattle.std.proofs.Common.{◌≡◌, ℕ, suc, ◌+◌, ◌*◌, ◌^◌, ◌≤◌, ◌<◌, ◌==◌, Bool, true, false, List, [], ◌∷◌, ◌++◌, length}
 use Rattle.std.proofs.Common.{Option, Some, None, Ok, Err, refl, sym, ap, subst, ◌∙◌, inl, inr, arith}
 use Rattle.std.specs.Prelude.{All, if◌then◌else◌, option_to_list, nat_le}
 use Rattle.std.proofs.Math.Nat.{suc-mul}
 use Rattle.std.proofs.lemmas.List.{drop_at, length-append, take_at}
 use Rattle.std.proofs.lemmas.List.Elements.{All-append, All-cons, All-drop, All-nil, All-head, All-tail, All-take}
-use Rattle.element_queue.specs.Counting.{add, counts_after, entries, made_by, tally, tally_step}
-use Rattle.element_queue.specs.Pending.{Gone, Pending, Taken, committing, commits, flip_newest, flips, informs, taken, tells}
+use Rattle.element_queue.specs.Counting.{add, counts_after, entries, tally, tally_step}
+use Rattle.element_queue.specs.Pending.{Pending, Taken, committing, flip_newest, flips, informs, taken}
 use Rattle.element_queue.specs.declared.ledger.Counts.{Counts}
 use Rattle.etm_types.specs.declared.element.Elem.{Elem}
 use Rattle.etm_types.specs.declared.element.Elem.TheVariants as elem
@@ -18,13 +18,13 @@ use Rattle.path_elements.proofs.Places.{IsAlignedTaken, taken_aligned}
 use Rattle.path_elements.specs.Elements.{Told}
 use Rattle.path_elements.specs.Held.{IsElem}
 use Rattle.path_elements.specs.Standing.{IsAlignedPending}
-use Rattle.path_walker.specs.State.{State, IsState}
+use Rattle.path_walker.specs.State.{State}
 use Rattle.path_walker.specs.Things.{IsAlignedThing}
 use Rattle.path_walker.specs.Walk.{ToldIsAligned}
-use Rattle.stream_decoder.specs.Decoding.{AtRest, BeginsWithInfo, Decoding, IsDecoding, IsInfo, counted, decoding_of, depth_of}
+use Rattle.stream_decoder.specs.Decoding.{Decoding, IsDecoding, IsInfo, counted, decoding_of, depth_of}
 use Rattle.stream_decoder.specs.Left.{Left}
-use Rattle.stream_decoder.specs.Waiting.{AreInRange, Commits, IsWaiting, Waiting, counted_with}
-use Rattle.stream_decoder.specs.Yields.{Leaves, LeavesBy, Refuses, left}
+use Rattle.stream_decoder.specs.Waiting.{AreInRange, Commits, IsWaiting, Waiting}
+use Rattle.stream_decoder.specs.Yields.{Leaves, left}
 
 -- ---- a trace info was taken
 
@@ -121,7 +121,8 @@ module _ (r : Standing) (t : Told) (l : Left) (w w' : Waiting) (s : State) (f : 
       let d = is.1 in
       let same : w'.pending ≡ w.pending = ap (λ (x : Waiting). x.pending) others in
       let depth : w'.depth ≡ (r.settings).depth = ap (λ (x : Waiting). x.depth) others ∙ is.0 in
-      let all : All IsAlignedThing (thing ∷ (w'.due ++ w.pending.held)) = subst (λ (x : List Thing). All IsAlignedThing (x ++ w.pending.held)) order d.things in
+      let all : All IsAlignedThing (thing ∷ (w'.due ++ w.pending.held)) =
+      subst (λ (x : List Thing). All IsAlignedThing (x ++ w.pending.held)) order d.things in
       let rest : All IsAlignedThing (w'.due ++ w.pending.held) = All-tail IsAlignedThing thing (w'.due ++ w.pending.held) all in (
         depth,
         record {

@@ -1,30 +1,6 @@
 -- What is left to do, one thing or element after the other.
-use Rattle.std.proofs.Common.{
-  ◌≡◌,
-  ◌⊎◌,
-  ℕ,
-  List,
-  [],
-  ◌∷◌,
-  ◌++◌,
-  Option,
-  Some,
-  None,
-  Result,
-  Ok,
-  Err,
-  false,
-  refl,
-  sym,
-  ap,
-  subst,
-  ◌∙◌,
-  inl,
-  inr,
-  append_assoc,
-  append-nil,
-}
-use Rattle.std.specs.Prelude.{map, option_to_list}
+use Rattle.std.proofs.Common.{◌≡◌, ℕ, List, [], ◌∷◌, ◌++◌, Option, Some, None, Result, Ok, Err, refl, sym, ap, subst, ◌∙◌, inl, inr, append_assoc, append-nil}
+use Rattle.std.specs.Prelude.{option_to_list}
 use Rattle.element_queue.specs.Counting.{counts_after, made_by, tally, tally_step}
 use Rattle.element_queue.specs.Pending.{Gone, Pending, Taken, taken}
 use Rattle.element_queue.specs.declared.ledger.Counts.{Counts}
@@ -37,13 +13,13 @@ use Rattle.packet_grammar.specs.declared.stream_fault.Fault.{Fault}
 use Rattle.packet_grammar.specs.declared.stream_fault.Fault.TheVariants.{Queue, Walk}
 use Rattle.path_elements.specs.Elements.{placed}
 use Rattle.path_elements.specs.Path.{unplaced}
-use Rattle.path_elements.specs.Running.{Outcome, Runs, Step, TakesSo, walked}
+use Rattle.path_elements.specs.Running.{Outcome, TakesSo, walked}
 use Rattle.path_walker.proofs.Joined.{fault_stays, parts_join}
 use Rattle.path_walker.specs.State.{State}
 use Rattle.path_walker.specs.Things.{Walks}
 use Rattle.program_image.specs.declared.image.Image.{Image}
 use Rattle.stream_decoder.specs.Decoding.{AtRest, Decoding, counted, depth_of}
-use Rattle.stream_decoder.specs.Yields.{Ends, Goes, Leaves, LeavesBy, Refuses, Stops, TakesAll, Yields, YieldsFrom, is_walk_fault, outcome_at}
+use Rattle.stream_decoder.specs.Yields.{Ends, Goes, Leaves, LeavesBy, Refuses, Stops, TakesAll, Yields, YieldsFrom, outcome_at}
 
 -- ---- offsets
 
@@ -185,7 +161,8 @@ goes_by_leaving image d m d' thing items l walks is =
 pub goes_nowhere : (image : Image) (d : Decoding) → Goes image d [] d
 goes_nowhere image d = record { took = []; todo = refl; takes = (refl, refl); leads = λ rest outcome more yields. yields; rest = refl }
 
-pub goes_on : (image : Image) (d m d' : Decoding) (items others : List Item) → Goes image d items m → Goes image m others d' → Goes image d (items ++ others) d'
+pub goes_on : (image : Image) (d m d' : Decoding) (items others : List Item) → Goes image d items m → Goes image m others d'
+    → Goes image d (items ++ others) d'
 goes_on image d m d' items others a b =
     let depth : depth_of m ≡ depth_of d = ap depth_of a.rest in
     let at : m.at ≡ d.at = ap (λ (x : Decoding). x.at) a.rest in

@@ -1,6 +1,6 @@
 -- What contracts see of the decoding of one stream.
-use Rattle.std.specs.Prelude.{◌≡◌, ◌≢◌, ◌⊎◌, ℕ, ◌<◌, ◌≤◌, Bool, true, false, All, List, [], ◌∷◌, ◌++◌, length}
-use Rattle.std.specs.Prelude.{Option, Some, None}
+use Rattle.std.specs.Prelude.{◌≡◌, ◌≢◌, ◌⊎◌, ℕ, ◌<◌, ◌≤◌, Bool, false, All, List, [], ◌∷◌, ◌++◌, length}
+use Rattle.std.specs.Prelude.{Option, None}
 use Rattle.element_queue.specs.Counting.{Balances, entries, no_counts}
 use Rattle.element_queue.specs.Pending.{Pending}
 use Rattle.element_queue.specs.Resolved.{at_first}

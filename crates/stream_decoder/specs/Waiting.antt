@@ -1,11 +1,13 @@
 -- What contracts see of the P0 elements that wait: those that may still be taken back, and those that are due.
-use Rattle.std.specs.Prelude.{◌≡◌, ◌≤◌, ◌<◌, ◌^◌, ℕ, Bool, List, [], ◌++◌, length, take, drop, Ok}
+use Rattle.std.specs.Prelude.{◌≡◌, ◌≤◌, ◌<◌, ◌^◌, ◌-◌, ℕ, Bool, List, [], ◌∷◌, ◌++◌, length, take, drop, Ok}
 use Rattle.element_queue.specs.Counting.{Balances, add, counts_after, entries, made_by}
 use Rattle.element_queue.specs.Pending.{Gone, Pending, taken}
 use Rattle.element_queue.specs.Queued.{Queued}
 use Rattle.element_queue.specs.declared.ledger.Counts.{Counts}
 use Rattle.etm_types.specs.declared.element.Elem.{Elem}
+use Rattle.etm_types.specs.declared.element.P0.{P0}
 use Rattle.etm_types.specs.declared.element.Thing.{Thing}
+use Rattle.etm_types.specs.declared.element.Thing.TheVariants.{Seen}
 
 -- what may still be taken back, what was committed by an element and is still to be given out, the most that may be held, and
 -- what became of the others
@@ -24,6 +26,11 @@ waiting_of q informed due =
       depth = q.depth;
       counts = q.counts;
     }
+
+-- what one P0 element more commits
+abbrev pub committed_by : Waiting → P0 → List Thing
+committed_by w p0 =
+    let all = (w.pending).held ++ Seen (record { pre = (w.pending).pre; p0 = p0 }) ∷ [] in take (length all - w.depth) all
 
 -- what became of the P0 elements, once what is due is committed
 abbrev pub counted_with : Counts → List Thing → Counts

@@ -10,12 +10,12 @@ ghost use Rattle.packet_grammar.specs.Ends.{is_fault};
 ghost use Rattle.packet_grammar.specs.declared.end.End.{End};
 ghost use Rattle.path_elements.specs.Path.{IsPath, IsPathTaking, unplaced};
 ghost use Rattle.path_text.specs.EndLines.{end_line};
-ghost use Rattle.path_text.specs.PathLines.{lines_of};
+ghost use Rattle.path_text.specs.PathLines.{lines_of, shown_after_all};
 ghost use Rattle.path_text.specs.Writing.{Writes};
 ghost use Rattle.program_image.specs.Blocks.{HasGap};
 ghost use Rattle.program_image.specs.declared.image.Image.{Image};
 ghost use Rattle.stream_decoder.specs.Decoding.{AtRest, IsDecoding};
-ghost use Rattle.stream_decoder.specs.Yields.{Prints};
+ghost use Rattle.stream_decoder.specs.Yields.{Goes, Prints};
 ghost use Rattle.stream_decoder.specs.Stands.{Grows, StandsAt, shows_walk_fault};
 ghost use Rattle.trace_io.specs.Bytes.{ShowsAsBefore};
 ghost use Rattle.trace_io.specs.Causes.{HasCause};
@@ -25,7 +25,7 @@ use crate::found::write_found;
 use element_queue::{Counts, Ledger};
 use etm_types::{Ctx, Id, Settings};
 use packet_grammar::End;
-use path_text::write_end;
+use path_text::{write_end, write_walked};
 use program_image::Image;
 use std::alloc::{AllocError, Global};
 use std::marker::Model;
@@ -188,6 +188,10 @@ fn write_rest<K: Sink>(
     ensures reader { decoding.new.reader ≡ decoding.old.reader }
     ensures holds { IsDecoding decoding.new }
 {
+    if let Err(failed) = write_atoms(decoding, shown, image, id, sink) {
+        has_gap(image);
+        return Err(failed);
+    }
     while let Some(found) = decoding.next(image) {
         match write_found(id, &found, shown, sink) {
             Ok(()) => {}
@@ -195,6 +199,34 @@ fn write_rest<K: Sink>(
                 has_gap(image);
                 return Err(failed);
             }
+        }
+    }
+    Ok(())
+}
+
+/// Writes what the next elements show, as long as they are atoms and commit such before which nothing was given.
+#[inline(always)]
+fn write_atoms<K: Sink>(
+    decoding: &mut Decoding,
+    shown: &mut Option<Ctx>,
+    image: &Image,
+    id: Id,
+    sink: &mut K,
+) -> Result<(), Failed>
+    requires holds { IsDecoding decoding.old }
+    ensures prints { (items : List Item) × Goes image.now decoding.old items decoding.new
+        × Writes (K.state sink.old) (K.state sink.new) result (lines_of id shown.old items)
+        × IfOk result (λ done. shown.new ≡ shown_after_all shown.old items) }
+    ensures stopped { AtRest decoding.old → (result ≡ Ok tt) × (decoding.new ≡ decoding.old) × (shown.new ≡ shown.old) × (sink.new ≡ sink.old) }
+    ensures cause { HasCause (K.state sink.old) (K.state sink.new) result }
+    ensures shows { ShowsAsBefore (K.state sink.old) (K.state sink.new) }
+    ensures reader { decoding.new.reader ≡ decoding.old.reader }
+    ensures holds { IsDecoding decoding.new }
+{
+    while let Some(walked) = decoding.next_atom(image) {
+        match write_walked(id, &walked, shown, sink) {
+            Ok(()) => {}
+            Err(failed) => return Err(failed),
         }
     }
     Ok(())

@@ -1,7 +1,9 @@
 //! One stream, from its bytes to what they show: a machine that knows no sink.
-ghost use Rattle.std.specs.Prelude.{◌≡◌, ◌<◌, ◌+◌, ◌^◌, ◌++◌, ◌∷◌, [], List, ℕ, Ok, Err, Some, None, IfOk, IsErr, IsTrue, false, All, ◌↔◌, option_to_list};
+ghost use Rattle.std.specs.Prelude.{◌≡◌, ◌<◌, ◌+◌, ◌^◌, ◌++◌, ◌∷◌, [], List, ℕ, Ok};
+ghost use Rattle.std.specs.Prelude.{Err, Some, None, IfOk, IfSome, IsErr, IsTrue, false, All, ◌↔◌, option_to_list};
 ghost use Rattle.element_queue.specs.Counting.{Balances, counts_after};
 ghost use Rattle.element_queue.specs.Pending.{losing};
+ghost use Rattle.etm_types.specs.Walked.{items_of};
 ghost use Rattle.etm_types.specs.declared.queue_fault.QueueFault.{QueueFault};
 ghost use Rattle.etm_types.specs.declared.walk_fault.WalkFault.{WalkFault};
 ghost use Rattle.packet_grammar.specs.Ends.{end_of};
@@ -20,7 +22,7 @@ use crate::found::Found;
 use crate::todo::Todo;
 use crate::waiting::Waiting;
 use element_queue::{Counts, Ledger};
-use etm_types::{QueueFault, Settings, Thing};
+use etm_types::{AtomRun, QueueFault, Settings, Thing, Walked};
 use packet_grammar::{End, Fault, Packet};
 use packet_reader::{PacketReader, Step};
 use path_elements::{Awaited, ElemMaker};
@@ -72,7 +74,29 @@ impl Decoding {
 
     /// Takes the next byte. The elements of the packet that it ends are left to do. Behind a fault nothing is
     /// taken but the byte.
+    ///
+    /// Most packets are atoms: these go the short way.
+    #[inline(always)]
     pub fn begin(&mut self, byte: u8)
+        requires few { self.old.reader.taken < 2 ^ 62 }
+        requires rest { AtRest self.old }
+        ensures begun { Begun self.old byte self.new }
+        ensures taken { self.new.reader.taken ≡ self.old.reader.taken + 1 }
+        ensures settings { self.new.reader.settings ≡ self.old.reader.settings }
+        ensures holds { IsDecoding self.new }
+    {
+        if self.fault.is_some() {
+            return self.begin_any(byte);
+        }
+        match self.reader.take_atoms(byte) {
+            Some((at, run)) => self.open_atoms(at, run),
+            None => self.begin_any(byte),
+        }
+    }
+
+    /// Takes the next byte, whatever it is.
+    #[inline(never)]
+    fn begin_any(&mut self, byte: u8)
         requires few { self.old.reader.taken < 2 ^ 62 }
         requires rest { AtRest self.old }
         ensures begun { Begun self.old byte self.new }
@@ -91,7 +115,24 @@ impl Decoding {
         }
     }
 
+    /// Leaves the elements of a packet of atoms to do, or sets its fault where it may not come.
+    #[inline(always)]
+    fn open_atoms(&mut self, at: u64, run: AtomRun)
+        requires packet { CanBeTaken (Packet.Atoms run) }
+        requires rest { AtRest self.old }
+        requires whole { self.old.fault ≡ None }
+        ensures opens { OpensPacket self.old at (Packet.Atoms run) self.new }
+        ensures reader { self.new.reader ≡ self.old.reader }
+        ensures holds { IsDecoding self.new }
+    {
+        match self.maker.atoms_of(&run) {
+            Some(elems) => self.todo = Todo::of(at, elems),
+            None => self.open(at, &Packet::Atoms(run)),
+        }
+    }
+
     /// Leaves the elements of a packet to do, or sets its fault where it may not come.
+    #[inline(never)]
     fn open(&mut self, at: u64, packet: &Packet)
         requires packet { CanBeTaken packet.now }
         requires rest { AtRest self.old }
@@ -107,7 +148,46 @@ impl Decoding {
     }
 
     /// What is shown next of what is left to do. Nothing means that all of it is done, up to the first fault.
+    #[inline(always)]
     pub fn next(&mut self, image: &Image) -> Option<Found>
+        ensures found { (found : Found) → result ≡ Some found → Goes image.now self.old (items_of_found found) self.new }
+        ensures fewer { (found : Found) → result ≡ Some found → left self.new < left self.old }
+        ensures ends { result ≡ None → self.old.fault ≡ None → Ends image.now self.old [] self.new }
+        ensures stopped { AtRest self.old → (result ≡ None) × (self.new ≡ self.old) }
+        ensures rest { result ≡ None → AtRest self.new }
+        ensures reader { self.new.reader ≡ self.old.reader }
+        ensures holds { IsDecoding self.new }
+    {
+        if self.is_at_rest() {
+            return None;
+        }
+        self.next_any(image)
+    }
+
+    /// Takes the next element where it is an atom and commits one before which nothing was given, and walks that one. Else,
+    /// and where the walk has a fault, nothing changes: [`next`](Decoding::next) goes on from there.
+    ///
+    /// Most elements are such, and what is found of them stays where it is used.
+    #[inline(always)]
+    pub fn next_atom(&mut self, image: &Image) -> Option<Walked>
+        ensures goes { IfSome result (λ walked. Goes image.now self.old (items_of walked) self.new) }
+        ensures fewer { IfSome result (λ walked. left self.new < left self.old) }
+        ensures none { result ≡ None → self.new ≡ self.old }
+        ensures stopped { AtRest self.old → result ≡ None }
+        ensures reader { self.new.reader ≡ self.old.reader }
+        ensures holds { IsDecoding self.new }
+    {
+        let taken = self.todo.first_atom()?;
+        let committed = self.waiting.next_committed(taken)?;
+        let walked = self.walker.walk_bare(image, committed)?;
+        self.waiting.take_atom(taken);
+        self.todo.advance();
+        Some(walked)
+    }
+
+    /// What is shown next, whatever it is.
+    #[inline(never)]
+    fn next_any(&mut self, image: &Image) -> Option<Found>
         ensures found { (found : Found) → result ≡ Some found → Goes image.now self.old (items_of_found found) self.new }
         ensures fewer { (found : Found) → result ≡ Some found → left self.new < left self.old }
         ensures ends { result ≡ None → self.old.fault ≡ None → Ends image.now self.old [] self.new }
@@ -130,6 +210,7 @@ impl Decoding {
     }
 
     /// Whether nothing is left to do.
+    #[inline(always)]
     fn is_at_rest(&self) -> bool
         ensures rest { IsTrue result ↔ AtRest self.now }
         ensures left { result ≡ false → 0 < left self.now }

@@ -1,5 +1,7 @@
 //! The elements of a packet that are still to be taken.
-ghost use Rattle.std.specs.Prelude.{◌≡◌, ◌∷◌, [], ◌↔◌, IsTrue, List, Some, None};
+ghost use Rattle.std.specs.Prelude.{◌≡◌, ◌∷◌, [], ◌↔◌, IfSome, IsTrue, List, Some, None};
+ghost use Rattle.etm_types.specs.declared.element.Elem.TheVariants as elem;
+ghost use Rattle.etm_types.specs.declared.element.P0.TheVariants.{Atom};
 
 use etm_types::Elem;
 use path_elements::Elems;
@@ -38,6 +40,7 @@ impl Todo {
     }
 
     /// All elements of the packet at an offset.
+    #[inline(always)]
     pub fn of(at: u64, elems: Elems) -> Todo
         ensures { result ≡ record { at = at; elements = elems } }
     {
@@ -52,6 +55,7 @@ impl Todo {
     }
 
     /// Whether all were taken.
+    #[inline(always)]
     pub fn is_empty(&self) -> bool
         ensures { IsTrue result ↔ (self.now.elements ≡ []) }
     {
@@ -66,7 +70,16 @@ impl Todo {
         self.elems.get(self.next)
     }
 
+    /// The next one, where it is an atom of a run of atoms.
+    #[inline(always)]
+    pub fn first_atom(&self) -> Option<bool>
+        ensures { IfSome result (λ taken. (others : List Elem) × (self.now.elements ≡ elem.P0 (Atom taken) ∷ others)) }
+    {
+        self.elems.atom(self.next)
+    }
+
     /// The next one is taken.
+    #[inline(always)]
     pub fn advance(&mut self)
         ensures { (elem : Elem) (others : List Elem) → self.old.elements ≡ elem ∷ others → self.new ≡ record (self.old) { elements = others } }
     {

@@ -1,17 +1,19 @@
 //! The P0 elements that wait: those that may still be taken back, and those that an element committed and that
 //! are still to be walked.
-ghost use Rattle.std.specs.Prelude.{◌≡◌, ◌∷◌, ◌++◌, [], ◌↔◌, IsTrue, IfOk, IsErr, None, Err, false, option_to_list, length, ◌<◌};
+ghost use Rattle.std.specs.Prelude.{◌≡◌, ◌∷◌, ◌++◌, [], ◌↔◌, IsTrue, IfOk, IfSome, IsErr, None, Err, false, option_to_list, length, ◌<◌};
 ghost use Rattle.element_queue.specs.Counting.{Balances, counts_after, no_counts};
 ghost use Rattle.element_queue.specs.Pending.{committing, losing, taken};
-ghost use Rattle.element_queue.specs.Queued.{things_of};
+ghost use Rattle.element_queue.specs.Queued.{bare_atom, things_of};
 ghost use Rattle.element_queue.specs.Resolved.{at_first};
 ghost use Rattle.etm_types.specs.declared.element.Elem.TheVariants as elem;
+ghost use Rattle.etm_types.specs.declared.element.P0.TheVariants.{Atom};
+ghost use Rattle.etm_types.specs.declared.element.Thing.TheVariants.{Seen};
 ghost use Rattle.etm_types.specs.declared.element.Thing.{Thing};
 ghost use Rattle.etm_types.specs.declared.queue_fault.QueueFault.{QueueFault};
-ghost use Rattle.stream_decoder.specs.Waiting.{Commits, IsWaiting};
+ghost use Rattle.stream_decoder.specs.Waiting.{Commits, IsWaiting, committed_by};
 
 use element_queue::{Committed, Counts, Ledger, PreElem, Queue};
-use etm_types::{Elem, QueueFault, Thing};
+use etm_types::{Elem, P0, QueueFault, Thing};
 use std::alloc::{AllocError, Global};
 use std::marker::Model;
 
@@ -86,6 +88,27 @@ impl Waiting {
         Ok(None)
     }
 
+    /// Which atom one atom more commits, where it is one before which nothing was given, and nothing is due.
+    #[inline(always)]
+    pub fn next_committed(&self, taken: bool) -> Option<bool>
+        ensures { IfSome result (λ atom. (self.now.due ≡ []) × (committed_by self.now (Atom taken) ≡ Seen (bare_atom atom) ∷ [])) }
+    {
+        if self.due > 0 {
+            return None;
+        }
+        self.queue.next_committed(taken)
+    }
+
+    /// Takes an atom, and lets go what it commits.
+    #[inline(always)]
+    pub fn take_atom(&mut self, taken: bool)
+        requires due { self.old.due ≡ [] }
+        ensures commits { Commits self.old (elem.P0 (Atom taken)) self.new (committed_by self.old (Atom taken)) }
+        ensures holds { IsWaiting self.new }
+    {
+        self.queue.push(P0::Atom(taken));
+    }
+
     /// A trace info. The first one announces P0 elements from before it that are not committed.
     fn inform(&mut self, spec: u32) -> Result<Option<Thing>, QueueFault>
         requires begins { self.old.pending.informed ≡ false → self.old.pending.held ≡ [] }
@@ -104,6 +127,7 @@ impl Waiting {
     }
 
     /// Whether some are due.
+    #[inline(always)]
     pub fn is_due(&self) -> bool
         ensures none { result ≡ false → self.now.due ≡ [] }
         ensures some { IsTrue result → 0 < length self.now.due }

@@ -1,6 +1,12 @@
+pub mod Alone
+pub mod AlonePaths
 pub mod Bodies
 pub mod Ending
 pub mod PathStreams
 pub mod RawStreams
 pub mod Standing
+pub mod Examples
+pub mod OneText
+pub mod Parted
+pub mod PathTexts
 pub mod Writing

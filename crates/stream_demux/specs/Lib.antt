@@ -1,4 +1,5 @@
 pub mod Demuxed
+pub mod Laws
 pub mod Paths
 pub mod Streams
 pub mod Texts

@@ -1,17 +1,19 @@
-use Rattle.std.proofs.Common.{◌≡◌, [], Some, None, Ok, refl, sym, ap, subst, ◌∙◌}
+use Rattle.std.proofs.Common.{◌≡◌, Some, None, sym, ap, subst, ◌∙◌}
 use Rattle.path_text.proofs.Wrote.{wrote_by}
 use Rattle.path_text.specs.PathLines.{lines_of}
 use Rattle.stream_decoder.specs.Decoding.{AtRest, Decoding}
 use Rattle.stream_decoder.specs.Yields.{items_of_found}
-use Rattle.stream_decoder.proofs.Printing.{printed_first, printed_on, prints_all, prints_front}
+use Rattle.stream_decoder.proofs.Printing.{printed_by, printed_first, printed_on, prints_all, prints_front}
 use Rattle.stream_decoder.proofs.decoder.write_rest.Goals as goal
 
 pub loop-found-init : goal.loop-found-init
 loop-found-init g c =
     record {
-      printed = printed_first c.args.image.now c.args.id c.args.decoding.now c.args.shown.now (g.K.Sink.state c.args.sink.now);
-      rest = λ done. (refl, refl, refl);
-      holds = c.requires.holds;
+      printed = printed_by c.args.image.now c.args.id c.args.decoding.now c.write_atoms.new.decoding c.args.shown.now c.write_atoms.new.shown
+          (g.K.Sink.state c.args.sink.now) (g.K.Sink.state c.write_atoms.new.sink) c.in_default.ensures.prints.0 c.in_default.ensures.prints.1
+          c.in_default.ensures.prints.2 c.in_default.ensures.prints.3;
+      rest = λ done. let same = c.in_default.ensures.stopped done in (same.1, same.2, same.3);
+      holds = c.in_default.ensures.holds;
     }
 
 pub loop-found-smaller : goal.loop-found-smaller
@@ -27,7 +29,7 @@ loop-found-preserved g c =
     record {
       printed = printed_on image id c.args.decoding.now c.loop-found.decoding c.args.shown.now c.loop-found.shown
           (state c.args.sink.now) (state c.loop-found.sink)
-          (state c.write_found.new.sink) c.loop-found.invariant.printed c.in-Some.found c.next.new.self goes
+          (state c.write_found.new.sink) c.loop-found.invariant.printed (items_of_found c.in-Some.found) c.next.new.self goes
           c.write_found.new.shown c.in-Ok.ensures.shown wrote;
       rest = λ done. absurd (
           let still = subst AtRest (sym (c.loop-found.invariant.rest done).0) done in
@@ -35,14 +37,15 @@ loop-found-preserved g c =
       holds = c.next.ensures.holds;
     }
 
-pub returns-in-Err-clause-prints : goal.returns-in-Err-clause-prints
-returns-in-Err-clause-prints g c none =
+pub returns-in-Err-write_found-clause-prints : goal.returns-in-Err-write_found-clause-prints
+returns-in-Err-write_found-clause-prints g c none =
     let state = g.K.Sink.state in
     let goes = c.next.ensures.found c.in-Some.found c.in-Some.is in
     prints_front c.args.image.now c.args.id c.args.decoding.now c.loop-found.decoding c.args.shown.now c.loop-found.shown
     (state c.args.sink.now) (state c.loop-found.sink)
-    (state c.write_found.new.sink) c.loop-found.invariant.printed c.in-Some.found c.next.new.self goes c.next.new.self c.write_found.new.shown c.in-Err.failed
-    c.has_gap.ensures c.next.ensures.holds c.in-Err.ensures.lines
+    (state c.write_found.new.sink) c.loop-found.invariant.printed (items_of_found c.in-Some.found) c.next.new.self goes
+    c.next.new.self c.write_found.new.shown c.in-Err-write_found.failed
+    c.has_gap-in-Err-write_found.ensures c.next.ensures.holds c.in-Err-write_found.ensures.lines
 
 pub returns-clause-prints : goal.returns-clause-prints
 returns-clause-prints g c none =
@@ -50,4 +53,12 @@ returns-clause-prints g c none =
     let whole : c.loop-found.decoding.fault ≡ None = ap (λ (d : Decoding). d.fault) c.loop-found.invariant.printed.goes.rest ∙ none in
     prints_all c.args.image.now c.args.id c.args.decoding.now c.loop-found.decoding c.args.shown.now c.loop-found.shown
     (state c.args.sink.now) (state c.loop-found.sink)
-    (state c.loop-found.sink) c.loop-found.invariant.printed c.next.new.self (c.next.ensures.ends c.in_default.is whole)
+    (state c.loop-found.sink) c.loop-found.invariant.printed c.next.new.self (c.next.ensures.ends c.in_default-next.is whole)
+
+pub returns-in-Err-clause-prints : goal.returns-in-Err-clause-prints
+returns-in-Err-clause-prints g c none =
+    let state = g.K.Sink.state in let prints = c.in-Err.ensures.prints in
+    prints_front c.args.image.now c.args.id c.args.decoding.now c.args.decoding.now c.args.shown.now c.args.shown.now
+    (state c.args.sink.now) (state c.args.sink.now)
+    (state c.write_atoms.new.sink) (printed_first c.args.image.now c.args.id c.args.decoding.now c.args.shown.now (state c.args.sink.now)) prints.0
+    c.write_atoms.new.decoding prints.1 c.write_atoms.new.decoding c.write_atoms.new.shown c.in-Err.failed c.has_gap.ensures c.in-Err.ensures.holds prints.2

@@ -1,4 +1,4 @@
-use Rattle.std.proofs.Common.{◌≡◌, ℕ, Bool, List, [], length, None, Ok, Err, refl, sym, ap, subst, ◌∙◌, not, true}
+use Rattle.std.proofs.Common.{◌≡◌, ℕ, Bool, List, [], length, None, Ok, Err, sym, ap, subst, ◌∙◌, not, true}
 use Rattle.etm_types.specs.Settings.{AreSettings}
 use Rattle.packet_grammar.specs.Ends.{is_fault}
 use Rattle.packet_grammar.specs.Parsed.{Ending, IsStream}

@@ -1,4 +1,4 @@
-use Rattle.std.proofs.Common.{◌≡◌, [], refl}
+use Rattle.std.proofs.Common.{[], refl}
 use Rattle.stream_decoder.proofs.Printing.{came_first}
 use Rattle.stream_decoder.proofs.decoder.StreamDecoder.new.Goals as goal
 

@@ -1,13 +1,13 @@
-use Rattle.std.proofs.Common.{◌≡◌, ℕ, false, List, [], ◌∷◌, ◌++◌, Option, Some, None, Ok, Err, refl, sym, ap, subst, ◌∙◌}
+use Rattle.std.proofs.Common.{◌≡◌, ◌+◌, false, [], ◌∷◌, ◌++◌, Option, None, Ok, Err, refl, sym, ap, subst, ◌∙◌}
 use Rattle.etm_types.specs.Settings.{AreSettings}
 use Rattle.etm_types.specs.declared.context.Ctx.{Ctx}
-use Rattle.etm_types.specs.declared.item.Item.{Item}
+use Rattle.packet_reader.specs.Stands.{Standing}
 use Rattle.path_text.proofs.LineLemmas.{shown_after_all-append}
 use Rattle.path_text.proofs.Wrote.{wrote_nothing, writes_all}
 use Rattle.path_text.specs.PathLines.{lines_of, shown_after_all}
 use Rattle.path_text.specs.Writing.{Writes}
 use Rattle.stream_decoder.specs.Decoding.{Decoder, Decoding}
-use Rattle.stream_decoder.specs.Stands.{Came, Grows, StandsAt}
+use Rattle.stream_decoder.specs.Stands.{Came}
 use Rattle.stream_decoder.specs.Yields.{Begun}
 use Rattle.stream_decoder.proofs.Growing.{by_fault, grows_on, grows_stopped, not_none, stands_on, stands_stopped}
 use Rattle.trace_io.specs.declared.traits.Failed.{Failed}
@@ -86,3 +86,51 @@ returns-in-Err-clause-grows g c bytes stands =
       subst (λ (s : Option Ctx). Writes {T = Unit {0}} {E = Failed} a b (Err c.in-Err.failed) (lines_of c.args.id s p.items)) shown p.writes,
     ))
     (λ stop met. absurd (let stopped = c.in-Err.ensures.stopped (c.begin.ensures.holds.stopped (not_none m.fault stop met)) in let e = stopped.0 in cc))
+
+-- ---- what the two calls ensure
+
+pub returns-in-Ok-clause-cause : goal.returns-in-Ok-clause-cause
+returns-in-Ok-clause-cause g c = c.in-Ok.ensures.cause
+
+pub returns-in-Err-clause-cause : goal.returns-in-Err-clause-cause
+returns-in-Err-clause-cause g c = c.in-Err.ensures.cause
+
+pub returns-in-Ok-clause-shows : goal.returns-in-Ok-clause-shows
+returns-in-Ok-clause-shows g c = c.write_rest.ensures.shows
+
+pub returns-in-Err-clause-shows : goal.returns-in-Err-clause-shows
+returns-in-Err-clause-shows g c = c.write_rest.ensures.shows
+
+pub returns-in-Ok-clause-taken : goal.returns-in-Ok-clause-taken
+returns-in-Ok-clause-taken g c =
+    ap (λ (r : Standing). r.taken) c.write_rest.ensures.reader ∙ c.begin.ensures.taken ∙ ap (λ (d : Decoder). d.decoding.reader.taken + 1) c.self.view_is
+
+pub returns-in-Err-clause-taken : goal.returns-in-Err-clause-taken
+returns-in-Err-clause-taken g c =
+    ap (λ (r : Standing). r.taken) c.write_rest.ensures.reader ∙ c.begin.ensures.taken ∙ ap (λ (d : Decoder). d.decoding.reader.taken + 1) c.self.view_is
+
+pub returns-in-Ok-clause-settings : goal.returns-in-Ok-clause-settings
+returns-in-Ok-clause-settings g c =
+    ap (λ (r : Standing). r.settings) c.write_rest.ensures.reader ∙ c.begin.ensures.settings ∙ ap (λ (d : Decoder). d.decoding.reader.settings) c.self.view_is
+
+pub returns-in-Err-clause-settings : goal.returns-in-Err-clause-settings
+returns-in-Err-clause-settings g c =
+    ap (λ (r : Standing). r.settings) c.write_rest.ensures.reader ∙ c.begin.ensures.settings ∙ ap (λ (d : Decoder). d.decoding.reader.settings) c.self.view_is
+
+pub returns-in-Ok-clause-balanced : goal.returns-in-Ok-clause-balanced
+returns-in-Ok-clause-balanced g c = c.write_rest.ensures.holds.balanced
+
+pub returns-in-Err-clause-balanced : goal.returns-in-Err-clause-balanced
+returns-in-Err-clause-balanced g c = c.write_rest.ensures.holds.balanced
+
+pub returns-in-Err-clause-stands : goal.returns-in-Err-clause-stands
+returns-in-Err-clause-stands g c ok = absurd cc
+
+pub invariant_of-self : goal.invariant_of-self
+invariant_of-self g c = (c.write_rest.ensures.holds, λ whole. c.in-Ok.ensures.rest refl)
+
+pub invariant_of-self-in-Err : goal.invariant_of-self-in-Err
+invariant_of-self-in-Err g c = (c.write_rest.ensures.holds, λ whole. absurd cc)
+
+pub write_rest-requires : goal.write_rest-requires
+write_rest-requires g c = record { holds = c.begin.ensures.holds }

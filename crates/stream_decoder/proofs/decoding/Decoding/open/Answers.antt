@@ -1,4 +1,4 @@
-use Rattle.std.proofs.Common.{◌≡◌, None, refl, sym, ap, ◌∙◌, subst}
+use Rattle.std.proofs.Common.{refl, sym, ap, ◌∙◌, subst}
 use Rattle.stream_decoder.specs.Decoding.{AtRest, Decoding}
 use Rattle.stream_decoder.proofs.Holds.{holds_opened}
 use Rattle.stream_decoder.proofs.decoding.Decoding.open.Goals as goal

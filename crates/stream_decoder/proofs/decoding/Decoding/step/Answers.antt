@@ -1,6 +1,5 @@
-use Rattle.std.proofs.Common.{◌≡◌, ◌<◌, ◌^◌, ◌∷◌, [], Option, Some, None, Ok, Err, refl, sym, ap, subst, ◌∙◌}
+use Rattle.std.proofs.Common.{◌≡◌, ◌<◌, ◌^◌, [], Option, Some, None, refl, sym, subst, ◌∙◌}
 use Rattle.etm_types.specs.declared.element.Thing.{Thing}
-use Rattle.etm_types.specs.declared.queue_fault.QueueFault.{QueueFault}
 use Rattle.packet_grammar.specs.declared.stream_fault.Fault.{Fault}
 use Rattle.packet_grammar.specs.declared.stream_fault.Fault.TheVariants.{Queue, Walk}
 use Rattle.stream_decoder.specs.Decoding.{Decoding}

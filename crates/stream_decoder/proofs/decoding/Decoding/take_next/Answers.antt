@@ -1,7 +1,7 @@
-use Rattle.std.proofs.Common.{◌≡◌, Some, None, refl, sym, ap, subst, ◌∙◌}
+use Rattle.std.proofs.Common.{Some, subst}
 use Rattle.stream_decoder.specs.Decoding.{Decoding, decoding_of}
 use Rattle.stream_decoder.specs.Yields.{Leaves}
-use Rattle.stream_decoder.proofs.Taking.{due_aligned, fewer_due, holds_due, leaves_due}
+use Rattle.stream_decoder.proofs.Taking.{due_aligned, holds_due, leaves_due}
 use Rattle.stream_decoder.proofs.decoding.Decoding.take_next.Goals as goal
 
 pub invariant_of-self : goal.invariant_of-self

@@ -1,4 +1,4 @@
-use Rattle.std.proofs.Common.{◌≡◌, ◌∷◌, [], Ok, refl, sym, ap, subst, inl, append-nil}
+use Rattle.std.proofs.Common.{◌∷◌, [], Ok, refl, sym, ap, subst, inl, append-nil}
 use Rattle.etm_types.specs.Walked.{items_of}
 use Rattle.etm_types.specs.declared.element.Thing.{Thing}
 use Rattle.etm_types.specs.declared.element.Thing.TheVariants.{Seen}

@@ -1,4 +1,4 @@
-use Rattle.std.proofs.Common.{◌≡◌, ◌+◌, List, drop, sym, ap, ◌∙◌}
+use Rattle.std.proofs.Common.{◌≡◌, ◌+◌, List, drop, ap, ◌∙◌}
 use Rattle.etm_types.specs.declared.element.Elem.{Elem}
 use Rattle.stream_decoder.specs.Left.{Left}
 use Rattle.stream_decoder.proofs.Lefts.{next_left}

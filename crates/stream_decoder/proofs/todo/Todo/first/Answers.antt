@@ -1,4 +1,4 @@
-use Rattle.std.proofs.Common.{◌≡◌, sym, ap, ◌∙◌}
+use Rattle.std.proofs.Common.{sym, ap, ◌∙◌}
 use Rattle.stream_decoder.specs.Left.{Left}
 use Rattle.stream_decoder.proofs.Lefts.{first_left, none_left}
 use Rattle.stream_decoder.proofs.todo.Todo.first.Goals as goal

@@ -1,0 +1,17 @@
+use Rattle.std.proofs.Common.{◌≡◌}
+use Rattle.stream_decoder.specs.Decoding.{AtRest, IsDecoding}
+use Rattle.stream_decoder.specs.Yields.{left}
+use Rattle.stream_decoder.proofs.Printing.{Printed}
+use Rattle.stream_decoder.proofs.decoder.write_atoms.Given as goal
+
+abbrev pub decreases-loop-walked : goal.decreases-loop-walked
+decreases-loop-walked g l = left l.decoding
+
+abbrev pub invariant-loop-walked : goal.invariant-loop-walked
+invariant-loop-walked g l =
+    let state = g.K.Sink.state in
+    record {
+      printed : Printed l.image l.id l.fn.decoding l.fn.shown l.decoding l.shown (state l.fn.sink) (state l.sink);
+      rest : AtRest l.fn.decoding → (l.decoding ≡ l.fn.decoding) × (l.shown ≡ l.fn.shown) × (l.sink ≡ l.fn.sink);
+      holds : IsDecoding l.decoding;
+    }

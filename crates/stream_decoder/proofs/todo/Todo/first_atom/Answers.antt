@@ -1,0 +1,15 @@
+use Rattle.std.proofs.Common.{Bool, sym, ap, ◌∙◌}
+use Rattle.etm_types.specs.declared.element.Elem.TheVariants as elem
+use Rattle.etm_types.specs.declared.element.P0.TheVariants.{Atom}
+use Rattle.stream_decoder.specs.Left.{Left}
+use Rattle.stream_decoder.proofs.Atoms.{if_some}
+use Rattle.stream_decoder.proofs.Lefts.{first_left}
+use Rattle.stream_decoder.proofs.todo.Todo.first_atom.Goals as goal
+
+pub returns : goal.returns
+returns c =
+    if_some c.atom.result _ _
+    (λ (taken : Bool) is.
+    let here = first_left c.self.inside.elems c.self.inside.next (elem.P0 (Atom taken)) is in
+    (here.0, sym (ap (λ (l : Left). l.elements) c.self.view_is) ∙ here.1))
+    c.atom.ensures.value

@@ -1,0 +1,11 @@
+use Rattle.stream_demux.proofs.Alone.{others_do_not_count, others_have_none, source_is_alone}
+use Rattle.stream_demux.proofs.laws.a_stream_is_alone.Goals as goal
+
+pub returns-clause-source : goal.returns-clause-source
+returns-clause-source g c shared s = source_is_alone (g.S.Stream.listing shared s)
+
+pub returns-clause-none : goal.returns-clause-none
+returns-clause-none g c shared s = others_have_none (g.S.Stream.listing shared s)
+
+pub returns-clause-others : goal.returns-clause-others
+returns-clause-others g c shared s = others_do_not_count (g.S.Stream.listing shared s)

@@ -1,0 +1,17 @@
+use Rattle.std.proofs.Common.{◌≡◌, Ok, Err, inl, inr, refl, sym, ap, subst, ◌∙◌}
+use Rattle.std.proofs.lemmas.Result.{err_from_is_err_and}
+use Rattle.trace_cmd.specs.Answers.{call}
+use Rattle.trace_cmd.specs.Printing.{PathsOf}
+use Rattle.trace_cmd.proofs.AnswerLemmas.{bad_image_fails, so_by, so_of_bad_image, so_of_image_fault, so_of_memory}
+use Rattle.trace_cmd.proofs.command.answer_path.Goals as goal
+
+pub returns-in-Ok-clause-answer : goal.returns-in-Ok-clause-answer
+returns-in-Ok-clause-answer g c words means =
+    let image = g.I.Source.state in let input = g.J.Source.state in let out = g.K.Sink.state in
+    let asked = call words (image c.args.image.now) (image c.read.new.source) (input c.args.input.now) (input c.print_streams.new.input) in
+    so_by asked (PathsOf c.in-Ok.image c.args.settings.now c.args.layout) (means, c.in-Ok.ensures.ok) (out c.args.out.now) (out c.print_streams.new.out) c.print_streams.result
+    (inl (c.args.settings.now, c.args.layout, means)) c.print_streams.ensures.cause
+    (λ is. let kept = c.print_streams.ensures.memory is in (ap input kept.0, ap out kept.1)) c.print_streams.ensures.listed
+
+pub returns-in-Ok-clause-order : goal.returns-in-Ok-clause-order
+returns-in-Ok-clause-order g c = inr (c.in-Ok.image, c.in-Ok.ensures.ok)
