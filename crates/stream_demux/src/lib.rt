@@ -10,11 +10,11 @@
 //! - [`Demux`]: from the bytes of frames at which it stands it comes to those and a piece more, and writes the
 //!   lines that the piece adds; `finish` writes the last lines. Bytes of the null ID and of reserved IDs add none.
 //! - [`RawStream`]: the same of one stream that is not framed, under the ID 01.
-//! - the laws: an input has one text of its paths, which grows with the input before the ends, and the lines of a
-//!   source are those of its own bytes, whatever the other streams hold.
+//! - the laws: an input has one text of its paths, what is printed before the ends begins with what is printed of
+//!   each front of the input, and the lines of a source are those of its own bytes, whatever other streams hold.
 //!
-//! All memory is taken by `new`. Neither of the two can be forgotten: each ends by `finish` or `abandon`, and so do
-//! the streams in it.
+//! All memory is taken by `new`. A `Demux` and a `RawStream` can't be forgotten: each ends by `finish` or
+//! `abandon`, and so do the streams in it.
 #![tactic(auto)]
 
 mod demux;
