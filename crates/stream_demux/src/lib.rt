@@ -1,4 +1,20 @@
-//! Trace of many sources: frames are parted into streams, and each stream is printed.
+//! From an input to the lines of its streams: formatter frames of up to 111 trace sources (Arm CoreSight
+//! architecture, IHI 0029, the trace formatter), or one stream that is not framed.
+//!
+//! A [`Stream`] is one stream, whatever is printed of it: the lines that it gains by a byte, and how it ends.
+//! A stream decoder, which prints a path, is one. [`Sources`] has a stream for each source and finds it by its
+//! ID, in one step a byte. What is printed of bytes with their IDs is defined once, for any stream: the lines
+//! that the bytes add, in order, then those of the ends, by ID, and last that of a frame that is cut.
+//!
+//! The layer above uses these contracts:
+//! - [`Demux`]: from the bytes of frames at which it stands it comes to those and a piece more, and writes the
+//!   lines that the piece adds; `finish` writes the last lines. Bytes of the null ID and of reserved IDs add none.
+//! - [`RawStream`]: the same of one stream that is not framed, under the ID 01.
+//! - the laws: an input has one text of its paths, what is printed before the ends begins with what is printed of
+//!   each front of the input, and the lines of a source are those of its own bytes, whatever other streams hold.
+//!
+//! All memory is taken by `new`. A `Demux` and a `RawStream` can't be forgotten: each ends by `finish` or
+//! `abandon`, and so do the streams in it.
 #![tactic(auto)]
 
 mod demux;

@@ -1,8 +1,12 @@
 //! The commands of `etm`: words, image and input in, bytes out.
 //!
-//! `run` carries the promise of the whole program. Where it answers `Done` or `Faulted`, what it wrote is
-//! what `specs/Path.antt` or `specs/PacketList.antt` says of the image and the input; each other answer
-//! has its cause. The program calls it with files, and tests call it with memory.
+//! `run` carries the promise of the whole program. `specs/Answers.antt` has a row for each answer: its cause, and
+//! what is printed with it. Where it answers `Done` or `Faulted`, that is the text of the input, as `stream_demux`
+//! defines it over the paths of streams, and `specs/PacketList.antt` over their packets. The program calls it
+//! with files, and tests call it with memory.
+//!
+//! Both commands have one driver: what is asked for chooses the streams, the layout chooses what parts the input
+//! into them, and the input then goes through that by pieces, each printed and flushed before the next is read.
 #![tactic(auto)]
 
 mod command;
