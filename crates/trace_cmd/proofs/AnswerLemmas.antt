@@ -146,3 +146,7 @@ module _ (c : Call) (old new newer : IoState) (kept : KeepsBytes new newer) wher
 
   pub write_fails : (e : Failed) → AnswersSo c old new (Err e) → new.faults ≤ newer.faults → Answers c old newer status.WriteFault
   write_fails e (rose, f) later = let was : Rose old new = rose in (omega (arith, was, later), kept_fault f)
+
+  pub flush_fails_behind : (r : Result Status Failed) → AnswersSo c old new r → old.faults ≤ new.faults → new.faults ≤ newer.faults → Rose new newer → Answers c old newer status.WriteFault
+  flush_fails_behind (Ok s) answers later after rose = flush_fails s answers later rose
+  flush_fails_behind (Err e) answers later after rose = write_fails e answers after
