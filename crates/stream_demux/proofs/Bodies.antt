@@ -1,5 +1,5 @@
 -- The lines of pairs that come one after the other.
-use Rattle.std.proofs.Common.{◌≡◌, ◌≢◌, ℕ, suc, ◌+◌, ◌<◌, ◌==◌, if◌then◌else◌, Bool, true, false, List, [], ◌∷◌, ◌++◌, map, inl, inr, refl, sym, ap, subst, ◌∙◌, arith}
+use Rattle.std.proofs.Common.{◌≡◌, ◌≢◌, ℕ, ◌==◌, if◌then◌else◌, Bool, true, false, List, [], ◌∷◌, ◌++◌, map, inl, inr, refl, sym, ap, subst, ◌∙◌}
 use Rattle.std.proofs.Common.{append_assoc, append-nil}
 use Rattle.std.specs.List.{concat}
 use Rattle.std.proofs.lemmas.Bool.{eq-eqb}
@@ -48,17 +48,23 @@ pub body-append : (g : Listing) (before xs ys : List (ℕ × ℕ)) (lines more :
     → BodyFrom g before (xs ++ ys) (lines ++ more)
 body-append g before [] ys lines more none body =
     subst (λ (l : List Printed). BodyFrom g before ys (l ++ more)) (sym none) (subst (λ b. BodyFrom g b ys more) (append-nil before) body)
-body-append g before (pair ∷ xs) ys lines more (first, rest, gains, later, is) body =
-    (first, rest ++ more, gains,
-     body-append g (before ++ pair ∷ []) xs ys rest more later (subst (λ b. BodyFrom g b ys more) (sym (append_assoc before (pair ∷ []) xs)) body),
-     ap (λ (l : List Printed). l ++ more) is ∙ append_assoc (lines_under pair.0 first) rest more)
+body-append g before (pair ∷ xs) ys lines more (first, rest, gains, later, is) body = (
+  first,
+  rest ++ more,
+  gains,
+  body-append g (before ++ pair ∷ []) xs ys rest more later (subst (λ b. BodyFrom g b ys more) (sym (append_assoc before (pair ∷ []) xs)) body),
+  ap (λ (l : List Printed). l ++ more) is ∙ append_assoc (lines_under pair.0 first) rest more,
+)
 
 -- a body of joined pairs is that of the first and that of the others behind them
 pub body_parts : (g : Listing) (before xs ys : List (ℕ × ℕ)) (lines : List Printed) → BodyFrom g before (xs ++ ys) lines
     → (first : List Printed) × (more : List Printed) × BodyFrom g before xs first × BodyFrom g (before ++ xs) ys more × (lines ≡ first ++ more)
 body_parts g before [] ys lines body = ([], lines, refl, subst (λ b. BodyFrom g b ys lines) (sym (append-nil before)) body, refl)
 body_parts g before (pair ∷ xs) ys lines (first, rest, gains, later, is) =
-    let parts = body_parts g (before ++ pair ∷ []) xs ys rest later in
-    (lines_under pair.0 first ++ parts.0, parts.1, (first, parts.0, gains, parts.2, refl),
-     subst (λ b. BodyFrom g b ys parts.1) (append_assoc before (pair ∷ []) xs) parts.3,
-     is ∙ ap (λ (l : List Printed). lines_under pair.0 first ++ l) parts.4 ∙ sym (append_assoc (lines_under pair.0 first) parts.0 parts.1))
+    let parts = body_parts g (before ++ pair ∷ []) xs ys rest later in (
+      lines_under pair.0 first ++ parts.0,
+      parts.1,
+      (first, parts.0, gains, parts.2, refl),
+      subst (λ b. BodyFrom g b ys parts.1) (append_assoc before (pair ∷ []) xs) parts.3,
+      is ∙ ap (λ (l : List Printed). lines_under pair.0 first ++ l) parts.4 ∙ sym (append_assoc (lines_under pair.0 first) parts.0 parts.1),
+    )

@@ -39,10 +39,16 @@ pub ends-append : (g : Listing) (pairs : List (ℕ × ℕ)) (xs ys : List ℕ) (
     → EndsOf g pairs ys more others → EndsOf g pairs (xs ++ ys) (lines ++ more) (one || others)
 ends-append g pairs [] ys lines more one others (none, no_fault) ends =
     subst (λ (l : List Printed). EndsOf g pairs ys (l ++ more) (one || others)) (sym none) (subst (λ (b : Bool). EndsOf g pairs ys more (b || others)) (sym no_fault) ends)
-ends-append g pairs (id ∷ xs) ys lines more one others (first, rest, f, o, here, later, all, fault) ends =
-    (first, rest ++ more, f, o || others, here, ends-append g pairs xs ys rest more o others later ends,
-     ap (λ (l : List Printed). l ++ more) all ∙ append_assoc first rest more,
-     ap (λ (b : Bool). b || others) fault ∙ sym (or_assoc f o others))
+ends-append g pairs (id ∷ xs) ys lines more one others (first, rest, f, o, here, later, all, fault) ends = (
+  first,
+  rest ++ more,
+  f,
+  o || others,
+  here,
+  ends-append g pairs xs ys rest more o others later ends,
+  ap (λ (l : List Printed). l ++ more) all ∙ append_assoc first rest more,
+  ap (λ (b : Bool). b || others) fault ∙ sym (or_assoc f o others),
+)
 
 one_end : (g : Listing) (pairs : List (ℕ × ℕ)) (id : ℕ) (lines : List Printed) (faulty : Bool) → StreamEnds g id (of id pairs) lines faulty
     → EndsOf g pairs (id ∷ []) lines faulty
@@ -148,9 +154,12 @@ module _ (g : Listing) (pairs : List (ℕ × ℕ)) (list : List ℕ) (whole : Bo
       let all = (was.lines ++ lines) ++ more in
       let text : text_of was.lines ++ (text_of lines ++ text_of more) ≡ text_of all =
       sym (append_assoc (text_of was.lines) (text_of lines) (text_of more)) ∙ ap (λ t. t ++ text_of more) (sym (text_of-append was.lines lines))
-      ∙ sym (text_of-append (was.lines ++ lines) more) in
-      (all, (was.faulty || faulty) || others, ends-append g pairs (list ++ id ∷ []) later (was.lines ++ lines) more (was.faulty || faulty) others joined ended,
-       fails_after a b c e d (text_of was.lines) (text_of lines) (text_of more) (text_of all) text was.wrote writes)
+      ∙ sym (text_of-append (was.lines ++ lines) more) in (
+        all,
+        (was.faulty || faulty) || others,
+        ends-append g pairs (list ++ id ∷ []) later (was.lines ++ lines) more (was.faulty || faulty) others joined ended,
+        fails_after a b c e d (text_of was.lines) (text_of lines) (text_of more) (text_of all) text was.wrote writes,
+      )
 
 -- ---- all of them
 
@@ -187,16 +196,24 @@ module _ (g : Listing) (pairs : List (ℕ × ℕ)) (left : ℕ) (lines : List Pr
   ending = record { ends = lines; some_fault = faulty; ended = ends; all = refl; fault = refl }
 
   pub ends_fail : {E : Type 0} (a b : IoState) (e d : E) → Writes {T = Bool} a b (Err e) (text_of lines) → Ends {E = E} g pairs left a b (Err d)
-  ends_fail a b e d writes =
-      (lines ++ cut_lines left, faulty || nat_lt 0 left, ending,
-       fails_first a b e d (text_of lines) (text_of (cut_lines left)) (text_of (lines ++ cut_lines left)) (sym (text_of-append lines (cut_lines left))) writes, tt)
+  ends_fail a b e d writes = (
+    lines ++ cut_lines left,
+    faulty || nat_lt 0 left,
+    ending,
+    fails_first a b e d (text_of lines) (text_of (cut_lines left)) (text_of (lines ++ cut_lines left)) (sym (text_of-append lines (cut_lines left))) writes,
+    tt,
+  )
 
   pub ends_uncut : {E : Type 0} (a b : IoState) (whole : Bool) → left ≡ 0 → Writes {T = Bool} {E = E} a b (Ok whole) (text_of lines) → whole ≡ not faulty
       → Ends {E = E} g pairs left a b (Ok whole)
   ends_uncut {E} a b whole none writes same =
-      let cut : cut_lines left ≡ [] = ap cut_lines none in let no_fault : (faulty || nat_lt 0 left) ≡ faulty = ap (λ n. faulty || nat_lt 0 n) none ∙ sym (or_right faulty) in
-      (lines ++ cut_lines left, faulty || nat_lt 0 left, ending,
-       subst (λ t. Writes {T = Bool} {E = E} a b (Ok whole) (text_of t)) (sym (ap (λ l. lines ++ l) cut ∙ append-nil lines)) writes, same ∙ ap not (sym no_fault))
+      let cut : cut_lines left ≡ [] = ap cut_lines none in let no_fault : (faulty || nat_lt 0 left) ≡ faulty = ap (λ n. faulty || nat_lt 0 n) none ∙ sym (or_right faulty) in (
+        lines ++ cut_lines left,
+        faulty || nat_lt 0 left,
+        ending,
+        subst (λ t. Writes {T = Bool} {E = E} a b (Ok whole) (text_of t)) (sym (ap (λ l. lines ++ l) cut ∙ append-nil lines)) writes,
+        same ∙ ap not (sym no_fault),
+      )
 
   module _ (some : left ≢ 0) where
     one_line : cut_lines left ≡ record { id = None; line = frame_cut_line left } ∷ []
@@ -216,14 +233,22 @@ module _ (g : Listing) (pairs : List (ℕ × ℕ)) (left : ℕ) (lines : List Pr
 
     pub ends_cut : {T E : Type 0} (a b c : IoState) (whole : Bool) (x : T) → Writes {T = Bool} {E = E} a b (Ok whole) (text_of lines)
         → Writes {T = T} {E = E} b c (Ok x) (frame_cut_line left) → Ends {E = E} g pairs left a c (Ok false)
-    ends_cut a b c whole x first last =
-        (lines ++ cut_lines left, faulty || nat_lt 0 left, ending,
-         all_written a b c x false (text_of lines) (frame_cut_line left) (text_of (lines ++ cut_lines left)) text
-             (wrote_by a b whole (text_of lines) first) last, ap not (sym fault_is))
+    ends_cut a b c whole x first last = (
+      lines ++ cut_lines left,
+      faulty || nat_lt 0 left,
+      ending,
+      all_written a b c x false (text_of lines) (frame_cut_line left) (text_of (lines ++ cut_lines left)) text
+          (wrote_by a b whole (text_of lines) first) last,
+      ap not (sym fault_is),
+    )
 
     pub cut_fails : {T E : Type 0} (a b c : IoState) (whole : Bool) (e d : E) → Writes {T = Bool} {E = E} a b (Ok whole) (text_of lines)
         → Writes {T = T} {E = E} b c (Err e) (frame_cut_line left) → Ends {E = E} g pairs left a c (Err d)
-    cut_fails a b c whole e d first last =
-        (lines ++ cut_lines left, faulty || nat_lt 0 left, ending,
-         last_fails a b c e d (text_of lines) (frame_cut_line left) (text_of (lines ++ cut_lines left)) text
-             (wrote_by a b whole (text_of lines) first) last, tt)
+    cut_fails a b c whole e d first last = (
+      lines ++ cut_lines left,
+      faulty || nat_lt 0 left,
+      ending,
+      last_fails a b c e d (text_of lines) (frame_cut_line left) (text_of (lines ++ cut_lines left)) text
+          (wrote_by a b whole (text_of lines) first) last,
+      tt,
+    )

@@ -1,5 +1,5 @@
 -- The path of a stream among others.
-use Rattle.std.proofs.Common.{◌≡◌, ℕ, Bool, true, false, List, [], ◌∷◌, ◌++◌, length, Result, Ok, Err, refl, sym, ap, subst, ◌∙◌, inl, inr, arith, append-nil}
+use Rattle.std.proofs.Common.{◌≡◌, ℕ, Bool, true, false, List, [], ◌∷◌, length, Result, Ok, Err, refl, sym, ap, subst, ◌∙◌, inl, inr, arith, append-nil}
 use Rattle.std.proofs.lemmas.Bool.Decides.{eqb_tells}
 use Rattle.std.specs.Prelude.{IfOk, not, ◌==◌, if◌then◌else◌}
 use Rattle.etm_types.specs.declared.item.Item.{Item}
@@ -47,9 +47,13 @@ module _ (image : Image) (d : Decoder) where
       → (lines : List Printed) × (faulty : Bool) × StreamEnds (paths image ((d.decoding).reader.settings)) id bytes lines faulty
       × Writes a b result (text_of lines) × IfOk result (λ (w : Bool). w ≡ not faulty)
   path_finished id [] result a b items last path writes same nothing = ([], false, (refl, refl), writes, nothing refl)
-  path_finished id (x ∷ bytes) result a b items last path writes same nothing =
-      (lines_under id (end_line id last ∷ []), is_fault last, (end_line id last, (items, last, path, refl, refl), refl),
-       subst (Writes a b result) (some_line id x bytes last) writes, same)
+  path_finished id (x ∷ bytes) result a b items last path writes same nothing = (
+    lines_under id (end_line id last ∷ []),
+    is_fault last,
+    (end_line id last, (items, last, path, refl, refl), refl),
+    subst (Writes a b result) (some_line id x bytes last) writes,
+    same,
+  )
 
 -- a decoder that stands at no bytes
 pub fresh : {E : Type 0} (result : Result Decoder E) → IfOk result (λ (d : Decoder). (image : Image) → StandsAt image d [])

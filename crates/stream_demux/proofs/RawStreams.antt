@@ -1,9 +1,8 @@
 -- One stream that is not framed.
-use Rattle.std.proofs.Common.{◌≡◌, ◌≢◌, ℕ, zero, suc, ◌+◌, ◌<◌, ◌==◌, if◌then◌else◌, Bool, true, false, List, [], ◌∷◌, ◌++◌, length, map, Result, Ok, Err}
+use Rattle.std.proofs.Common.{◌≡◌, ℕ, zero, suc, ◌+◌, ◌<◌, ◌==◌, if◌then◌else◌, Bool, true, false, List, [], ◌∷◌, Result}
 use Rattle.std.proofs.Common.{refl, sym, ap, subst, ◌∙◌, inl, inr, arith, append-nil}
-use Rattle.std.specs.Prelude.{IfOk, not, nat_lt, ◌||◌}
+use Rattle.std.specs.Prelude.{IfOk, not, ◌||◌}
 use Rattle.std.specs.List.{concat, range_with_len}
-use Rattle.std.proofs.lemmas.Bool.{eq-eqb}
 use Rattle.std.proofs.lemmas.Bool.Decides.{eqb_tells}
 use Rattle.std.proofs.lemmas.List.{map-append}
 use Rattle.etm_types.specs.Settings.{Sizes}
@@ -54,9 +53,16 @@ raw_gains listing t s id byte bytes lines a b result named same gains writes =
 
 none_end : (g : Listing) (bytes : List ℕ) (from count : ℕ) → 1 < from → EndsOf g (raw_pairs bytes) (range_with_len from count) [] false
 none_end g bytes from zero more = (refl, refl)
-none_end g bytes from (suc count) more =
-    ([], [], false, false, subst (λ (l : List ℕ). StreamEnds g from l [] false) (sym (of_raw_other from bytes more)) (refl, refl),
-     none_end g bytes (from + 1) count (omega (arith, more)), refl, refl)
+none_end g bytes from (suc count) more = (
+  [],
+  [],
+  false,
+  false,
+  subst (λ (l : List ℕ). StreamEnds g from l [] false) (sym (of_raw_other from bytes more)) (refl, refl),
+  none_end g bytes (from + 1) count (omega (arith, more)),
+  refl,
+  refl,
+)
 
 or_once : (a : Bool) → a ≡ (a || false)
 or_once true = refl
@@ -71,13 +77,16 @@ raw_ends listing t s id bytes lines faulty a b result named same ends writes who
     let g = listing s in
     let here : StreamEnds g 1 (of 1 (raw_pairs bytes)) lines faulty =
     subst (λ (l : List ℕ). StreamEnds g 1 l lines faulty) (sym (of_raw bytes))
-    (subst (λ (i : ℕ). StreamEnds g i bytes lines faulty) named (subst (λ (u : Sizes). StreamEnds (listing u) id bytes lines faulty) same ends)) in
-    (lines, faulty,
-     record {
-       ends = lines;
-       some_fault = faulty;
-       ended = (lines, [], faulty, false, here, none_end g bytes 2 110 (omega arith), sym (append-nil lines), or_once faulty);
-       all = sym (append-nil lines);
-       fault = or_once faulty;
-     },
-     writes, whole)
+    (subst (λ (i : ℕ). StreamEnds g i bytes lines faulty) named (subst (λ (u : Sizes). StreamEnds (listing u) id bytes lines faulty) same ends)) in (
+      lines,
+      faulty,
+      record {
+        ends = lines;
+        some_fault = faulty;
+        ended = (lines, [], faulty, false, here, none_end g bytes 2 110 (omega arith), sym (append-nil lines), or_once faulty);
+        all = sym (append-nil lines);
+        fault = or_once faulty;
+      },
+      writes,
+      whole,
+    )

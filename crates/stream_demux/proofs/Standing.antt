@@ -33,23 +33,29 @@ module _ {X : Type 0} (stands : X → List ℕ → Type 0) (sizes : X → Sizes)
   pub others_stand : (id : ℕ) (streams : List X) (pairs : List (ℕ × ℕ)) (other byte : ℕ) → ((k : ℕ) → k < length streams → other ≢ id + k) → From id streams pairs
       → From id streams (pairs ++ (other, byte) ∷ [])
   others_stand id [] pairs other byte differs all = tt
-  others_stand id (x ∷ streams) pairs other byte differs all =
-      (subst (stands x) (sym (of_other id other byte pairs (λ is. differs 0 (omega arith) (omega (arith, is))))) all.0, all.1,
-       others_stand (suc id) streams pairs other byte (λ k within is. differs (suc k) (omega (arith, within)) (omega (arith, is))) all.2)
+  others_stand id (x ∷ streams) pairs other byte differs all = (
+    subst (stands x) (sym (of_other id other byte pairs (λ is. differs 0 (omega arith) (omega (arith, is))))) all.0,
+    all.1,
+    others_stand (suc id) streams pairs other byte (λ k within is. differs (suc k) (omega (arith, within)) (omega (arith, is))) all.2,
+  )
 
   -- the stream at a place takes a byte
   pub one_moves : (id : ℕ) (streams : List X) (pairs : List (ℕ × ℕ)) (k byte : ℕ) (next : X) → k < length streams → From id streams pairs
       → stands next (of (id + k) pairs ++ byte ∷ []) → sizes next ≡ s → From id (slice_set streams k next) (pairs ++ (id + k, byte) ∷ [])
   one_moves id [] pairs k byte next within all moved same = absurd (omega (arith, within))
   one_moves id (x ∷ streams) pairs zero byte next within all moved same =
-      let here : id + 0 ≡ id = omega arith in
-      (subst (stands next) (ap (λ i. of i pairs ++ byte ∷ []) here ∙ sym (of_this id byte pairs) ∙ ap (λ i. of id (pairs ++ (i, byte) ∷ [])) (sym here)) moved, same,
-       others_stand (suc id) streams pairs (id + 0) byte (λ j _ is. omega (arith, is)) all.2)
+      let here : id + 0 ≡ id = omega arith in (
+        subst (stands next) (ap (λ i. of i pairs ++ byte ∷ []) here ∙ sym (of_this id byte pairs) ∙ ap (λ i. of id (pairs ++ (i, byte) ∷ [])) (sym here)) moved,
+        same,
+        others_stand (suc id) streams pairs (id + 0) byte (λ j _ is. omega (arith, is)) all.2,
+      )
   one_moves id (x ∷ streams) pairs (suc k) byte next within all moved same =
-      let place : suc id + k ≡ id + suc k = omega arith in
-      (subst (stands x) (sym (of_other id (id + suc k) byte pairs (λ is. omega (arith, is)))) all.0, all.1,
-       subst (λ i. From (suc id) (slice_set streams k next) (pairs ++ (i, byte) ∷ [])) place
-           (one_moves (suc id) streams pairs k byte next (omega (arith, within)) all.2 (subst (λ i. stands next (of i pairs ++ byte ∷ [])) (sym place) moved) same))
+      let place : suc id + k ≡ id + suc k = omega arith in (
+        subst (stands x) (sym (of_other id (id + suc k) byte pairs (λ is. omega (arith, is)))) all.0,
+        all.1,
+        subst (λ i. From (suc id) (slice_set streams k next) (pairs ++ (i, byte) ∷ [])) place
+            (one_moves (suc id) streams pairs k byte next (omega (arith, within)) all.2 (subst (λ i. stands next (of i pairs ++ byte ∷ [])) (sym place) moved) same),
+      )
 
   -- one more stream that stands where nothing was taken
   pub one_more : (id : ℕ) (streams : List X) (next : X) → From id streams [] → stands next [] → sizes next ≡ s → From id (streams ++ next ∷ []) []

@@ -1,5 +1,5 @@
 -- What was written of pairs that were taken one after the other.
-use Rattle.std.proofs.Common.{◌≡◌, ℕ, List, [], ◌∷◌, ◌++◌, Result, Ok, Err, refl, sym, ap, subst, ◌∙◌, append-nil, append_assoc}
+use Rattle.std.proofs.Common.{◌≡◌, ℕ, List, [], ◌∷◌, ◌++◌, Ok, Err, refl, sym, ap, subst, ◌∙◌, append-nil, append_assoc}
 use Rattle.std.specs.List.{concat}
 use Rattle.path_text.proofs.Wrote.{Wrote, fails_after, wrote_by, wrote_more, wrote_nothing, writes_all}
 use Rattle.path_text.specs.Writing.{Writes}

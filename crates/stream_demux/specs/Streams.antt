@@ -1,5 +1,5 @@
 -- What contracts see of the streams of a capture.
-use Rattle.std.specs.Prelude.{◌≡◌, ℕ, suc, ◌≤◌, Bool, false, All, List, [], ◌∷◌, ◌++◌, length, Result, IsOk}
+use Rattle.std.specs.Prelude.{◌≡◌, ℕ, suc, ◌≤◌, Bool, false, List, [], ◌∷◌, ◌++◌, length, Result, IsOk}
 use Rattle.element_queue.specs.Counting.{sum_of}
 use Rattle.element_queue.specs.declared.ledger.Counts.{Counts}
 use Rattle.etm_types.specs.Settings.{Sizes}

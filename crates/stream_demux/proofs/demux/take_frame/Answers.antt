@@ -1,11 +1,11 @@
-use Rattle.std.proofs.Common.{◌≡◌, ◌+◌, ◌≤◌, ◌∷◌, ◌++◌, [], ℕ, List, Some, Ok, Err, take, drop, refl, sym, ap, subst, ◌∙◌, arith, append_assoc}
+use Rattle.std.proofs.Common.{◌≡◌, ◌+◌, ◌≤◌, ◌∷◌, ◌++◌, [], Some, Err, take, drop, refl, sym, ap, subst, ◌∙◌, arith, append_assoc}
 use Rattle.std.specs.Prelude.{All, slice_get}
 use Rattle.std.specs.List.{concat}
 use Rattle.std.proofs.lemmas.List.{take_all, take-append-drop}
 use Rattle.path_text.proofs.Wrote.{wrote_by}
 use Rattle.path_text.specs.Writing.{Writes}
 use Rattle.stream_demux.specs.Streams.{Adds, AllStand, IsReady}
-use Rattle.stream_demux.specs.Texts.{lines_under, text_of}
+use Rattle.stream_demux.specs.Texts.{lines_under}
 use Rattle.stream_demux.proofs.Bodies.{body_one, text_under}
 use Rattle.stream_demux.proofs.Standing.{by_err, later_ready, taken_one}
 use Rattle.stream_demux.proofs.Writing.{Written, all_added, more_fail, more_written, one_written}

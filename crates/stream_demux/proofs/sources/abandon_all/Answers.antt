@@ -1,5 +1,5 @@
-use Rattle.std.proofs.Common.{◌≡◌, ◌∷◌, [], List, map, false, true, refl, sym, ap, subst, ◌∙◌}
-use Rattle.element_queue.specs.Counting.{no_counts, sum_of}
+use Rattle.std.proofs.Common.{◌≡◌, ◌∷◌, map, sym, ap, subst, ◌∙◌}
+use Rattle.element_queue.specs.Counting.{sum_of}
 use Rattle.stream_demux.specs.Streams.{total}
 use Rattle.stream_demux.proofs.Ending.{Left, all_remain, none_left, none_remain, one_less}
 use Rattle.stream_demux.proofs.sources.abandon_all.Goals as goal

@@ -1,4 +1,4 @@
-use Rattle.std.proofs.Common.{◌≡◌, ◌*◌, Ok, Err, length, refl, sym, ap, subst, ◌∙◌, arith}
+use Rattle.std.proofs.Common.{◌≡◌, ◌*◌, Ok, Err, length, sym, ap, subst, ◌∙◌}
 use Rattle.formatter_frames.specs.Unframed.{begun_frame, unframed}
 use Rattle.path_text.specs.EndLines.{frame_cut_line}
 use Rattle.path_text.specs.Writing.{Writes}

@@ -1,12 +1,11 @@
-use Rattle.std.proofs.Common.{◌≡◌, ◌+◌, ◌*◌, ◌≤◌, ◌∷◌, ◌++◌, [], Ok, Err, length, take, drop, get_or, length-append, refl, sym, ap, subst, ◌∙◌, arith, append_assoc}
-use Rattle.std.specs.Prelude.{All}
+use Rattle.std.proofs.Common.{◌≡◌, ◌+◌, ◌*◌, ◌∷◌, ◌++◌, [], Err, length, take, drop, get_or, length-append, refl, sym, ap, subst, ◌∙◌, arith, append_assoc}
 use Rattle.std.proofs.lemmas.List.{take_all, take_more, take-append-drop}
 use Rattle.formatter_frames.specs.Reader as reader
 use Rattle.formatter_frames.proofs.Going.{more_pairs}
 use Rattle.formatter_frames.specs.Symbols.{pairs_of}
 use Rattle.formatter_frames.specs.Unframed.{begun_frame, id_after_frames, symbols_of_frames, unframed}
 use Rattle.stream_demux.specs.Demuxed.{Gains, StandsAt}
-use Rattle.stream_demux.specs.Streams.{AllStand, IsReady}
+use Rattle.stream_demux.specs.Streams.{AllStand}
 use Rattle.stream_demux.proofs.Standing.{later_ready}
 use Rattle.stream_demux.proofs.Writing.{Gained, all_gained, byte_gained, gain_fails}
 use Rattle.stream_demux.proofs.demux.Demux.take_piece.Goals as goal
@@ -36,7 +35,7 @@ loop-byte-preserved g c =
           let longer : c.loop-byte.self-inside.taken + 1 ≡ length (bytes ++ (front ++ byte ∷ [])) =
           omega (arith, there.taken, ap length joined, length-append (bytes ++ front) (byte ∷ [])) in
           subst (λ l. StandsAt at g.S.Stream.sizes s
-              (record { frames = c.take_byte.new.frames; streams = c.take_byte.new.sources; taken = c.loop-byte.self-inside.taken + 1; broken = c.loop-byte.self-inside.broken }) (bytes ++ l))
+          (record { frames = c.take_byte.new.frames; streams = c.take_byte.new.sources; taken = c.loop-byte.self-inside.taken + 1; broken = c.loop-byte.self-inside.broken }) (bytes ++ l))
           (sym more)
           (record {
             whole = there.whole;

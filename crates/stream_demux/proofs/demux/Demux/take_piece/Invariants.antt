@@ -1,4 +1,4 @@
-use Rattle.std.proofs.Common.{◌≡◌, ◌+◌, ◌*◌, ◌≤◌, ℕ, List, ◌++◌, length, take, false}
+use Rattle.std.proofs.Common.{◌≡◌, ◌+◌, ◌*◌, ℕ, List, ◌++◌, take, false}
 use Rattle.std.specs.Prelude.{All}
 use Rattle.etm_types.specs.Settings.{Sizes}
 use Rattle.formatter_frames.specs.Unframed.{unframed}

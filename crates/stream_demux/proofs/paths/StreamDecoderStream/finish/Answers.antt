@@ -1,4 +1,4 @@
-use Rattle.std.proofs.Common.{◌≡◌, sym, ◌∙◌}
+use Rattle.std.proofs.Common.{sym, ◌∙◌}
 use Rattle.stream_demux.proofs.PathStreams.{path_finished, stands_path}
 use Rattle.stream_demux.proofs.paths.StreamDecoderStream.finish.Goals as goal
 

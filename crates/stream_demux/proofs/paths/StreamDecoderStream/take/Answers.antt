@@ -8,7 +8,9 @@ use Rattle.stream_demux.proofs.paths.StreamDecoderStream.take.Goals as goal
 pub returns-clause-gains : goal.returns-clause-gains
 returns-clause-gains g c bytes stands =
     let grows = c.take.ensures.grows bytes stands in
-    let shown = c.args.self.now.shown in
-    (line_list c.args.id shown grows.0, (shown, grows.0, grows.1, refl),
-     subst (Writes {T = Unit {0}} {E = Failed} (g.K.Sink.state c.args.sink.now) (g.K.Sink.state c.take.new.sink) c.take.result)
-         (sym (list_joined c.args.id shown grows.0)) grows.2)
+    let shown = c.args.self.now.shown in (
+      line_list c.args.id shown grows.0,
+      (shown, grows.0, grows.1, refl),
+      subst (Writes {T = Unit {0}} {E = Failed} (g.K.Sink.state c.args.sink.now) (g.K.Sink.state c.take.new.sink) c.take.result)
+          (sym (list_joined c.args.id shown grows.0)) grows.2,
+    )

@@ -1,4 +1,4 @@
-use Rattle.std.proofs.Common.{sym, ap, subst, ◌∙◌}
+use Rattle.std.proofs.Common.{sym, subst}
 use Rattle.stream_demux.specs.Demuxed.{RawStandsAt}
 use Rattle.stream_demux.proofs.RawStreams.{raw_ends}
 use Rattle.stream_demux.proofs.raw.RawStream.finish.Goals as goal

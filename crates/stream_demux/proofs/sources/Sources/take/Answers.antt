@@ -1,6 +1,6 @@
-use Rattle.std.proofs.Common.{◌≡◌, ◌+◌, ◌-◌, ◌∷◌, ◌++◌, [], ℕ, List, Some, true, false, refl, sym, ap, subst, ◌∙◌, arith}
+use Rattle.std.proofs.Common.{◌≡◌, ◌+◌, ◌-◌, true, false, sym, ap, subst, ◌∙◌, arith}
 use Rattle.std.specs.Option.{option_copied_mut}
-use Rattle.std.specs.Prelude.{All, slice_get, slice_set}
+use Rattle.std.specs.Prelude.{All}
 use Rattle.etm_types.specs.Id.{IsId}
 use Rattle.stream_demux.specs.Streams.{AllStand, IsReady}
 use Rattle.stream_demux.specs.Texts.{of}
@@ -38,9 +38,12 @@ returns-clause-gains g c s pairs all =
     let place : c.from.result - 1 + 1 ≡ c.args.id = omega (arith, c.from.ensures, c.get.ensures.value, c.get.ensures.within.0, c.in-Some.ensures.value) in
     let one = source_stands stands sizes s c.self.inside.ring.items pairs c.args.id (c.from.result - 1) c.in-Some-get_mut.stream.now place (subst (λ l. AllStand stands sizes s l pairs) (sym c.self.view_is) all) at in
     let gains = c.take.ensures.gains (of c.args.id pairs) one.0 in
-    let is : IsId c.args.id = (omega (arith, c.get.ensures.within.0, c.get.ensures.value, c.in-Some.ensures.value), omega (arith, c.get.ensures.within.1, c.get.ensures.value, c.in-Some.ensures.value)) in
-    (gains.0, pair_gains (g.S.Stream.listing c.args.shared.now) (sizes c.in-Some-get_mut.stream.now) s c.args.id c.in-Some.id c.args.byte pairs gains.0 is
-    c.in-Some.ensures.value one.1 gains.1, gains.2)
+    let is : IsId c.args.id = (omega (arith, c.get.ensures.within.0, c.get.ensures.value, c.in-Some.ensures.value), omega (arith, c.get.ensures.within.1, c.get.ensures.value, c.in-Some.ensures.value)) in (
+      gains.0,
+      pair_gains (g.S.Stream.listing c.args.shared.now) (sizes c.in-Some-get_mut.stream.now) s c.args.id c.in-Some.id c.args.byte pairs gains.0 is
+          c.in-Some.ensures.value one.1 gains.1,
+      gains.2,
+    )
 
 pub returns-clause-ready : goal.returns-clause-ready
 returns-clause-ready g c most all ok =
