@@ -1,5 +1,5 @@
 -- Answers of a call from those of its parts, and behind the flush.
-use Rattle.std.proofs.Common.{◌≡◌, ◌⊎◌, ℕ, ◌≤◌, true, false, List, [], None, Result, Ok, Err, refl, sym, ap, subst, ◌∙◌, inl, inr, arith}
+use Rattle.std.proofs.Common.{◌≡◌, ◌⊎◌, ℕ, ◌≤◌, true, false, List, [], None, Result, Ok, Err, refl, sym, subst, inl, inr, arith}
 use Rattle.std.specs.Prelude.{IfOk}
 use Rattle.std.proofs.KnownBytes.{Appends-kept, Appends-nil}
 use Rattle.path_text.specs.Writing.{Writes}
@@ -8,15 +8,15 @@ use Rattle.program_image.specs.declared.fault.ImageWhy.{ImageWhy}
 use Rattle.trace_cmd.specs.Answers.{Answers, AnswersSo, Asks, Call, IsCall, IsImageBad, IsImageFault, IsNoMemory, IsPathCall, IsUsage, IsWriteFault}
 use Rattle.trace_cmd.specs.Answers.{Prints, PrintsFront, image_line, usage_line}
 use Rattle.trace_cmd.specs.Grows.{Grow, frames_grow, raw_grows}
-use Rattle.trace_cmd.specs.Listed.{Breaks, Completes, Exceeds, Interrupts, Listed}
-use Rattle.trace_cmd.specs.Printing.{What, PathsOf, PacketsOf, layout_of, left_of, listing_of, pairs_in, pairs_of}
+use Rattle.trace_cmd.specs.Listed.{Listed}
+use Rattle.trace_cmd.specs.Printing.{What, layout_of, left_of, listing_of, pairs_in, pairs_of}
 use Rattle.trace_cmd.specs.Words.{meaning}
 use Rattle.trace_cmd.specs.declared.status.Status.{Status}
 use Rattle.trace_cmd.specs.declared.status.Status.TheVariants as status
 use Rattle.trace_cmd.specs.declared.words.Layout.{Layout}
 use Rattle.trace_cmd.specs.declared.words.Layout.TheVariants.{Raw, Frames}
 use Rattle.trace_cmd.proofs.Interrupts.{broken_cut, completed_cut, exceeded_cut}
-use Rattle.trace_io.specs.Bytes.{AppendsAll, AppendsFront, KeepsBytes}
+use Rattle.trace_io.specs.Bytes.{AppendsAll, KeepsBytes}
 use Rattle.trace_io.specs.Causes.{HasCause, Rose}
 use Rattle.trace_io.specs.State.{IoState}
 use Rattle.trace_io.specs.declared.traits.Failed.{Failed}
@@ -104,8 +104,19 @@ module _ (c : Call) (old new newer : IoState) (kept : KeepsBytes new newer) wher
   kept_fault (inl front) = inl (kept_front (IsUsage c) front)
   kept_fault (inr (inl (line, why, front))) = inr (inl (line, why, kept_front (IsImageBad c line why) front))
   kept_fault (inr (inr (inl (what, asks, i)))) =
-      inr (inr (inl (what, asks, record {
-        bytes = i.bytes; took = i.took; few = i.few; shown = i.shown; printed = kept_all i.shown i.printed; late = i.late; early = i.early })))
+      inr (inr (inl (
+        what,
+        asks,
+        record {
+          bytes = i.bytes;
+          took = i.took;
+          few = i.few;
+          shown = i.shown;
+          printed = kept_all i.shown i.printed;
+          late = i.late;
+          early = i.early;
+        },
+      )))
   kept_fault (inr (inr (inr (inl f)))) = inr (inr (inr (inl (kept_image f))))
   kept_fault (inr (inr (inr (inr f)))) = inr (inr (inr (inr (kept_memory f))))
 

@@ -1,10 +1,9 @@
 -- What was printed of an input of which a write failed.
-use Rattle.std.proofs.Common.{◌≡◌, ℕ, ◌+◌, ◌-◌, ◌≤◌, Bool, List, [], ◌∷◌, ◌++◌, length, take, drop, Result, Ok, Err, refl, sym, ap, subst, ◌∙◌, inl, inr, arith}
+use Rattle.std.proofs.Common.{◌≡◌, ℕ, ◌+◌, ◌-◌, ◌≤◌, Bool, List, [], ◌∷◌, ◌++◌, length, take, drop, Err, refl, sym, ap, subst, ◌∙◌, inl, inr, arith}
 use Rattle.std.proofs.Common.{append_assoc, append-nil, length-append}
 use Rattle.std.proofs.KnownBytes.{Appends-kept, Appends-trans, Consumes-trans}
 use Rattle.std.proofs.lemmas.List.{take_all, take-append-drop, take-append-le}
 use Rattle.path_elements.specs.PathLaws.{BeginsWith}
-use Rattle.path_text.specs.Writing.{Writes}
 use Rattle.stream_demux.specs.Demuxed.{Gains}
 use Rattle.stream_demux.specs.Texts.{BodyFrom, IsText, Listing, Printed, text_of}
 use Rattle.stream_demux.proofs.Bodies.{body-append, body_parts, text_of-append}
@@ -35,10 +34,14 @@ module _ (carried : List ℕ → List (ℕ × ℕ)) (left : List ℕ → ℕ) (g
       → (first : List Printed) × BodyFrom g [] (carried (take (length (bytes ++ more) - most_at_once) (bytes ++ more))) first × BeginsWith (text_of first) shown
   early_by bytes more lines shown few body (behind, is) =
       let k = length (bytes ++ more) - most_at_once in
-      let front = front_body bytes k lines body in
-      (front.0, subst (λ b. BodyFrom g [] (carried b) front.0) (sym (front_of bytes more few)) front.2,
-       (text_of front.1 ++ behind,
-        is ∙ ap (λ t. t ++ behind) (ap text_of front.3 ∙ text_of-append front.0 front.1) ∙ append_assoc (text_of front.0) (text_of front.1) behind))
+      let front = front_body bytes k lines body in (
+        front.0,
+        subst (λ b. BodyFrom g [] (carried b) front.0) (sym (front_of bytes more few)) front.2,
+        (
+          text_of front.1 ++ behind,
+          is ∙ ap (λ t. t ++ behind) (ap text_of front.3 ∙ text_of-append front.0 front.1) ∙ append_assoc (text_of front.0) (text_of front.1) behind,
+        ),
+      )
 
   -- all lines of the bytes were printed before
   pub cut_behind : (a c old new : IoState) (bytes more : List ℕ) → Takes a c (bytes ++ more) → length bytes ≤ most_input → length more ≤ most_at_once
@@ -99,8 +102,13 @@ module _ (carried : List ℕ → List (ℕ × ℕ)) (left : List ℕ → ℕ) (g
         few = omega (arith, length-append bytes piece, few);
         shown = shown;
         printed = Appends-trans old.bytes here.bytes new.bytes (text_of lines0) front.front was.written.wrote.appended front.appended;
-        late = inl (carried bytes ++ gains.adds.took, lines0 ++ lines1, (gains.adds.others, ap carried whole ∙ parts),
-            body-append g [] (carried bytes) gains.adds.took lines0 lines1 body0 gains.adds.body, (front.rest, text));
+        late = inl (
+          carried bytes ++ gains.adds.took,
+          lines0 ++ lines1,
+          (gains.adds.others, ap carried whole ∙ parts),
+          body-append g [] (carried bytes) gains.adds.took lines0 lines1 body0 gains.adds.body,
+          (front.rest, text),
+        );
         early = early_by bytes piece lines0 shown most body0 (front.front, refl);
       }
 

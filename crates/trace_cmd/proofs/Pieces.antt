@@ -1,5 +1,5 @@
 -- An input that is read by pieces.
-use Rattle.std.proofs.Common.{◌≡◌, ◌⊎◌, ℕ, ◌+◌, ◌≤◌, Bool, true, false, not, List, [], ◌∷◌, ◌++◌, length, Result, Ok, Err, refl, sym, ap, subst, ◌∙◌, inl, inr, arith}
+use Rattle.std.proofs.Common.{◌≡◌, ◌⊎◌, ℕ, Bool, true, false, not, List, [], ◌++◌, Result, Ok, Err, refl, sym, ap, subst, ◌∙◌, inl, inr}
 use Rattle.std.proofs.Common.{append-nil, append_assoc}
 use Rattle.std.proofs.KnownBytes.{Appends-trans, Consumes-trans}
 use Rattle.path_text.specs.Writing.{Writes}
@@ -8,7 +8,7 @@ use Rattle.stream_demux.specs.Texts.{BodyFrom, IsEnding, IsText, Listing, Printe
 use Rattle.stream_demux.proofs.Bodies.{text_of-append}
 use Rattle.stream_demux.proofs.Writing.{Gained, added, more_gained}
 use Rattle.trace_cmd.specs.Grows.{Grow}
-use Rattle.trace_cmd.specs.Listed.{Completes, Interrupts, PrintsBody, Takes, most_input}
+use Rattle.trace_cmd.specs.Listed.{Completes, Interrupts, PrintsBody, Takes}
 use Rattle.trace_cmd.specs.Reading.{StopsSo, TookUpTo}
 use Rattle.trace_cmd.specs.declared.input.Stop.{Stop}
 use Rattle.trace_cmd.specs.declared.input.Stop.TheVariants.{End, TooLong, ReadFault}
@@ -34,10 +34,11 @@ module _ (carried : List ℕ → List (ℕ × ℕ)) (left : List ℕ → ℕ) (g
   -- what was gained is the body that was printed
   pub body_printed : (bytes : List ℕ) (a b : IoState) → Gained carried g [] bytes a b → PrintsBody carried g bytes a b
   body_printed bytes a b was =
-      let pairs0 : carried bytes ≡ was.pairs = was.grows ∙ ap (λ p. p ++ was.pairs) grow.0 in
-      (was.written.lines,
-       subst (λ p. BodyFrom g [] p was.written.lines) (sym pairs0) (subst (λ p. BodyFrom g p was.pairs was.written.lines) grow.0 was.written.body),
-       was.written.wrote.appended)
+      let pairs0 : carried bytes ≡ was.pairs = was.grows ∙ ap (λ p. p ++ was.pairs) grow.0 in (
+        was.written.lines,
+        subst (λ p. BodyFrom g [] p was.written.lines) (sym pairs0) (subst (λ p. BodyFrom g p was.pairs was.written.lines) grow.0 was.written.body),
+        was.written.wrote.appended,
+      )
 
   module _ (stands : List ℕ → Type 0) (a c old here new : IoState) (took : TookUpTo stands carried g a c old here End) (ending : List Printed) (faulty : Bool)
       (ended : IsEnding g (carried took.1) (left took.1) ending faulty) where

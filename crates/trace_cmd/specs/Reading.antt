@@ -1,5 +1,5 @@
 -- The reading of an input by pieces.
-use Rattle.std.specs.Prelude.{◌≡◌, ℕ, ◌+◌, ◌<◌, ◌≤◌, List, [], ◌∷◌, ◌++◌, length, take, Result, Ok, Err}
+use Rattle.std.specs.Prelude.{◌≡◌, ℕ, ◌+◌, ◌<◌, ◌≤◌, List, [], ◌∷◌, length, take, Result, Ok, Err}
 use Rattle.std.specs.Io.KnownBytes.{IsAtEnd}
 use Rattle.stream_demux.specs.Texts.{Listing}
 use Rattle.trace_cmd.specs.Listed.{Interrupts, PrintsBody, Takes, most_at_once, most_input}

@@ -92,7 +92,9 @@ fn answer_path<I: Source, J: Source, K: Sink>(
     ensures shows { ShowsAsBefore (K.state out.old) (K.state out.new) }
 {
     match Image::read(alloc, image) {
-        Ok(image) => print_streams::<StreamDecoder, J, K>(alloc, settings, layout, &image, input, out),
+        Ok(image) => print_streams::<StreamDecoder, J, K>(
+            alloc, settings, layout, &image, input, out,
+        ),
         Err(ImageFault::Bad { line, why }) => {
             write_image_bad(line, why, out)?;
             Ok(Status::ImageBad { line, why })
@@ -142,7 +144,11 @@ fn answer_words<I: Source, J: Source, K: Sink>(
         return answer_usage(out);
     };
     match &command {
-        Command::Path { settings, layout, .. } => answer_path(alloc, settings, *layout, image, input, out),
+        Command::Path {
+            settings,
+            layout,
+            ..
+        } => answer_path(alloc, settings, *layout, image, input, out),
         Command::Packets { settings, layout } => {
             print_streams::<PacketStream, J, K>(alloc, settings, *layout, &(), input, out)
         }

@@ -29,6 +29,7 @@ pub trait Printer {
 
     /// The pairs of ID and byte that bytes carry, and how many are left over of a frame.
     ghost carried: { List ℕ → List (ℕ × ℕ) };
+
     ghost left: { List ℕ → ℕ };
 
     /// Takes the next bytes, and writes the lines that they add. The error means that a write failed.

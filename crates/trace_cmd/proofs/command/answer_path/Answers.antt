@@ -1,8 +1,7 @@
-use Rattle.std.proofs.Common.{◌≡◌, Ok, Err, inl, inr, refl, sym, ap, subst, ◌∙◌}
-use Rattle.std.proofs.lemmas.Result.{err_from_is_err_and}
+use Rattle.std.proofs.Common.{Err, inl, inr, refl, ap}
 use Rattle.trace_cmd.specs.Answers.{call}
 use Rattle.trace_cmd.specs.Printing.{PathsOf}
-use Rattle.trace_cmd.proofs.AnswerLemmas.{bad_image_fails, so_by, so_of_bad_image, so_of_image_fault, so_of_memory}
+use Rattle.trace_cmd.proofs.AnswerLemmas.{so_by, so_of_image_fault}
 use Rattle.trace_cmd.proofs.command.answer_path.Goals as goal
 
 pub returns-in-Ok-clause-answer : goal.returns-in-Ok-clause-answer

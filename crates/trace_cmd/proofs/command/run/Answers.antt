@@ -1,4 +1,4 @@
-use Rattle.std.proofs.Common.{◌≡◌, Ok, Err, sym, subst}
+use Rattle.std.proofs.Common.{subst}
 use Rattle.trace_cmd.specs.Answers.{AnswersSo, call}
 use Rattle.trace_cmd.specs.Words.{texts}
 use Rattle.trace_cmd.proofs.AnswerLemmas.{all_flushed, flush_fails_behind, write_fails}
