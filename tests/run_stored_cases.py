@@ -3,8 +3,8 @@
 
 Usage: run_stored_cases.py PROGRAM CASES
 
-CASES is a file that tests/packet_cases.py or tests/path_cases.py made, where the form is told. Prints the number of cases. Where some fail, it
-ends with 1, and standard error has how many, and for the first few the name and what differs.
+CASES is a file that one of the tests/*_cases.py made, where the form is told. Prints the number of cases. Where some fail,
+it ends with 1, and standard error has how many, and for the first few the name and what differs.
 """
 import collections
 import concurrent.futures
@@ -20,22 +20,32 @@ AT_ONCE = 4  # processes; more than one, since most of the time is spent waiting
 Case = collections.namedtuple("Case", "name words image given status lines")
 
 
-def case_of(block):
+def bytes_of(line):
+    """The bytes of a line `input`: in hex, and behind them where they stand more than once ` x` and how often."""
+    digits, _, times = line.partition(" x")
+    return bytes.fromhex(digits) * int(times or 1)
+
+
+def cases_of_block(block):
+    """The case of a block, or, where it has several command lines over one input, a case for each."""
     found = collections.defaultdict(list)
-    lines = []
     for line in block.splitlines():
         if line.startswith("  "):
-            lines.append(line[2:])
+            found["lines"][-1].append(line[2:])
         elif not line.startswith("#"):
             key, _, value = line.partition(" ")
             found[key].append(value)
-    [name], [words], [status] = found["case"], found["words"], found["status"]
-    image = "".join(line + "\n" for line in found["image"])
-    return Case(name, words.split(), image, bytes.fromhex("".join(found["input"])), int(status), lines)
+            if key == "words":
+                found["lines"].append([])
+    [name] = found["case"]
+    image, given = "".join(line + "\n" for line in found["image"]), b"".join(map(bytes_of, found["input"]))
+    for words, status, lines in zip(found["words"], found["status"], found["lines"], strict=True):
+        command = words.split()
+        yield Case(name if len(found["words"]) == 1 else f"{name}_{command[0]}", command, image, given, int(status), lines)
 
 
 def cases_of(text):
-    return [case_of(block) for block in text.split("\n\n") if "\ncase " in "\n" + block]
+    return [case for block in text.split("\n\n") if "\ncase " in "\n" + block for case in cases_of_block(block)]
 
 
 def difference(program, case, room):

@@ -1,0 +1,264 @@
+#!/usr/bin/env python3
+"""Makes tests/cases_of_captures/cases.txt: captures in frames, and what `etm path` and `etm packets` must print of them.
+
+Usage: capture_cases.py MODEL_DIR
+
+MODEL_DIR is as for tests/packet_cases.py. The streams are those of tests/speculation_cases.py, streams with bytes changed, and
+any bytes, of one to six IDs. They are put into frames here, by docs/FORMATS.md ("Frames") and with a fixed seed: as the trace
+formatter of this project writes them, or as any other may, which repeats an ID, tells one late, or has bytes before the first.
+Bytes of the null ID and of reserved IDs stand between, some captures have frames of any bytes or barrier packets, and some end
+in a frame. The answers come from the model alone, in its profile `base`.
+
+The file has the form of that of tests/path_cases.py, but that a block has two command lines, each with its answer behind it.
+A line `input` may end with ` x` and how often its bytes stand there.
+"""
+import collections
+import itertools
+import pathlib
+import random
+import re
+import sys
+
+import frame_cases
+import path_cases
+from packet_cases import SYNC
+from path_cases import changed
+from speculation_cases import Outlook, Sizes, answer, begun, grown, loop
+
+OUT = pathlib.Path(__file__).resolve().parent / "cases_of_captures" / "cases.txt"
+CAPTURES = 300
+MOST_LINES = 160
+PIECE = 4096
+FRAME = 16
+BARRIER = bytes.fromhex("ffffff7f") * 4
+NULL, RESERVED, LAST_SOURCE = 0x00, range(0x70, 0x80), 0x6F
+
+HEAD = """\
+# Made by tests/capture_cases.py; tests/packet_cases.py and tests/path_cases.py say what the lines of a block are.
+"""
+
+
+# ---- streams ---------------------------------------------------------------
+
+def stream(rng, model, lines, places, sizes):
+    """The bytes of a stream: packets that fit the image, such with a byte changed, or any bytes."""
+    kind = rng.randrange(10)
+    if kind == 0:
+        return rng.randbytes(rng.randrange(1, 40))
+    if kind == 1:
+        return model.randoms.random_bytes(rng, model.base.Settings(*sizes), rng.randrange(1, 60), "base")
+    given = grown(rng, Outlook(model, lines, sizes), begun(rng, places, sizes), places, sizes)
+    if kind == 2:
+        return SYNC + given
+    return changed(rng, given) if kind < 6 else given
+
+
+def woven(rng, streams):
+    """The bytes of the streams in turn, as (ID, byte), and bytes of IDs that are no sources between them."""
+    left, found, others = dict(streams), [], rng.choice([0, 0, 0.1, 0.5])
+    while left:
+        source = rng.choice(sorted(left))
+        count = rng.choice([1, 1, 2, 3, 7, 14, 15, 30, 60])
+        found += [(source, byte) for byte in left[source][:count]]
+        left[source] = left[source][count:]
+        left = {source: rest for source, rest in left.items() if rest}
+        if rng.random() < others:
+            other = rng.choice([NULL, rng.choice(RESERVED)])
+            found += [(other, byte) for byte in rng.randbytes(rng.choice([1, 1, 2, 5, 20]))]
+    return found
+
+
+# ---- frames ----------------------------------------------------------------
+
+class Frames:
+    """Frames, place by place. A cell is a byte of data, or an ID with its auxiliary bit."""
+
+    def __init__(self):
+        self.cells = []
+
+    @property
+    def place(self):
+        return len(self.cells) % (FRAME - 1)
+
+    def put_data(self, byte):
+        self.cells.append((byte if self.place % 2 else byte & 0xFE, 0 if self.place % 2 else byte & 1))
+
+    def put_id(self, source, late):
+        self.cells.append((source << 1 | 1, late))
+
+    def bytes_of(self):
+        while self.place:
+            self.put_data(0)
+        frames = bytearray()
+        for at in range(0, len(self.cells), FRAME - 1):
+            cells = self.cells[at:at + FRAME - 1]
+            frames += bytes(byte for byte, _ in cells)
+            frames.append(sum(bit << place // 2 for place, (_, bit) in enumerate(cells)))
+        return bytes(frames)
+
+
+def framed_freely(rng, given):
+    """Frames that another formatter may write. Where the ID changes is told where it must be, and at times where it need not."""
+    frames, current, again, at = Frames(), None, rng.choice([0, 0.05, 0.3]), 0
+    for byte in rng.randbytes(rng.choice([0, 0, 2, 6, 15, 20, 30])):
+        frames.put_data(byte)
+    while frames.place % 2:
+        frames.put_data(0)
+    while at < len(given):
+        source, byte = given[at]
+        follows = given[at + 1][0] if at + 1 < len(given) else source
+        is_last, tells_again = frames.place == FRAME - 2, rng.random() < again
+        if is_last and (source != current or tells_again):
+            frames.put_id(source, rng.randrange(2))
+            current = source
+            continue
+        if frames.place % 2 == 0 and not is_last and source == current and (follows != current or tells_again):
+            frames.put_id(follows, 1)
+            current = follows
+        elif frames.place % 2 == 0 and source != current:
+            frames.put_id(source, 0)
+            current = source
+        frames.put_data(byte)
+        at += 1
+    if frames.place % 2 == 0 and rng.random() < 0.7:
+        frames.put_id(NULL, 0)
+    assert data_of(frames.bytes_of())[:len(given)] == given
+    return frames.bytes_of()
+
+
+def data_of(frames):
+    """The data bytes of whole frames, as (ID, byte)."""
+    found, current = [], None
+    for at in range(0, len(frames), FRAME):
+        pairs, current = frame_cases.unpack(frames[at:at + FRAME], current)
+        found += pairs
+    return found
+
+
+def noise(rng):
+    """Frames of any bytes, with IDs of few sources."""
+    frames, sources = bytearray(rng.randbytes(FRAME * rng.randrange(1, 4))), rng.sample(range(0x80), 3)
+    for at in range(0, len(frames), 2):
+        if at % FRAME != FRAME - 2 and rng.random() < 0.4:
+            frames[at] = rng.choice(sources) << 1 | 1
+        elif rng.random() < 0.8:
+            frames[at] &= 0xFE
+    return bytes(frames)
+
+
+def capture(rng, model, streams):
+    bytes_in_turn = woven(rng, streams)
+    frames = model.frames.framed(bytes_in_turn) if rng.random() < 0.4 else framed_freely(rng, bytes_in_turn)
+    kind = rng.randrange(12)
+    if kind == 0:
+        frames = BARRIER * rng.randrange(1, 3) + frames
+    elif kind == 1:
+        middle = FRAME * rng.randrange(len(frames) // FRAME)
+        frames = frames[:middle] + rng.choice([BARRIER, noise(rng)]) + frames[middle:]
+    elif kind == 2:
+        frames = noise(rng) + frames
+    elif kind == 3:
+        idle = model.frames.framed([(rng.choice([NULL, rng.choice(RESERVED)]), 0)] * (PIECE + rng.choice([0, 1, 9, 4000])))
+        middle = FRAME * rng.randrange(len(frames) // FRAME)
+        frames = frames[:middle] + idle + frames[middle:]
+    return frames[:len(frames) - rng.randrange(1, len(frames))] if rng.random() < 0.25 else frames
+
+
+def case(rng, model):
+    """The sizes, the lines of the image, and a capture."""
+    sizes = Sizes(rng.choice([0, 0, 1, 3, 16, 16, 64]), rng.choice([1, 1, 0, 2, 4]), rng.choice([4, 4, 0]))
+    parts = loop(rng) if rng.random() < 0.4 else path_cases.program(rng)
+    lines, places = path_cases.image_lines(rng, parts), path_cases.places_of(parts)
+    ids = rng.sample([1, 2, 0x10, LAST_SOURCE, *range(3, 0x10), *range(0x11, LAST_SOURCE)], rng.randrange(1, 7))
+    streams = [(source, stream(rng, model, lines, places, sizes)) for source in ids]
+    return sizes, lines, capture(rng, model, streams)
+
+
+# ---- what must occur -------------------------------------------------------
+
+def seen(given, ends):
+    """What a capture has."""
+    frames = [given[at:at + FRAME] for at in range(0, len(given) - FRAME + 1, FRAME)]
+    told = [place for frame in frames for place in range(0, FRAME, 2) if place < FRAME - 1 and frame[place] & 1]
+    ids = {frame[place] >> 1 for frame in frames for place in range(0, FRAME - 1, 2) if frame[place] & 1}
+    late = any(frame[place] & 1 and frame[FRAME - 1] >> place // 2 & 1 for frame in frames for place in range(0, FRAME - 2, 2))
+    found = {
+        "the null ID": NULL in ids, "reserved IDs": any(source in RESERVED for source in ids), "an ID told late": late,
+        "an ID in byte 14": FRAME - 2 in told, "bytes before the first ID": bool(frames) and not frames[0][0] & 1,
+        "a barrier packet": BARRIER in frames, "a barrier packet in front": given.startswith(BARRIER),
+        "more than one piece": len(given) > PIECE, "no stream": not ends, f"{len(ends)} streams": ends,
+        "faults in two streams": sum(" fault " in line for line in ends) > 1,
+        "a stream that ends well beside a fault": {"end", "fault"} <= {line.split()[1] for line in ends},
+        f"a frame of {len(given) % FRAME} bytes": len(given) % FRAME,
+    }
+    return [name for name, there in found.items() if there]
+
+
+def due():
+    yield from ("the null ID", "reserved IDs", "an ID told late", "an ID in byte 14", "bytes before the first ID", "no stream",
+                "a barrier packet", "a barrier packet in front", "more than one piece", "faults in two streams",
+                "a stream that ends well beside a fault", "end", "cut", "nosync", "fault", "gap", "stop", "exc", "on", "?")
+    yield from (f"{count} streams" for count in range(1, 7))
+    yield from (f"a frame of {count} bytes" for count in range(1, FRAME))
+
+
+END_LINE = re.compile("[0-9a-f]{2} (end|cut|nosync|fault)( .*)?")
+
+
+# ---- the file --------------------------------------------------------------
+
+def input_lines(given):
+    """Three frames a line; of equal frames that follow one another, one line."""
+    frames, some = [given[at:at + FRAME] for at in range(0, len(given), FRAME)], []
+    for frame, equal in itertools.groupby(frames):
+        count = len(list(equal))
+        if count < 4:
+            some += [frame] * count
+            continue
+        yield from (b"".join(some[at:at + 3]).hex() for at in range(0, len(some), 3))
+        yield f"{frame.hex()} x{count}"
+        some = []
+    yield from (b"".join(some[at:at + 3]).hex() for at in range(0, len(some), 3))
+
+
+def block(name, image, given, answers):
+    lines = [f"case {name}", *(f"image {line}" for line in image), *(f"input {line}" for line in input_lines(given))]
+    for command, (status, printed) in answers:
+        lines += ["words " + " ".join(command), f"status {status}", *("  " + line for line in printed)]
+    return "\n".join(lines) + "\n"
+
+
+def words_of(command, sizes):
+    depth = ["--depth", f"{sizes.depth}"] if command == "path" else []
+    return [command, *depth, "--vmid", f"{sizes.vmid}", "--cid", f"{sizes.cid}", *["IMAGE"] * (command == "path")]
+
+
+def main(words):
+    if len(words) != 1:
+        sys.exit(__doc__)
+    sys.path.insert(0, words[0])
+    import etm_model as model
+    from etm_model import base, frames, image, path, randoms, text, top  # noqa: F401
+
+    rng, counts, blocks, number = random.Random(29), collections.Counter(), [], 0
+    while number < CAPTURES:
+        sizes, lines, given = case(rng, model)
+        commands = [words_of(command, sizes) for command in ("path", "packets")]
+        answers = [answer(model, command, lines, given) for command in commands]
+        if max(len(printed) for _, printed in answers) > MOST_LINES:
+            continue
+        ends = [line for line in answers[0][1] if END_LINE.fullmatch(line)]
+        counts.update(seen(given, ends))
+        counts.update({line.split()[1] for line in answers[0][1]} & set(due()))
+        blocks.append(block(f"capture_{number}", lines, given, zip(commands, answers)))
+        number += 1
+    print(*(f"{count:6} {name}" for name, count in sorted(counts.items())), sep="\n")
+    missing = [name for name in due() if not counts[name]]
+    assert not missing, f"no capture has {missing}"
+    OUT.parent.mkdir(exist_ok=True)
+    OUT.write_text("\n".join([HEAD, *blocks]))
+    print(f"{len(blocks)} captures, {OUT.stat().st_size} bytes")
+
+
+if __name__ == "__main__":
+    main(sys.argv[1:])
