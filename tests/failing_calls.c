@@ -2,8 +2,8 @@
  *
  * FAILING names the calls: memory, open, read, write or close, or input, which is a read of standard input. The call of
  * number FAILS_AT among them fails with the error number ERROR, and where LASTING is set all after it do. How many were made
- * is written to the file COUNT_IN, and how many bytes of standard input were read to the file READ_IN. Where ONE_BYTE is set,
- * no read and no write moves more than a byte; PIECE is the most bytes that a read of standard input moves. */
+ * is written to the file COUNT_IN, and how many bytes of standard input were read to the file READ_IN. Where ONE_BYTE is
+ * set, no read and no write moves more than a byte; PIECE is the most bytes that a read of standard input moves. */
 #define _GNU_SOURCE
 #include <dlfcn.h>
 #include <errno.h>
