@@ -178,17 +178,17 @@ class Core:
         return None
 
 
-def trace_of(rng, blocks):
+def trace_of(rng, blocks, size):
     core = Core(rng, blocks)
-    while len(core.trace.bytes) < RUN_BYTES:
+    while len(core.trace.bytes) < size:
         core.step()
     core.trace.put_atoms()
     return bytes(core.trace.bytes)
 
 
-def made():
+def made(size=RUN_BYTES):
     """The text of the program's image, and its trace."""
     rng = random.Random(SEED)
     blocks = blocks_of(rng)
-    trace = trace_of(rng, blocks)
+    trace = trace_of(rng, blocks, size)
     return image_of(blocks), trace
