@@ -62,7 +62,8 @@ begun-push writer pairs id byte mid next at first second =
 
 pub whole_frames-push : (writer : Begun) (pairs : List (ℕ × ℕ)) (id byte : ℕ) (mid : List Symbol) → StandsAt writer pairs
     → mid ≡ left_over 15 (writer.symbols ++ told writer.current id)
-    → whole_frames (pairs ++ (id, byte) ∷ []) ≡ whole_frames pairs ++ (frames_of (writer.symbols ++ told writer.current id) ++ frames_of (mid ++ Data byte ∷ []))
+    → whole_frames (pairs ++ (id, byte) ∷ [])
+    ≡ whole_frames pairs ++ (frames_of (writer.symbols ++ told writer.current id) ++ frames_of (mid ++ Data byte ∷ []))
 whole_frames-push writer pairs id byte mid at first =
     let t = told writer.current id in
     let d = Data byte ∷ [] in

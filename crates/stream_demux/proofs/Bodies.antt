@@ -36,7 +36,9 @@ differ : (a b : ℕ) → a ≢ b → (a == b) ≡ false
 differ a b differs = elim (eqb_tells a b) [ inl same ↦ absurd (differs same.1) | inr other ↦ other.0 ]
 
 pub of_other : (id other byte : ℕ) (pairs : List (ℕ × ℕ)) → other ≢ id → of id (pairs ++ (other, byte) ∷ []) ≡ of id pairs
-of_other id other byte pairs differs = of-append id pairs ((other, byte) ∷ []) ∙ ap (λ t. of id pairs ++ (if t then byte ∷ [] else [])) (differ other id differs) ∙ append-nil (of id pairs)
+of_other id other byte pairs differs =
+    of-append id pairs ((other, byte) ∷ []) ∙ ap (λ t. of id pairs ++ (if t then byte ∷ [] else [])) (differ other id differs)
+    ∙ append-nil (of id pairs)
 
 -- ---- bodies
 

@@ -1,6 +1,6 @@
 -- The lines of how streams end, one after the other.
-use Rattle.std.proofs.Common.{◌≡◌, ◌≢◌, inl, inr, ℕ, zero, suc, ◌+◌, ◌-◌, ◌≤◌, ◌<◌, Bool, true, false, List, [], ◌∷◌, ◌++◌, length, Result, Ok, Err, refl, sym, ap, subst, ◌∙◌, arith}
-use Rattle.std.proofs.Common.{append_assoc, append-nil}
+use Rattle.std.proofs.Common.{◌≡◌, ◌≢◌, inl, inr, ℕ, zero, suc, ◌+◌, ◌-◌, ◌≤◌, ◌<◌, Bool, true, false, List, [], ◌∷◌, ◌++◌}
+use Rattle.std.proofs.Common.{length, Result, Ok, Err, refl, sym, ap, subst, ◌∙◌, arith, append_assoc, append-nil}
 use Rattle.std.specs.Prelude.{◌||◌, ◌&&◌, not, nat_lt, IfOk, None, if◌then◌else◌}
 use Rattle.std.specs.List.{range_with_len}
 use Rattle.std.proofs.lemmas.Bool.{lt-ltb}
@@ -38,7 +38,8 @@ not_or false b = refl
 pub ends-append : (g : Listing) (pairs : List (ℕ × ℕ)) (xs ys : List ℕ) (lines more : List Printed) (one others : Bool) → EndsOf g pairs xs lines one
     → EndsOf g pairs ys more others → EndsOf g pairs (xs ++ ys) (lines ++ more) (one || others)
 ends-append g pairs [] ys lines more one others (none, no_fault) ends =
-    subst (λ (l : List Printed). EndsOf g pairs ys (l ++ more) (one || others)) (sym none) (subst (λ (b : Bool). EndsOf g pairs ys more (b || others)) (sym no_fault) ends)
+    subst (λ (l : List Printed). EndsOf g pairs ys (l ++ more) (one || others)) (sym none)
+    (subst (λ (b : Bool). EndsOf g pairs ys more (b || others)) (sym no_fault) ends)
 ends-append g pairs (id ∷ xs) ys lines more one others (first, rest, f, o, here, later, all, fault) ends = (
   first,
   rest ++ more,
@@ -73,7 +74,8 @@ range-append from zero n =
     ap (λ k. range_with_len from k) (let e : zero + n ≡ n = omega arith in e) ∙ ap (λ f. range_with_len f n) (let e : from ≡ from + zero = omega arith in e)
 range-append from (suc m) n =
     ap (range_with_len from) (let e : suc m + n ≡ suc (m + n) = omega arith in e)
-    ∙ ap (λ l. from ∷ l) (range-append (from + 1) m n ∙ ap (λ f. range_with_len (from + 1) m ++ range_with_len f n) (let e : from + 1 + m ≡ from + suc m = omega arith in e))
+    ∙ ap (λ l. from ∷ l)
+    (range-append (from + 1) m n ∙ ap (λ f. range_with_len (from + 1) m ++ range_with_len f n) (let e : from + 1 + m ≡ from + suc m = omega arith in e))
 
 range_one : (from : ℕ) → range_with_len from 1 ≡ from ∷ []
 range_one from = refl
@@ -106,7 +108,8 @@ pub record Remaining {X : Type 0} (stands : X → List ℕ → Type 0) (sizes : 
   pub stand : StandFrom stands sizes s at left pairs
   pub rest : SomeEnds g pairs (range_with_len at (length left)) → SomeEnds g pairs (range_with_len id (length all))
 
-module _ {X : Type 0} (stands : X → List ℕ → Type 0) (sizes : X → Sizes) (s : Sizes) (listing : Sizes → Listing) (pairs : List (ℕ × ℕ)) (id : ℕ) (all : List X) where
+module _ {X : Type 0} (stands : X → List ℕ → Type 0) (sizes : X → Sizes) (s : Sizes) (listing : Sizes → Listing) (pairs : List (ℕ × ℕ)) (id : ℕ)
+    (all : List X) where
   abbrev pub Left : List X → Type 0
   Left = Remaining stands sizes s (listing s) pairs id all
 
@@ -114,7 +117,8 @@ module _ {X : Type 0} (stands : X → List ℕ → Type 0) (sizes : X → Sizes)
   all_remain stand = record { at = id; stand = stand; rest = λ ends. ends }
 
   pub one_less : (stream : X) (left : List X) → Left (stream ∷ left)
-      → ((i : ℕ) (bytes : List ℕ) → stands stream bytes → (lines : List Printed) × (faulty : Bool) × StreamEnds (listing (sizes stream)) i bytes lines faulty) → Left left
+      → ((i : ℕ) (bytes : List ℕ) → stands stream bytes → (lines : List Printed) × (faulty : Bool) × StreamEnds (listing (sizes stream)) i bytes lines faulty)
+      → Left left
   one_less stream left was ends =
       let is = was.stand in
       let one = ends was.at (of was.at pairs) is.0 in
@@ -207,7 +211,8 @@ module _ (g : Listing) (pairs : List (ℕ × ℕ)) (left : ℕ) (lines : List Pr
   pub ends_uncut : {E : Type 0} (a b : IoState) (whole : Bool) → left ≡ 0 → Writes {T = Bool} {E = E} a b (Ok whole) (text_of lines) → whole ≡ not faulty
       → Ends {E = E} g pairs left a b (Ok whole)
   ends_uncut {E} a b whole none writes same =
-      let cut : cut_lines left ≡ [] = ap cut_lines none in let no_fault : (faulty || nat_lt 0 left) ≡ faulty = ap (λ n. faulty || nat_lt 0 n) none ∙ sym (or_right faulty) in (
+      let cut : cut_lines left ≡ [] = ap cut_lines none in
+      let no_fault : (faulty || nat_lt 0 left) ≡ faulty = ap (λ n. faulty || nat_lt 0 n) none ∙ sym (or_right faulty) in (
         lines ++ cut_lines left,
         faulty || nat_lt 0 left,
         ending,

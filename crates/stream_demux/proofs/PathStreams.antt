@@ -27,7 +27,8 @@ some_line id x bytes last =
 
 module _ (image : Image) (d : Decoder) where
   -- bytes at which a decoder stands have a path
-  pub stands_path : (bytes : List ℕ) → StandsAt image d bytes → (items : List Item) × (last : End) × IsPath image ((d.decoding).reader.settings) bytes items last
+  pub stands_path : (bytes : List ℕ) → StandsAt image d bytes
+      → (items : List Item) × (last : End) × IsPath image ((d.decoding).reader.settings) bytes items last
   stands_path bytes stands =
       let ends = ends_so image d.decoding bytes stands.items stands.came in
       (stands.items, end_at ((d.decoding).fault) ends.ending, (stands.came.took, ends.path))

@@ -29,7 +29,8 @@ of_raw_other id (b ∷ bytes) more =
 
 -- ---- what a byte adds
 
-pub raw_gains : {T E : Type 0} (listing : Sizes → Listing) (t s : Sizes) (id byte : ℕ) (bytes : List ℕ) (lines : List (List ℕ)) (a b : IoState) (result : Result T E)
+pub raw_gains : {T E : Type 0} (listing : Sizes → Listing) (t s : Sizes) (id byte : ℕ) (bytes : List ℕ) (lines : List (List ℕ))
+    (a b : IoState) (result : Result T E)
     → id ≡ 1 → t ≡ s → (listing t).gains id bytes byte lines → Writes a b result (concat lines) → Gains raw_pairs (listing s) bytes (byte ∷ []) a b result
 raw_gains listing t s id byte bytes lines a b result named same gains writes =
     let pair : ℕ × ℕ = (1, byte) in let g = listing s in
@@ -68,7 +69,8 @@ or_once : (a : Bool) → a ≡ (a || false)
 or_once true = refl
 or_once false = refl
 
-pub raw_ends : {E : Type 0} (listing : Sizes → Listing) (t s : Sizes) (id : ℕ) (bytes : List ℕ) (lines : List Printed) (faulty : Bool) (a b : IoState) (result : Result Bool E)
+pub raw_ends : {E : Type 0} (listing : Sizes → Listing) (t s : Sizes) (id : ℕ) (bytes : List ℕ) (lines : List Printed) (faulty : Bool)
+    (a b : IoState) (result : Result Bool E)
     → id ≡ 1 → t ≡ s → StreamEnds (listing t) id bytes lines faulty → Writes a b result (text_of lines) → IfOk result (λ (w : Bool). w ≡ not faulty)
     → (all : List Printed) × (fault : Bool) × IsEnding (listing s) (raw_pairs bytes) 0 all fault × Writes a b result (text_of all)
     × IfOk result (λ (w : Bool). w ≡ not fault)

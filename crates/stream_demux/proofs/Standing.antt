@@ -30,8 +30,8 @@ module _ {X : Type 0} (stands : X → List ℕ → Type 0) (sizes : X → Sizes)
       let there = stands_at (suc id) streams pairs k stream all.2 at in (subst (λ i. stands stream (of i pairs)) place there.0, there.1)
 
   -- a byte of none of them leaves them where they are
-  pub others_stand : (id : ℕ) (streams : List X) (pairs : List (ℕ × ℕ)) (other byte : ℕ) → ((k : ℕ) → k < length streams → other ≢ id + k) → From id streams pairs
-      → From id streams (pairs ++ (other, byte) ∷ [])
+  pub others_stand : (id : ℕ) (streams : List X) (pairs : List (ℕ × ℕ)) (other byte : ℕ) → ((k : ℕ) → k < length streams → other ≢ id + k)
+      → From id streams pairs → From id streams (pairs ++ (other, byte) ∷ [])
   others_stand id [] pairs other byte differs all = tt
   others_stand id (x ∷ streams) pairs other byte differs all = (
     subst (stands x) (sym (of_other id other byte pairs (λ is. differs 0 (omega arith) (omega (arith, is))))) all.0,
@@ -54,7 +54,8 @@ module _ {X : Type 0} (stands : X → List ℕ → Type 0) (sizes : X → Sizes)
         subst (stands x) (sym (of_other id (id + suc k) byte pairs (λ is. omega (arith, is)))) all.0,
         all.1,
         subst (λ i. From (suc id) (slice_set streams k next) (pairs ++ (i, byte) ∷ [])) place
-            (one_moves (suc id) streams pairs k byte next (omega (arith, within)) all.2 (subst (λ i. stands next (of i pairs ++ byte ∷ [])) (sym place) moved) same),
+            (one_moves (suc id) streams pairs k byte next (omega (arith, within)) all.2
+            (subst (λ i. stands next (of i pairs ++ byte ∷ [])) (sym place) moved) same),
       )
 
   -- one more stream that stands where nothing was taken
@@ -104,8 +105,8 @@ module _ {X : Type 0} (broken : X → Bool) (taken : X → ℕ) where
   later_ready m n streams more all k d within =
       let one = all k d within in record { whole = one.whole; few = omega (arith, one.few, more) }
 
-  pub one_ready : (m k : ℕ) (streams : List X) (stream next : X) → All (IsReady broken taken m) streams → Some stream ≡ slice_get streams k → broken next ≡ false
-      → taken next ≡ taken stream + 1 → All (IsReady broken taken (m + 1)) (slice_set streams k next)
+  pub one_ready : (m k : ℕ) (streams : List X) (stream next : X) → All (IsReady broken taken m) streams → Some stream ≡ slice_get streams k
+      → broken next ≡ false → taken next ≡ taken stream + 1 → All (IsReady broken taken (m + 1)) (slice_set streams k next)
   one_ready m k streams stream next all at whole one =
       let before = ready_at (IsReady broken taken m) streams k stream all at in
       All-set (IsReady broken taken (m + 1)) streams k next (record { whole = whole; few = omega (arith, one, before.few) })
@@ -122,7 +123,8 @@ is_one id is = both (nat_lt 0 id) (nat_le id 111) (lt-ltb 0 id is.0) (le-leb id 
 
 -- counts of one stream more
 module _ {X : Type 0} (counts : X → Counts) where
-  pub total_more : (c : Counts) (streams : List X) (next : X) → total c (map counts (streams ++ next ∷ [])) ≡ sum_of (total c (map counts streams)) (counts next)
+  pub total_more : (c : Counts) (streams : List X) (next : X)
+      → total c (map counts (streams ++ next ∷ [])) ≡ sum_of (total c (map counts streams)) (counts next)
   total_more c [] next = refl
   total_more c (x ∷ streams) next = total_more (sum_of c (counts x)) streams next
 

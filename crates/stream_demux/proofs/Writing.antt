@@ -106,7 +106,8 @@ module _ (carry : List ℕ → List (ℕ × ℕ)) where
         }
 
     -- where a write fails, a front of the lines of the pairs of all bytes is written
-    pub gain_fails : {T U E : Type 0} (c : IoState) (e d : E) → Adds {T = T} g (carry (bytes ++ piece)) pairs b c (Err e) → (rest : List ℕ) (later : List (ℕ × ℕ))
+    pub gain_fails : {T U E : Type 0} (c : IoState) (e d : E) → Adds {T = T} g (carry (bytes ++ piece)) pairs b c (Err e)
+        → (rest : List ℕ) (later : List (ℕ × ℕ))
         → carry ((bytes ++ (piece ++ more)) ++ rest) ≡ carry (bytes ++ (piece ++ more)) ++ later
         → Gains {T = U} carry g bytes ((piece ++ more) ++ rest) a c (Err d)
     gain_fails {T} {U} c e d adds rest later further =

@@ -2,7 +2,9 @@
 ghost use Rattle.etm_types.specs.Settings.{Sizes};
 ghost use Rattle.formatter_frames.specs.Unframed.{unframed};
 ghost use Rattle.stream_demux.specs.Demuxed.{raw_pairs};
-ghost use Rattle.stream_demux.specs.Laws.{BodiesJoin, BodiesPart, BytesJoin, EachIsALine, FrontsBegin, FrontsOfPathsBegin, OneBody, OneEnding, OneText, OneTextOfPaths, OthersDoNotCount, OthersHaveNone, PathIsAlone, RawIsOfNoOther, RawIsOfOne, SomeBody, SomeEnding, SomeText, SomeTextOfPaths, SourceIsAlone, ZerosAreOfNone};
+ghost use Rattle.stream_demux.specs.Laws.{BodiesJoin, BodiesPart, BytesJoin, EachIsALine, FrontsBegin, FrontsOfPathsBegin, OneBody, OneEnding};
+ghost use Rattle.stream_demux.specs.Laws.{OneText, OneTextOfPaths, OthersDoNotCount, OthersHaveNone, PathIsAlone, RawIsOfNoOther};
+ghost use Rattle.stream_demux.specs.Laws.{RawIsOfOne, SomeBody, SomeEnding, SomeText, SomeTextOfPaths, SourceIsAlone, ZerosAreOfNone};
 
 use crate::stream::Stream;
 

@@ -139,16 +139,36 @@ module _ (c : Call) (old new newer : IoState) (kept : KeepsBytes new newer) wher
   -- it fails behind an answer
   cut : (s : Status) → Answers c old new s → IsWriteFault c old newer
   cut status.Done (what, asks, done) =
-      inr (inr (inl (what, asks, completed_cut (pairs_of what) (left_of what) (layout_grows (layout_of what)) (listing_of what) c.input c.input' old new newer false done kept)))
+      inr (inr (inl (
+        what,
+        asks,
+        completed_cut (pairs_of what) (left_of what) (layout_grows (layout_of what)) (listing_of what)
+            c.input c.input' old new newer false done kept,
+      )))
   cut status.Faulted (what, asks, done) =
-      inr (inr (inl (what, asks, completed_cut (pairs_of what) (left_of what) (layout_grows (layout_of what)) (listing_of what) c.input c.input' old new newer true done kept)))
+      inr (inr (inl (
+        what,
+        asks,
+        completed_cut (pairs_of what) (left_of what) (layout_grows (layout_of what)) (listing_of what)
+            c.input c.input' old new newer true done kept,
+      )))
   cut status.Usage prints = inl (line_front (IsUsage c) prints)
   cut (status.ImageBad line why) prints = inr (inl (line, why, line_front (IsImageBad c line why) prints))
   cut status.ReadFault (inl f) = inr (inr (inr (inl (kept_image f))))
   cut status.ReadFault (inr (what, asks, b)) =
-      inr (inr (inl (what, asks, broken_cut (pairs_of what) (left_of what) (layout_grows (layout_of what)) (listing_of what) c.input c.input' old new newer b kept)))
+      inr (inr (inl (
+        what,
+        asks,
+        broken_cut (pairs_of what) (left_of what) (layout_grows (layout_of what)) (listing_of what)
+            c.input c.input' old new newer b kept,
+      )))
   cut status.InputTooLong (what, asks, b) =
-      inr (inr (inl (what, asks, exceeded_cut (pairs_of what) (left_of what) (layout_grows (layout_of what)) (listing_of what) c.input c.input' old new newer b kept)))
+      inr (inr (inl (
+        what,
+        asks,
+        exceeded_cut (pairs_of what) (left_of what) (layout_grows (layout_of what)) (listing_of what)
+            c.input c.input' old new newer b kept,
+      )))
   cut status.NoMemory f = inr (inr (inr (inr (kept_memory f))))
   cut status.WriteFault (rose, f) = kept_fault f
 
@@ -158,6 +178,7 @@ module _ (c : Call) (old new newer : IoState) (kept : KeepsBytes new newer) wher
   pub write_fails : (e : Failed) → AnswersSo c old new (Err e) → new.faults ≤ newer.faults → Answers c old newer status.WriteFault
   write_fails e (rose, f) later = let was : Rose old new = rose in (omega (arith, was, later), kept_fault f)
 
-  pub flush_fails_behind : (r : Result Status Failed) → AnswersSo c old new r → old.faults ≤ new.faults → new.faults ≤ newer.faults → Rose new newer → Answers c old newer status.WriteFault
+  pub flush_fails_behind : (r : Result Status Failed) → AnswersSo c old new r → old.faults ≤ new.faults → new.faults ≤ newer.faults
+      → Rose new newer → Answers c old newer status.WriteFault
   flush_fails_behind (Ok s) answers later after rose = flush_fails s answers later rose
   flush_fails_behind (Err e) answers later after rose = write_fails e answers after

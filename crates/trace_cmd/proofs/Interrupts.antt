@@ -59,8 +59,8 @@ module _ (carried : List ℕ → List (ℕ × ℕ)) (left : List ℕ → ℕ) (g
       }
 
   -- a front of the whole text was printed, all that comes with the bytes included
-  pub cut_front : (a c old new : IoState) (bytes : List ℕ) (lines : List Printed) (faulty : Bool) (shown : List ℕ) → TakesAll a c bytes → length bytes ≤ most_input
-      → (is : IsText g (carried bytes) (left bytes) lines faulty) → AppendsAll old new shown → BeginsWith shown (text_of lines)
+  pub cut_front : (a c old new : IoState) (bytes : List ℕ) (lines : List Printed) (faulty : Bool) (shown : List ℕ) → TakesAll a c bytes
+      → length bytes ≤ most_input → (is : IsText g (carried bytes) (left bytes) lines faulty) → AppendsAll old new shown → BeginsWith shown (text_of lines)
       → BeginsWith (text_of is.body) shown → Interrupts carried left g a c old new
   cut_front a c old new bytes lines faulty shown read few is printed front behind =
       let same = append-nil bytes in
@@ -82,9 +82,9 @@ module _ (carried : List ℕ → List (ℕ × ℕ)) (left : List ℕ → ℕ) (g
       ([], sym (append-nil (text_of lines))) (text_of is.ending, ap text_of is.all ∙ text_of-append is.body is.ending)
 
   -- the lines of a piece could not be written
-  pub cut_within : {T E : Type 0} (a b c old here new : IoState) (bytes piece : List ℕ) (e : E) → Takes a b bytes → Takes b c piece → length bytes + length piece ≤ most_input
-      → length piece ≤ most_at_once → Gained carried g [] bytes old here → Gains {T = T} carried g bytes piece here new (Err e)
-      → Interrupts carried left g a c old new
+  pub cut_within : {T E : Type 0} (a b c old here new : IoState) (bytes piece : List ℕ) (e : E) → Takes a b bytes → Takes b c piece
+      → length bytes + length piece ≤ most_input → length piece ≤ most_at_once → Gained carried g [] bytes old here
+      → Gains {T = T} carried g bytes piece here new (Err e) → Interrupts carried left g a c old new
   cut_within a b c old here new bytes piece e took takes few most was gains =
       let lines0 = was.written.lines in let front = gains.adds.writes.front in let lines1 = gains.adds.lines in
       let pairs0 : carried bytes ≡ was.pairs = was.grows ∙ ap (λ p. p ++ was.pairs) grow.0 in

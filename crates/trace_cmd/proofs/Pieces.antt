@@ -71,8 +71,11 @@ module _ (carried : List ℕ → List (ℕ × ℕ)) (left : List ℕ → ℕ) (g
     ending_fails e writes =
         let front = writes.front in
         cut_front carried left grow g a c old new bytes lines faulty (text_of took.6.0 ++ front.front) read took.4 text
-        (Appends-trans old.bytes here.bytes new.bytes (text_of took.6.0) front.front took.6.2 front.appended)
-        (front.rest, text_of-append took.6.0 ending ∙ ap (λ t. text_of took.6.0 ++ t) front.whole ∙ sym (append_assoc (text_of took.6.0) front.front front.rest))
+        (Appends-trans old.bytes here.bytes new.bytes (text_of took.6.0) front.front took.6.2 front.appended) (
+          front.rest,
+          text_of-append took.6.0 ending ∙ ap (λ t. text_of took.6.0 ++ t) front.whole
+              ∙ sym (append_assoc (text_of took.6.0) front.front front.rest),
+        )
         (front.front, refl)
 
 pub by_true : (x faulty : Bool) → x ≡ not faulty → x ≡ true → faulty ≡ false

@@ -6,13 +6,13 @@ use program_image::ImageWhy;
 /// How a call ended.
 #[derive(Clone, Copy, Debug, PartialEq, Eq)]
 pub enum Status {
-    /// All was read and written, and no stream has a fault.
+    /// All was read and written, and no stream has a fault, and no frame is cut.
     Done,
     /// The words have no meaning.
     Usage,
     /// The text of the image has a fault at this line.
     ImageBad { line: u64, why: ImageWhy },
-    /// All was read and written, and a stream has a fault.
+    /// All was read and written, and a stream has a fault, or a frame is cut.
     Faulted,
     /// The image or the input could not be read.
     ReadFault,

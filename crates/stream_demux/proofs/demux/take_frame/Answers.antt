@@ -60,11 +60,13 @@ loop-place-preserved g c =
 pub returns-clause-stands : goal.returns-clause-stands
 returns-clause-stands g c s pairs all ok =
     let n = c.loop-place.place in let whole = take_all n c.args.frame.now (omega (arith, c.loop-place-test.false, c.len-place-end.ensures.count)) in
-    subst (λ l. AllStand (g.S.Stream.stands c.args.shared.now) g.S.Stream.sizes s c.loop-place.sources (pairs ++ l)) whole (c.loop-place.invariant.stands s pairs all)
+    subst (λ l. AllStand (g.S.Stream.stands c.args.shared.now) g.S.Stream.sizes s c.loop-place.sources (pairs ++ l)) whole
+    (c.loop-place.invariant.stands s pairs all)
 
 pub returns-clause-adds : goal.returns-clause-adds
 returns-clause-adds g c s pairs all =
-    let state = g.K.Sink.state in let n = c.loop-place.place in let whole = take_all n c.args.frame.now (omega (arith, c.loop-place-test.false, c.len-place-end.ensures.count)) in
+    let state = g.K.Sink.state in let n = c.loop-place.place in
+    let whole = take_all n c.args.frame.now (omega (arith, c.loop-place-test.false, c.len-place-end.ensures.count)) in
     let listing = g.S.Stream.listing c.args.shared.now s in
     all_added listing pairs c.args.frame.now (state c.args.sink.now) (state c.loop-place.sink) tt
     (subst (λ l. Written listing pairs l (state c.args.sink.now) (state c.loop-place.sink)) whole (c.loop-place.invariant.written s pairs all))
@@ -72,4 +74,5 @@ returns-clause-adds g c s pairs all =
 pub returns-clause-ready : goal.returns-clause-ready
 returns-clause-ready g c most all ok =
     let n = c.loop-place.place in
-    later_ready g.S.Stream.broken g.S.Stream.taken (most + n) (most + 15) c.loop-place.sources (omega (arith, c.loop-place.auto.place-end, c.len-place-end.ensures.most)) (c.loop-place.invariant.ready most all)
+    later_ready g.S.Stream.broken g.S.Stream.taken (most + n) (most + 15) c.loop-place.sources
+    (omega (arith, c.loop-place.auto.place-end, c.len-place-end.ensures.most)) (c.loop-place.invariant.ready most all)

@@ -60,12 +60,14 @@ returns-in-Stop-clause-took g c s given =
       i.input_kept,
       omega (arith, so_far.1, i.few),
       so_far.3,
-      body_printed g.P.Printer.carried g.P.Printer.left g.met.P.Printer.grows (g.P.Printer.listing c.args.shared.now s) so_far.0 (out c.args.out.now) (out c.loop-count.out) so_far.4,
-      subst (λ n. StopsSo (input c.loop-count.input) (input c.read_piece.new.input) n c.in-Stop.stop) (sym so_far.1) (c.in-Stop.ensures.stop c.in-Stop.stop refl),
+      body_printed g.P.Printer.carried g.P.Printer.left g.met.P.Printer.grows (g.P.Printer.listing c.args.shared.now s) so_far.0
+          (out c.args.out.now) (out c.loop-count.out) so_far.4,
+      subst (λ n. StopsSo (input c.loop-count.input) (input c.read_piece.new.input) n c.in-Stop.stop) (sym so_far.1)
+          (c.in-Stop.ensures.stop c.in-Stop.stop refl),
     )
 
 pub returns-in-Stop-clause-kept : goal.returns-in-Stop-clause-kept
 returns-in-Stop-clause-kept g c =
     let input = g.J.Source.state in
-    stop_kept (input c.args.input.now) (input c.loop-count.input) (input c.read_piece.new.input) c.loop-count.taken c.in-Stop.stop c.loop-count.invariant.input_kept
-    (c.in-Stop.ensures.stop c.in-Stop.stop refl)
+    stop_kept (input c.args.input.now) (input c.loop-count.input) (input c.read_piece.new.input) c.loop-count.taken c.in-Stop.stop
+    c.loop-count.invariant.input_kept (c.in-Stop.ensures.stop c.in-Stop.stop refl)

@@ -13,7 +13,8 @@ invariant-loop-count g l =
       few : l.taken ≤ most_input;
       whole : g.P.Printer.broken l.printer ≡ false;
       count : g.P.Printer.taken l.printer ≡ l.taken;
-      so_far : (s : Sizes) → g.P.Printer.stands l.shared s l.fn.printer [] → (bytes : List ℕ) × (length bytes ≡ l.taken) × Takes (input l.fn.input) (input l.input) bytes
+      so_far : (s : Sizes) → g.P.Printer.stands l.shared s l.fn.printer []
+          → (bytes : List ℕ) × (length bytes ≡ l.taken) × Takes (input l.fn.input) (input l.input) bytes
           × g.P.Printer.stands l.shared s l.printer bytes
           × Gained g.P.Printer.carried (g.P.Printer.listing l.shared s) [] bytes (out l.fn.out) (out l.out);
       input_kept : KeepsFaults (input l.fn.input) (input l.input);

@@ -21,7 +21,8 @@ returns-in-Err-clause-gains g c s bytes stands =
     let gains = c.in-Err.ensures.gains s (bytes ++ front) there.frames there.streams in
     let all = bytes ++ (front ++ byte ∷ []) in let later = pairs_of (id_after_frames all) (symbols_of_frames (begun_frame all ++ rest)) in
     subst (λ l. Gains {T = Unit {0}} unframed listing bytes l old new (Err c.in-Err.failed)) parts
-    (gain_fails unframed listing bytes front old here (i.gained s bytes stands) (byte ∷ []) gains.pairs gains.grows new c.in-Err.failed c.in-Err.failed gains.adds rest later (more_pairs all rest))
+    (gain_fails unframed listing bytes front old here (i.gained s bytes stands) (byte ∷ []) gains.pairs gains.grows new
+    c.in-Err.failed c.in-Err.failed gains.adds rest later (more_pairs all rest))
 
 pub loop-byte-preserved : goal.loop-byte-preserved
 loop-byte-preserved g c =
@@ -35,7 +36,12 @@ loop-byte-preserved g c =
           let longer : c.loop-byte.self-inside.taken + 1 ≡ length (bytes ++ (front ++ byte ∷ [])) =
           omega (arith, there.taken, ap length joined, length-append (bytes ++ front) (byte ∷ [])) in
           subst (λ l. StandsAt at g.S.Stream.sizes s
-          (record { frames = c.take_byte.new.frames; streams = c.take_byte.new.sources; taken = c.loop-byte.self-inside.taken + 1; broken = c.loop-byte.self-inside.broken }) (bytes ++ l))
+          (record {
+            frames = c.take_byte.new.frames;
+            streams = c.take_byte.new.sources;
+            taken = c.loop-byte.self-inside.taken + 1;
+            broken = c.loop-byte.self-inside.broken;
+          }) (bytes ++ l))
           (sym more)
           (record {
             whole = there.whole;
@@ -47,7 +53,8 @@ loop-byte-preserved g c =
       gained = λ s bytes stands.
           let listing = g.S.Stream.listing c.args.shared.now s in let there = i.stands s bytes stands in
           subst (λ l. Gained unframed listing bytes l old new) (sym more)
-          (byte_gained unframed listing bytes front byte old here new tt (i.gained s bytes stands) (c.in-Ok.ensures.gains s (bytes ++ front) there.frames there.streams));
+          (byte_gained unframed listing bytes front byte old here new tt (i.gained s bytes stands)
+          (c.in-Ok.ensures.gains s (bytes ++ front) there.frames there.streams));
       kept = c.in-Ok.ensures.cause.kept ∙ i.kept;
       shows = c.take_byte.ensures.shows ∙ i.shows;
       taken = omega (arith, i.taken);

@@ -12,7 +12,8 @@ use Rattle.trace_io.specs.Causes.{KeepsFaults}
 abbrev pub invariant-loop-byte : goal.invariant-loop-byte
 invariant-loop-byte g l =
     let state = g.K.Sink.state in let at = g.S.Stream.stands l.shared in
-    let d : Demuxed g.row.S.Denot = record { frames = l.self-inside.frames; streams = l.self-inside.sources; taken = l.self-inside.taken; broken = l.self-inside.broken } in
+    let d : Demuxed g.row.S.Denot =
+    record { frames = l.self-inside.frames; streams = l.self-inside.sources; taken = l.self-inside.taken; broken = l.self-inside.broken } in
     record {
       stands : (s : Sizes) (bytes : List ℕ) → StandsAt at g.S.Stream.sizes s l.fn.self bytes
           → StandsAt at g.S.Stream.sizes s d (bytes ++ take l.byte-index l.piece);

@@ -21,8 +21,8 @@ returns-in_err-take-clause-gains g c s bytes stands =
     (Err c.in_err-take.field-0.0) c.raw_id-id.ensures there.same lines.1 lines.2 in
     by_err (Gains {T = Unit {0}} raw_pairs (listing s) bytes piece old new) c.from_residual.result c.from_residual.ensures.0 (λ d.
     subst (λ l. Gains {T = Unit {0}} raw_pairs (listing s) bytes l old new (Err d)) parts
-    (gain_fails raw_pairs (listing s) bytes front old here (i.gained s bytes stands) (byte ∷ []) gains.pairs gains.grows new c.in_err-take.field-0.0 d gains.adds rest
-    (raw_pairs rest) (map-append (λ x. (1, x)) (bytes ++ (front ++ byte ∷ [])) rest)))
+    (gain_fails raw_pairs (listing s) bytes front old here (i.gained s bytes stands) (byte ∷ []) gains.pairs gains.grows new
+    c.in_err-take.field-0.0 d gains.adds rest (raw_pairs rest) (map-append (λ x. (1, x)) (bytes ++ (front ++ byte ∷ [])) rest)))
 
 pub loop-byte-preserved : goal.loop-byte-preserved
 loop-byte-preserved g c =
@@ -45,8 +45,8 @@ loop-byte-preserved g c =
       gained = λ s bytes stands.
           let there = i.stands s bytes stands in
           let lines = c.in_ok-take.ensures.gains (bytes ++ front) there.stand in
-          let gains = raw_gains {T = Unit {0}} listing (g.S.Stream.sizes c.loop-byte.self-inside.stream) s c.raw_id-id.result byte (bytes ++ front) lines.0 here new
-          (Ok c.in_ok-take.field-0) c.raw_id-id.ensures there.same lines.1 lines.2 in
+          let gains = raw_gains {T = Unit {0}} listing (g.S.Stream.sizes c.loop-byte.self-inside.stream) s c.raw_id-id.result byte (bytes ++ front) lines.0
+          here new (Ok c.in_ok-take.field-0) c.raw_id-id.ensures there.same lines.1 lines.2 in
           subst (λ l. Gained raw_pairs (listing s) bytes l old new) (sym more)
           (byte_gained raw_pairs (listing s) bytes front byte old here new c.in_ok-take.field-0 (i.gained s bytes stands) gains);
       kept = c.in_ok-take.ensures.cause.kept ∙ i.kept;
@@ -59,8 +59,8 @@ loop-byte-preserved g c =
 pub returns-clause-stands : goal.returns-clause-stands
 returns-clause-stands g c s bytes stands ok =
     let n = c.loop-byte.byte-index in let all = take_all n c.args.piece.now (omega (arith, c.loop-byte-test.false)) in
-    subst (λ l. RawStandsAt (g.S.Stream.stands c.args.shared.now) g.S.Stream.sizes g.S.Stream.broken g.S.Stream.taken s c.loop-byte.self-inside.stream (bytes ++ l)) all
-    (c.loop-byte.invariant.stands s bytes stands)
+    subst (λ l. RawStandsAt (g.S.Stream.stands c.args.shared.now) g.S.Stream.sizes g.S.Stream.broken g.S.Stream.taken s
+    c.loop-byte.self-inside.stream (bytes ++ l)) all (c.loop-byte.invariant.stands s bytes stands)
 
 pub returns-clause-gains : goal.returns-clause-gains
 returns-clause-gains g c s bytes stands =

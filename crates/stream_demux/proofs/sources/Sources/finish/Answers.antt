@@ -13,7 +13,8 @@ pub finish-requires : goal.finish-requires
 finish-requires g c =
     let order : c.loop-stream.ring.items ≡ c.in-Some.stream ∷ c.pop_front.new.self.items = c.in-Some.ensures.order in
     let ready = c.loop-stream.invariant.ready in
-    (ready_at (IsReady g.S.Stream.broken g.S.Stream.taken ready.0) c.loop-stream.ring.items 0 c.in-Some.stream ready.1 (sym (ap (λ l. slice_get l 0) order))).whole
+    (ready_at (IsReady g.S.Stream.broken g.S.Stream.taken ready.0) c.loop-stream.ring.items 0 c.in-Some.stream ready.1
+    (sym (ap (λ l. slice_get l 0) order))).whole
 
 pub returns-in-Err-clause-ends : goal.returns-in-Err-clause-ends
 returns-in-Err-clause-ends g c shared s pairs all =
@@ -28,7 +29,8 @@ returns-in-Err-clause-ends g c shared s pairs all =
     let others = c.abandon_all.ensures.ends shared s pairs (id + 1) later in
     let count : id + suc (length rest) ≡ 112 = omega (arith, i.count, ap length order) in
     let fails = end_fails (listing s) pairs (ids 1 id) c.loop-stream.whole (state c.args.sink.now) (state c.loop-stream.sink) (state c.finish.new.sink)
-    (i.ended shared s pairs all) id ends.0 ends.1 here c.in-Err.failed c.in-Err.failed (range_with_len (id + 1) (length rest)) others.0 others.1 others.2 ends.3 in
+    (i.ended shared s pairs all) id ends.0 ends.1 here c.in-Err.failed c.in-Err.failed
+    (range_with_len (id + 1) (length rest)) others.0 others.1 others.2 ends.3 in
     (fails.0, fails.1, subst (λ l. EndsOf (listing s) pairs l fails.0 fails.1) (ids_parts id (length rest) i.from count) fails.2, fails.3, tt)
 
 pub loop-stream-preserved : goal.loop-stream-preserved
@@ -49,7 +51,8 @@ loop-stream-preserved g c =
           let given : c.unwrap.result ≡ id = subst (λ r. IfSome r (λ k. k ≡ id)) c.unwrap.ensures c.new.ensures.value in
           let here = ends_here listing (g.S.Stream.sizes stream) s c.unwrap.result id (of id pairs) ends.0 ends.1 stand.1 given ends.2 in
           let wrote = wrote_by (state c.loop-stream.sink) (state c.finish.new.sink) c.in-Ok.one (text_of ends.0) ends.3 in
-          subst (λ l. EndedOf (listing s) pairs l (c.loop-stream.whole && c.in-Ok.one) (state c.args.sink.now) (state c.finish.new.sink)) (sym (ids_more id i.from))
+          subst (λ l. EndedOf (listing s) pairs l (c.loop-stream.whole && c.in-Ok.one) (state c.args.sink.now) (state c.finish.new.sink))
+          (sym (ids_more id i.from))
           (one_more_ended (listing s) pairs (ids 1 id) c.loop-stream.whole (state c.args.sink.now) (state c.loop-stream.sink) (state c.finish.new.sink)
           (i.ended shared s pairs all) id ends.0 ends.1 here c.in-Ok.one ends.4 wrote);
       kept = c.in-Ok.ensures.cause.kept ∙ i.kept;

@@ -17,7 +17,8 @@ loop-stream-preserved g c =
     let more : take (n + 1) streams ≡ take n streams ++ stream ∷ [] =
     take_more streams n stream within ∙ ap (λ x. take n streams ++ x ∷ []) (get_or_from_slice_get streams n stream stream at) in
     record {
-      value = c.sum_of-sum.ensures ∙ ap (λ a. sum_of a c.ledger.result) i.value ∙ ap (sum_of (total no_counts (map counts (take n streams)))) c.ledger.ensures.value
+      value = c.sum_of-sum.ensures ∙ ap (λ a. sum_of a c.ledger.result) i.value
+          ∙ ap (sum_of (total no_counts (map counts (take n streams)))) c.ledger.ensures.value
           ∙ sym (total_more counts no_counts (take n streams) stream) ∙ ap (λ l. total no_counts (map counts l)) (sym more);
       tallied = λ shared s pairs all.
           let one = source_stands (g.S.Stream.stands shared) g.S.Stream.sizes s streams pairs (n + 1) n stream refl all (sym at) in
@@ -26,6 +27,7 @@ loop-stream-preserved g c =
           (let count : 1 + length (take n streams) ≡ n + 1 = omega (arith, length-take-le n streams (omega (arith, within))) in
           subst (λ k. g.S.Stream.tallies shared s (of k pairs) (counts stream)) (sym count)
           (subst (λ t. g.S.Stream.tallies shared t (of (n + 1) pairs) (counts stream)) one.1
-          (subst (g.S.Stream.tallies shared (g.S.Stream.sizes stream) (of (n + 1) pairs)) c.ledger.ensures.value (c.ledger.ensures.tallied shared (of (n + 1) pairs) one.0)))));
+          (subst (g.S.Stream.tallies shared (g.S.Stream.sizes stream) (of (n + 1) pairs)) c.ledger.ensures.value
+          (c.ledger.ensures.tallied shared (of (n + 1) pairs) one.0)))));
       within = omega (arith, within);
     }

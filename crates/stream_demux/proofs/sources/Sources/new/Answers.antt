@@ -11,11 +11,17 @@ loop-alloc-preserved g c =
     let i = c.loop-alloc.invariant in
     record {
       capacity = c.add.ensures.capacity ∙ i.capacity;
-      few = omega (arith, ap length c.add.ensures.items, length-append c.loop-alloc.ring.items (c.in-Ok.stream ∷ []), c.len.ensures.len, c.loop-alloc-test.true);
+      few = omega (
+        arith,
+        ap length c.add.ensures.items,
+        length-append c.loop-alloc.ring.items (c.in-Ok.stream ∷ []),
+        c.len.ensures.len,
+        c.loop-alloc-test.true,
+      );
       stands = λ shared.
           subst (λ l. StandFrom (g.S.Stream.stands shared) g.S.Stream.sizes c.args.settings.now 1 l []) (sym c.add.ensures.items)
-          (one_more (g.S.Stream.stands shared) g.S.Stream.sizes c.args.settings.now 1 c.loop-alloc.ring.items c.in-Ok.stream (i.stands shared) (c.in-Ok.ensures.stands shared)
-          c.in-Ok.ensures.sizes);
+          (one_more (g.S.Stream.stands shared) g.S.Stream.sizes c.args.settings.now 1 c.loop-alloc.ring.items c.in-Ok.stream
+          (i.stands shared) (c.in-Ok.ensures.stands shared) c.in-Ok.ensures.sizes);
       ready = subst (All ready) (sym c.add.ensures.items)
           (All-append ready c.loop-alloc.ring.items (c.in-Ok.stream ∷ []) i.ready
           (All-cons ready c.in-Ok.stream [] (record { whole = c.in-Ok.ensures.ready.0; few = omega (arith, c.in-Ok.ensures.ready.1) }) (All-nil ready)));
