@@ -1,8 +1,10 @@
--- A line of an image's text: its words, and what they tell.
+-- A line of a text: its words, and what they spell.
 -- The characters are tab (9), space (32), `#` (35), `@` (64), and the hex digits of either case.
 use Rattle.std.specs.Prelude.{ℕ, ◌-◌, ◌==◌, ◌&&◌, ◌||◌, nat_le, nat_lt, Bool, codes, List}
 use Rattle.std.specs.Prelude.{[], ◌∷◌, ◌++◌, length, take, Option, Some, None, filter, if◌then◌else◌}
-use Rattle.std.specs.List.{slice_split}
+use Rattle.std.specs.Char.{is_ascii_digit}
+use Rattle.std.specs.List.{list_all, slice_split}
+use Rattle.std.specs.Str.Parse.{digits_value}
 use Rattle.std.specs.Option.{option_map, option_and_then}
 use Rattle.std.specs.Result.{result_ok}
 use Rattle.hex.specs.Hex.{decode_of, decode_sized}
@@ -28,3 +30,8 @@ number_of digits =
 abbrev pub bytes_of : List (List ℕ) → Option (List ℕ)
 bytes_of [] = Some []
 bytes_of (word ∷ words) = option_and_then (λ front. option_map (λ bytes. front ++ bytes) (bytes_of words)) (result_ok (decode_of word))
+
+-- the number of 1 to 10 decimal digits, the highest first; zeros may lead
+abbrev pub decimal_of : List ℕ → Option ℕ
+decimal_of digits =
+    if nat_le 1 (length digits) && nat_le (length digits) 10 && list_all is_ascii_digit digits then Some (digits_value 10 digits) else None

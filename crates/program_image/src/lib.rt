@@ -9,6 +9,7 @@
 //! - [`Image::read`]: the image that a text spells, or the first line that has a fault, and which.
 //! - [`Image::word_at`]: the instruction word at an address.
 //! - [`Image::block`]: the plain words from an address on, and what stands after them.
+//! - [`text`]: the lines of a text, the words of a line, and the numbers of words.
 //! - the laws: what a text spells, and what holds of every image.
 #![tactic(auto)]
 
@@ -20,7 +21,7 @@ mod laws;
 mod lookup;
 mod part;
 mod run_table;
-mod text;
+pub mod text;
 
 pub use block::{Block, BlockEnd};
 pub use fault::{ImageFault, ImageWhy};

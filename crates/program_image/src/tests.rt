@@ -1,4 +1,5 @@
 //! Texts of images and what is read of them.
+use crate::text::{decimal, number};
 use crate::{Block, BlockEnd, Image, ImageFault, ImageWhy};
 use a64_branches::Class;
 use std::alloc::Global;
@@ -162,4 +163,21 @@ fn a_fault_has_its_number_and_its_word(rt: HostRuntime) {
     assert_eq!(rt; why.text(), "too-long");
     assert_eq!(rt; ImageFault::Bad { line: 0, why }.number(), 6);
     assert_eq!(rt; ImageFault::Memory.number(), 8);
+}
+
+#[test]
+fn a_word_spells_its_number(rt: HostRuntime) {
+    let words: [(&[u8], Option<u64>, Option<u64>); 7] = [
+        (b"0", Some(0), Some(0)),
+        (b"0000000012", Some(12), Some(0x12)),
+        (b"00000000012", None, Some(0x12)),
+        (b"9999999999", Some(9_999_999_999), Some(0x99_9999_9999)),
+        (b"fF", None, Some(0xff)),
+        (b"+1", None, None),
+        (b"", None, None),
+    ];
+    for (word, by_ten, by_sixteen) in words {
+        assert_eq!(rt; decimal(word), by_ten);
+        assert_eq!(rt; number(word), by_sixteen);
+    }
 }

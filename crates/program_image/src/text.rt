@@ -1,12 +1,14 @@
-//! The lines of a text, the words of a line, and the digits of a word.
+//! The lines of a text, the words of a line, and the numbers of words: of the text of an image, and of others that are
+//! made of lines in the same way.
 ghost use Rattle.std.specs.Prelude.{◌≡◌, ◌<◌, ◌≤◌, ◌∷◌, ◌++◌, [], length, IfSome, MatchOption, option_map, not, position, ◌==◌};
-ghost use Rattle.std.specs.List.{position_or_len};
+ghost use Rattle.std.specs.Char.{is_ascii_digit};
+ghost use Rattle.std.specs.List.{list_all, position_or_len};
 ghost use Rattle.std.specs.Option.{ok_or};
 ghost use Rattle.std.specs.Result.{result_ok};
 ghost use Rattle.std.specs.Str.{is_utf8};
 ghost use Rattle.std.specs.Str.Lines.{lines, strip_carriage_return};
 ghost use Rattle.hex.specs.Hex.{decode_of};
-ghost use Rattle.program_image.specs.Line.{bytes_of, is_blank, number_of, words_in};
+ghost use Rattle.program_image.specs.Line.{bytes_of, decimal_of, is_blank, number_of, words_in};
 ghost use Rattle.program_image.specs.Answers.{Answers};
 
 use crate::fault::{ImageWhy, LineFault};
@@ -15,8 +17,11 @@ use std::alloc::Global;
 
 const ADDRESS_DIGITS: usize = 16;
 
+/// The most digits of a decimal number.
+const DECIMAL_DIGITS: usize = 10;
+
 /// A line that is of no form.
-pub const SYNTAX: LineFault = LineFault::Bad(ImageWhy::Syntax);
+pub(crate) const SYNTAX: LineFault = LineFault::Bad(ImageWhy::Syntax);
 
 fn is_blank(byte: u8) -> bool
     ensures { result ≡ is_blank byte }
@@ -90,7 +95,14 @@ pub fn next_word(line: &[u8]) -> Option<(&[u8], &[u8])>
     Some(line.split_at(word_end(line)))
 }
 
-/// The number that 1 to 16 hex digits spell.
+/// Whether all bytes are decimal digits.
+fn are_decimal(bytes: &[u8]) -> bool
+    ensures { result ≡ list_all is_ascii_digit bytes.now }
+{
+    bytes.iter().all(|byte| byte.is_ascii_digit())
+}
+
+/// The number that 1 to 16 hex digits of either case spell.
 pub fn number(digits: &[u8]) -> Option<u64>
     ensures { result ≡ number_of digits.now }
 {
@@ -102,6 +114,16 @@ pub fn number(digits: &[u8]) -> Option<u64>
     let mut bytes = [0; size_of::<u64>()];
     hex::decode_to_slice(padded.as_slice(), &mut bytes).ok()?;
     Some(BigEndian::read_u64(&bytes))
+}
+
+/// The number that 1 to 10 decimal digits spell. Zeros may lead.
+pub fn decimal(digits: &[u8]) -> Option<u64>
+    ensures { result ≡ decimal_of digits.now }
+{
+    if digits.is_empty() || digits.len() > DECIMAL_DIGITS || !are_decimal(digits) {
+        return None;
+    }
+    str::from_utf8(digits).ok()?.parse().ok()
 }
 
 /// The bytes with those after them that hex digits spell.
@@ -117,7 +139,7 @@ fn with_digits(mut bytes: Vec<u8>, digits: &[u8]) -> Result<Vec<u8>, LineFault>
 }
 
 /// The bytes that the words of a line spell.
-pub fn line_bytes(alloc: Global, line: &[u8]) -> Result<Vec<u8>, LineFault>
+pub(crate) fn line_bytes(alloc: Global, line: &[u8]) -> Result<Vec<u8>, LineFault>
     ensures { Answers (λ v. v.items) result (ok_or (bytes_of (words_in line.now)) ImageWhy.Syntax) }
 {
     let mut bytes = Vec::new(alloc);
