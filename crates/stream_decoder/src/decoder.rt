@@ -1,5 +1,5 @@
 //! One stream, from its bytes to the lines of its path.
-ghost use Rattle.std.specs.Prelude.{◌≡◌, ◌<◌, ◌≤◌, ◌+◌, ◌^◌, ◌==◌, ◌++◌, ◌∷◌, ◌↔◌, [], List, ℕ, None, Ok, Err};
+ghost use Rattle.std.specs.Prelude.{◌≡◌, ◌<◌, ◌+◌, ◌^◌, ◌==◌, ◌++◌, ◌∷◌, ◌↔◌, [], List, ℕ, None, Ok, Err};
 ghost use Rattle.std.specs.Prelude.{IfOk, IsErr, IsOk, IsTrue, true, false, not, length, if◌then◌else◌};
 ghost use Rattle.element_queue.specs.Counting.{Balances, counts_after, entries, no_counts, tally};
 ghost use Rattle.element_queue.specs.Pending.{losing};

@@ -6,7 +6,6 @@ ghost use Rattle.element_queue.specs.Pending.{losing};
 ghost use Rattle.etm_types.specs.Walked.{items_of};
 ghost use Rattle.etm_types.specs.declared.queue_fault.QueueFault.{QueueFault};
 ghost use Rattle.etm_types.specs.declared.walk_fault.WalkFault.{WalkFault};
-ghost use Rattle.packet_grammar.specs.Ends.{end_of};
 ghost use Rattle.packet_grammar.specs.Parsed.{Ending, IsStream};
 ghost use Rattle.packet_grammar.specs.declared.packet.Packet.{Packet};
 ghost use Rattle.packet_grammar.specs.declared.stream_fault.Fault.{Fault};

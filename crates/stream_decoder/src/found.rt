@@ -1,5 +1,5 @@
 //! What a stream shows, and its lines.
-ghost use Rattle.std.specs.Prelude.{◌≡◌, IfOk, List};
+ghost use Rattle.std.specs.Prelude.{◌≡◌, IfOk};
 ghost use Rattle.path_text.specs.PathLines.{lines_of, shown_after_all};
 ghost use Rattle.path_text.specs.Writing.{Writes};
 ghost use Rattle.stream_decoder.specs.Yields.{items_of_found};

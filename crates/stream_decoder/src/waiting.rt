@@ -1,6 +1,6 @@
 //! The P0 elements that wait: those that may still be taken back, and those that an element committed and that
 //! are still to be walked.
-ghost use Rattle.std.specs.Prelude.{◌≡◌, ◌∷◌, ◌++◌, [], ◌↔◌, IsTrue, IfOk, IfSome, IsErr, None, Err, false, option_to_list, length, ◌<◌};
+ghost use Rattle.std.specs.Prelude.{◌≡◌, ◌∷◌, ◌++◌, [], IsTrue, IfOk, IfSome, IsErr, None, Err, false, option_to_list, length, ◌<◌};
 ghost use Rattle.element_queue.specs.Counting.{Balances, counts_after, no_counts};
 ghost use Rattle.element_queue.specs.Pending.{committing, losing, taken};
 ghost use Rattle.element_queue.specs.Queued.{bare_atom, things_of};
