@@ -1,0 +1,13 @@
+pub mod EventsJoined
+pub mod EventsKept
+pub mod Examples
+pub mod Held
+pub mod OneEvent
+pub mod PathExamples
+pub mod PathFollows
+pub mod PathGrows
+pub mod PathTaken
+pub mod Shown
+pub mod StepLists
+pub mod StepsKept
+pub mod Windows

@@ -1,0 +1,11 @@
+pub mod Kinds
+pub mod FaultNumbers
+pub mod Steps
+pub mod Blocks
+pub mod Runs
+pub mod Checks
+pub mod RunAfter
+pub mod Executed
+pub mod RetiredItems
+pub mod Stands
+pub mod Windows

@@ -1,0 +1,84 @@
+-- The fields of a run, and what of them shows.
+use Rattle.std.specs.Prelude.{◌≡◌, ℕ, zero, suc, ◌<◌, ◌≤◌, false, List, [], ◌∷◌, ◌++◌, length, take, drop, Option, Some, None, Result, Ok, Err, ⊤}
+use Rattle.std.specs.Option.{option_map}
+use Rattle.circular_buffer.specs.Buffer.{Buffer}
+use Rattle.etm_types.specs.declared.context.Ctx.{Ctx}
+use Rattle.program_image.specs.declared.image.Image.{Image}
+use Rattle.spec_run.specs.Checks.{Place, check, effect_of, window}
+use Rattle.spec_run.specs.Kinds.{is_isb}
+use Rattle.spec_run.specs.Runs.{turn_newest}
+use Rattle.spec_run.specs.Stands.{held_at}
+use Rattle.spec_run.specs.Steps.{ctx_at, isb_behind, kept, newest, next_behind, p0s, pc_at}
+use Rattle.spec_run.specs.declared.effect.Effect.{Effect}
+use Rattle.spec_run.specs.declared.effect.Effect.TheVariants as effect
+use Rattle.spec_run.specs.declared.event.Event.{Event}
+use Rattle.spec_run.specs.declared.event.Event.TheVariants as event
+use Rattle.spec_run.specs.declared.run_fault.RunFault.{RunFault}
+use Rattle.spec_run.specs.declared.standing.Standing.{Standing}
+use Rattle.spec_run.specs.declared.step.RunStep.{RunStep}
+
+abbrev pub place_of_standing : Standing → List RunStep → Place
+place_of_standing s held = record { held = held; after_isb = s.after_isb; pc = s.pc; ctx = s.ctx }
+
+abbrev pub place_by : Option Standing → List RunStep → Option Place
+place_by None held = None
+place_by (Some s) held = Some (place_of_standing s held)
+
+-- an ERET gives the context behind it
+abbrev pub ctx_behind : Ctx → Event → Ctx
+ctx_behind ctx (event.Eret addr there) = there
+ctx_behind ctx e = ctx
+
+-- the ring has room for the whole window, and holds no more; its P0 steps are counted; nothing is held while tracing is off, or at depth 0
+pub record IsWindow (depth : ℕ) (held : Buffer RunStep) (p0 : ℕ) (standing : Option Standing) : Type 0 where
+  pub room : held.capacity ≡ window
+  pub within : length held.items ≤ window
+  pub counted : p0 ≡ p0s held.items
+  pub off : standing ≡ None → held.items ≡ []
+  pub flat : depth ≡ 0 → held.items ≡ []
+
+-- what an event does, or the first of its checks that fails
+abbrev pub planned_by : Option RunFault → Effect → Result Effect RunFault
+planned_by None effect = Ok effect
+planned_by (Some fault) effect = Err fault
+
+abbrev pub planned : Image → ℕ → Option Place → Event → Result Effect RunFault
+planned image depth place e = planned_by (check image depth place e) (effect_of image place e)
+
+-- ---- what an effect makes of the place
+
+abbrev pub place_begun : List RunStep → ℕ → Ctx → Place
+place_begun held addr ctx = record { held = held; after_isb = false; pc = addr; ctx = ctx }
+
+-- at depth 0 the step is the newest retired one
+abbrev pub place_ran : ℕ → Place → RunStep → Ctx → Place
+place_ran zero p s ctx = record p { after_isb = is_isb s.kind; pc = s.next; ctx = ctx }
+place_ran (suc depth) p s ctx = record p { held = p.held ++ s ∷ []; pc = s.next; ctx = ctx }
+
+abbrev pub place_contexted : Place → Ctx → Place
+place_contexted p ctx = record p { ctx = ctx }
+
+abbrev pub place_retired : Place → ℕ → Place
+place_retired p n = record p { held = drop n p.held; after_isb = isb_behind p.after_isb (take n p.held) }
+
+abbrev pub place_cancelled : Place → ℕ → Place
+place_cancelled p n = record p { held = kept n p.held; pc = pc_at p.pc (newest n p.held); ctx = ctx_at p.ctx (newest n p.held) }
+
+abbrev pub place_flipped : Image → Place → Place
+place_flipped image p = record p { held = turn_newest image p.held; pc = next_behind p.pc (turn_newest image p.held) }
+
+abbrev pub place_after : Image → ℕ → Option Place → Effect → Option Place
+place_after image depth place (effect.Began addr ctx) = Some (place_begun (held_at place) addr ctx)
+place_after image depth place (effect.Ran s ctx) = option_map (λ p. place_ran depth p s ctx) place
+place_after image depth place (effect.Contexted ctx) = option_map (λ p. place_contexted p ctx) place
+place_after image depth place (effect.Retired n) = option_map (λ p. place_retired p n) place
+place_after image depth place (effect.Cancelled n) = option_map (λ p. place_cancelled p n) place
+place_after image depth place effect.Flipped = option_map (place_flipped image) place
+place_after image depth place effect.Synced = place
+place_after image depth place effect.Overflowed = None
+place_after image depth place effect.Stopped = None
+
+-- there is room for a step that an effect holds
+abbrev pub HasRoom : Effect → List RunStep → Type 0
+HasRoom (effect.Ran s ctx) held = length held < window
+HasRoom e held = ⊤

@@ -1,0 +1,125 @@
+//! The retired path, step by step: what it gives on runs worked out by hand.
+ghost use Rattle.std.specs.Prelude.{◌≡◌, false};
+
+use crate::{RetiredPath, RunStep, StepKind};
+use etm_types::{Ctx, ExcMark, Walked};
+
+const PROGRAM: Ctx = Ctx {
+    el: 0,
+    ns: true,
+    vmid: 5,
+    cid: 7,
+};
+
+const HANDLER: Ctx = Ctx {
+    el: 1,
+    ns: true,
+    vmid: 5,
+    cid: 7,
+};
+
+fn step(addr: u64, ctx: Ctx, kind: StepKind, next: u64) -> RunStep
+    ensures { result ≡ record { addr = addr; ctx = ctx; kind = kind; next = next; link = false } }
+{
+    RunStep {
+        addr,
+        ctx,
+        kind,
+        next,
+        link: false,
+    }
+}
+
+/// So many instructions from an address on.
+fn block(on: bool, ctx: Ctx, start: u64, count: u64) -> Option<Walked> {
+    Some(Walked {
+        on,
+        unknown: false,
+        ctx,
+        start,
+        count,
+        exc: None,
+    })
+}
+
+#[test]
+fn two_blocks_and_a_plain_step(rt: HostRuntime) {
+    let mut path = RetiredPath::new();
+    path.begin();
+    assert_eq!(rt;
+        path.retire(&step(0x1000, PROGRAM, StepKind::Plain, 0x1004)),
+        None
+    );
+    assert_eq!(rt;
+        path.retire(&step(0x1004, PROGRAM, StepKind::Plain, 0x1008)),
+        None
+    );
+    assert_eq!(rt;
+        path.retire(&step(0x1008, PROGRAM, StepKind::Cond { taken: true }, 0x1010)),
+        block(true, PROGRAM, 0x1000, 3)
+    );
+    assert_eq!(rt;
+        path.retire(&step(0x1010, PROGRAM, StepKind::Plain, 0x1014)),
+        None
+    );
+    assert_eq!(rt;
+        path.retire(&step(0x1014, PROGRAM, StepKind::Ind { link: false }, 0x1000)),
+        block(false, PROGRAM, 0x1010, 2)
+    );
+    assert_eq!(rt;
+        path.retire(&step(0x1000, PROGRAM, StepKind::Plain, 0x1004)),
+        None
+    );
+    path.close();
+    path.begin();
+    assert_eq!(rt;
+        path.retire(&step(0x2000, PROGRAM, StepKind::Jump, 0x2000)),
+        block(true, PROGRAM, 0x2000, 1)
+    );
+}
+
+#[test]
+fn exceptions(rt: HostRuntime) {
+    let mut path = RetiredPath::new();
+    path.begin();
+    assert_eq!(rt;
+        path.retire(&step(0x2000, PROGRAM, StepKind::Exc { kind: 3 }, 0x8000)),
+        Some(Walked {
+            on: true,
+            unknown: false,
+            ctx: PROGRAM,
+            start: 0x2000,
+            count: 0,
+            exc: Some(ExcMark {
+                kind: 3,
+                ret: 0x2000,
+            }),
+        })
+    );
+    assert_eq!(rt;
+        path.retire(&step(0x8000, HANDLER, StepKind::Plain, 0x8004)),
+        None
+    );
+    assert_eq!(rt;
+        path.retire(&step(0x8004, HANDLER, StepKind::Eret, 0x2000)),
+        block(false, HANDLER, 0x8000, 2)
+    );
+    assert_eq!(rt;
+        path.retire(&step(0x2000, PROGRAM, StepKind::Plain, 0x2004)),
+        None
+    );
+    assert_eq!(rt;
+        path.retire(&step(0x2004, PROGRAM, StepKind::Exc { kind: 14 }, 0x8000)),
+        Some(Walked {
+            on: false,
+            unknown: false,
+            ctx: PROGRAM,
+            start: 0x2000,
+            count: 1,
+            exc: Some(ExcMark {
+                kind: 14,
+                ret: 0x2004,
+            }),
+        })
+    );
+}
