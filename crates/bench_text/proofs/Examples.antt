@@ -1,0 +1,241 @@
+-- Run files that were worked out by hand, each beside what a wrong definition would say.
+use Rattle.std.proofs.Common.{◌≡◌, ◌∷◌, ◌∙◌, ◌+◌, ℕ, false, true, List, [], Option, Some, None, Result, Ok, Err, ap, eq-eqb, nat_eq, refl, sym, true≢false}
+use Rattle.std.specs.Prelude.{⊤, codes}
+use Rattle.std.specs.Str.{is_utf8}
+use Rattle.hex.specs.Hex.{decode_pairs}
+use Rattle.program_image.specs.Line.{decimal_of, words_in}
+use Rattle.spec_run.specs.declared.event.Event.TheVariants as event
+use Rattle.bench_text.specs.BenchText.{Draft, add_any, add_lines, finished, then_lines}
+use Rattle.bench_text.specs.EventLines.{short_number_of, two_digits_of}
+use Rattle.bench_text.specs.Parts.{BenchParts, events_of}
+use Rattle.bench_text.specs.WhyNumbers.{why_number}
+use Rattle.bench_text.specs.declared.fault.BenchWhy.{BenchWhy}
+use Rattle.bench_text.specs.declared.fault.BenchWhy.TheVariants.{Header, Syntax, IdRange, DuplicateId, Range}
+
+-- what lines say that are UTF-8
+abbrev read : ℕ → Option Draft → List (List ℕ) → Result (Option Draft) (ℕ × BenchWhy)
+read number draft [] = Ok draft
+read number draft (line ∷ lines) = then_lines number (add_any number draft (words_in line)) (λ next. read (number + 1) next lines)
+
+abbrev AreUtf8 : List (List ℕ) → Type 0
+AreUtf8 [] = ⊤
+AreUtf8 (line ∷ lines) = (is_utf8 line ≡ true) × AreUtf8 lines
+
+read_is : (number : ℕ) (draft : Option Draft) (lines : List (List ℕ)) → AreUtf8 lines → add_lines number draft lines ≡ read number draft lines
+read_is number draft [] h = refl
+read_is number draft (line ∷ lines) h = rw h.0 (by (add_any number draft (words_in line)) (λ next. read_is (number + 1) next lines h.1))
+  where
+    by : (r : Result (Option Draft) BenchWhy) → ((next : Option Draft) → add_lines (number + 1) next lines ≡ read (number + 1) next lines)
+        → then_lines number r (λ next. add_lines (number + 1) next lines) ≡ then_lines number r (λ next. read (number + 1) next lines)
+    by (Ok next) more = more next
+    by (Err why) more = refl
+
+abbrev said : List (List ℕ) → Result BenchParts (ℕ × BenchWhy)
+said lines = finished (read 1 None lines)
+
+-- a text has one fault at most
+abbrev number_in : Result BenchParts (ℕ × BenchWhy) → ℕ
+number_in (Ok b) = 0
+number_in (Err fault) = why_number fault.1
+
+one_fault : (r : Result BenchParts (ℕ × BenchWhy)) (line : ℕ) (why other : BenchWhy) → r ≡ Err (line, why) → nat_eq (why_number why) (why_number other) ≡ false
+    → r ≡ Err (line, other) → ⊥
+one_fault r line why other told differ h =
+    let same : why_number why ≡ why_number other = sym (ap number_in told) ∙ ap number_in h in
+    true≢false (sym (eq-eqb (why_number why) (why_number other) same) ∙ differ)
+
+abbrev etm : List (List ℕ) → List (List ℕ)
+etm lines = codes "etm 1" ∷ lines
+
+abbrev stream_01 : List (List ℕ) → List (List ℕ)
+stream_01 lines = etm (codes "stream 01" ∷ lines)
+
+-- ---- on one line: a reason, and one that is tested after it
+
+-- the first word has an ID of no source, the second no form
+syntax_before_id_range : said (stream_01 (codes "weave 70:1 01" ∷ [])) ≡ Err (3, Syntax)
+unfolding decode_pairs
+syntax_before_id_range = refl
+
+no_id_range_before_syntax : said (stream_01 (codes "weave 70:1 01" ∷ [])) ≡ Err (3, IdRange) → ⊥
+no_id_range_before_syntax = one_fault _ 3 Syntax IdRange syntax_before_id_range refl
+
+-- an ID that has a stream already, behind a weave
+syntax_before_duplicate_id : said (stream_01 (codes "weave 01:1" ∷ codes "stream 01" ∷ [])) ≡ Err (4, Syntax)
+unfolding decode_pairs
+syntax_before_duplicate_id = refl
+
+-- of all words the IDs come first
+id_range_before_range : said (stream_01 (codes "weave 01:0 02:1" ∷ [])) ≡ Err (3, IdRange)
+unfolding decode_pairs
+id_range_before_range = refl
+
+no_word_by_word : said (stream_01 (codes "weave 01:0 02:1" ∷ [])) ≡ Err (3, Range) → ⊥
+no_word_by_word = one_fault _ 3 IdRange Range id_range_before_range refl
+
+syntax_before_range : said (stream_01 (codes "exc 32 1000 el0 s 0" ∷ [])) ≡ Err (3, Syntax)
+unfolding decode_pairs
+syntax_before_range = refl
+
+-- ---- the header
+
+no_lines_at_all : said [] ≡ Err (0, Header)
+no_lines_at_all = refl
+
+no_line_with_words : said (codes "# etm 1" ∷ codes "" ∷ []) ≡ Err (0, Header)
+no_line_with_words = refl
+
+another_version : said (codes "etm 2" ∷ []) ≡ Err (1, Header)
+another_version = refl
+
+words_behind_the_header : said (codes "etm 1 1" ∷ []) ≡ Err (1, Header)
+words_behind_the_header = refl
+
+-- a line without words counts
+header_on_line_2 : said ([] ∷ codes "etm" ∷ []) ≡ Err (2, Header)
+header_on_line_2 = refl
+
+not_utf8_before_the_header : (bytes : List ℕ) → is_utf8 bytes ≡ false → finished (add_lines 1 None (bytes ∷ codes "etm 1" ∷ [])) ≡ Err (1, Syntax)
+not_utf8_before_the_header bytes bad = rw bad refl
+
+not_utf8_is_no_header : (bytes : List ℕ) → is_utf8 bytes ≡ false → finished (add_lines 1 None (bytes ∷ codes "etm 1" ∷ [])) ≡ Err (1, Header) → ⊥
+not_utf8_is_no_header bytes bad = one_fault _ 1 Syntax Header (not_utf8_before_the_header bytes bad) refl
+
+-- ---- settings
+
+given_twice : said (etm (codes "depth 1" ∷ codes "depth 4097" ∷ [])) ≡ Err (3, Syntax)
+given_twice = refl
+
+no_range_of_a_second : said (etm (codes "depth 1" ∷ codes "depth 4097" ∷ [])) ≡ Err (3, Range) → ⊥
+no_range_of_a_second = one_fault _ 3 Syntax Range given_twice refl
+
+depth_too_great : said (etm (codes "depth 4097" ∷ [])) ≡ Err (2, Range)
+depth_too_great = refl
+
+no_size_of_vmids : said (etm (codes "vmid 3" ∷ [])) ≡ Err (2, Range)
+no_size_of_vmids = refl
+
+no_size_of_context_ids : said (etm (codes "cid 1" ∷ [])) ≡ Err (2, Range)
+no_size_of_context_ids = refl
+
+stack_too_deep : said (etm (codes "stack 16" ∷ [])) ≡ Err (2, Range)
+stack_too_deep = refl
+
+setting_behind_a_stream : said (stream_01 (codes "depth 5" ∷ [])) ≡ Err (3, Syntax)
+unfolding decode_pairs
+setting_behind_a_stream = refl
+
+no_setting_behind_a_stream : said (stream_01 (codes "depth 5" ∷ [])) ≡ Err (3, Range) → ⊥
+no_setting_behind_a_stream = one_fault _ 3 Syntax Range setting_behind_a_stream refl
+
+settings_told : said (etm (codes "stack 0" ∷ codes "vmid 4" ∷ codes "cid 0" ∷ codes "depth 4096" ∷ []))
+    ≡ Ok (record { settings = record { depth = 4096; vmid_bytes = 4; cid_bytes = 0 }; stack = 0; streams = []; weaves = [] })
+settings_told = refl
+
+settings_left_out : said (etm [])
+    ≡ Ok (record { settings = record { depth = 16; vmid_bytes = 1; cid_bytes = 4 }; stack = 15; streams = []; weaves = [] })
+settings_left_out = refl
+
+-- ---- streams
+
+no_source : said (etm (codes "stream 70" ∷ [])) ≡ Err (2, IdRange)
+unfolding decode_pairs
+no_source = refl
+
+null_id : said (etm (codes "stream 00" ∷ [])) ≡ Err (2, IdRange)
+unfolding decode_pairs
+null_id = refl
+
+two_streams_of_one_id : said (stream_01 (codes "stream 01" ∷ [])) ≡ Err (3, DuplicateId)
+unfolding decode_pairs
+two_streams_of_one_id = refl
+
+event_before_a_stream : said (etm (codes "step" ∷ [])) ≡ Err (2, Syntax)
+event_before_a_stream = refl
+
+event_behind_a_weave : said (stream_01 (codes "weave 01:1" ∷ codes "step" ∷ [])) ≡ Err (4, Syntax)
+unfolding decode_pairs
+event_behind_a_weave = refl
+
+-- ---- counts of digits
+
+ten_digits : decimal_of (codes "0000000004") ≡ Some 4
+ten_digits = refl
+
+eleven_digits : decimal_of (codes "00000000004") ≡ None
+eleven_digits = refl
+
+no_digits : decimal_of [] ≡ None
+no_digits = refl
+
+no_sign : decimal_of (codes "+4") ≡ None
+no_sign = refl
+
+depth_of_eleven_digits : said (etm (codes "depth 00000000004" ∷ [])) ≡ Err (2, Syntax)
+depth_of_eleven_digits = refl
+
+no_range_of_eleven_digits : said (etm (codes "depth 00000000004" ∷ [])) ≡ Err (2, Range) → ⊥
+no_range_of_eleven_digits = one_fault _ 2 Syntax Range depth_of_eleven_digits refl
+
+vmid_of_eight_digits : short_number_of (codes "0000000F") ≡ Some 15
+unfolding decode_pairs
+vmid_of_eight_digits = refl
+
+vmid_of_nine_digits : said (stream_01 (codes "on 1000 el0 s 000000000 0" ∷ [])) ≡ Err (3, Syntax)
+unfolding decode_pairs
+vmid_of_nine_digits = refl
+
+id_of_two_digits : two_digits_of (codes "6f") ≡ Some 111
+unfolding decode_pairs
+id_of_two_digits = refl
+
+id_of_one_digit : two_digits_of (codes "1") ≡ None
+id_of_one_digit = refl
+
+-- ---- numbers of events
+
+no_step : said (stream_01 (codes "step 0" ∷ [])) ≡ Err (3, Range)
+unfolding decode_pairs
+no_step = refl
+
+too_many_steps : said (stream_01 (codes "step 65536" ∷ [])) ≡ Err (3, Range)
+unfolding decode_pairs
+too_many_steps = refl
+
+no_kind : said (stream_01 (codes "exc 32 1000 el0 s 0 0" ∷ [])) ≡ Err (3, Range)
+unfolding decode_pairs
+no_kind = refl
+
+-- the VMID has one byte where no line says otherwise
+context_does_not_fit : said (stream_01 (codes "context el0 ns 100 0" ∷ [])) ≡ Err (3, Range)
+unfolding decode_pairs
+context_does_not_fit = refl
+
+-- ---- a whole run file
+
+abbrev whole : List (List ℕ)
+whole = etm (codes "vmid 0" ∷ codes "" ∷ codes "stream 6f" ∷ codes "on 1000 el1 ns 0 2a" ∷ codes "step 3" ∷ codes "stream 01" ∷ codes "# none"
+    ∷ codes "exc 31 80 el3 s 0 0" ∷ codes "weave 01:2 6f:1048576" ∷ [])
+
+abbrev whole_parts : BenchParts
+whole_parts = record {
+  settings = record { depth = 16; vmid_bytes = 0; cid_bytes = 4 };
+  stack = 15;
+  streams = record {
+    id = 111;
+    lines = record { line = 5; event = event.On 0x1000 (record { el = 1; ns = true; vmid = 0; cid = 42 }); times = 1 }
+        ∷ record { line = 6; event = event.Step; times = 3 } ∷ [];
+  } ∷ record {
+    id = 1;
+    lines = record { line = 9; event = event.Exc 31 0x80 (record { el = 3; ns = false; vmid = 0; cid = 0 }); times = 1 } ∷ [];
+  } ∷ [];
+  weaves = record { id = 1; count = 2 } ∷ record { id = 111; count = 1048576 } ∷ [];
+}
+
+whole_told : said whole ≡ Ok whole_parts
+unfolding decode_pairs
+whole_told = refl
+
+steps_written_out : events_of (record { line = 6; event = event.Step; times = 3 } ∷ record { line = 7; event = event.Sync; times = 1 } ∷ [])
+    ≡ event.Step ∷ event.Step ∷ event.Step ∷ event.Sync ∷ []
+steps_written_out = refl

@@ -1,0 +1,81 @@
+//! The words of a weave line.
+ghost use Rattle.std.specs.Prelude.{◌≡◌, All};
+ghost use Rattle.std.specs.Option.{option_map};
+ghost use Rattle.etm_types.specs.Id.{IsId};
+ghost use Rattle.program_image.specs.Line.{words_in};
+ghost use Rattle.bench_text.specs.Answers.{Answers};
+ghost use Rattle.bench_text.specs.BenchText.{weave, weave_of, weaves_of};
+ghost use Rattle.bench_text.specs.EventLines.{need};
+ghost use Rattle.bench_text.specs.Kept.{streams_in};
+ghost use Rattle.bench_text.specs.OneWeave.{one_weave};
+
+use crate::fault::{BenchWhy, LineFault};
+use crate::line::{BenchLine, Weave};
+use crate::streams::has_stream;
+use crate::words::two_digits;
+use etm_types::Id;
+use indexmap::IndexMap;
+use program_image::text::{decimal, next_word};
+
+/// The most bytes of one weave.
+const MOST_COUNT: u64 = 1 << 20;
+
+/// The weaves with those of a line behind them. Of all words of the line the IDs are tested first, then the counts.
+pub fn with_weaves(
+    streams: &IndexMap<u8, Vec<BenchLine>>,
+    mut weaves: Vec<Weave>,
+    words: &[u8],
+) -> Result<Vec<Weave>, LineFault>
+    requires { All (λ s. IsId s.id) (streams_in streams.now.entries) }
+    ensures { Answers (λ v. v.items) result
+        (need (weaves_of (words_in words.now)) (weave (streams_in streams.now.entries) weaves.items)) }
+{
+    let mut declared = true;
+    let mut within = true;
+    let mut rest = words;
+    while let Some((word, after)) = next_word(rest) {
+        match one_weave(streams, word) {
+            Ok(weave) => weaves.push(weave).map_err(|_| LineFault::Memory)?,
+            Err(BenchWhy::IdRange) => declared = false,
+            Err(BenchWhy::Range) => within = false,
+            Err(why) => return Err(LineFault::Bad(why)),
+        }
+        rest = after;
+    }
+    if !declared {
+        return Err(LineFault::Bad(BenchWhy::IdRange));
+    }
+    if !within {
+        return Err(LineFault::Bad(BenchWhy::Range));
+    }
+    Ok(weaves)
+}
+
+/// The weave of a word.
+fn one_weave(streams: &IndexMap<u8, Vec<BenchLine>>, word: &[u8]) -> Result<Weave, BenchWhy>
+    requires { All (λ s. IsId s.id) (streams_in streams.now.entries) }
+    ensures { result ≡ one_weave (streams_in streams.now.entries) word.now }
+{
+    let (id, count) = weave_of(word).ok_or(BenchWhy::Syntax)?;
+    if !has_stream(streams, id) {
+        return Err(BenchWhy::IdRange);
+    }
+    if count == 0 || count > MOST_COUNT {
+        return Err(BenchWhy::Range);
+    }
+    let id = Id::new(id).ok_or(BenchWhy::IdRange)?;
+    let count = count as u32;
+    Ok(Weave { id, count })
+}
+
+/// The ID and the count of a word `ID:COUNT`.
+fn weave_of(word: &[u8]) -> Option<(u8, u64)>
+    ensures { option_map (λ pair. record { id = pair.0; count = pair.1 }) result ≡ weave_of word.now }
+{
+    let [high, low, b':', digits @ ..] = word else {
+        return None;
+    };
+    let id = two_digits(&[*high, *low])?;
+    let count = decimal(digits)?;
+    Some((id, count))
+}

@@ -1,0 +1,60 @@
+//! The words of a line that are read in one way wherever they stand.
+ghost use Rattle.std.specs.Prelude.{◌≡◌};
+ghost use Rattle.std.specs.Option.{option_map};
+ghost use Rattle.program_image.specs.Line.{words_in};
+ghost use Rattle.bench_text.specs.EventLines.{only_number, only_short_number, only_word, short_number_of, two_digits_of};
+
+use program_image::text::{decimal, next_word, number};
+
+/// The digits of an ID.
+const ID_DIGITS: usize = 2;
+
+/// The most digits of a VMID or a context ID.
+const SHORT_DIGITS: usize = 8;
+
+/// The word of a line that is alone there.
+pub fn only_word(words: &[u8]) -> Option<&[u8]>
+    ensures { option_map (λ word. word.now) result ≡ only_word (words_in words.now) }
+{
+    let (word, rest) = next_word(words)?;
+    match next_word(rest) {
+        Some(_) => None,
+        None => Some(word),
+    }
+}
+
+/// The decimal number that is alone on a line.
+pub fn only_number(words: &[u8]) -> Option<u64>
+    ensures { result ≡ only_number (words_in words.now) }
+{
+    decimal(only_word(words)?)
+}
+
+/// The number that 1 to 8 hex digits spell.
+pub fn short_number(word: &[u8]) -> Option<u32>
+    ensures { result ≡ short_number_of word.now }
+{
+    if word.len() > SHORT_DIGITS {
+        return None;
+    }
+    let number = number(word)?;
+    Some(number as u32)
+}
+
+/// The number of 1 to 8 hex digits that is alone on a line.
+pub fn only_short_number(words: &[u8]) -> Option<u32>
+    ensures { result ≡ only_short_number (words_in words.now) }
+{
+    short_number(only_word(words)?)
+}
+
+/// The number that two hex digits spell.
+pub fn two_digits(word: &[u8]) -> Option<u8>
+    ensures { result ≡ two_digits_of word.now }
+{
+    if word.len() != ID_DIGITS {
+        return None;
+    }
+    let number = number(word)?;
+    Some(number as u8)
+}
