@@ -4,4 +4,8 @@
 #[cfg(test)]
 mod packets;
 #[cfg(test)]
+mod pieces;
+#[cfg(test)]
+mod run_files;
+#[cfg(test)]
 mod tests;

@@ -3,10 +3,13 @@ use Rattle.std.proofs.Common.{◌≡◌, ◌⊎◌, ℕ, ◌≤◌, true, false,
 use Rattle.std.specs.Prelude.{IfOk}
 use Rattle.std.proofs.KnownBytes.{Appends-kept, Appends-nil}
 use Rattle.path_text.specs.Writing.{Writes}
-use Rattle.program_image.specs.Answers.{TakesNoImage}
+use Rattle.program_image.specs.Answers.{TakesImage, TakesNoImage}
+use Rattle.program_image.specs.declared.image.Image.{Image}
 use Rattle.program_image.specs.declared.fault.ImageWhy.{ImageWhy}
-use Rattle.trace_cmd.specs.Answers.{Answers, AnswersSo, Asks, Call, IsCall, IsImageBad, IsImageFault, IsNoMemory, IsPathCall, IsUsage, IsWriteFault}
-use Rattle.trace_cmd.specs.Answers.{Prints, PrintsFront, image_line, usage_line}
+use Rattle.trace_cmd.specs.Answers.{Answers, AnswersSo, Asks, Call, IsBenchBad, IsBenchFault, IsCall, IsImageBad, IsImageCall, IsImageFault}
+use Rattle.trace_cmd.specs.Answers.{IsNoMemory, IsRetired, IsRetiredCall, IsUsage, IsWriteFault}
+use Rattle.trace_cmd.specs.Answers.{image_line, usage_line}
+use Rattle.trace_cmd.specs.Retired.{Prints, PrintsFront, RetiresSo}
 use Rattle.trace_cmd.specs.Grows.{Grow, frames_grow, raw_grows}
 use Rattle.trace_cmd.specs.Listed.{Listed}
 use Rattle.trace_cmd.specs.Printing.{What, layout_of, left_of, listing_of, pairs_in, pairs_of}
@@ -31,12 +34,13 @@ layout_grows Frames = frames_grow
 -- what is asked for was printed of the input, or a write failed
 pub so_of_listed : (c : Call) (what : What) → Asks c what → (old new : IoState) (r : Result Status Failed)
     → Listed (pairs_of what) (left_of what) (listing_of what) c.input c.input' old new r → HasCause old new r → AnswersSo c old new r
-so_of_listed c what asks old new (Ok status.Done) listed cause = (what, asks, listed)
+so_of_listed c what asks old new (Ok status.Done) listed cause = inl (what, asks, listed)
 so_of_listed c what asks old new (Ok status.Faulted) listed cause = (what, asks, listed)
-so_of_listed c what asks old new (Ok status.ReadFault) listed cause = inr (what, asks, listed)
+so_of_listed c what asks old new (Ok status.ReadFault) listed cause = inr (inr (what, asks, listed))
 so_of_listed c what asks old new (Ok status.InputTooLong) listed cause = (what, asks, listed)
 so_of_listed c what asks old new (Ok status.Usage) listed cause = absurd listed
 so_of_listed c what asks old new (Ok (status.ImageBad line why)) listed cause = absurd listed
+so_of_listed c what asks old new (Ok (status.BenchBad line why)) listed cause = absurd listed
 so_of_listed c what asks old new (Ok status.WriteFault) listed cause = absurd listed
 so_of_listed c what asks old new (Ok status.NoMemory) listed cause = absurd listed
 so_of_listed c what asks old new (Err e) listed cause = (cause.failed, inr (inr (inl (what, asks, listed))))
@@ -46,9 +50,9 @@ pub nothing_printed : (old new : IoState) → new ≡ old → AppendsAll old new
 nothing_printed old new same = subst (λ (s : IoState). AppendsAll old s []) (sym same) (Appends-nil old.bytes)
 
 pub so_of_memory : (c : Call) (old new : IoState) → IsCall c.words → c.input' ≡ c.input → new ≡ old → IsNoMemory c old new
-so_of_memory c old new command untouched same = record { command = command; untouched = untouched; printed = nothing_printed old new same }
+so_of_memory c old new command untouched same = record { command = command; untouched = inl untouched; printed = nothing_printed old new same }
 
-pub so_of_image_fault : (c : Call) (old : IoState) → IsPathCall c.words → Rose c.image c.image' → c.input' ≡ c.input → IsImageFault c old old
+pub so_of_image_fault : (c : Call) (old : IoState) → IsImageCall c.words → Rose c.image c.image' → c.input' ≡ c.input → IsImageFault c old old
 so_of_image_fault c old command rose untouched =
     record { command = command; rose = rose; untouched = untouched; printed = nothing_printed old old refl }
 
@@ -69,14 +73,32 @@ so_of_usage c old new (Ok s) none w same =
 so_of_usage c old new (Err e) none w same = (w.cause.failed, inl (usage_line, record { meaningless = none; printed = refl }, w.front))
 
 -- the line of an image that is bad
-pub so_of_bad_image : (c : Call) (old new : IoState) (line : ℕ) (why : ImageWhy) → IsPathCall c.words → TakesNoImage c.image c.image' line why
+pub so_of_bad_image : (c : Call) (old new : IoState) (line : ℕ) (why : ImageWhy) → IsImageCall c.words → TakesNoImage c.image c.image' line why
     → AppendsAll old new (image_line line why) → Prints (IsImageBad c line why) old new
 so_of_bad_image c old new line why command bad printed = (image_line line why, record { command = command; refused = bad; printed = refl }, printed)
 
-pub bad_image_fails : (c : Call) (old new : IoState) (e d : Failed) (line : ℕ) (why : ImageWhy) → IsPathCall c.words → TakesNoImage c.image c.image' line why
+pub bad_image_fails : (c : Call) (old new : IoState) (e d : Failed) (line : ℕ) (why : ImageWhy) → IsImageCall c.words → TakesNoImage c.image c.image' line why
     → Writes {T = Unit {0}} old new (Err e) (image_line line why) → AnswersSo c old new (Err d)
 bad_image_fails c old new e d line why command bad w =
     (w.cause.failed, inr (inl (line, why, (image_line line why, record { command = command; refused = bad; printed = refl }, w.front))))
+
+-- a run file was answered over the image
+pub so_of_run_file : (c : Call) (parts : Image) → IsRetiredCall c.words → TakesImage c.image c.image' parts → (old new : IoState) (r : Result Status Failed)
+    → RetiresSo parts c.input c.input' old new r → HasCause old new r → AnswersSo c old new r
+so_of_run_file c parts asks image old new (Ok status.Done) (text, is, all) cause = inr (text, (asks, (parts, image, is)), all)
+so_of_run_file c parts asks image old new (Ok (status.BenchBad line why)) (text, is, all) cause = (text, (asks, (parts, image, is)), all)
+so_of_run_file c parts asks image old new (Ok status.ReadFault) (rose, none) cause = inr (inl (asks, (parts, image, (rose, none))))
+so_of_run_file c parts asks image old new (Ok status.NoMemory) none cause =
+    record { command = inl (inr asks); untouched = inr asks; printed = none }
+so_of_run_file c parts asks image old new (Ok status.Usage) none cause = absurd none
+so_of_run_file c parts asks image old new (Ok (status.ImageBad line why)) none cause = absurd none
+so_of_run_file c parts asks image old new (Ok status.Faulted) none cause = absurd none
+so_of_run_file c parts asks image old new (Ok status.WriteFault) none cause = absurd none
+so_of_run_file c parts asks image old new (Ok status.InputTooLong) none cause = absurd none
+so_of_run_file c parts asks image old new (Err e) (inl (text, is, front)) cause =
+    (cause.failed, inr (inr (inr (inr (inr (inl (text, (asks, (parts, image, is)), front)))))))
+so_of_run_file c parts asks image old new (Err e) (inr (line, why, (text, is, front))) cause =
+    (cause.failed, inr (inr (inr (inr (inr (inr (inl (line, why, (text, (asks, (parts, image, is)), front)))))))))
 
 -- ---- behind the flush
 
@@ -99,6 +121,9 @@ module _ (c : Call) (old new newer : IoState) (kept : KeepsBytes new newer) wher
   kept_memory : IsNoMemory c old new → IsNoMemory c old newer
   kept_memory f = record { command = f.command; untouched = f.untouched; printed = kept_all [] f.printed }
 
+  kept_bench : IsBenchFault c old new → IsBenchFault c old newer
+  kept_bench (asks, (parts, image, (rose, printed))) = (asks, (parts, image, (rose, kept_all [] printed)))
+
   -- a write failed before it
   kept_fault : IsWriteFault c old new → IsWriteFault c old newer
   kept_fault (inl front) = inl (kept_front (IsUsage c) front)
@@ -118,19 +143,34 @@ module _ (c : Call) (old new newer : IoState) (kept : KeepsBytes new newer) wher
         },
       )))
   kept_fault (inr (inr (inr (inl f)))) = inr (inr (inr (inl (kept_image f))))
-  kept_fault (inr (inr (inr (inr f)))) = inr (inr (inr (inr (kept_memory f))))
+  kept_fault (inr (inr (inr (inr (inl f))))) = inr (inr (inr (inr (inl (kept_memory f)))))
+  kept_fault (inr (inr (inr (inr (inr (inl front)))))) = inr (inr (inr (inr (inr (inl (kept_front (IsRetired c) front))))))
+  kept_fault (inr (inr (inr (inr (inr (inr (inl (line, why, front)))))))) =
+      inr (inr (inr (inr (inr (inr (inl (line, why, kept_front (IsBenchBad c line why) front)))))))
+  kept_fault (inr (inr (inr (inr (inr (inr (inr f))))))) = inr (inr (inr (inr (inr (inr (inr (kept_bench f)))))))
 
   -- it succeeds
   pub all_flushed : (s : Status) → new.faults ≤ newer.faults → Answers c old new s → Answers c old newer s
-  all_flushed status.Done later (what, asks, done) =
-      (what, asks, record { bytes = done.bytes; read = done.read; few = done.few; lines = done.lines; shown = done.shown; printed = kept_all _ done.printed })
+  all_flushed status.Done later (inl (what, asks, done)) =
+      inl (
+        what,
+        asks,
+        record { bytes = done.bytes; read = done.read; few = done.few; lines = done.lines; shown = done.shown; printed = kept_all _ done.printed },
+      )
+  all_flushed status.Done later (inr prints) = inr (kept_line (IsRetired c) prints)
   all_flushed status.Faulted later (what, asks, done) =
       (what, asks, record { bytes = done.bytes; read = done.read; few = done.few; lines = done.lines; shown = done.shown; printed = kept_all _ done.printed })
   all_flushed status.Usage later prints = kept_line (IsUsage c) prints
   all_flushed (status.ImageBad line why) later prints = kept_line (IsImageBad c line why) prints
   all_flushed status.ReadFault later (inl f) = inl (kept_image f)
-  all_flushed status.ReadFault later (inr (what, asks, b)) =
-      inr (what, asks, record { bytes = b.bytes; took = b.took; few = b.few; printed = (b.printed.0, b.printed.1, kept_all _ b.printed.2); rose = b.rose })
+  all_flushed (status.BenchBad line why) later prints = kept_line (IsBenchBad c line why) prints
+  all_flushed status.ReadFault later (inr (inl f)) = inr (inl (kept_bench f))
+  all_flushed status.ReadFault later (inr (inr (what, asks, b))) =
+      inr (inr (
+        what,
+        asks,
+        record { bytes = b.bytes; took = b.took; few = b.few; printed = (b.printed.0, b.printed.1, kept_all _ b.printed.2); rose = b.rose },
+      ))
   all_flushed status.InputTooLong later (what, asks, b) =
       (what, asks, record { bytes = b.bytes; byte = b.byte; took = b.took; many = b.many; printed = (b.printed.0, b.printed.1, kept_all _ b.printed.2) })
   all_flushed status.NoMemory later f = kept_memory f
@@ -138,7 +178,9 @@ module _ (c : Call) (old new newer : IoState) (kept : KeepsBytes new newer) wher
 
   -- it fails behind an answer
   cut : (s : Status) → Answers c old new s → IsWriteFault c old newer
-  cut status.Done (what, asks, done) =
+  cut status.Done (inr prints) = inr (inr (inr (inr (inr (inl (line_front (IsRetired c) prints))))))
+  cut (status.BenchBad line why) prints = inr (inr (inr (inr (inr (inr (inl (line, why, line_front (IsBenchBad c line why) prints)))))))
+  cut status.Done (inl (what, asks, done)) =
       inr (inr (inl (
         what,
         asks,
@@ -155,7 +197,8 @@ module _ (c : Call) (old new newer : IoState) (kept : KeepsBytes new newer) wher
   cut status.Usage prints = inl (line_front (IsUsage c) prints)
   cut (status.ImageBad line why) prints = inr (inl (line, why, line_front (IsImageBad c line why) prints))
   cut status.ReadFault (inl f) = inr (inr (inr (inl (kept_image f))))
-  cut status.ReadFault (inr (what, asks, b)) =
+  cut status.ReadFault (inr (inl f)) = inr (inr (inr (inr (inr (inr (inr (kept_bench f)))))))
+  cut status.ReadFault (inr (inr (what, asks, b))) =
       inr (inr (inl (
         what,
         asks,
@@ -169,7 +212,7 @@ module _ (c : Call) (old new newer : IoState) (kept : KeepsBytes new newer) wher
         exceeded_cut (pairs_of what) (left_of what) (layout_grows (layout_of what)) (listing_of what)
             c.input c.input' old new newer b kept,
       )))
-  cut status.NoMemory f = inr (inr (inr (inr (kept_memory f))))
+  cut status.NoMemory f = inr (inr (inr (inr (inl (kept_memory f)))))
   cut status.WriteFault (rose, f) = kept_fault f
 
   pub flush_fails : (s : Status) → Answers c old new s → old.faults ≤ new.faults → Rose new newer → Answers c old newer status.WriteFault

@@ -9,9 +9,10 @@ use Rattle.std.specs.Str.{bytes_eq}
 use Rattle.etm_types.specs.Settings.{Sizes, AreSettings, is_vmid_size, is_cid_size}
 use Rattle.trace_cmd.specs.declared.words.Layout.{Layout}
 use Rattle.trace_cmd.specs.declared.words.Layout.TheVariants.{Raw, Frames}
-use Rattle.trace_cmd.specs.Words.{Command, Path, Packets, is_image_word, layout_at, number_of, option_at, sizes_of, sizes_at, only_image}
+use Rattle.program_image.specs.Line.{decimal_of}
+use Rattle.trace_cmd.specs.Words.{Command, Path, Packets, Retired, is_image_word, layout_at, option_at, sizes_of, sizes_at, only_image}
 use Rattle.trace_cmd.specs.Words.{path_of, packets_of, meaning}
-use Rattle.trace_cmd.specs.CommandLines.{IsLayout, IsOption, IsPathLine, IsPacketsLine}
+use Rattle.trace_cmd.specs.CommandLines.{IsLayout, IsOption, IsPathLine, IsPacketsLine, IsRetiredLine}
 
 -- ---- an option
 
@@ -28,7 +29,7 @@ absent name default words n rest e =
     record { front = []; is = sym (ap (λ (q : ℕ × List (List ℕ)). q.0) p); row = ap (λ (q : ℕ × List (List ℕ)). q.1) p }
 
 present : (name : List ℕ) (default : ℕ) (word number : List ℕ) (more : List (List ℕ)) (n : ℕ) (rest : List (List ℕ)) (found : Option ℕ)
-    → number_of number ≡ found → word ≡ name
+    → decimal_of number ≡ found → word ≡ name
     → option_map {U = ℕ × List (List ℕ)} (λ m. (m, more)) found ≡ Some (n, rest) → Found name default (word ∷ number ∷ more) n rest
 present name default word number more n rest None is same e = absurd cc
 present name default word number more n rest (Some m) is same e =
@@ -42,7 +43,7 @@ present name default word number more n rest (Some m) is same e =
 option_by : (name : List ℕ) (default : ℕ) (word number : List ℕ) (more : List (List ℕ)) (n : ℕ) (rest : List (List ℕ)) (b : Bool)
     → bytes_eq word name ≡ b → option_at name default (word ∷ number ∷ more) ≡ Some (n, rest) → Found name default (word ∷ number ∷ more) n rest
 option_by name default word number more n rest true is e =
-    present name default word number more n rest (number_of number) refl ((bytes_eq-Decides word name).0 is) (simp is at e)
+    present name default word number more n rest (decimal_of number) refl ((bytes_eq-Decides word name).0 is) (simp is at e)
 option_by name default word number more n rest false is e = absent name default (word ∷ number ∷ more) n rest (simp is at e)
 
 pub found : (name : List ℕ) (default : ℕ) (words : List (List ℕ)) (n : ℕ) (rest : List (List ℕ)) → option_at name default words ≡ Some (n, rest)
@@ -252,19 +253,29 @@ packets_found words layout rest command front e =
     )
 
 -- the first word, and what the others mean behind it and the layout
-abbrev BeginsLine : List ℕ → Layout → List (List ℕ) → Command → Type 0
-BeginsLine name layout rest c =
-    ((name ≡ codes "path") × (path_of layout rest ≡ Some c)) ⊎ ((name ≡ codes "packets") × (packets_of layout rest ≡ Some c))
+abbrev BeginsLine : List ℕ → List (List ℕ) → Command → Type 0
+BeginsLine name words c =
+    ((name ≡ codes "path") × (path_of (layout_at words).0 (layout_at words).1 ≡ Some c))
+    ⊎ ((name ≡ codes "packets") × (packets_of (layout_at words).0 (layout_at words).1 ≡ Some c))
+    ⊎ ((name ≡ codes "retired") × (option_map Retired (only_image words) ≡ Some c))
 
-line_by : (name : List ℕ) (words : List (List ℕ)) (c : Command) (a b : Bool) → bytes_eq name (codes "path") ≡ a → bytes_eq name (codes "packets") ≡ b
-    → meaning (name ∷ words) ≡ Some c → BeginsLine name (layout_at words).0 (layout_at words).1 c
-line_by name words c true b x y e = inl ((bytes_eq-Decides name (codes "path")).0 x, simp x at e)
-line_by name words c false true x y e = inr ((bytes_eq-Decides name (codes "packets")).0 y, simp (x, y) at e)
-line_by name words c false false x y e = let f = simp (x, y) at e in absurd cc
+line_by : (name : List ℕ) (words : List (List ℕ)) (c : Command) (a b d : Bool) → bytes_eq name (codes "path") ≡ a
+    → bytes_eq name (codes "packets") ≡ b → bytes_eq name (codes "retired") ≡ d → meaning (name ∷ words) ≡ Some c → BeginsLine name words c
+line_by name words c true b d x y z e = inl ((bytes_eq-Decides name (codes "path")).0 x, simp x at e)
+line_by name words c false true d x y z e = inr (inl ((bytes_eq-Decides name (codes "packets")).0 y, simp (x, y) at e))
+line_by name words c false false true x y z e = inr (inr ((bytes_eq-Decides name (codes "retired")).0 z, simp (x, y, z) at e))
+line_by name words c false false false x y z e = let f = simp (x, y, z) at e in absurd cc
 
-line : (name : List ℕ) (words : List (List ℕ)) (c : Command) → meaning (name ∷ words) ≡ Some c
-    → BeginsLine name (layout_at words).0 (layout_at words).1 c
-line name words c e = line_by name words c (bytes_eq name (codes "path")) (bytes_eq name (codes "packets")) refl refl e
+line : (name : List ℕ) (words : List (List ℕ)) (c : Command) → meaning (name ∷ words) ≡ Some c → BeginsLine name words c
+line name words c e =
+    line_by name words c (bytes_eq name (codes "path")) (bytes_eq name (codes "packets")) (bytes_eq name (codes "retired")) refl refl refl e
+
+-- words behind `retired` that mean a command
+retired_found : (words : List (List ℕ)) (command : Command) → option_map Retired (only_image words) ≡ Some command
+    → (image : List ℕ) × (command ≡ Retired image) × IsRetiredLine (codes "retired" ∷ words) image
+retired_found words command e =
+    let i = map_some (only_image words) Retired command e in let image = one_image words i.0 i.1 in
+    (i.0, sym i.2, record { row = ap (λ r. codes "retired" ∷ r) image.0; image_is = image.1 })
 
 pub path_line : (words : List (List ℕ)) (image : List ℕ) (s : Sizes) (layout : Layout) → meaning words ≡ Some (Path image s layout)
     → IsPathLine words image s layout
@@ -278,9 +289,10 @@ path_line (name ∷ words) image s layout e =
           rw p.0 (subst (λ n. IsPathLine (codes "path" ∷ words) n s layout) image_is
           (subst (λ z. IsPathLine (codes "path" ∷ words) f.0 z layout) sizes_are
           (subst (λ l. IsPathLine (codes "path" ∷ words) f.0 f.1 l) layout_is f.3)))
-      | inr p ↦
+      | inr (inl p) ↦
           let f = packets_found words (layout_at words).0 (layout_at words).1 (Path image s layout) (layout_found words) p.1 in
           let g = f.1 in absurd cc
+      | inr (inr p) ↦ let f = retired_found words (Path image s layout) p.1 in let g = f.1 in absurd cc
     ]
 
 pub packets_line : (words : List (List ℕ)) (s : Sizes) (layout : Layout) → meaning words ≡ Some (Packets s layout) → IsPacketsLine words s layout
@@ -289,11 +301,26 @@ packets_line (name ∷ words) s layout e =
     elim (line name words (Packets s layout) e) [
       | inl p ↦
           let f = path_found words (layout_at words).0 (layout_at words).1 (Packets s layout) (layout_found words) p.1 in let g = f.2 in absurd cc
-      | inr p ↦
+      | inr (inl p) ↦
           let f = packets_found words (layout_at words).0 (layout_at words).1 (Packets s layout) (layout_found words) p.1 in
           let sizes_are : f.0 ≡ s = let g = f.1 in cc in let layout_is : (layout_at words).0 ≡ layout = let g = f.1 in cc in
           rw p.0 (subst (λ z. IsPacketsLine (codes "packets" ∷ words) z layout) sizes_are
           (subst (λ l. IsPacketsLine (codes "packets" ∷ words) f.0 l) layout_is f.2))
+      | inr (inr p) ↦ let f = retired_found words (Packets s layout) p.1 in let g = f.1 in absurd cc
+    ]
+
+pub retired_line : (words : List (List ℕ)) (image : List ℕ) → meaning words ≡ Some (Retired image) → IsRetiredLine words image
+retired_line [] image e = absurd cc
+retired_line (name ∷ words) image e =
+    elim (line name words (Retired image) e) [
+      | inl p ↦
+          let f = path_found words (layout_at words).0 (layout_at words).1 (Retired image) (layout_found words) p.1 in let g = f.2 in absurd cc
+      | inr (inl p) ↦
+          let f = packets_found words (layout_at words).0 (layout_at words).1 (Retired image) (layout_found words) p.1 in
+          let g = f.1 in absurd cc
+      | inr (inr p) ↦
+          let f = retired_found words (Retired image) p.1 in let image_is : f.0 ≡ image = let g = f.1 in cc in
+          rw p.0 (subst (IsRetiredLine (codes "retired" ∷ words)) image_is f.2)
     ]
 
 -- and what is spelled so means it
@@ -320,3 +347,6 @@ packets_said words s layout l =
     (subst (λ (c : List (List ℕ)). layout_at c ≡ (Frames, c)) (append-nil l.cid)
     (option_no_layout (codes "--cid") 4 l.cid s.cid_bytes [] l.cid_is refl refl)) in
     let layout_is = layout_said l.raw layout (l.vmid ++ l.cid) l.layout_is no_raw in rw l.row (simp (layout_is, found))
+
+pub retired_said : (words : List (List ℕ)) (image : List ℕ) → IsRetiredLine words image → meaning words ≡ Some (Retired image)
+retired_said words image l = let name : is_image_word image ≡ true = l.image_is in rw l.row (simp name)

@@ -3,5 +3,9 @@ mod CommandLines
 pub mod Interrupts
 pub mod PacketLists
 pub mod Pieces
+pub mod Refused
+pub mod RetiredEvents
+pub mod RetiredSteps
+pub mod RetiredStreams
 mod WordExamples
 mod WordLemmas

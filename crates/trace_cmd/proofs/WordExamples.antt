@@ -2,7 +2,7 @@
 use Rattle.std.proofs.Common.{◌≡◌, ℕ, List, [], ◌∷◌, codes, Option, Some, None, refl, ap, arith}
 use Rattle.etm_types.specs.Settings.{Sizes}
 use Rattle.trace_cmd.specs.declared.words.Layout.TheVariants.{Raw, Frames}
-use Rattle.trace_cmd.specs.Words.{Command, Path, Packets, meaning, image_of}
+use Rattle.trace_cmd.specs.Words.{Command, Path, Packets, Retired, meaning, image_of}
 
 -- words that begin so, and go on so
 abbrev path_raw : List (List ℕ) → Option Command
@@ -204,11 +204,26 @@ raw_with_a_value = refl
 pub end_of_options : path (codes "--" ∷ codes "img" ∷ []) ≡ None
 end_of_options = refl
 
-pub another_command : meaning (codes "retired" ∷ codes "--raw" ∷ codes "img" ∷ []) ≡ None
-another_command = refl
+pub retired_paths : meaning (codes "retired" ∷ codes "img" ∷ []) ≡ Some (Retired (codes "img"))
+retired_paths = refl
 
-pub another_command_of_frames : meaning (codes "retired" ∷ codes "img" ∷ []) ≡ None
-another_command_of_frames = refl
+pub retired_by_a_dash : meaning (codes "retired" ∷ codes "-" ∷ []) ≡ Some (Retired (codes "-"))
+retired_by_a_dash = refl
+
+pub no_image_of_a_run : meaning (codes "retired" ∷ []) ≡ None
+no_image_of_a_run = refl
+
+pub a_run_is_not_raw : meaning (codes "retired" ∷ codes "--raw" ∷ codes "img" ∷ []) ≡ None
+a_run_is_not_raw = refl
+
+pub a_run_says_its_depth_itself : meaning (codes "retired" ∷ codes "--depth" ∷ codes "4" ∷ codes "img" ∷ []) ≡ None
+a_run_says_its_depth_itself = refl
+
+pub two_images_of_a_run : meaning (codes "retired" ∷ codes "img" ∷ codes "img" ∷ []) ≡ None
+two_images_of_a_run = refl
+
+pub another_command : meaning (codes "trace" ∷ codes "img" ∷ []) ≡ None
+another_command = refl
 
 pub no_words : meaning [] ≡ None
 no_words = refl
@@ -219,11 +234,13 @@ no_words = refl
 abbrev depth_in : Option Command → ℕ
 depth_in (Some (Path image s layout)) = s.depth
 depth_in (Some (Packets s layout)) = s.depth
+depth_in (Some (Retired image)) = 0
 depth_in None = 0
 
 abbrev cid_in : Option Command → ℕ
 cid_in (Some (Path image s layout)) = s.cid_bytes
 cid_in (Some (Packets s layout)) = s.cid_bytes
+cid_in (Some (Retired image)) = 0
 cid_in None = 0
 
 -- the default of the depth is not 0
@@ -246,6 +263,10 @@ not_the_context_id e = let same : ◌≡◌ {A = ℕ} 4 0 = ap cid_in e in absur
 -- --raw tells the layout
 pub not_frames : path_raw (codes "img" ∷ []) ≡ path (codes "img" ∷ []) → ⊥
 not_frames e = absurd cc
+
+-- a run file has no sizes in the words
+pub not_a_path : meaning (codes "retired" ∷ codes "img" ∷ []) ≡ Some (Path (codes "img") (sizes 16 1 4) Frames) → ⊥
+not_a_path e = absurd cc
 
 pub not_raw : packets [] ≡ Some (Packets (sizes 16 1 4) Raw) → ⊥
 not_raw e = absurd cc

@@ -1,23 +1,11 @@
 -- Numbers and sizes.
-use Rattle.std.proofs.Common.{◌≡◌, ℕ, Bool, nat_le, ◌<◌, ◌≤◌, List, length, true, false, Some, IfSome, Result, Ok, Err, refl, ◌∙◌, arith, rules}
-use Rattle.std.specs.List.{list_all}
-use Rattle.std.specs.Char.{is_ascii_digit}
+use Rattle.std.proofs.Common.{◌≡◌, ℕ, Bool, nat_le, ◌<◌, ◌≤◌, true, false, Some, IfSome, Result, Ok, Err, refl, ◌∙◌, arith}
 use Rattle.std.specs.Result.{OkIff, result_ok}
-use Rattle.std.specs.Str.Parse.{digits_value, ParsesUnsigned}
 use Rattle.etm_types.specs.Settings.{Sizes, AreSettings, is_vmid_size, is_cid_size}
 use Rattle.etm_types.specs.declared.settings.SettingsFault.{SettingsFault}
 use Rattle.etm_types.specs.declared.settings.SettingsFault.TheVariants.{DepthRange, SizeRange}
-use Rattle.trace_cmd.specs.Words.{number_of, sizes_of}
+use Rattle.trace_cmd.specs.Words.{sizes_of}
 use Rattle.std.proofs.lemmas.Bool.Decides.{nat_tests}
-use Rattle.std.proofs.lemmas.Str.Parse.{IsNumeralModel, numerals_by_value, parse_gives, digits_value_short}
-
-digits : IsNumeralModel (λ ds. list_all is_ascii_digit ds ≡ true) (digits_value 10)
-digits = numerals_by_value _ (search rules)
-
--- ten digits fit
-pub parsed : {E : Type 0} (word : List ℕ) (r : Result ℕ E) → ParsesUnsigned 64 10 word r → list_all is_ascii_digit word ≡ true → 1 ≤ length word
-    → length word ≤ 10 → r ≡ Ok (digits_value 10 word)
-parsed word r h all some few = parse_gives digits 64 word r h all (omega arith) (omega (arith, digits_value_short digits word 10 all few))
 
 -- settings of these numbers are there exactly where the numbers are sizes
 by_tests : (a b e : Bool) (d v c : ℕ) (r : Result Sizes SettingsFault) → nat_le d 4096 ≡ a → is_vmid_size v ≡ b → is_cid_size c ≡ e
@@ -35,13 +23,6 @@ pub sized : (d v c : ℕ) (r : Result Sizes SettingsFault)
     → (d ≤ 4096 → is_vmid_size v ≡ true → is_cid_size c ≡ false → r ≡ Err (SizeRange c)) → result_ok r ≡ sizes_of d v c
 sized d v c r = by_tests (nat_le d 4096) (is_vmid_size v) (is_cid_size c) d v c r refl refl refl
 
-pub counted : {E : Type 0} (word : List ℕ) (r : Result ℕ E) → ParsesUnsigned 64 10 word r → list_all is_ascii_digit word ≡ true → 1 ≤ length word
-    → length word ≤ 10 → result_ok r ≡ number_of word
-counted word r h all some few =
-    let n : nat_le 1 (length word) ≡ true = grind (arith, nat_tests) in
-    let m : nat_le (length word) 10 ≡ true = grind (arith, nat_tests) in rw (parsed word r h all some few) (simp (n, m, all))
-
--- a number that was converted is the same
 pub converted : {E : Type 0} (P : Type 0) (r : Result ℕ E) (n m : ℕ) → OkIff r P n → Some m ≡ result_ok r → m ≡ n
 converted P (Ok x) n m is e = let same : m ≡ x = cc in same ∙ is.1
 converted P (Err x) n m is e = absurd cc

@@ -1,7 +1,7 @@
 -- What each answer of a call means, and the text that comes with it.
 use Rattle.std.specs.Prelude.{◌≡◌, ◌⊎◌, ℕ, true, false, List, [], ◌∷◌, ◌++◌, codes, Some, None, Result, Ok, Err}
 use Rattle.trace_io.specs.State.{IoState}
-use Rattle.trace_io.specs.Bytes.{AppendsAll, AppendsFront}
+use Rattle.trace_io.specs.Bytes.{AppendsAll}
 use Rattle.trace_io.specs.Causes.{KeepsFaults, Rose}
 use Rattle.program_image.specs.declared.image.Image.{Image}
 use Rattle.program_image.specs.Answers.{TakesImage, TakesNoImage}
@@ -9,7 +9,9 @@ use Rattle.program_image.specs.Faults.{why_text}
 use Rattle.program_image.specs.declared.fault.ImageWhy.{ImageWhy}
 use Rattle.trace_cmd.specs.declared.status.Status.{Status}
 use Rattle.trace_cmd.specs.declared.status.Status.TheVariants as status
-use Rattle.trace_cmd.specs.Words.{Path, Packets, meaning}
+use Rattle.trace_cmd.specs.Retired.{IsBadBench, IsRetiredText, Prints, PrintsFront}
+use Rattle.trace_cmd.specs.Words.{Path, Packets, Retired, meaning}
+use Rattle.bench_text.specs.declared.fault.BenchWhy.{BenchWhy}
 use Rattle.path_text.specs.Lines.{decimal}
 use Rattle.etm_types.specs.Settings.{Sizes}
 use Rattle.trace_cmd.specs.Listed.{Breaks, Completes, Exceeds, Interrupts}
@@ -17,11 +19,12 @@ use Rattle.trace_cmd.specs.Printing.{What, PathsOf, PacketsOf, left_of, listing_
 use Rattle.trace_cmd.specs.declared.words.Layout.{Layout}
 use Rattle.trace_io.specs.declared.traits.Failed.{Failed}
 
--- the number of each answer; 3 is kept for a bench that is bad
+-- the number of each answer
 abbrev pub code_of : Status → ℕ
 code_of status.Done = 0
 code_of status.Usage = 1
 code_of (status.ImageBad line why) = 2
+code_of (status.BenchBad line why) = 3
 code_of status.Faulted = 4
 code_of status.ReadFault = 5
 code_of status.WriteFault = 6
@@ -60,16 +63,23 @@ IsPathCall words = (s : Sizes) × (layout : Layout) × IsPathUnder s layout word
 abbrev pub IsPacketsCall : List (List ℕ) → Type 0
 IsPacketsCall words = (s : Sizes) × (layout : Layout) × IsPacketsUnder s layout words
 
+abbrev pub IsRetiredCall : List (List ℕ) → Type 0
+IsRetiredCall words = (image : List ℕ) × (meaning words ≡ Some (Retired image))
+
+-- the words ask for a command that reads an image
+abbrev pub IsImageCall : List (List ℕ) → Type 0
+IsImageCall words = IsPathCall words ⊎ IsRetiredCall words
+
 abbrev pub IsCall : List (List ℕ) → Type 0
-IsCall words = IsPathCall words ⊎ IsPacketsCall words
+IsCall words = IsImageCall words ⊎ IsPacketsCall words
 
 -- the image was read to its end, and it is good
 abbrev pub ReadsImage : IoState → IoState → Type 0
 ReadsImage image image' = (parts : Image) × TakesImage image image' parts
 
--- what a command reads before the input: path its image, and packets nothing
+-- what a command reads before the input: its image, and packets nothing
 abbrev pub ReadsFirst : Call → Type 0
-ReadsFirst c = (IsPathCall c.words × ReadsImage c.image c.image') ⊎ IsPacketsCall c.words
+ReadsFirst c = (IsImageCall c.words × ReadsImage c.image c.image') ⊎ IsPacketsCall c.words
 
 -- no read of image or input failed
 abbrev pub NoReadFailed : Call → Type 0
@@ -84,7 +94,7 @@ pub record IsUsage (c : Call) (text : List ℕ) : Type 0 where
 
 -- ImageBad: the image's text, read to its end or past the most that is read, has this fault first
 pub record IsImageBad (c : Call) (line : ℕ) (why : ImageWhy) (text : List ℕ) : Type 0 where
-  pub command : IsPathCall c.words
+  pub command : IsImageCall c.words
   pub refused : TakesNoImage c.image c.image' line why
   pub printed : text ≡ image_line line why
 
@@ -95,48 +105,61 @@ Asks c (PacketsOf s layout) = IsPacketsUnder s layout c.words
 
 -- ReadFault by the image: nothing of the input was taken, and nothing printed
 pub record IsImageFault (c : Call) (out out' : IoState) : Type 0 where
-  pub command : IsPathCall c.words
+  pub command : IsImageCall c.words
   pub rose : Rose c.image c.image'
   pub untouched : c.input' ≡ c.input
   pub printed : AppendsAll out out' []
 
--- NoMemory, which has no other cause than a command: nothing of the input was taken, and nothing printed
+-- NoMemory, which has no other cause than a command: nothing was printed, and of paths and packets nothing of the input taken
 pub record IsNoMemory (c : Call) (out out' : IoState) : Type 0 where
   pub command : IsCall c.words
-  pub untouched : c.input' ≡ c.input
+  pub untouched : (c.input' ≡ c.input) ⊎ IsRetiredCall c.words
   pub printed : AppendsAll out out' []
+
+-- ---- answers of a run file
+
+-- the words ask for retired paths, and this is so over the image, which was read to its end
+abbrev pub OverImage : Call → (Image → Type 0) → Type 0
+OverImage c Way = IsRetiredCall c.words × ((parts : Image) × TakesImage c.image c.image' parts × Way parts)
+
+abbrev pub IsRetired : Call → List ℕ → Type 0
+IsRetired c text = OverImage c (λ parts. IsRetiredText parts c.input c.input' text)
+
+-- BenchBad: the run file has this fault first
+abbrev pub IsBenchBad : Call → ℕ → BenchWhy → List ℕ → Type 0
+IsBenchBad c line why text = OverImage c (λ parts. IsBadBench parts c.input c.input' line why text)
+
+-- ReadFault by the run file: nothing was printed
+abbrev pub IsBenchFault : Call → IoState → IoState → Type 0
+IsBenchFault c out out' = OverImage c (λ parts. Rose c.input c.input' × AppendsAll out out' [])
 
 -- what is asked for is printed of the input in this way
 abbrev pub OfInput : Call → (What → Type 0) → Type 0
 OfInput c Way = (what : What) × Asks c what × Way what
 
--- a line of this kind was printed, or a front of it
-abbrev pub Prints : (List ℕ → Type 0) → IoState → IoState → Type 0
-Prints kind old new = (text : List ℕ) × kind text × AppendsAll old new text
-
-abbrev pub PrintsFront : (List ℕ → Type 0) → IoState → IoState → Type 0
-PrintsFront kind old new = (text : List ℕ) × kind text × AppendsFront old new text
-
--- WriteFault: the count of the output rose. A front of the line of usage or of a bad image was printed, or of what is asked for of the
--- input; of another answer, nothing.
+-- WriteFault: the count of the output rose. A front of the line of usage, of a bad image or of a bad run file was printed, or of what is
+-- asked for of the input or of a run file; of another answer, nothing.
 abbrev pub IsWriteFault : Call → IoState → IoState → Type 0
 IsWriteFault c old new =
     PrintsFront (IsUsage c) old new ⊎ ((line : ℕ) × (why : ImageWhy) × PrintsFront (IsImageBad c line why) old new)
     ⊎ OfInput c (λ what. Interrupts (pairs_of what) (left_of what) (listing_of what) c.input c.input' old new)
     ⊎ IsImageFault c old new ⊎ IsNoMemory c old new
+    ⊎ PrintsFront (IsRetired c) old new ⊎ ((line : ℕ) × (why : BenchWhy) × PrintsFront (IsBenchBad c line why) old new) ⊎ IsBenchFault c old new
 
 -- What each answer means, by what the output showed before and after.
 abbrev pub Answers : Call → IoState → IoState → Status → Type 0
 Answers c old new status.Done =
-    OfInput c (λ what. Completes (pairs_of what) (left_of what) (listing_of what) c.input c.input' old new false)
+    OfInput c (λ what. Completes (pairs_of what) (left_of what) (listing_of what) c.input c.input' old new false) ⊎ Prints (IsRetired c) old new
 Answers c old new status.Faulted =
     OfInput c (λ what. Completes (pairs_of what) (left_of what) (listing_of what) c.input c.input' old new true)
 Answers c old new status.Usage = Prints (IsUsage c) old new
 Answers c old new (status.ImageBad line why) = Prints (IsImageBad c line why) old new
+Answers c old new (status.BenchBad line why) = Prints (IsBenchBad c line why) old new
 Answers c old new status.InputTooLong =
     OfInput c (λ what. Exceeds (pairs_of what) (left_of what) (listing_of what) c.input c.input' old new)
 Answers c old new status.ReadFault =
-    IsImageFault c old new ⊎ OfInput c (λ what. Breaks (pairs_of what) (left_of what) (listing_of what) c.input c.input' old new)
+    IsImageFault c old new ⊎ IsBenchFault c old new
+    ⊎ OfInput c (λ what. Breaks (pairs_of what) (left_of what) (listing_of what) c.input c.input' old new)
 Answers c old new status.NoMemory = IsNoMemory c old new
 Answers c old new status.WriteFault = Rose old new × IsWriteFault c old new
 

@@ -1,7 +1,8 @@
 -- How the words of a command line stand in a row.
 use Rattle.std.specs.Prelude.{◌≡◌, ℕ, List, [], ◌∷◌, ◌++◌, codes, Some, IsTrue}
 use Rattle.etm_types.specs.Settings.{Sizes, AreSettings}
-use Rattle.trace_cmd.specs.Words.{number_of, is_image_word}
+use Rattle.program_image.specs.Line.{decimal_of}
+use Rattle.trace_cmd.specs.Words.{is_image_word}
 use Rattle.trace_cmd.specs.declared.words.Layout.{Layout}
 use Rattle.trace_cmd.specs.declared.words.Layout.TheVariants.{Raw, Frames}
 
@@ -14,7 +15,7 @@ IsLayout words layout = ⊥
 -- `[NAME N]`: NAME and a number, or no words, which stand for the default
 abbrev pub IsOption : List ℕ → ℕ → List (List ℕ) → ℕ → Type 0
 IsOption name default [] n = n ≡ default
-IsOption name default (word ∷ number ∷ []) n = (word ≡ name) × (number_of number ≡ Some n)
+IsOption name default (word ∷ number ∷ []) n = (word ≡ name) × (decimal_of number ≡ Some n)
 IsOption name default words n = ⊥
 
 -- `path [--raw] [--depth N] [--vmid N] [--cid N] IMAGE`, with numbers in range
@@ -42,3 +43,8 @@ pub record IsPacketsLine (words : List (List ℕ)) (s : Sizes) (layout : Layout)
   pub vmid_is : IsOption (codes "--vmid") 1 vmid s.vmid_bytes
   pub cid_is : IsOption (codes "--cid") 4 cid s.cid_bytes
   pub within : AreSettings s
+
+-- `retired IMAGE`
+pub record IsRetiredLine (words : List (List ℕ)) (image : List ℕ) : Type 0 where
+  pub row : words ≡ codes "retired" ∷ image ∷ []
+  pub image_is : IsTrue (is_image_word image)

@@ -5,5 +5,7 @@ pub mod Listed
 pub mod PacketList
 pub mod Printing
 pub mod Reading
+pub mod Retired
+pub mod Retiring
 pub mod Said
 pub mod Words

@@ -2,11 +2,9 @@
 use Rattle.std.specs.Prelude.{ℕ, ◌==◌, ◌&&◌, nat_le, Bool, true, not, List, [], ◌∷◌, length, codes, Option, Some, None}
 use Rattle.std.specs.Prelude.{if◌then◌else◌, String, map, string_bytes}
 use Rattle.std.specs.Option.{option_map, option_and_then}
-use Rattle.std.specs.List.{list_all}
-use Rattle.std.specs.Char.{is_ascii_digit}
 use Rattle.std.specs.Str.{bytes_eq}
-use Rattle.std.specs.Str.Parse.{digits_value}
 use Rattle.etm_types.specs.Settings.{Sizes, is_vmid_size, is_cid_size}
+use Rattle.program_image.specs.Line.{decimal_of}
 use Rattle.trace_cmd.specs.declared.words.Layout.{Layout}
 use Rattle.trace_cmd.specs.declared.words.Layout.TheVariants.{Raw, Frames}
 
@@ -20,12 +18,10 @@ pub data Command : Type 0 where
   Path : List ℕ → Sizes → Layout → Command
   -- the packets of each stream: the trace unit's sizes, and how the input is laid out
   Packets : Sizes → Layout → Command
+  -- the retired path of each stream of a run file: the name of the image
+  Retired : List ℕ → Command
 
 -- ---- a word
-
--- the number of 1 to 10 decimal digits, the highest first; zeros may lead
-abbrev pub number_of : List ℕ → Option ℕ
-number_of word = if nat_le 1 (length word) && nat_le (length word) 10 && list_all is_ascii_digit word then Some (digits_value 10 word) else None
 
 -- a word that names an image: `-` alone, or one that does not begin with `-`
 abbrev pub is_image_word : List ℕ → Bool
@@ -48,7 +44,7 @@ layout_at (word ∷ rest) = if bytes_eq word (codes "--raw") then (Raw, rest) el
 -- `[NAME N]` at the front of words: N, or the default where NAME is not there, and the words behind it
 abbrev pub option_at : List ℕ → ℕ → List (List ℕ) → Option (ℕ × List (List ℕ))
 option_at name default (word ∷ number ∷ rest) =
-    if bytes_eq word name then option_map (λ n. (n, rest)) (number_of number) else Some (default, word ∷ number ∷ rest)
+    if bytes_eq word name then option_map (λ n. (n, rest)) (decimal_of number) else Some (default, word ∷ number ∷ rest)
 option_at name default words = Some (default, words)
 
 -- `[--vmid N] [--cid N]` at the front of words: the sizes, with the depth, and the words behind them
@@ -73,17 +69,19 @@ abbrev pub packets_of : Layout → List (List ℕ) → Option Command
 packets_of layout words =
     option_and_then (λ (s : Sizes × List (List ℕ)). if length s.1 == 0 then Some (Packets s.0 layout) else None) (sizes_at 16 words)
 
--- `path [--raw] [--depth N] [--vmid N] [--cid N] IMAGE` and `packets [--raw] [--vmid N] [--cid N]`, in this order; all other
--- words mean nothing
+-- `path [--raw] [--depth N] [--vmid N] [--cid N] IMAGE`, `packets [--raw] [--vmid N] [--cid N]` and `retired IMAGE`, in this order;
+-- all other words mean nothing
 abbrev pub meaning : List (List ℕ) → Option Command
 meaning [] = None
 meaning (command ∷ words) =
     let behind = layout_at words in
     if bytes_eq command (codes "path") then path_of behind.0 behind.1
     else if bytes_eq command (codes "packets") then packets_of behind.0 behind.1
+    else if bytes_eq command (codes "retired") then option_map Retired (only_image words)
     else None
 
 abbrev pub image_of : Option Command → Option (List ℕ)
 image_of None = None
 image_of (Some (Path image sizes layout)) = Some image
 image_of (Some (Packets sizes layout)) = None
+image_of (Some (Retired image)) = Some image

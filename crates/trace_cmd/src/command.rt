@@ -1,15 +1,20 @@
 //! The top call: words, image and input, in this order, and what is written.
-ghost use Rattle.std.specs.Prelude.{◌≡◌, ◌⊎◌, ℕ, ◌≤◌, List, None, Ok, IfOk, IsTrue};
+ghost use Rattle.std.specs.Prelude.{◌≡◌, ◌⊎◌, ℕ, ◌≤◌, List, None, Ok, Err, IfOk, IsErr, IsTrue};
 ghost use Rattle.trace_io.specs.Bytes.{ShowsAsBefore};
 ghost use Rattle.trace_io.specs.Causes.{HasCause, KeepsFaults};
+ghost use Rattle.trace_io.specs.State.{IoState};
+ghost use Rattle.program_image.specs.Answers.{TakesImage};
+ghost use Rattle.program_image.specs.Part.{Part};
 ghost use Rattle.trace_cmd.specs.Words.{meaning, texts};
 ghost use Rattle.path_text.specs.Writing.{Writes};
-ghost use Rattle.trace_cmd.specs.Answers.{Answers, AnswersSo, IsPacketsCall, IsPathUnder, NoReadFailed, ReadsFirst, ReadsImage, call, image_line, usage_line};
+ghost use Rattle.trace_cmd.specs.Answers.{Answers, AnswersSo, IsImageCall, IsPacketsCall, IsPathUnder, IsRetiredCall, IsWriteFault};
+ghost use Rattle.trace_cmd.specs.Answers.{NoReadFailed, ReadsFirst, ReadsImage, call, image_line, usage_line};
 ghost use Rattle.trace_cmd.specs.Listed.{Listed};
 ghost use Rattle.trace_cmd.specs.Printing.{left_in, pairs_in};
 
 use crate::input::print_input;
 use crate::packet_list::PacketStream;
+use crate::retired::retire_input;
 use crate::status::Status;
 use crate::words::{Command, Layout, command_of};
 use etm_types::Settings;
@@ -66,6 +71,34 @@ fn print_streams<S: Stream, J: Source, K: Sink>(
     }
 }
 
+/// Reads the image. Where there is none, the answer is known, and the line of a bad image written.
+fn read_image<I: Source, K: Sink>(
+    alloc: Global,
+    image: &mut I,
+    out: &mut K,
+) -> Result<Result<Image, Status>, Failed>
+    ensures good { (parts : List Part) → result ≡ Ok (Ok parts) → TakesImage (I.state image.old) (I.state image.new) parts × (out.new ≡ out.old) }
+    ensures answered { (status : Status) → result ≡ Ok (Err status) → (words : List (List ℕ)) (input : IoState) → IsImageCall words
+        → Answers (call words (I.state image.old) (I.state image.new) input input) (K.state out.old) (K.state out.new) status }
+    ensures failed { IsErr result → (words : List (List ℕ)) (input : IoState) → IsImageCall words
+        → IsWriteFault (call words (I.state image.old) (I.state image.new) input input) (K.state out.old) (K.state out.new) }
+    ensures kept { (result ≡ Ok (Err Status.ReadFault)) ⊎ KeepsFaults (I.state image.old) (I.state image.new) }
+    ensures shows { ShowsAsBefore (I.state image.old) (I.state image.new) }
+    ensures later { (I.state image.old).faults ≤ (I.state image.new).faults }
+    ensures cause { HasCause (K.state out.old) (K.state out.new) result }
+    ensures out_shows { ShowsAsBefore (K.state out.old) (K.state out.new) }
+{
+    match Image::read(alloc, image) {
+        Ok(image) => Ok(Ok(image)),
+        Err(ImageFault::Bad { line, why }) => {
+            write_image_bad(line, why, out)?;
+            Ok(Err(Status::ImageBad { line, why }))
+        }
+        Err(ImageFault::ReadFault) => Ok(Err(Status::ReadFault)),
+        Err(ImageFault::Memory) => Ok(Err(Status::NoMemory)),
+    }
+}
+
 /// Reads the image, and prints the paths of the input over it.
 fn answer_path<I: Source, J: Source, K: Sink>(
     alloc: Global,
@@ -91,16 +124,39 @@ fn answer_path<I: Source, J: Source, K: Sink>(
     ensures cause { HasCause (K.state out.old) (K.state out.new) result }
     ensures shows { ShowsAsBefore (K.state out.old) (K.state out.new) }
 {
-    match Image::read(alloc, image) {
+    match read_image(alloc, image, out)? {
         Ok(image) => print_streams::<StreamDecoder, J, K>(
             alloc, settings, layout, &image, input, out,
         ),
-        Err(ImageFault::Bad { line, why }) => {
-            write_image_bad(line, why, out)?;
-            Ok(Status::ImageBad { line, why })
-        }
-        Err(ImageFault::ReadFault) => Ok(Status::ReadFault),
-        Err(ImageFault::Memory) => Ok(Status::NoMemory),
+        Err(status) => Ok(status),
+    }
+}
+
+/// Reads the image and the run file, and prints its retired paths.
+fn answer_retired<I: Source, J: Source, K: Sink>(
+    alloc: Global,
+    image: &mut I,
+    input: &mut J,
+    out: &mut K,
+) -> Result<Status, Failed>
+    ensures answer { (words : List (List ℕ)) → IsRetiredCall words
+        → AnswersSo (call words (I.state image.old) (I.state image.new) (J.state input.old) (J.state input.new))
+        (K.state out.old) (K.state out.new) result }
+    ensures kept { (result ≡ Ok Status.ReadFault)
+        ⊎ (KeepsFaults (I.state image.old) (I.state image.new) × KeepsFaults (J.state input.old) (J.state input.new)) }
+    ensures order { (input.new ≡ input.old) ⊎ ReadsImage (I.state image.old) (I.state image.new) }
+    ensures image_failed { KeepsFaults (I.state image.old) (I.state image.new) ⊎ (input.new ≡ input.old) }
+    ensures image_first { (line : ℕ) (why : ImageWhy) → result ≡ Ok (Status.ImageBad line why) → input.new ≡ input.old }
+    ensures image_shows { ShowsAsBefore (I.state image.old) (I.state image.new) }
+    ensures image_later { (I.state image.old).faults ≤ (I.state image.new).faults }
+    ensures input_shows { ShowsAsBefore (J.state input.old) (J.state input.new) }
+    ensures input_later { (J.state input.old).faults ≤ (J.state input.new).faults }
+    ensures cause { HasCause (K.state out.old) (K.state out.new) result }
+    ensures shows { ShowsAsBefore (K.state out.old) (K.state out.new) }
+{
+    match read_image(alloc, image, out)? {
+        Ok(image) => retire_input(alloc, &image, input, out),
+        Err(status) => Ok(status),
     }
 }
 
@@ -132,7 +188,7 @@ fn answer_words<I: Source, J: Source, K: Sink>(
     ensures image_untouched { IsPacketsCall (texts words.now) → image.new ≡ image.old }
     ensures image_failed { KeepsFaults (I.state image.old) (I.state image.new) ⊎ (input.new ≡ input.old) }
     ensures image_first { (line : ℕ) (why : ImageWhy) → result ≡ Ok (Status.ImageBad line why) → input.new ≡ input.old }
-    ensures memory { result ≡ Ok Status.NoMemory → input.new ≡ input.old }
+    ensures memory { result ≡ Ok Status.NoMemory → (input.new ≡ input.old) ⊎ IsRetiredCall (texts words.now) }
     ensures image_shows { ShowsAsBefore (I.state image.old) (I.state image.new) }
     ensures image_later { (I.state image.old).faults ≤ (I.state image.new).faults }
     ensures input_shows { ShowsAsBefore (J.state input.old) (J.state input.new) }
@@ -152,16 +208,19 @@ fn answer_words<I: Source, J: Source, K: Sink>(
         Command::Packets { settings, layout } => {
             print_streams::<PacketStream, J, K>(alloc, settings, *layout, &(), input, out)
         }
+        Command::Retired { .. } => answer_retired(alloc, image, input, out),
     }
 }
 
 /// Runs the command that the words mean: `path [--raw] [--depth N] [--vmid N] [--cid N] IMAGE` prints the path of
 /// each stream of an input, and `packets [--raw] [--vmid N] [--cid N]` its packets. The input is formatter frames
-/// of up to 111 streams, or with `--raw` one stream that is not framed. `image` is what the word IMAGE names.
+/// of up to 111 streams, or with `--raw` one stream that is not framed. `retired IMAGE` reads a run file, and prints the
+/// retired path of each of its streams. `image` is what the word IMAGE names.
 ///
-/// All memory is taken before the first byte of the input is read. The input is read by pieces of at most 4096
-/// bytes, whose lines are written and flushed before the next is read. All is flushed before it answers, and a flush
-/// that fails is `WriteFault`.
+/// Of paths and packets all memory is taken before the first byte of the input is read. That input is read by pieces of at
+/// most 4096 bytes, whose lines are written and flushed before the next is read. A run file is read whole, at most 64 MiB of
+/// it, and all its lines and events are tested before anything is written. All is flushed before it answers, and a flush that
+/// fails is `WriteFault`.
 pub fn run<I: Source, J: Source, K: Sink>(
     alloc: Global,
     words: &[String],
@@ -181,7 +240,7 @@ pub fn run<I: Source, J: Source, K: Sink>(
     ensures image_untouched { IsPacketsCall (texts words.now) → image.new ≡ image.old }
     ensures image_first { (line : ℕ) (why : ImageWhy) → result ≡ Status.ImageBad line why → input.new ≡ input.old }
     ensures image_failed { KeepsFaults (I.state image.old) (I.state image.new) ⊎ (input.new ≡ input.old) }
-    ensures memory { result ≡ Status.NoMemory → input.new ≡ input.old }
+    ensures memory { result ≡ Status.NoMemory → (input.new ≡ input.old) ⊎ IsRetiredCall (texts words.now) }
     ensures order { (input.new ≡ input.old)
         ⊎ ReadsFirst (call (texts words.now) (I.state image.old) (I.state image.new) (J.state input.old) (J.state input.new)) }
 

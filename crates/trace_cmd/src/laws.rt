@@ -1,9 +1,9 @@
 //! What the definitions of a packet list and of the words' meaning are as a whole.
 ghost use Rattle.std.specs.Prelude.{◌≡◌, ◌<◌, ◌↔◌, ℕ, List, Bool, All, Some};
 ghost use Rattle.etm_types.specs.Settings.{Sizes, AreSettings};
-ghost use Rattle.trace_cmd.specs.CommandLines.{IsPathLine, IsPacketsLine};
+ghost use Rattle.trace_cmd.specs.CommandLines.{IsPathLine, IsPacketsLine, IsRetiredLine};
 ghost use Rattle.trace_cmd.specs.PacketList.{PacketEnds, PacketGains};
-ghost use Rattle.trace_cmd.specs.Words.{Path, Packets, meaning};
+ghost use Rattle.trace_cmd.specs.Words.{Path, Packets, Retired, meaning};
 ghost use Rattle.trace_cmd.specs.declared.words.Layout.{Layout};
 
 /// Under given sizes, the lines of the packets that a byte adds to a stream are settled by its bytes, and so are the line
@@ -26,4 +26,5 @@ pub fn words_mean_what_they_spell()
         → (meaning words ≡ Some (Path image s layout)) ↔ IsPathLine words image s layout }
     ensures packets { (words : List (List ℕ)) (s : Sizes) (layout : Layout)
         → (meaning words ≡ Some (Packets s layout)) ↔ IsPacketsLine words s layout }
+    ensures retired { (words : List (List ℕ)) (image : List ℕ) → (meaning words ≡ Some (Retired image)) ↔ IsRetiredLine words image }
 {}

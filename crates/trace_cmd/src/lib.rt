@@ -5,15 +5,20 @@
 //! defines it over the paths of streams, and `specs/PacketList.antt` over their packets. The program calls it
 //! with files, and tests call it with memory.
 //!
-//! Both commands have one driver: what is asked for chooses the streams, the layout chooses what parts the input
+//! `retired` reads a run file whole, tests all of it, and then prints its retired paths while its events run again.
+//!
+//! `path` and `packets` have one driver: what is asked for chooses the streams, the layout chooses what parts the input
 //! into them, and the input then goes through that by pieces, each printed and flushed before the next is read.
 #![tactic(auto)]
 
+mod bench_line;
 mod command;
 mod input;
 mod laws;
 mod packet_list;
 mod printer;
+mod retired;
+mod retiring;
 mod status;
 mod words;
 

@@ -1,6 +1,7 @@
 //! The answers of a call, and the exit status of each.
 ghost use Rattle.std.specs.Prelude.{◌≡◌};
 
+use bench_text::BenchWhy;
 use program_image::ImageWhy;
 
 /// How a call ended.
@@ -12,6 +13,8 @@ pub enum Status {
     Usage,
     /// The text of the image has a fault at this line.
     ImageBad { line: u64, why: ImageWhy },
+    /// The text of the run file has a fault at this line, or a run refuses its event.
+    BenchBad { line: u64, why: BenchWhy },
     /// All was read and written, and a stream has a fault, or a frame is cut.
     Faulted,
     /// The image or the input could not be read.
@@ -27,7 +30,7 @@ pub enum Status {
 impl Status {
     ghost use Rattle.trace_cmd.specs.Answers.{code_of};
 
-    /// The exit status, 0 to 8. 3 is kept for a bench that is bad.
+    /// The exit status, 0 to 8.
     pub fn code(&self) -> u8
         ensures { result ≡ code_of self.now }
     {
@@ -35,6 +38,7 @@ impl Status {
             Status::Done => 0,
             Status::Usage => 1,
             Status::ImageBad { .. } => 2,
+            Status::BenchBad { .. } => 3,
             Status::Faulted => 4,
             Status::ReadFault => 5,
             Status::WriteFault => 6,

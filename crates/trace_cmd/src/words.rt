@@ -1,14 +1,13 @@
 //! The words of the command line.
 ghost use Rattle.std.specs.Prelude.{◌≡◌, IfSome};
-ghost use Rattle.std.specs.List.{list_all};
-ghost use Rattle.std.specs.Char.{is_ascii_digit};
 ghost use Rattle.std.specs.Option.{option_map};
-ghost use Rattle.trace_cmd.specs.Words.{is_image_word, layout_at, meaning, only_image, path_of, packets_of, image_of, number_of};
+ghost use Rattle.trace_cmd.specs.Words.{Retired, is_image_word, layout_at, meaning, only_image, path_of, packets_of, image_of};
 ghost use Rattle.trace_cmd.specs.Words.{option_at, sizes_of, sizes_at, texts};
 ghost use Rattle.etm_types.specs.Settings.{AreSettings};
-ghost use Rattle.trace_cmd.specs.Said.{said, sizes_in};
+ghost use Rattle.trace_cmd.specs.Said.{HasSettings, said};
 
 use etm_types::Settings;
+use program_image::text::decimal;
 
 /// The speculation depth where no word gives one.
 const DEPTH: u64 = 16;
@@ -18,9 +17,6 @@ const VMID_BYTES: u64 = 1;
 
 /// The size of a context ID in bytes, where no word gives one.
 const CID_BYTES: u64 = 4;
-
-/// The most digits of a number.
-const NUMBER_DIGITS: usize = 10;
 
 /// How the input is laid out.
 #[derive(Clone, Copy, Debug, PartialEq, Eq)]
@@ -45,6 +41,10 @@ pub enum Command<'a> {
         settings: Settings,
         layout: Layout,
     },
+    /// The retired path of each stream of a run file, over the image of this name.
+    Retired {
+        image: &'a str,
+    },
 }
 
 /// Whether a word may name an image: `-` alone, or a word that does not begin with `-`.
@@ -55,23 +55,6 @@ fn is_image_word(word: &str) -> bool
         [] | [_] => true,
         [first, ..] => *first != b'-',
     }
-}
-
-/// Whether all bytes are decimal digits.
-fn are_digits(bytes: &[u8]) -> bool
-    ensures { result ≡ list_all is_ascii_digit bytes.now }
-{
-    bytes.iter().all(|byte| byte.is_ascii_digit())
-}
-
-/// The number that 1 to 10 decimal digits spell.
-fn number(word: &str) -> Option<u64>
-    ensures { result ≡ number_of word.now }
-{
-    if word.is_empty() || word.len() > NUMBER_DIGITS || !are_digits(word.as_bytes()) {
-        return None;
-    }
-    word.parse().ok()
 }
 
 /// The layout that the front of the words tells, which is `--raw` or nothing, and the words behind it.
@@ -90,7 +73,7 @@ fn take_option<'a>(words: &'a [String], name: &str, default: u64) -> Option<(u64
 {
     match words {
         [word, digits, rest @ ..] if word.as_str() == name => {
-            let found = number(digits.as_str())?;
+            let found = decimal(digits.as_bytes())?;
             Some((found, rest))
         }
         _ => Some((default, words)),
@@ -131,7 +114,7 @@ fn only_image(words: &[String]) -> Option<&str>
 /// The command of the words behind `path` and the layout.
 fn path_of(layout: Layout, words: &[String]) -> Option<Command<'_>>
     ensures value { option_map said result ≡ path_of layout (texts words.now) }
-    ensures within { IfSome result (λ command. AreSettings (sizes_in command)) }
+    ensures within { IfSome result HasSettings }
 {
     let (depth, words) = take_option(words, "--depth", DEPTH)?;
     let Some((settings, words)) = take_settings(depth, words) else {
@@ -148,7 +131,7 @@ fn path_of(layout: Layout, words: &[String]) -> Option<Command<'_>>
 /// The command of the words behind `packets` and the layout.
 fn packets_of(layout: Layout, words: &[String]) -> Option<Command<'_>>
     ensures value { option_map said result ≡ packets_of layout (texts words.now) }
-    ensures within { IfSome result (λ command. AreSettings (sizes_in command)) }
+    ensures within { IfSome result HasSettings }
 {
     let Some((settings, words)) = take_settings(DEPTH, words) else {
         return None;
@@ -160,16 +143,26 @@ fn packets_of(layout: Layout, words: &[String]) -> Option<Command<'_>>
     }
 }
 
+/// The command of the words behind `retired`.
+fn retired_of(words: &[String]) -> Option<Command<'_>>
+    ensures value { option_map said result ≡ option_map Retired (only_image (texts words.now)) }
+    ensures within { IfSome result HasSettings }
+{
+    let image = only_image(words)?;
+    Some(Command::Retired { image })
+}
+
 /// The command that the words mean, where they mean one. It takes no memory.
 pub fn command_of(words: &[String]) -> Option<Command<'_>>
     ensures value { option_map said result ≡ meaning (texts words.now) }
-    ensures within { IfSome result (λ command. AreSettings (sizes_in command)) }
+    ensures within { IfSome result HasSettings }
 {
-    let (command, words) = words.split_first()?;
-    let (layout, words) = take_layout(words);
+    let (command, behind) = words.split_first()?;
+    let (layout, words) = take_layout(behind);
     match command.as_str() {
         "path" => path_of(layout, words),
         "packets" => packets_of(layout, words),
+        "retired" => retired_of(behind),
         _ => None,
     }
 }
@@ -180,7 +173,7 @@ pub fn image_name(words: &[String]) -> Option<&str>
     ensures { option_map (λ name. name.now) result ≡ image_of (meaning (texts words.now)) }
 {
     match command_of(words) {
-        Some(Command::Path { image, .. }) => Some(image),
+        Some(Command::Path { image, .. } | Command::Retired { image }) => Some(image),
         Some(Command::Packets { .. }) => None,
         None => None,
     }

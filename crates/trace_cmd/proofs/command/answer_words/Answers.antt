@@ -22,6 +22,16 @@ returns-in-Packets-clause-answer g c =
     (inr (c.in-Packets.settings, c.in-Packets.layout, means)) c.print_streams.ensures.cause
     (λ is. let kept = c.print_streams.ensures.memory is in (ap input kept.0, ap out kept.1)) c.print_streams.ensures.listed
 
+pub returns-in-Retired-clause-answer : goal.returns-in-Retired-clause-answer
+returns-in-Retired-clause-answer g c =
+    let means = sym c.command_of.ensures.value ∙ ap (option_map said) (c.in-Some.is ∙ ap (λ (command : Told). Some command) c.in-Retired.is) in
+    c.answer_retired.ensures.answer (texts c.args.words.now) (c.in-Retired.image.now, means)
+
+pub returns-in-Retired-clause-memory : goal.returns-in-Retired-clause-memory
+returns-in-Retired-clause-memory g c is =
+    let means = sym c.command_of.ensures.value ∙ ap (option_map said) (c.in-Some.is ∙ ap (λ (command : Told). Some command) c.in-Retired.is) in
+    inr (c.in-Retired.image.now, means)
+
 pub returns-in_default-clause-answer : goal.returns-in_default-clause-answer
 returns-in_default-clause-answer g c =
     let none = sym c.command_of.ensures.value ∙ ap (option_map said) c.in_default.is in

@@ -1,4 +1,4 @@
-use Rattle.trace_cmd.proofs.CommandLines.{path_line, packets_line, path_said, packets_said}
+use Rattle.trace_cmd.proofs.CommandLines.{path_line, packets_line, retired_line, path_said, packets_said, retired_said}
 use Rattle.trace_cmd.proofs.laws.words_mean_what_they_spell.Goals as goal
 
 pub returns-clause-path : goal.returns-clause-path
@@ -6,3 +6,6 @@ returns-clause-path c = λ words image s layout. (path_line words image s layout
 
 pub returns-clause-packets : goal.returns-clause-packets
 returns-clause-packets c = λ words s layout. (packets_line words s layout, packets_said words s layout)
+
+pub returns-clause-retired : goal.returns-clause-retired
+returns-clause-retired c = λ words image. (retired_line words image, retired_said words image)

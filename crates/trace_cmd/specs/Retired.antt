@@ -1,0 +1,122 @@
+-- What `retired` prints of a run file over an image, and how a bad run file is answered.
+use Rattle.std.specs.Prelude.{◌≡◌, ◌⊎◌, ℕ, ◌<◌, ◌≤◌, List, [], ◌∷◌, ◌++◌, length, codes, None, Result, Ok, Err}
+use Rattle.std.specs.Io.KnownBytes.{Consumes, IsAtEnd}
+use Rattle.bench_text.specs.Parts.{BenchParts, BenchStream, events_of}
+use Rattle.bench_text.specs.BenchText.{parsed}
+use Rattle.bench_text.specs.Refusals.{bench_of, most_text}
+use Rattle.bench_text.specs.declared.fault.BenchWhy.{BenchWhy}
+use Rattle.bench_text.specs.declared.fault.BenchWhy.TheVariants as why
+use Rattle.etm_types.specs.declared.item.Item.{Item}
+use Rattle.path_text.specs.Lines.{decimal, hex}
+use Rattle.path_text.specs.PathLines.{lines_of}
+use Rattle.program_image.specs.declared.image.Image.{Image}
+use Rattle.spec_run.specs.RetiredItems.{retired_of}
+use Rattle.spec_run.specs.RunAfter.{run_after}
+use Rattle.spec_run.specs.Runs.{Execution}
+use Rattle.spec_run.specs.declared.run_fault.RunFault.{RunFault}
+use Rattle.spec_run.specs.declared.run_fault.RunFault.TheVariants as fault
+use Rattle.trace_cmd.specs.declared.status.Status.{Status}
+use Rattle.trace_cmd.specs.declared.status.Status.TheVariants as status
+use Rattle.trace_io.specs.Bytes.{AppendsAll, AppendsFront, TakesAll}
+use Rattle.trace_io.specs.Causes.{Rose}
+use Rattle.trace_io.specs.State.{IoState}
+use Rattle.trace_io.specs.declared.traits.Failed.{Failed}
+
+-- ---- the retired paths
+
+abbrev pub items_after : Result Execution (ℕ × RunFault) → List Item
+items_after (Ok x) = retired_of x
+items_after (Err refused) = []
+
+-- the lines of a stream's retired path, where its events are accepted
+abbrev pub stream_text : Image → ℕ → BenchStream → List ℕ
+stream_text image depth s = lines_of s.id None (items_after (run_after image depth (events_of s.lines)))
+
+-- those of all streams, in the order of their declaration
+abbrev pub streams_text : Image → ℕ → List BenchStream → List ℕ
+streams_text image depth [] = []
+streams_text image depth (s ∷ streams) = stream_text image depth s ++ streams_text image depth streams
+
+abbrev pub retired_text : Image → BenchParts → List ℕ
+retired_text image b = streams_text image b.settings.depth b.streams
+
+-- ---- a run file that is bad
+
+abbrev pub at_address : List ℕ → ℕ → List ℕ
+at_address word addr = word ++ codes " " ++ hex addr
+
+abbrev pub two_counts : List ℕ → ℕ → ℕ → List ℕ
+two_counts word a b = word ++ codes " " ++ decimal a ++ codes " " ++ decimal b
+
+abbrev pub fault_text : RunFault → List ℕ
+fault_text fault.NotOn = codes "not-on"
+fault_text fault.AlreadyOn = codes "already-on"
+fault_text (fault.WrongKind addr) = at_address (codes "wrong-kind") addr
+fault_text (fault.NoCode addr) = at_address (codes "no-code") addr
+fault_text (fault.Odd addr) = at_address (codes "odd") addr
+fault_text (fault.Unaligned addr) = at_address (codes "unaligned") addr
+fault_text (fault.TooDeep p0 depth) = two_counts (codes "too-deep") p0 depth
+fault_text (fault.RetireTooMany asked held) = two_counts (codes "retire-too-many") asked held
+fault_text (fault.CancelTooMany asked held) = two_counts (codes "cancel-too-many") asked held
+fault_text fault.NoBranchToFlip = codes "no-branch"
+fault_text fault.ContextPlace = codes "context-place"
+fault_text fault.WindowFull = codes "window-full"
+
+abbrev pub bench_why_text : BenchWhy → List ℕ
+bench_why_text why.Header = codes "header"
+bench_why_text why.Syntax = codes "syntax"
+bench_why_text why.IdRange = codes "id-range"
+bench_why_text why.DuplicateId = codes "duplicate-id"
+bench_why_text why.Range = codes "range"
+bench_why_text why.TooLong = codes "too-long"
+bench_why_text (why.Run refused) = fault_text refused
+
+abbrev pub bench_line : ℕ → BenchWhy → List ℕ
+bench_line line reason = codes "bench line " ++ decimal line ++ codes ": " ++ bench_why_text reason ++ 10 ∷ []
+
+-- ---- what is read of a run file, and printed
+
+-- a run file was read to its end, all of whose events are accepted over the image, and this is the text of its retired paths
+pub record IsRetiredText (image : Image) (input input' : IoState) (text : List ℕ) : Type 0 where
+  pub run_file : List ℕ
+  pub read : TakesAll input input' run_file
+  pub bench : BenchParts
+  pub accepted : bench_of image run_file ≡ Ok bench
+  pub printed : text ≡ retired_text image bench
+
+-- a run file, read to its end or past the most that is read, has this fault first over the image
+pub record IsBadBench (image : Image) (input input' : IoState) (line : ℕ) (reason : BenchWhy) (text : List ℕ) : Type 0 where
+  pub run_file : List ℕ
+  pub read : Consumes input.bytes input'.bytes run_file
+  pub ended : IsAtEnd input'.bytes ⊎ (most_text < length run_file)
+  pub refused : bench_of image run_file ≡ Err (line, reason)
+  pub printed : text ≡ bench_line line reason
+
+-- a text of this kind was printed, or a front of it
+abbrev pub Prints : (List ℕ → Type 0) → IoState → IoState → Type 0
+Prints kind out out' = (text : List ℕ) × kind text × AppendsAll out out' text
+
+abbrev pub PrintsFront : (List ℕ → Type 0) → IoState → IoState → Type 0
+PrintsFront kind out out' = (text : List ℕ) × kind text × AppendsFront out out' text
+
+-- how a run file is answered: its retired paths are printed, or why it is bad, or nothing where it can't be read, or memory is wanting; where
+-- a write failed, a front of that
+abbrev pub RetiresSo : Image → IoState → IoState → IoState → IoState → Result Status Failed → Type 0
+RetiresSo image input input' out out' (Ok status.Done) = Prints (IsRetiredText image input input') out out'
+RetiresSo image input input' out out' (Ok (status.BenchBad line reason)) = Prints (IsBadBench image input input' line reason) out out'
+RetiresSo image input input' out out' (Ok status.ReadFault) = Rose input input' × AppendsAll out out' []
+RetiresSo image input input' out out' (Ok status.NoMemory) = AppendsAll out out' []
+RetiresSo image input input' out out' (Ok status) = ⊥
+RetiresSo image input input' out out' (Err failed) =
+    PrintsFront (IsRetiredText image input input') out out'
+    ⊎ ((line : ℕ) × (reason : BenchWhy) × PrintsFront (IsBadBench image input input' line reason) out out')
+
+-- all of a run file was read, and its lines have no fault of their own
+abbrev pub TakesBench : IoState → IoState → BenchParts → Type 0
+TakesBench input input' b = (text : List ℕ) × TakesAll input input' text × (length text ≤ most_text) × (parsed text ≡ Ok b)
+
+-- a line of it has this fault, whatever the image
+abbrev pub TakesNoBench : IoState → IoState → ℕ → BenchWhy → Type 0
+TakesNoBench input input' line reason =
+    (text : List ℕ) × Consumes input.bytes input'.bytes text × (IsAtEnd input'.bytes ⊎ (most_text < length text))
+    × ((image : Image) → bench_of image text ≡ Err (line, reason))
