@@ -70,6 +70,20 @@ def instructions(words, capture):
     return int(found[1])
 
 
+def writes_of(words, capture, room):
+    """The number of write calls to standard output, or None where strace is missing or may not trace."""
+    log = os.path.join(room, "calls")
+    if shutil.which("strace") is None:
+        return None
+    with open(capture, "rb") as given:
+        traced = subprocess.run(["strace", "-e", "trace=write", "-o", log, *words], stdin=given,
+                                stdout=subprocess.DEVNULL, stderr=subprocess.DEVNULL)
+    if traced.returncode != 0:
+        return None
+    with open(log) as calls:
+        return sum(call.startswith("write(1,") for call in calls)
+
+
 def compiled(name, room, *libraries):
     """The C program of this folder, compiled, or None where no compiler is found or a library is missing."""
     compiler = shutil.which("cc")

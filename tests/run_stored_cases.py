@@ -26,19 +26,25 @@ def bytes_of(line):
     return bytes.fromhex(digits) * int(times or 1)
 
 
+# what the lines of a block add to the input; `run` has a line of text
+INPUT = {"input": bytes_of, "run": lambda line: line.encode() + b"\n"}
+
+
 def cases_of_block(block):
     """The case of a block, or, where it has several command lines over one input, a case for each."""
-    found = collections.defaultdict(list)
+    found, given = collections.defaultdict(list), b""
     for line in block.splitlines():
+        key, _, value = line.partition(" ")
         if line.startswith("  "):
             found["lines"][-1].append(line[2:])
+        elif key in INPUT:
+            given += INPUT[key](value)
         elif not line.startswith("#"):
-            key, _, value = line.partition(" ")
             found[key].append(value)
             if key == "words":
                 found["lines"].append([])
     [name] = found["case"]
-    image, given = "".join(line + "\n" for line in found["image"]), b"".join(map(bytes_of, found["input"]))
+    image = "".join(line + "\n" for line in found["image"])
     for words, status, lines in zip(found["words"], found["status"], found["lines"], strict=True):
         command = words.split()
         yield Case(name if len(found["words"]) == 1 else f"{name}_{command[0]}", command, image, given, int(status), lines)
