@@ -157,7 +157,7 @@ effect_kept image depth closed (Some r) effect.Stopped ok is =
 
 -- ---- events
 
-event_kept : (image : Image) (depth : ℕ) (s : Sizes) (x : Execution) (e : Event) → IsEvent s e → check image depth (place_in x) e ≡ None
+pub event_kept : (image : Image) (depth : ℕ) (s : Sizes) (x : Execution) (e : Event) → IsEvent s e → check image depth (place_in x) e ≡ None
     → Keeps image depth x → Keeps image depth (after_event image depth x e)
 event_kept image depth s x e given f is =
     effect_kept image depth x.closed x.current (effect_of image (place_in x) e) (allowed image depth s x.current e is.running given f) is

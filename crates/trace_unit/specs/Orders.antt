@@ -1,0 +1,95 @@
+-- The orders of a run: what a trace unit has to tell, event by event, whether it writes it at once or puts some of it off, and
+-- whichever packets tell it.
+use Rattle.std.specs.Prelude.{ℕ, ◌==◌, ◌&&◌, Bool, true, false, not, if◌then◌else◌, List, [], ◌∷◌, ◌++◌, take, Option, Some, None}
+use Rattle.etm_types.specs.Settings.{Sizes}
+use Rattle.etm_types.specs.declared.context.Ctx.{Ctx}
+use Rattle.program_image.specs.declared.image.Image.{Image}
+use Rattle.spec_run.specs.Checks.{effect_of}
+use Rattle.spec_run.specs.RunAfter.{after_event, place_in}
+use Rattle.spec_run.specs.Runs.{ByOff, ByOverflow, Closing, Execution, Running, at_first}
+use Rattle.spec_run.specs.Steps.{is_p0, newest, p0s}
+use Rattle.spec_run.specs.declared.effect.Effect.{Effect}
+use Rattle.spec_run.specs.declared.effect.Effect.TheVariants as effect
+use Rattle.spec_run.specs.declared.event.Event.{Event}
+use Rattle.spec_run.specs.declared.step.StepKind.{StepKind}
+use Rattle.spec_run.specs.declared.step.StepKind.TheVariants.{Cond, Exc}
+use Rattle.trace_unit.specs.Places.{Places, no_places, placed}
+
+-- What leaves the P0 elements as they are. Sync: synchronisation, with a trace info that announces so many P0 elements. On: tracing
+-- begins. Start: the address and the context of the begun block, in full. Place: the same before a P0 step, in the form that is wanted
+-- there. Address, Context: one of them.
+pub data Notice : Type 0 where
+  Sync : ℕ → Notice
+  On : Notice
+  Start : ℕ → Ctx → Notice
+  Place : ℕ → Ctx → Notice
+  Address : ℕ → Notice
+  Context : Ctx → Notice
+
+-- Branch: an atom, true for E. Exception: of this kind, with its return address. Retire, Cancel: so many P0 elements, the oldest or the
+-- newest. Flip: the newest atom is the other one. Settle: all that was put off is written. Close: tracing ends.
+pub data Order : Type 0 where
+  Tell : Notice → Order
+  Branch : Bool → Order
+  Exception : ℕ → ℕ → Order
+  Retire : ℕ → Order
+  Cancel : ℕ → Order
+  Flip : Order
+  Settle : Order
+  Close : Closing → Order
+
+-- ---- before a P0 step
+
+abbrev pub same_flag : Bool → Bool → Bool
+same_flag true b = b
+same_flag false b = not b
+
+abbrev pub same_context : Ctx → Ctx → Bool
+same_context a b = (a.el == b.el) && (same_flag a.ns b.ns && ((a.vmid == b.vmid) && (a.cid == b.cid)))
+
+-- what the reader lacks of the address and the context of the block, where it has the context or not, and needs the address or not
+abbrev pub missing : Bool → Bool → ℕ → Ctx → List Order
+missing true true addr ctx = Tell (Address addr) ∷ []
+missing true false addr ctx = []
+missing false true addr ctx = Tell (Place addr ctx) ∷ []
+missing false false addr ctx = Tell (Context ctx) ∷ []
+
+abbrev pub before : Places → Ctx → List Order
+before p ctx = missing (same_context ctx p.reader_context) p.needs p.start ctx
+
+abbrev pub p0_order : StepKind → ℕ → Order
+p0_order (Exc kind) addr = Exception kind addr
+p0_order (Cond taken) addr = Branch taken
+p0_order kind addr = Branch true
+
+-- ---- an event
+
+-- at depth 0 a step is retired as it is executed, and no order tells so
+abbrev pub orders_on : Option Running → Places → Effect → List Order
+orders_on None p (effect.Began addr ctx) = Tell (Sync 0) ∷ Tell On ∷ Tell (Start addr ctx) ∷ []
+orders_on (Some r) p (effect.Ran s ctx) = if is_p0 s then before p s.ctx ++ p0_order s.kind s.addr ∷ [] else []
+orders_on (Some r) p (effect.Retired n) = Retire (p0s (take n r.held)) ∷ []
+orders_on (Some r) p (effect.Cancelled n) = Cancel (p0s (newest n r.held)) ∷ []
+orders_on (Some r) p effect.Flipped = Flip ∷ []
+orders_on (Some r) p effect.Synced = Settle ∷ Tell (Sync (p0s r.held)) ∷ Tell (Start p.start r.ctx) ∷ []
+orders_on (Some r) p effect.Overflowed = Close ByOverflow ∷ []
+orders_on (Some r) p effect.Stopped = Close ByOff ∷ []
+orders_on current p e = []
+
+-- ---- events, which are accepted
+
+abbrev pub orders_from : Image → ℕ → ℕ → Execution → Places → List Event → List Order
+orders_from image depth most x p [] = []
+orders_from image depth most x p (e ∷ events) =
+    orders_on x.current p (effect_of image (place_in x) e)
+    ++ orders_from image depth most (after_event image depth x e) (placed image depth most x p (effect_of image (place_in x) e)) events
+
+-- what is kept behind them
+abbrev pub places_from : Image → ℕ → ℕ → Execution → Places → List Event → Places
+places_from image depth most x p [] = p
+places_from image depth most x p (e ∷ events) =
+    places_from image depth most (after_event image depth x e) (placed image depth most x p (effect_of image (place_in x) e)) events
+
+-- the orders of all events, with a return stack of so many addresses
+abbrev pub orders : Image → Sizes → ℕ → List Event → List Order
+orders image s most events = orders_from image s.depth most at_first no_places events
