@@ -51,7 +51,7 @@ none_cancelled r = ap (λ l. record r { pending = record (r.pending) { held = l 
 nothing_done : (r : Resolved) (p : Pending) → record { done = r.done ++ []; pending = p } ≡ record r { pending = p }
 nothing_done r p = ap (λ l. record { done = l; pending = p }) (append-nil r.done)
 
-pub cancels_them : (depth n : ℕ) (r : Resolved) → n ≤ length r.pending.held → resolve_all depth r (cancels_of n ++ []) ≡ Ok (cancelled r n)
+pub cancels_them : (depth n : ℕ) (r : Resolved) → n ≤ length r.pending.held → resolve_all depth r (cancels_of n) ≡ Ok (cancelled r n)
 cancels_them depth zero r l = ap (λ (s : Resolved). Ok s) (sym (none_cancelled r))
 cancels_them depth (suc n) r l = simp (not_none n, within (suc n) (length r.pending.held) l) (ap (λ (s : Resolved). Ok s) (nothing_done r _))
 
@@ -90,8 +90,14 @@ cancelled_so image depth most closed s p r n o =
     let held : r.pending.held ≡ map thing_of (cut.left ++ cut.right) = o.held ∙ ap (map thing_of) cut.whole in
     let saved : p.saved ≡ map saved_of (cut.left ++ cut.right) = o.saved ∙ ap (map saved_of) cut.whole in
     let rows : o.early ++ o.late ≡ (o.early ++ cut.left) ++ cut.right = ap (λ l. o.early ++ l) cut.whole ∙ sym (append_assoc o.early cut.left cut.right) in
-    let enough : q ≤ length r.pending.held = omega (arith, count, ap length held, length-map
-    (cut.left ++ cut.right) thing_of, length-append cut.left cut.right) in
+    let enough : q ≤ length r.pending.held = omega (
+      arith,
+      count,
+      ap length held,
+      length-map
+          (cut.left ++ cut.right) thing_of,
+      length-append cut.left cut.right,
+    ) in
     let stays = o.early ++ cut.left in
     let led : Led true o.before (stays ++ cut.right) = subst (Led true o.before) rows o.led in
     let steps : begun (fresh s.start) (s.retired ++ keep) ≡ begun o₁ keep = begun-append (fresh s.start) s.retired keep in
@@ -109,7 +115,7 @@ cancelled_so image depth most closed s p r n o =
     (newest_map saved_of q p.saved cut.left cut.right saved count) (newest_map thing_of q r.pending.held cut.left cut.right held count) count cut.rights
     (led_rests true o.before stays cut.right led) at pends in (
       cancelled r q,
-      cancels_them depth q r enough,
+      ap (resolve_all depth r) (append-nil (cancels_of q)) ∙ cancels_them depth q r enough,
       record {
         front = o.front;
         before = o.before;

@@ -61,8 +61,16 @@ ends_in_branch (s ∷ []) e =
     record { others = []; addr = s.addr; ctx = s.ctx; taken = k.0; next = s.next; link = s.link; whole = ap (λ t. t ∷ []) (with_kind s (Cond k.0) k.1) }
 ends_in_branch (s ∷ t ∷ steps) e =
     let rest = ends_in_branch (t ∷ steps) e in
-    record { others = s ∷ rest.others; addr = rest.addr; ctx = rest.ctx; taken = rest.taken; next = rest.next; link = rest.link; whole =
-    ap (λ l. s ∷ l) rest.whole }
+    record {
+      others = s ∷ rest.others;
+      addr = rest.addr;
+      ctx = rest.ctx;
+      taken = rest.taken;
+      next = rest.next;
+      link = rest.link;
+      whole =
+          ap (λ l. s ∷ l) rest.whole;
+    }
 
 pub turn_newest_at : (image : Image) (xs : List RunStep) (s : RunStep) → turn_newest image (xs ++ s ∷ []) ≡ xs ++ turned image s ∷ []
 turn_newest_at image [] s = refl
@@ -200,11 +208,11 @@ flipped_so image depth most closed s p r o is =
         saved = o.saved ∙ ap (map saved_of) late ∙ map-append saved_of cut.left (x ∷ []) ∙ sym (map-append saved_of cut.left (y ∷ []));
         retired = o.retired;
         unretired = map-append block_of cut.left (y ∷ []) ∙ ap (λ l. l ++ b' ∷ []) cut.lefts
-        ∙ sym (ap (blocks o₁) turns ∙ blocks-append o₁ end.others (other ∷ []));
+            ∙ sym (ap (blocks o₁) turns ∙ blocks-append o₁ end.others (other ∷ []));
         led = subst (Led true o.before) (sym (joined y)) (led_joined true o.before stays (y ∷ []) (led_fronts true o.before stays (x ∷ []) led)
-        ((led_rests true o.before stays (x ∷ []) led).0, tt));
+            ((led_rests true o.before stays (x ∷ []) led).0, tt));
         start = pc ∙ sym (ap (λ (b : Begun). b.start) (ap (λ l. begun (fresh s.start) (s.retired ++ l)) turns
-        ∙ begun-append (fresh s.start) s.retired (end.others ++ other ∷ []) ∙ begun-append o₁ end.others (other ∷ [])));
+            ∙ begun-append (fresh s.start) s.retired (end.others ++ other ∷ []) ∙ begun-append o₁ end.others (other ∷ [])));
         pends = ready';
       },
     )

@@ -17,3 +17,8 @@ pub mod Synced
 pub mod Rooms
 pub mod OneEvent
 pub mod AllEvents
+pub mod Behind
+pub mod Out
+pub mod OneOrder
+pub mod AllOrders
+pub mod RunOrders

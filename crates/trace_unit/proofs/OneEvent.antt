@@ -51,7 +51,7 @@ goes_on depth r next first second e = one_by_one depth r first second ∙ ap (λ
 
 -- ---- an executed step
 
-few_held : (image : Image) (depth : ℕ) (closed : List (List RunStep × Closing)) (s : Running) (p : Places) (r : Resolved)
+pub few_held : (image : Image) (depth : ℕ) (closed : List (List RunStep × Closing)) (s : Running) (p : Places) (r : Resolved)
     → (0 < depth → p0s s.held + 1 ≤ depth) → IsFlat depth s → IsOpen image closed s p r → HasRoom depth r.pending.held
 few_held image zero closed s p r few flat o =
     let none : length o.late ≡ 0 = length-rows (begun (fresh s.start) s.retired) o.late s.held o.unretired ∙ ap p0s (flat refl) in

@@ -59,7 +59,7 @@ plain_step image zero closed s p r t ctx flat plain o =
       unretired = o.unretired ∙ ap (blocks (begun f s.retired)) fits ∙ ap (blocks (begun f (s.retired ++ t ∷ []))) (sym fits);
       led = o.led;
       start = o.start ∙ ap (λ l. (begun f (s.retired ++ l)).start) fits ∙ ap (λ l. (begun f l).start) (append-nil s.retired)
-      ∙ sym (same_start f t s.retired plain)
+          ∙ sym (same_start f t s.retired plain)
           ∙ ap (λ l. (begun f l).start) (sym (append-nil (s.retired ++ t ∷ []))) ∙ ap (λ l. (begun f ((s.retired ++ t ∷ []) ++ l)).start) (sym fits);
       pends = o.pends;
     }
@@ -90,8 +90,11 @@ entry pre p0 = Seen (record { pre = pre; p0 = p0 })
 
 abbrev pub entered : ℕ → Resolved → Pre → P0 → Resolved
 entered zero r pre p0 = record { done = r.done ++ entry pre p0 ∷ []; pending = record { held = []; pre = nothing_told; informed = r.pending.informed } }
-entered (suc depth) r pre p0 = record { done = r.done; pending =
-    record { held = r.pending.held ++ entry pre p0 ∷ []; pre = nothing_told; informed = r.pending.informed } }
+entered (suc depth) r pre p0 = record {
+  done = r.done;
+  pending =
+      record { held = r.pending.held ++ entry pre p0 ∷ []; pre = nothing_told; informed = r.pending.informed };
+}
 
 abbrev pub HasRoom : ℕ → List Thing → Type 0
 HasRoom zero held = held ≡ []
@@ -138,8 +141,17 @@ pends_on image d before rows x p t le does p0 is ctx ready =
 -- the step's row
 abbrev row_for : Running → Places → RunStep → Pre → Row
 row_for s p t pre =
-    record { block = record { start = (begun (fresh s.start) (s.retired ++ s.held)).start; plain =
-    (begun (fresh s.start) (s.retired ++ s.held)).plain; ctx = t.ctx; last = t }; pre = pre; stack = p.stack }
+    record {
+      block = record {
+        start = (begun (fresh s.start) (s.retired ++ s.held)).start;
+        plain =
+            (begun (fresh s.start) (s.retired ++ s.held)).plain;
+        ctx = t.ctx;
+        last = t;
+      };
+      pre = pre;
+      stack = p.stack;
+    }
 
 led_on : (s : Running) (p : Places) (t : RunStep) (pre : Pre) (before : State) (rows : List Row) → p.start ≡ (begun (fresh s.start) (s.retired ++ s.held)).start
     → Led true before rows → Ready (first_behind true rows) (after_all before rows) pre p.start t.ctx p.stack → Led true before (rows ++ row_for s p t pre ∷ [])
@@ -174,7 +186,7 @@ p0_step image zero d closed s p r t ctx pre le flat can p0 o ready =
       late = [];
       walks = o.walks;
       done = ap (λ l. l ++ thing_of x ∷ []) o.done ∙ append_assoc o.front (map thing_of o.early) (thing_of x ∷ [])
-      ∙ ap (λ l. o.front ++ l) (sym (map-append thing_of o.early (x ∷ [])));
+          ∙ ap (λ l. o.front ++ l) (sym (map-append thing_of o.early (x ∷ [])));
       held = refl;
       informed = o.informed;
       saved = o.saved ∙ ap (map saved_of) none;
@@ -185,7 +197,7 @@ p0_step image zero d closed s p r t ctx pre le flat can p0 o ready =
       led = subst (Led true o.before) (sym (append-nil y)) led;
       start = sym (ap (λ l. (begun f l).start) steps' ∙ fresh_start f t s.retired p0);
       pends = subst (λ l. Pends (left d p t).needs (first_behind true l) (after_all o.before l) nothing_told t.next t.ctx (left d p t).stack)
-      (sym (append-nil y))
+          (sym (append-nil y))
           (pends_on image d o.before o.early x p t le can.does p0 refl refl ready');
     }
 p0_step image (suc depth) d closed s p r t ctx pre le fits can p0 o ready =
@@ -203,7 +215,7 @@ p0_step image (suc depth) d closed s p r t ctx pre le fits can p0 o ready =
       held = ap (λ l. l ++ thing_of x ∷ []) o.held ∙ sym (map-append thing_of o.late (x ∷ []));
       informed = o.informed;
       saved = ap (λ l. l ++ record { stack = p.stack; context = t.ctx; start = p.start } ∷ []) o.saved
-      ∙ ap (λ a. map saved_of o.late ++ record { stack = p.stack; context = t.ctx; start = a } ∷ []) o.start
+          ∙ ap (λ a. map saved_of o.late ++ record { stack = p.stack; context = t.ctx; start = a } ∷ []) o.start
           ∙ sym (map-append saved_of o.late (x ∷ []));
       retired = o.retired;
       unretired = map-append block_of o.late (x ∷ []) ∙ ap (λ l. l ++ x.block ∷ []) o.unretired

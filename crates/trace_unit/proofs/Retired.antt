@@ -1,5 +1,5 @@
 -- Retire: the seam between what is done and what is held moves.
-use Rattle.std.proofs.Common.{◌≡◌, ℕ, zero, suc, ◌≤◌, Bool, true, if◌then◌else◌, List, [], ◌++◌, length, take, drop, Some, Ok, sym, ap, subst, ◌∙◌, arith}
+use Rattle.std.proofs.Common.{◌≡◌, ℕ, zero, suc, ◌≤◌, Bool, true, if◌then◌else◌, List, ◌++◌, length, take, drop, Some, Ok, sym, ap, subst, ◌∙◌, arith}
 use Rattle.std.proofs.Common.{append_assoc, append-nil, length-append}
 use Rattle.std.proofs.lemmas.List.{take-append-drop, map-append, length-map}
 use Rattle.std.proofs.lemmas.Bool.Decides.{nat_tests}
@@ -32,7 +32,7 @@ within n m l = grind (arith, nat_tests)
 none_committed : (r : Resolved) → committed r 0 ≡ r
 none_committed r = ap (λ l. record { done = l; pending = r.pending }) (append-nil r.done)
 
-pub commits : (depth n : ℕ) (r : Resolved) → n ≤ length r.pending.held → resolve_all depth r (commits_of n ++ []) ≡ Ok (committed r n)
+pub commits : (depth n : ℕ) (r : Resolved) → n ≤ length r.pending.held → resolve_all depth r (commits_of n) ≡ Ok (committed r n)
 commits depth zero r l = ap (λ (s : Resolved). Ok s) (sym (none_committed r))
 commits depth (suc n) r l = simp (within (suc n) (length r.pending.held) l)
 
@@ -48,10 +48,16 @@ retired image depth most closed s p r n o =
     let held : r.pending.held ≡ map thing_of (cut.left ++ cut.right) = o.held ∙ ap (map thing_of) cut.whole in
     let saved : p.saved ≡ map saved_of (cut.left ++ cut.right) = o.saved ∙ ap (map saved_of) cut.whole in
     let rows : o.early ++ o.late ≡ (o.early ++ cut.left) ++ cut.right = ap (λ l. o.early ++ l) cut.whole ∙ sym (append_assoc o.early cut.left cut.right) in
-    let enough : p0s now ≤ length r.pending.held = omega (arith, count, ap length held, length-map
-    (cut.left ++ cut.right) thing_of, length-append cut.left cut.right) in (
+    let enough : p0s now ≤ length r.pending.held = omega (
+      arith,
+      count,
+      ap length held,
+      length-map
+          (cut.left ++ cut.right) thing_of,
+      length-append cut.left cut.right,
+    ) in (
       committed r (p0s now),
-      commits depth (p0s now) r enough,
+      ap (resolve_all depth r) (append-nil (commits_of (p0s now))) ∙ commits depth (p0s now) r enough,
       record {
         front = o.front;
         before = o.before;
@@ -60,12 +66,12 @@ retired image depth most closed s p r n o =
         walks = o.walks;
         informed = o.informed;
         done = ap (λ l. l ++ take (p0s now) r.pending.held) o.done
-        ∙ ap (λ l. (o.front ++ map thing_of o.early) ++ l) (take_map thing_of (p0s now) r.pending.held cut.left cut.right held count)
+            ∙ ap (λ l. (o.front ++ map thing_of o.early) ++ l) (take_map thing_of (p0s now) r.pending.held cut.left cut.right held count)
             ∙ append_assoc o.front (map thing_of o.early) (map thing_of cut.left) ∙ ap (λ l. o.front ++ l) (sym (map-append thing_of o.early cut.left));
         held = drop_map thing_of (p0s now) r.pending.held cut.left cut.right held count;
         saved = drop_map saved_of (p0s now) p.saved cut.left cut.right saved count;
         retired = map-append block_of o.early cut.left ∙ ap (λ l. l ++ map block_of cut.left) o.retired
-        ∙ ap (λ l. blocks (fresh s.start) s.retired ++ l) cut.lefts ∙ sym (blocks-append (fresh s.start) s.retired now);
+            ∙ ap (λ l. blocks (fresh s.start) s.retired ++ l) cut.lefts ∙ sym (blocks-append (fresh s.start) s.retired now);
         unretired = cut.rights ∙ ap (λ b. blocks b rest) (sym (begun-append (fresh s.start) s.retired now));
         led = subst (Led true o.before) rows o.led;
         start = o.start ∙ ap (λ l. (begun (fresh s.start) l).start) (ap (λ l. s.retired ++ l) (sym parts) ∙ sym (append_assoc s.retired now rest));

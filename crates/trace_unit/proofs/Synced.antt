@@ -49,9 +49,18 @@ bare_first first (r ∷ rows) = refl
 
 bare_led : (first : Bool) (w : State) (rows : List Row) → Led first w rows → Led first w (map bare rows)
 bare_led first w [] led = tt
-bare_led first w (r ∷ rows) led =
-    (record { agrees = led.0.agrees; at = led.0.at; ctx = led.0.ctx; front = ((start_of w r.pre).stack, refl); on = led.0.on; lost =
-    led.0.lost }, bare_led false (after w r) rows led.1)
+bare_led first w (r ∷ rows) led = (
+  record {
+    agrees = led.0.agrees;
+    at = led.0.at;
+    ctx = led.0.ctx;
+    front = ((start_of w r.pre).stack, refl);
+    on = led.0.on;
+    lost =
+        led.0.lost;
+  },
+  bare_led false (after w r) rows led.1,
+)
 
 -- ---- what is told again
 
@@ -75,17 +84,34 @@ told_again pre start ctx = record pre { flush = true; ctx = Some ctx; addr = Som
 ready_again : (first : Bool) (w : State) (pre : Pre) (start : ℕ) (context ctx : Ctx) (stack : List ℕ) (needs : Bool)
     → Pends needs first w pre start context stack
     → Ready first w (told_again pre start ctx) start ctx []
-ready_again first w pre start context ctx stack true p = record { agrees = ap (λ c. mismatch_of c (Some start)) p.awaited; at = refl; ctx =
-    refl; front = ([], refl); on = p.on; lost = p.lost }
+ready_again first w pre start context ctx stack true p = record {
+  agrees = ap (λ c. mismatch_of c (Some start)) p.awaited;
+  at = refl;
+  ctx =
+      refl;
+  front = ([], refl);
+  on = p.on;
+  lost = p.lost;
+}
 ready_again first w pre start context ctx stack false p =
-    record { agrees = agrees_again (pc_before w pre) pre.addr (stack_before w pre) start p.agrees p.at; at = refl; ctx = refl; front = ([], refl); on =
-    p.on; lost = p.lost }
+    record {
+      agrees = agrees_again (pc_before w pre) pre.addr (stack_before w pre) start p.agrees p.at;
+      at = refl;
+      ctx = refl;
+      front = ([], refl);
+      on =
+          p.on;
+      lost = p.lost;
+    }
 
 tells_again : (depth : ℕ) (r : Resolved) (n start : ℕ) (ctx : Ctx) → r.pending.informed ≡ true
     → resolve_all depth r (elem.Info n ∷ elem.Ctx ctx ∷ elem.Addr start ∷ []) ≡ Ok (with_pre r (told_again r.pending.pre start ctx))
 tells_again depth r n start ctx informed =
-    simp informed (ap (λ d. Ok (record { done = d; pending =
-    record { held = r.pending.held; pre = told_again r.pending.pre start ctx; informed = true } }))
+    simp informed (ap (λ d. Ok (record {
+      done = d;
+      pending =
+          record { held = r.pending.held; pre = told_again r.pending.pre start ctx; informed = true };
+    }))
     (append-nil ((r.done ++ []) ++ []) ∙ append-nil (r.done ++ []) ∙ append-nil r.done))
 
 pub synced : (image : Image) (depth most : ℕ) (closed : List (List RunStep × Closing)) (s : Running) (p : Places) (r : Resolved) → IsOpen image closed s p r

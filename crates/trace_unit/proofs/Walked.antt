@@ -76,7 +76,7 @@ row_shows image first w r is led =
     record {
       agrees = led.agrees;
       leads = subst (λ a. Leads image a (start_of w r.pre).stack (p0_of r.block.last.kind r.block.last.addr) (count_of r.block.last.kind r.block.plain)
-      (after w r).pc (after w r).stack) (sym led.at)
+          (after w r).pc (after w r).stack) (sym led.at)
           (leads image r.block r.block.last.kind (start_of w r.pre).stack is is.does is.ends);
       on = refl;
       unknown = sym (ap (λ (a : Option ℕ). is_none a) led.at);

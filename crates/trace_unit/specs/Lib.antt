@@ -1,3 +1,6 @@
 pub mod Places
 pub mod Orders
 pub mod Told
+pub mod Packing
+pub mod Whole
+pub mod Taken

@@ -11,8 +11,10 @@ ghost use Rattle.spec_run.specs.RetiredItems.{retired_of};
 ghost use Rattle.spec_run.specs.RunAfter.{AreEvents, run_after};
 ghost use Rattle.spec_run.specs.Runs.{Execution};
 ghost use Rattle.spec_run.specs.declared.event.Event.{Event};
-ghost use Rattle.trace_unit.specs.Orders.{orders};
+ghost use Rattle.trace_unit.specs.Orders.{Order, orders};
+ghost use Rattle.trace_unit.specs.Taken.{CanTakeAll};
 ghost use Rattle.trace_unit.specs.Told.{all_told};
+ghost use Rattle.trace_unit.specs.Whole.{whole_settled};
 
 /// A reader of all that is told of a run, at once, has no fault, and what is committed of it shows exactly the retired path
 /// of the run.
@@ -20,5 +22,26 @@ pub fn told_elements_show_the_retired_path()
     ensures { (image : Image) (s : Sizes) (most : ℕ) (events : List Event) (x : Execution) → HasGap image → most ≤ most_addresses
         → AreEvents s events → run_after image s.depth events ≡ Ok x
         → (r : Resolved) × (w : State) × (resolve_all s.depth unresolved (all_told (orders image s most events)) ≡ Ok r)
+        × Walks image first_state r.done (retired_of x) (Ok w) }
+{}
+
+/// Where a reader that is told each order at once can take each of them, a reader of the whole form, settled, has no fault
+/// either, and comes to the very same. The orders of a run can be taken so.
+pub fn both_forms_are_resolved_alike()
+    ensures alike { (depth : ℕ) (orders : List Order) → CanTakeAll depth unresolved orders
+        → (r : Resolved) × (resolve_all depth unresolved (all_told orders) ≡ Ok r)
+        × (resolve_all depth unresolved (whole_settled depth orders) ≡ Ok r) }
+    ensures taken { (image : Image) (s : Sizes) (most : ℕ) (events : List Event) (x : Execution) → HasGap image
+        → most ≤ most_addresses → AreEvents s events → run_after image s.depth events ≡ Ok x
+        → CanTakeAll s.depth unresolved (orders image s most events) }
+{}
+
+/// A reader of the whole form of a run, settled, has no fault, and what is committed of it shows exactly the retired path of
+/// the run.
+pub fn whole_elements_show_the_retired_path()
+    ensures { (image : Image) (s : Sizes) (most : ℕ) (events : List Event) (x : Execution) → HasGap image → most ≤ most_addresses
+        → AreEvents s events → run_after image s.depth events ≡ Ok x
+        → (r : Resolved) × (w : State)
+        × (resolve_all s.depth unresolved (whole_settled s.depth (orders image s most events)) ≡ Ok r)
         × Walks image first_state r.done (retired_of x) (Ok w) }
 {}

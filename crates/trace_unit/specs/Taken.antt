@@ -1,0 +1,29 @@
+-- What a reader of orders that are written at once can take, at a maximum speculation depth.
+use Rattle.std.specs.Prelude.{◌≡◌, ◌⊎◌, ℕ, ◌+◌, ◌≤◌, Bool, true, List, [], ◌∷◌, length, Some, Ok, ⊤}
+use Rattle.element_queue.specs.Pending.{Pending, flip_newest}
+use Rattle.element_queue.specs.Resolved.{Resolved, resolve_all}
+use Rattle.trace_unit.specs.Orders.{Branch, Cancel, Close, Exception, Flip, Notice, Order, Retire, Settle, Sync, Tell}
+use Rattle.trace_unit.specs.Told.{told}
+use Rattle.trace_unit.specs.Whole.{at_once}
+
+-- the first trace info announces none
+abbrev pub CanHear : Bool → Notice → Type 0
+CanHear informed (Sync announced) = (informed ≡ true) ⊎ (announced ≡ 0)
+CanHear informed notice = ⊤
+
+-- it holds as many P0 elements as go, and never more than the depth; what is flipped is no exception
+abbrev pub CanTake : ℕ → Pending → Order → Type 0
+CanTake depth p (Tell notice) = CanHear p.informed notice
+CanTake depth p (Branch taken) = length p.held + 1 ≤ depth + at_once depth
+CanTake depth p (Exception kind ret) = length p.held + 1 ≤ depth + at_once depth
+CanTake depth p (Retire n) = n ≤ length p.held
+CanTake depth p (Cancel n) = n ≤ length p.held
+CanTake depth p Flip = (held : List _) × (flip_newest p.held ≡ Some held)
+CanTake depth p Settle = ⊤
+CanTake depth p (Close closing) = ⊤
+
+-- each of the orders, where it then stands
+abbrev pub CanTakeAll : ℕ → Resolved → List Order → Type 0
+CanTakeAll depth r [] = ⊤
+CanTakeAll depth r (order ∷ orders) =
+    CanTake depth r.pending order × ((next : Resolved) → resolve_all depth r (told order) ≡ Ok next → CanTakeAll depth next orders)
