@@ -22,3 +22,4 @@ pub mod Out
 pub mod OneOrder
 pub mod AllOrders
 pub mod RunOrders
+pub mod Examples
