@@ -24,11 +24,9 @@ all_orders depth u rw rp (o ∷ orders) b ask =
       rest.4,
     )
 
--- behind a Settle the two readers are the same
-pub alike : (depth : ℕ) (orders : List Order) → CanTakeAll depth unresolved orders
-    → (r : Resolved) × (resolve_all depth unresolved (all_told orders) ≡ Ok r) × (resolve_all depth unresolved (whole_settled depth orders) ≡ Ok r)
-alike depth orders ask =
-    let start : Waits depth nothing_waits unresolved unresolved =
+-- before the first order the two readers are the same
+pub wait_first : (depth : ℕ) → Waits depth nothing_waits unresolved unresolved
+wait_first depth =
     record {
       keep = [];
       gone = [];
@@ -40,12 +38,16 @@ alike depth orders ask =
       all = refl;
       pre = refl;
       informed = refl;
-      many =
-          refl;
+      many = refl;
       room = omega arith;
       fits = omega arith;
-    } in
-    let all = all_orders depth nothing_waits unresolved unresolved orders start ask in
+    }
+
+-- and behind a Settle
+pub alike : (depth : ℕ) (orders : List Order) → CanTakeAll depth unresolved orders
+    → (r : Resolved) × (resolve_all depth unresolved (all_told orders) ≡ Ok r) × (resolve_all depth unresolved (whole_settled depth orders) ≡ Ok r)
+alike depth orders ask =
+    let all = all_orders depth nothing_waits unresolved unresolved orders (wait_first depth) ask in
     let last = settles depth (waits_all depth nothing_waits orders) all.1 all.0 all.4 in (
       all.0,
       all.2,

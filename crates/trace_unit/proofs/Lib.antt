@@ -23,3 +23,4 @@ pub mod OneOrder
 pub mod AllOrders
 pub mod RunOrders
 pub mod Examples
+pub mod Announced

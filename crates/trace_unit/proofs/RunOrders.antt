@@ -2,6 +2,7 @@
 use Rattle.std.proofs.Common.{◌≡◌, ℕ, zero, suc, ◌+◌, ◌-◌, ◌≤◌, Bool, true, false, List, [], ◌∷◌, ◌++◌, length, take, drop, Option, Some, None, Ok}
 use Rattle.std.proofs.Common.{Err, Result, refl, sym, ap, subst, ◌∙◌, inl, inr, arith}
 use Rattle.std.proofs.lemmas.List.{length-map, take-append-drop}
+use Rattle.std.specs.Prelude.{⊤}
 use Rattle.element_queue.specs.Pending.{Pending, flip_newest, flips}
 use Rattle.element_queue.specs.Resolved.{Resolved, resolve_all, then_resolve, unresolved, with_done}
 use Rattle.etm_types.specs.Settings.{Sizes}
@@ -41,9 +42,9 @@ use Rattle.trace_unit.proofs.Ran.{HasRoom}
 use Rattle.trace_unit.proofs.Rooms.{Fits, HasRoomBy, room_for}
 use Rattle.trace_unit.proofs.RowLists.{length-rows}
 use Rattle.trace_unit.proofs.Rows.{thing_of}
-use Rattle.trace_unit.specs.Orders.{Order, before, missing, orders, orders_from, orders_on, p0_order, same_context}
+use Rattle.trace_unit.specs.Orders.{Order, Sync, Tell, before, missing, orders, orders_from, orders_on, p0_order, same_context}
 use Rattle.trace_unit.specs.Places.{Places, no_places, placed}
-use Rattle.trace_unit.specs.Taken.{CanTake, CanTakeAll}
+use Rattle.trace_unit.specs.Taken.{AllMeet, CanTake, CanTakeAll}
 use Rattle.trace_unit.specs.Told.{all_told, told}
 use Rattle.trace_unit.specs.Whole.{at_once, whole_settled}
 
@@ -52,18 +53,32 @@ use Rattle.trace_unit.specs.Whole.{at_once, whole_settled}
 abbrev ok : Resolved → Result Resolved QueueFault
 ok r = Ok r
 
-same_ok : (a b : Resolved) → ok a ≡ ok b → a ≡ b
+pub same_ok : (a b : Resolved) → ok a ≡ ok b → a ≡ b
 same_ok a b e = cc
 
 -- ---- orders of joined lists
 
-takes_joined : (depth : ℕ) (r : Resolved) (orders more : List Order) → CanTakeAll depth r orders
-    → ((next : Resolved) → resolve_all depth r (all_told orders) ≡ Ok next → CanTakeAll depth next more) → CanTakeAll depth r (orders ++ more)
-takes_joined depth r [] more can rest = rest r refl
-takes_joined depth r (x ∷ orders) more can rest = (
-  can.0,
-  λ next e. takes_joined depth next orders more (can.1 next e) (λ last f. rest last (goes_on depth r next (told x) (all_told orders) e ∙ f)),
+meets_joined : (Meets : Pending → Order → Type 0) (depth : ℕ) (r : Resolved) (orders more : List Order) → AllMeet Meets depth r orders
+    → ((next : Resolved) → resolve_all depth r (all_told orders) ≡ Ok next → AllMeet Meets depth next more) → AllMeet Meets depth r (orders ++ more)
+meets_joined Meets depth r [] more meet rest = rest r refl
+meets_joined Meets depth r (x ∷ orders) more meet rest = (
+  meet.0,
+  λ next e. meets_joined Meets depth next orders more (meet.1 next e) (λ last f. rest last (goes_on depth r next (told x) (all_told orders) e ∙ f)),
 )
+
+pub meets_so : (Meets Also : Pending → Order → Type 0) → ((p : Pending) (order : Order) → Meets p order → Also p order)
+    → (depth : ℕ) (r : Resolved) (orders : List Order) → AllMeet Meets depth r orders → AllMeet Also depth r orders
+meets_so Meets Also so depth r [] meet = tt
+meets_so Meets Also so depth r (x ∷ orders) meet = (so r.pending x meet.0, λ next e. meets_so Meets Also so depth next orders (meet.1 next e))
+
+-- ---- what a trace info announces
+
+abbrev pub Counts : Pending → Order → Type 0
+Counts p (Tell (Sync announced)) = length p.held ≡ announced
+Counts p order = ⊤
+
+abbrev pub Suits : ℕ → Pending → Order → Type 0
+Suits depth p order = CanTake depth p order × Counts p order
 
 -- ---- the orders of an event
 
@@ -72,36 +87,36 @@ held_many : (image : Image) (closed : List (List RunStep × Closing)) (s : Runni
 held_many image closed s p r o =
     ap length o.held ∙ length-map o.late thing_of ∙ length-rows (begun (fresh s.start) s.retired) o.late s.held o.unretired
 
-missing_takes : (depth : ℕ) (r : Resolved) (same needs : Bool) (addr : ℕ) (ctx : Ctx) → CanTakeAll depth r (missing same needs addr ctx)
-missing_takes depth r true true addr ctx = (tt, λ next e. tt)
+missing_takes : (depth : ℕ) (r : Resolved) (same needs : Bool) (addr : ℕ) (ctx : Ctx) → AllMeet (Suits depth) depth r (missing same needs addr ctx)
+missing_takes depth r true true addr ctx = ((tt, tt), λ next e. tt)
 missing_takes depth r true false addr ctx = tt
-missing_takes depth r false true addr ctx = (tt, λ next e. tt)
-missing_takes depth r false false addr ctx = (tt, λ next e. tt)
+missing_takes depth r false true addr ctx = ((tt, tt), λ next e. tt)
+missing_takes depth r false false addr ctx = ((tt, tt), λ next e. tt)
 
 has_room : (depth : ℕ) (held : List Thing) → HasRoom depth held → length held + 1 ≤ depth + at_once depth
 has_room zero held none = omega (arith, ap length none)
 has_room (suc depth) held some = omega (arith, some)
 
-p0_takes : (depth : ℕ) (p : Pending) (kind : StepKind) (addr : ℕ) → length p.held + 1 ≤ depth + at_once depth → CanTake depth p (p0_order kind addr)
-p0_takes depth p Plain addr le = le
-p0_takes depth p Isb addr le = le
-p0_takes depth p Jump addr le = le
-p0_takes depth p (Cond taken) addr le = le
-p0_takes depth p (Ind link) addr le = le
-p0_takes depth p Eret addr le = le
-p0_takes depth p (Exc kind) addr le = le
+p0_takes : (depth : ℕ) (p : Pending) (kind : StepKind) (addr : ℕ) → length p.held + 1 ≤ depth + at_once depth → Suits depth p (p0_order kind addr)
+p0_takes depth p Plain addr le = (le, tt)
+p0_takes depth p Isb addr le = (le, tt)
+p0_takes depth p Jump addr le = (le, tt)
+p0_takes depth p (Cond taken) addr le = (le, tt)
+p0_takes depth p (Ind link) addr le = (le, tt)
+p0_takes depth p Eret addr le = (le, tt)
+p0_takes depth p (Exc kind) addr le = (le, tt)
 
 ran_takes : (image : Image) (depth : ℕ) (closed : List (List RunStep × Closing)) (s : Running) (p : Places) (r : Resolved) (t : RunStep) (ctx : Ctx)
     → IsFlat depth s → Fits depth s.held t → is_p0 t ≡ true → IsOpen image closed s p r
-    → CanTakeAll depth r (before p t.ctx ++ p0_order t.kind t.addr ∷ [])
+    → AllMeet (Suits depth) depth r (before p t.ctx ++ p0_order t.kind t.addr ∷ [])
 ran_takes image depth closed s p r t ctx flat fits p0 o =
     let same = same_context t.ctx p.reader_context in
     let r' = with_pre r (told_addr p.needs p.start (told_ctx same t.ctx r.pending.pre)) in
     let room = has_room depth r.pending.held (few_held image depth closed s p r (fits p0) flat o) in
-    takes_joined depth r (before p t.ctx) (p0_order t.kind t.addr ∷ []) (missing_takes depth r same p.needs p.start t.ctx)
+    meets_joined (Suits depth) depth r (before p t.ctx) (p0_order t.kind t.addr ∷ []) (missing_takes depth r same p.needs p.start t.ctx)
     (λ next e.
     let is : r' ≡ next = same_ok r' next (sym (tells_before depth r same p.needs t.ctx p.start) ∙ e) in
-    (subst (λ (n : Resolved). CanTake depth n.pending (p0_order t.kind t.addr)) is (p0_takes depth r'.pending t.kind t.addr room), λ last f. tt))
+    (subst (λ (n : Resolved). Suits depth n.pending (p0_order t.kind t.addr)) is (p0_takes depth r'.pending t.kind t.addr room), λ last f. tt))
 
 flip_some : (p : Pending) (done : List Thing) (o : Option (List Thing)) (next : Resolved) → with_done done (flips p o) ≡ Ok next
     → (held : List Thing) × (o ≡ Some held)
@@ -117,8 +132,9 @@ flip_takes depth r next e = flip_some r.pending r.done (flip_newest r.pending.he
 
 event_takes : (image : Image) (depth most : ℕ) (closed : List (List RunStep × Closing)) (current : Option Running) (p : Places) (r : Resolved) (e : Effect)
     → IsExecution image depth closed current → Allows image current e → HasRoomBy depth current e → MatchesBy image closed current p r
-    → CanTakeAll depth r (orders_on current p e)
-event_takes image depth most closed None p r (effect.Began addr ctx) is can fits m = (inr refl, λ next e. (tt, λ next e. (tt, λ next e. tt)))
+    → AllMeet (Suits depth) depth r (orders_on current p e)
+event_takes image depth most closed None p r (effect.Began addr ctx) is can fits m =
+    ((inr refl, ap length m.held), λ next e. ((tt, tt), λ next e. ((tt, tt), λ next e. tt)))
 event_takes image depth most closed None p r (effect.Ran t ctx) is can fits m = tt
 event_takes image depth most closed None p r (effect.Contexted ctx) is can fits m = tt
 event_takes image depth most closed None p r (effect.Retired n) is can fits m = tt
@@ -136,24 +152,28 @@ event_takes image depth most closed (Some s) p r (effect.Contexted ctx) is can f
 event_takes image depth most closed (Some s) p r (effect.Retired n) is can fits m =
     let many = held_many image closed s p r m in
     let cut = p0s_joined (take n s.held) (drop n s.held) in
-    (omega (arith, many, cut, ap p0s (take-append-drop n s.held)), λ next e. tt)
+    ((omega (arith, many, cut, ap p0s (take-append-drop n s.held)), tt), λ next e. tt)
 event_takes image depth most closed (Some s) p r (effect.Cancelled n) is can fits m =
     let many = held_many image closed s p r m in
     let cut = p0s_joined (kept n s.held) (newest n s.held) in
-    (omega (arith, many, cut, ap p0s (take-append-drop (length s.held - n) s.held)), λ next e. tt)
+    ((omega (arith, many, cut, ap p0s (take-append-drop (length s.held - n) s.held)), tt), λ next e. tt)
 event_takes image depth most closed (Some s) p r effect.Flipped is can fits m =
     let f = flipped_so image depth most closed s p r m can in
-    (flip_takes depth r f.0 f.1, λ next e. tt)
+    ((flip_takes depth r f.0 f.1, tt), λ next e. tt)
 event_takes image depth most closed (Some s) p r effect.Synced is can fits m =
-    (tt, λ next e. (inl (ap (λ (n : Resolved). n.pending.informed) (sym (same_ok r next e)) ∙ m.informed), λ next e. (tt, λ next e. tt)))
-event_takes image depth most closed (Some s) p r effect.Overflowed is can fits m = (tt, λ next e. tt)
-event_takes image depth most closed (Some s) p r effect.Stopped is can fits m = (tt, λ next e. tt)
+    ((tt, tt), λ next e.
+    let is : r ≡ next = same_ok r next e in
+    let many : length next.pending.held ≡ p0s s.held = ap (λ (n : Resolved). length n.pending.held) (sym is) ∙ held_many image closed s p r m in
+    let informed : next.pending.informed ≡ true = ap (λ (n : Resolved). n.pending.informed) (sym is) ∙ m.informed in
+    ((inl informed, many), λ next e. ((tt, tt), λ next e. tt)))
+event_takes image depth most closed (Some s) p r effect.Overflowed is can fits m = ((tt, tt), λ next e. tt)
+event_takes image depth most closed (Some s) p r effect.Stopped is can fits m = ((tt, tt), λ next e. tt)
 
 -- ---- all events
 
 all_take : (image : Image) → HasGap image → (s : Sizes) (most : ℕ) (x : Execution) (p : Places) (r : Resolved) (n : ℕ) (events : List Event) (y : Execution)
     → most ≤ most_addresses → StandTogether image s.depth x p r → AreEvents s events → run_from image s.depth x n events ≡ Ok y
-    → CanTakeAll s.depth r (orders_from image s.depth most x p events)
+    → AllMeet (Suits s.depth) s.depth r (orders_from image s.depth most x p events)
 all_take image gap s most x p r n [] y le at given e = tt
 all_take image gap s most x p r n (event ∷ events) y le at given e =
     let does = effect_of image (place_in x) event in
@@ -166,14 +186,20 @@ all_take image gap s most x p r n (event ∷ events) y le at given e =
     let here : StandTogether image s.depth next places one.0 =
     record { execution = event_kept image s.depth s x event given.0 f.0 at.execution; matching = one.2 } in
     let rest = all_take image gap s most next places one.0 (n + 1) events y le here given.1 f.1 in
-    takes_joined s.depth r (orders_on x.current p does) (orders_from image s.depth most next places events)
+    meets_joined (Suits s.depth) s.depth r (orders_on x.current p does) (orders_from image s.depth most next places events)
     (event_takes image s.depth most x.closed x.current p r does at.execution can room at.matching)
-    (λ last g. subst (λ m. CanTakeAll s.depth m (orders_from image s.depth most next places events)) (same_ok one.0 last (sym one.1 ∙ g)) rest)
+    (λ last g. subst (λ m. AllMeet (Suits s.depth) s.depth m (orders_from image s.depth most next places events)) (same_ok one.0 last (sym one.1 ∙ g)) rest)
+
+pub run_suits : (image : Image) (s : Sizes) (most : ℕ) (events : List Event) (x : Execution) → HasGap image → most ≤ most_addresses
+    → AreEvents s events → run_after image s.depth events ≡ Ok x → AllMeet (Suits s.depth) s.depth unresolved (orders image s most events)
+run_suits image s most events x gap le given e =
+    all_take image gap s most at_first no_places unresolved 0 events x le (stands_first image s.depth) given e
 
 pub run_takes : (image : Image) (s : Sizes) (most : ℕ) (events : List Event) (x : Execution) → HasGap image → most ≤ most_addresses
     → AreEvents s events → run_after image s.depth events ≡ Ok x → CanTakeAll s.depth unresolved (orders image s most events)
 run_takes image s most events x gap le given e =
-    all_take image gap s most at_first no_places unresolved 0 events x le (stands_first image s.depth) given e
+    meets_so (Suits s.depth) (CanTake s.depth) (λ p order suits. suits.0) s.depth unresolved (orders image s most events)
+    (run_suits image s most events x gap le given e)
 
 pub whole_shows : (image : Image) (s : Sizes) (most : ℕ) (events : List Event) (x : Execution) → HasGap image → most ≤ most_addresses
     → AreEvents s events → run_after image s.depth events ≡ Ok x

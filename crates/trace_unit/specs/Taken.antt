@@ -22,8 +22,17 @@ CanTake depth p Flip = (held : List _) × (flip_newest p.held ≡ Some held)
 CanTake depth p Settle = ⊤
 CanTake depth p (Close closing) = ⊤
 
--- each of the orders, where it then stands
+-- each of the orders, where the reader then stands
+abbrev pub AllMeet : (Pending → Order → Type 0) → ℕ → Resolved → List Order → Type 0
+AllMeet Meets depth r [] = ⊤
+AllMeet Meets depth r (order ∷ orders) =
+    Meets r.pending order × ((next : Resolved) → resolve_all depth r (told order) ≡ Ok next → AllMeet Meets depth next orders)
+
 abbrev pub CanTakeAll : ℕ → Resolved → List Order → Type 0
-CanTakeAll depth r [] = ⊤
-CanTakeAll depth r (order ∷ orders) =
-    CanTake depth r.pending order × ((next : Resolved) → resolve_all depth r (told order) ≡ Ok next → CanTakeAll depth next orders)
+CanTakeAll depth r orders = AllMeet (CanTake depth) depth r orders
+
+-- A trace info announces as many P0 elements as the reader holds there, and no more than the depth; the first one announces none.
+pub record Announces (depth announced : ℕ) (r : Resolved) : Type 0 where
+  pub held : length r.pending.held ≡ announced
+  pub few : announced ≤ depth
+  pub first : (r.pending.informed ≡ true) ⊎ (announced ≡ 0)

@@ -1,5 +1,5 @@
 //! What the definitions mean, as contracts of functions that do nothing.
-ghost use Rattle.std.specs.Prelude.{◌≡◌, ℕ, ◌≤◌, List, Ok};
+ghost use Rattle.std.specs.Prelude.{◌≡◌, ℕ, ◌≤◌, List, [], ◌∷◌, ◌++◌, Ok};
 ghost use Rattle.element_queue.specs.Resolved.{Resolved, resolve_all, unresolved};
 ghost use Rattle.etm_types.specs.Settings.{Sizes};
 ghost use Rattle.path_walker.specs.State.{State, first_state};
@@ -11,10 +11,10 @@ ghost use Rattle.spec_run.specs.RetiredItems.{retired_of};
 ghost use Rattle.spec_run.specs.RunAfter.{AreEvents, run_after};
 ghost use Rattle.spec_run.specs.Runs.{Execution};
 ghost use Rattle.spec_run.specs.declared.event.Event.{Event};
-ghost use Rattle.trace_unit.specs.Orders.{Order, orders};
-ghost use Rattle.trace_unit.specs.Taken.{CanTakeAll};
+ghost use Rattle.trace_unit.specs.Orders.{Order, Sync, Tell, orders};
+ghost use Rattle.trace_unit.specs.Taken.{Announces, CanTakeAll};
 ghost use Rattle.trace_unit.specs.Told.{all_told};
-ghost use Rattle.trace_unit.specs.Whole.{whole_settled};
+ghost use Rattle.trace_unit.specs.Whole.{nothing_waits, out_elements, waits_all, whole_all, whole_settled};
 
 /// A reader of all that is told of a run, at once, has no fault, and what is committed of it shows exactly the retired path
 /// of the run.
@@ -44,4 +44,15 @@ pub fn whole_elements_show_the_retired_path()
         → (r : Resolved) × (w : State)
         × (resolve_all s.depth unresolved (whole_settled s.depth (orders image s most events)) ≡ Ok r)
         × Walks image first_state r.done (retired_of x) (Ok w) }
+{}
+
+/// Where a trace info is told, it announces exactly what a reader of all before it holds, in both forms: nothing waits there,
+/// and both readers stand alike. So a reader that begins there knows how many P0 elements it missed.
+pub fn trace_info_announces_what_is_held()
+    ensures { (image : Image) (s : Sizes) (most : ℕ) (events : List Event) (x : Execution) (front rest : List Order) (n : ℕ)
+        → HasGap image → most ≤ most_addresses → AreEvents s events → run_after image s.depth events ≡ Ok x
+        → orders image s most events ≡ front ++ Tell (Sync n) ∷ rest
+        → (r : Resolved) × (resolve_all s.depth unresolved (all_told front) ≡ Ok r)
+        × (resolve_all s.depth unresolved (whole_all s.depth nothing_waits front) ≡ Ok r)
+        × (out_elements (waits_all s.depth nothing_waits front) ≡ []) × Announces s.depth n r }
 {}

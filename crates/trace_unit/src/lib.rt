@@ -9,5 +9,5 @@ mod laws;
 
 pub use laws::{
     both_forms_are_resolved_alike, told_elements_show_the_retired_path,
-    whole_elements_show_the_retired_path,
+    trace_info_announces_what_is_held, whole_elements_show_the_retired_path,
 };
