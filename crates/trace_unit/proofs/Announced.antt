@@ -1,15 +1,13 @@
 -- A trace info announces what is held, and in the whole form nothing waits there.
-use Rattle.std.proofs.Common.{◌≡◌, ◌⊎◌, ℕ, ◌≤◌, Bool, true, false, if◌then◌else◌, List, [], ◌∷◌, ◌++◌, length, Option, Some, None, Ok}
-use Rattle.std.proofs.Common.{Result, refl, sym, ap, subst, ◌∙◌, inl, inr, arith}
+use Rattle.std.proofs.Common.{◌≡◌, ℕ, ◌≤◌, Bool, true, false, if◌then◌else◌, List, [], ◌∷◌, ◌++◌, length, Option, Some, None, Ok}
+use Rattle.std.proofs.Common.{refl, sym, ap, subst, ◌∙◌}
 use Rattle.std.specs.Prelude.{⊤}
 use Rattle.element_queue.specs.Resolved.{Resolved, resolve_all, unresolved}
 use Rattle.etm_types.specs.Settings.{Sizes}
 use Rattle.etm_types.specs.declared.context.Ctx.{Ctx}
-use Rattle.etm_types.specs.declared.queue_fault.QueueFault.{QueueFault}
 use Rattle.program_image.specs.Blocks.{HasGap}
 use Rattle.program_image.specs.declared.image.Image.{Image}
 use Rattle.return_stack.specs.Stack.{most_addresses}
-use Rattle.spec_run.proofs.StepLists.{bools}
 use Rattle.spec_run.specs.Checks.{effect_of}
 use Rattle.spec_run.specs.RunAfter.{AreEvents, after_event, place_in, run_after}
 use Rattle.spec_run.specs.Runs.{Closing, Execution, Running, applied, at_first, runs}
@@ -25,12 +23,12 @@ use Rattle.trace_unit.proofs.OneEvent.{goes_on}
 use Rattle.trace_unit.proofs.OneOrder.{one_order, settles}
 use Rattle.trace_unit.proofs.Out.{Waits, none_left, none_out}
 use Rattle.trace_unit.proofs.RunOrders.{Suits, run_suits, same_ok}
-use Rattle.trace_unit.specs.Orders.{Branch, Cancel, Close, Exception, Flip, Notice, Order, Retire, Settle, Sync, Tell}
+use Rattle.trace_unit.specs.Orders.{Branch, Cancel, Close, Exception, Flip, Order, Retire, Settle, Sync, Tell}
 use Rattle.trace_unit.specs.Orders.{before, missing, orders, orders_from, orders_on, p0_order, same_context}
 use Rattle.trace_unit.specs.Places.{Places, no_places, placed}
 use Rattle.trace_unit.specs.Taken.{AllMeet, Announces}
 use Rattle.trace_unit.specs.Told.{all_told, closing_element, told}
-use Rattle.trace_unit.specs.Whole.{Waiting, nothing_waits, out, out_elements, settle_elements, waits, waits_all, whole, whole_all}
+use Rattle.trace_unit.specs.Whole.{Waiting, nothing_waits, out_elements, settle_elements, waits, waits_all, whole, whole_all}
 
 -- ---- where nothing waits
 
@@ -82,7 +80,8 @@ p0_syncs before (Ind link) addr = (tt, tt)
 p0_syncs before Eret addr = (tt, tt)
 p0_syncs before (Exc kind) addr = (tt, tt)
 
-missing_syncs : (same needs : Bool) (addr : ℕ) (ctx : Ctx) (kind : StepKind) (ret : ℕ) → SyncsSettled false (missing same needs addr ctx ++ p0_order kind ret ∷ [])
+missing_syncs : (same needs : Bool) (addr : ℕ) (ctx : Ctx) (kind : StepKind) (ret : ℕ)
+    → SyncsSettled false (missing same needs addr ctx ++ p0_order kind ret ∷ [])
 missing_syncs true true addr ctx kind ret = (tt, p0_syncs false kind ret)
 missing_syncs true false addr ctx kind ret = p0_syncs false kind ret
 missing_syncs false true addr ctx kind ret = (tt, p0_syncs false kind ret)

@@ -107,15 +107,15 @@ pops : (next : ℕ) (st ws : List ℕ) (c : Ctx) → IsFront st ws
 pops next [] ws c f = waits true next [] ws c f
 pops next (addr ∷ st) ws c f = pops_it (addr == next) addr next st ws c (λ e. eqb-true addr next e) f
 
-pub pends_behind : (image : Image) (d : ℕ) (kind : StepKind) (t : RunStep) (st ws : List ℕ) (c : Ctx) → Executes image kind t → is_p0_kind kind ≡ true
-    → d ≤ 15 → IsFront st ws
-    → Pends (left_by kind t.next (pushed_by d (link_after t) st)).needs false
-    (standing (pc_after kind t) (linked (link_after t) ws) c) nothing_told t.next c (left_by kind t.next (pushed_by d (link_after t) st)).stack
-pends_behind image d Plain t st ws c does p le f = absurd cc
-pends_behind image d Isb t st ws c does p le f = known t.next _ _ c (front_linked d (link_after t) st ws le f)
-pends_behind image d Jump t st ws c does p le f = known t.next _ _ c (front_linked d (link_after t) st ws le f)
-pends_behind image d (Cond taken) t st ws c does p le f = known t.next _ _ c (front_linked d (link_after t) st ws le f)
-pends_behind image d (Ind true) t st ws c does p le f = waits false t.next _ _ c (front_linked d (link_after t) st ws le f)
-pends_behind image d (Ind false) t st ws c does p le f = pops t.next _ _ c (front_linked d (link_after t) st ws le f)
-pends_behind image d Eret t st ws c does p le f = waits false t.next _ _ c (front_linked d (link_after t) st ws le f)
-pends_behind image d (Exc kind) t st ws c does p le f = waits false t.next _ _ c (front_linked d (link_after t) st ws le f)
+pub pends_behind : (image : Image) (most : ℕ) (kind : StepKind) (t : RunStep) (st ws : List ℕ) (c : Ctx) → Executes image kind t → is_p0_kind kind ≡ true
+    → most ≤ 15 → IsFront st ws
+    → Pends (left_by kind t.next (pushed_by most (link_after t) st)).needs false
+    (standing (pc_after kind t) (linked (link_after t) ws) c) nothing_told t.next c (left_by kind t.next (pushed_by most (link_after t) st)).stack
+pends_behind image most Plain t st ws c does p le f = absurd cc
+pends_behind image most Isb t st ws c does p le f = known t.next _ _ c (front_linked most (link_after t) st ws le f)
+pends_behind image most Jump t st ws c does p le f = known t.next _ _ c (front_linked most (link_after t) st ws le f)
+pends_behind image most (Cond taken) t st ws c does p le f = known t.next _ _ c (front_linked most (link_after t) st ws le f)
+pends_behind image most (Ind true) t st ws c does p le f = waits false t.next _ _ c (front_linked most (link_after t) st ws le f)
+pends_behind image most (Ind false) t st ws c does p le f = pops t.next _ _ c (front_linked most (link_after t) st ws le f)
+pends_behind image most Eret t st ws c does p le f = waits false t.next _ _ c (front_linked most (link_after t) st ws le f)
+pends_behind image most (Exc kind) t st ws c does p le f = waits false t.next _ _ c (front_linked most (link_after t) st ws le f)

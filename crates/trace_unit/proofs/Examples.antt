@@ -50,8 +50,7 @@ abbrev loop : List Part
 loop =
     record {
       start = 0x1000;
-      bytes =
-          0x00 ∷ 0x00 ∷ 0x00 ∷ 0x54 ∷ [];
+      bytes = 0x00 ∷ 0x00 ∷ 0x00 ∷ 0x54 ∷ [];
     }
     ∷ []
 
@@ -76,10 +75,10 @@ mixed_orders =
     ∷ Branch false ∷ Retire 1 ∷ Close ByOff ∷ []
 
 mixed_is_accepted : path_of (run_after code 4 mixed) ≡ Some (
-      item.On ∷ item.Instr 0x1000 program ∷ item.Instr 0x1004 program ∷ item.Instr 0x1008 program ∷ item.Instr 0x100c program
-      ∷ item.Instr 0x1000 program ∷ item.Instr 0x1004 program ∷ item.Instr 0x1008 handler ∷ item.Gap ∷ item.On ∷ item.Instr 0x100c handler
-      ∷ item.Instr 0x1000 handler ∷ item.Instr 0x1004 handler ∷ item.Instr 0x1008 handler ∷ item.Exc 3 0x1010 ∷ item.Instr 0x1010 handler
-      ∷ item.Instr 0x1010 handler ∷ item.Instr 0x1014 handler ∷ item.Stop ∷ []
+    item.On ∷ item.Instr 0x1000 program ∷ item.Instr 0x1004 program ∷ item.Instr 0x1008 program ∷ item.Instr 0x100c program
+    ∷ item.Instr 0x1000 program ∷ item.Instr 0x1004 program ∷ item.Instr 0x1008 handler ∷ item.Gap ∷ item.On ∷ item.Instr 0x100c handler
+    ∷ item.Instr 0x1000 handler ∷ item.Instr 0x1004 handler ∷ item.Instr 0x1008 handler ∷ item.Exc 3 0x1010 ∷ item.Instr 0x1010 handler
+    ∷ item.Instr 0x1010 handler ∷ item.Instr 0x1014 handler ∷ item.Stop ∷ []
     )
 unfolding class_of
 mixed_is_accepted = refl
@@ -89,23 +88,23 @@ unfolding class_of
 mixed_has_orders = refl
 
 mixed_is_told : all_told mixed_orders ≡
-      elem.Info 0 ∷ elem.On ∷ elem.Ctx program ∷ elem.Addr 0x1000 ∷ elem.P0 (p0.Atom true) ∷ elem.P0 (p0.Atom true) ∷ elem.Flip
-      ∷ elem.P0 (p0.Atom true) ∷ elem.P0 (p0.Atom true) ∷ elem.Cancel 1 ∷ elem.Commit 1 ∷ elem.Info 2 ∷ elem.Ctx program ∷ elem.Addr 0x1000
-      ∷ elem.P0 (p0.Atom true) ∷ elem.Ctx handler ∷ elem.P0 (p0.Atom false) ∷ elem.Commit 2 ∷ elem.P0 (p0.Exc 5 0x100c) ∷ elem.Ctx program
-      ∷ elem.Addr 0x1010 ∷ elem.P0 (p0.Atom true) ∷ elem.Commit 2 ∷ elem.Overflow ∷ elem.Info 0 ∷ elem.On ∷ elem.Ctx handler ∷ elem.Addr 0x100c
-      ∷ elem.P0 (p0.Atom true) ∷ elem.P0 (p0.Atom true) ∷ elem.P0 (p0.Atom true) ∷ elem.Commit 1 ∷ elem.P0 (p0.Atom true) ∷ elem.P0 (p0.Atom true)
-      ∷ elem.Cancel 2 ∷ elem.P0 (p0.Exc 3 0x1010) ∷ elem.Commit 2 ∷ elem.Addr 0x1010 ∷ elem.P0 (p0.Atom true) ∷ elem.P0 (p0.Atom true)
-      ∷ elem.Addr 0x1014 ∷ elem.P0 (p0.Atom true) ∷ elem.Commit 3 ∷ elem.Ctx program ∷ elem.Addr 0x1008 ∷ elem.P0 (p0.Atom false) ∷ elem.Commit 1
-      ∷ elem.Discard ∷ []
+    elem.Info 0 ∷ elem.On ∷ elem.Ctx program ∷ elem.Addr 0x1000 ∷ elem.P0 (p0.Atom true) ∷ elem.P0 (p0.Atom true) ∷ elem.Flip
+    ∷ elem.P0 (p0.Atom true) ∷ elem.P0 (p0.Atom true) ∷ elem.Cancel 1 ∷ elem.Commit 1 ∷ elem.Info 2 ∷ elem.Ctx program ∷ elem.Addr 0x1000
+    ∷ elem.P0 (p0.Atom true) ∷ elem.Ctx handler ∷ elem.P0 (p0.Atom false) ∷ elem.Commit 2 ∷ elem.P0 (p0.Exc 5 0x100c) ∷ elem.Ctx program
+    ∷ elem.Addr 0x1010 ∷ elem.P0 (p0.Atom true) ∷ elem.Commit 2 ∷ elem.Overflow ∷ elem.Info 0 ∷ elem.On ∷ elem.Ctx handler ∷ elem.Addr 0x100c
+    ∷ elem.P0 (p0.Atom true) ∷ elem.P0 (p0.Atom true) ∷ elem.P0 (p0.Atom true) ∷ elem.Commit 1 ∷ elem.P0 (p0.Atom true) ∷ elem.P0 (p0.Atom true)
+    ∷ elem.Cancel 2 ∷ elem.P0 (p0.Exc 3 0x1010) ∷ elem.Commit 2 ∷ elem.Addr 0x1010 ∷ elem.P0 (p0.Atom true) ∷ elem.P0 (p0.Atom true)
+    ∷ elem.Addr 0x1014 ∷ elem.P0 (p0.Atom true) ∷ elem.Commit 3 ∷ elem.Ctx program ∷ elem.Addr 0x1008 ∷ elem.P0 (p0.Atom false) ∷ elem.Commit 1
+    ∷ elem.Discard ∷ []
 mixed_is_told = refl
 
 mixed_is_told_late : whole_settled 4 mixed_orders ≡
-      elem.Info 0 ∷ elem.On ∷ elem.Ctx program ∷ elem.Addr 0x1000 ∷ elem.P0 (p0.Atom true) ∷ elem.P0 (p0.Atom false) ∷ elem.P0 (p0.Atom true)
-      ∷ elem.Commit 1 ∷ elem.Info 2 ∷ elem.Ctx program ∷ elem.Addr 0x1000 ∷ elem.P0 (p0.Atom true) ∷ elem.Ctx handler ∷ elem.P0 (p0.Atom false)
-      ∷ elem.P0 (p0.Exc 5 0x100c) ∷ elem.Ctx program ∷ elem.Addr 0x1010 ∷ elem.P0 (p0.Atom true) ∷ elem.Commit 2 ∷ elem.Overflow ∷ elem.Info 0
-      ∷ elem.On ∷ elem.Ctx handler ∷ elem.Addr 0x100c ∷ elem.P0 (p0.Atom true) ∷ elem.P0 (p0.Atom true) ∷ elem.P0 (p0.Atom true)
-      ∷ elem.P0 (p0.Exc 3 0x1010) ∷ elem.Addr 0x1010 ∷ elem.P0 (p0.Atom true) ∷ elem.P0 (p0.Atom true) ∷ elem.Addr 0x1014 ∷ elem.P0 (p0.Atom true)
-      ∷ elem.Ctx program ∷ elem.Addr 0x1008 ∷ elem.P0 (p0.Atom false) ∷ elem.Commit 3 ∷ elem.Discard ∷ []
+    elem.Info 0 ∷ elem.On ∷ elem.Ctx program ∷ elem.Addr 0x1000 ∷ elem.P0 (p0.Atom true) ∷ elem.P0 (p0.Atom false) ∷ elem.P0 (p0.Atom true)
+    ∷ elem.Commit 1 ∷ elem.Info 2 ∷ elem.Ctx program ∷ elem.Addr 0x1000 ∷ elem.P0 (p0.Atom true) ∷ elem.Ctx handler ∷ elem.P0 (p0.Atom false)
+    ∷ elem.P0 (p0.Exc 5 0x100c) ∷ elem.Ctx program ∷ elem.Addr 0x1010 ∷ elem.P0 (p0.Atom true) ∷ elem.Commit 2 ∷ elem.Overflow ∷ elem.Info 0
+    ∷ elem.On ∷ elem.Ctx handler ∷ elem.Addr 0x100c ∷ elem.P0 (p0.Atom true) ∷ elem.P0 (p0.Atom true) ∷ elem.P0 (p0.Atom true)
+    ∷ elem.P0 (p0.Exc 3 0x1010) ∷ elem.Addr 0x1010 ∷ elem.P0 (p0.Atom true) ∷ elem.P0 (p0.Atom true) ∷ elem.Addr 0x1014 ∷ elem.P0 (p0.Atom true)
+    ∷ elem.Ctx program ∷ elem.Addr 0x1008 ∷ elem.P0 (p0.Atom false) ∷ elem.Commit 3 ∷ elem.Discard ∷ []
 mixed_is_told_late = refl
 
 -- ---- 24 atoms, one packet of them, and a cancel that takes back one of those
@@ -119,7 +118,7 @@ many_orders =
     Tell (Sync 0) ∷ Tell On ∷ Tell (Start 0x1000 program) ∷ (replicate 26 (Branch true) ++ Cancel 3 ∷ Flip ∷ Retire 20 ∷ [])
 
 many_is_accepted : path_of (run_after loop 30 many) ≡ Some (
-      item.On ∷ (replicate 20 (item.Instr 0x1000 program) ++ [])
+    item.On ∷ (replicate 20 (item.Instr 0x1000 program) ++ [])
     )
 unfolding class_of
 many_is_accepted = refl
@@ -129,13 +128,13 @@ unfolding class_of
 many_has_orders = refl
 
 many_is_told : all_told many_orders ≡
-      elem.Info 0 ∷ elem.On ∷ elem.Ctx program ∷ elem.Addr 0x1000 ∷ (replicate 26 (elem.P0 (p0.Atom true)) ++ elem.Cancel 3 ∷ elem.Flip
-      ∷ elem.Commit 20 ∷ [])
+    elem.Info 0 ∷ elem.On ∷ elem.Ctx program ∷ elem.Addr 0x1000 ∷ (replicate 26 (elem.P0 (p0.Atom true)) ++ elem.Cancel 3 ∷ elem.Flip
+    ∷ elem.Commit 20 ∷ [])
 many_is_told = refl
 
 many_is_told_late : whole_settled 30 many_orders ≡
-      elem.Info 0 ∷ elem.On ∷ elem.Ctx program ∷ elem.Addr 0x1000 ∷ (replicate 24 (elem.P0 (p0.Atom true)) ++ elem.Cancel 1 ∷ elem.Flip
-      ∷ elem.Commit 20 ∷ [])
+    elem.Info 0 ∷ elem.On ∷ elem.Ctx program ∷ elem.Addr 0x1000 ∷ (replicate 24 (elem.P0 (p0.Atom true)) ++ elem.Cancel 1 ∷ elem.Flip
+    ∷ elem.Commit 20 ∷ [])
 unfolding atom_formats byte_of
 many_is_told_late = refl
 
@@ -151,8 +150,8 @@ flat_orders =
     ∷ Tell (Start 0x100c program) ∷ Branch true ∷ Close ByOverflow ∷ []
 
 flat_is_accepted : path_of (run_after code 0 flat) ≡ Some (
-      item.On ∷ item.Instr 0x100c program ∷ item.Instr 0x1000 program ∷ item.Instr 0x1004 program ∷ item.Instr 0x1008 program
-      ∷ item.Instr 0x100c program ∷ item.Gap ∷ []
+    item.On ∷ item.Instr 0x100c program ∷ item.Instr 0x1000 program ∷ item.Instr 0x1004 program ∷ item.Instr 0x1008 program
+    ∷ item.Instr 0x100c program ∷ item.Gap ∷ []
     )
 unfolding class_of
 flat_is_accepted = refl
@@ -162,12 +161,11 @@ unfolding class_of
 flat_has_orders = refl
 
 flat_is_told : all_told flat_orders ≡
-      elem.Info 0 ∷ elem.On ∷ elem.Ctx program ∷ elem.Addr 0x100c ∷ elem.P0 (p0.Atom true) ∷ elem.P0 (p0.Atom true) ∷ elem.P0 (p0.Atom false)
-      ∷ elem.Info 0 ∷ elem.Ctx program ∷ elem.Addr 0x100c ∷ elem.P0 (p0.Atom true) ∷ elem.Overflow ∷ []
+    elem.Info 0 ∷ elem.On ∷ elem.Ctx program ∷ elem.Addr 0x100c ∷ elem.P0 (p0.Atom true) ∷ elem.P0 (p0.Atom true) ∷ elem.P0 (p0.Atom false)
+    ∷ elem.Info 0 ∷ elem.Ctx program ∷ elem.Addr 0x100c ∷ elem.P0 (p0.Atom true) ∷ elem.Overflow ∷ []
 flat_is_told = refl
 
 flat_is_told_late : whole_settled 0 flat_orders ≡
-      elem.Info 0 ∷ elem.On ∷ elem.Ctx program ∷ elem.Addr 0x100c ∷ elem.P0 (p0.Atom true) ∷ elem.P0 (p0.Atom true) ∷ elem.P0 (p0.Atom false)
-      ∷ elem.Info 0 ∷ elem.Ctx program ∷ elem.Addr 0x100c ∷ elem.P0 (p0.Atom true) ∷ elem.Overflow ∷ []
+    elem.Info 0 ∷ elem.On ∷ elem.Ctx program ∷ elem.Addr 0x100c ∷ elem.P0 (p0.Atom true) ∷ elem.P0 (p0.Atom true) ∷ elem.P0 (p0.Atom false)
+    ∷ elem.Info 0 ∷ elem.Ctx program ∷ elem.Addr 0x100c ∷ elem.P0 (p0.Atom true) ∷ elem.Overflow ∷ []
 flat_is_told_late = refl
-

@@ -68,8 +68,7 @@ ends_in_branch (s ∷ t ∷ steps) e =
       taken = rest.taken;
       next = rest.next;
       link = rest.link;
-      whole =
-          ap (λ l. s ∷ l) rest.whole;
+      whole = ap (λ l. s ∷ l) rest.whole;
     }
 
 pub turn_newest_at : (image : Image) (xs : List RunStep) (s : RunStep) → turn_newest image (xs ++ s ∷ []) ≡ xs ++ turned image s ∷ []

@@ -15,6 +15,6 @@ front_take (suc m) (suc n) (x ∷ xs) (y ∷ ys) le f =
     let g = front_take m n xs ys (omega (arith, le)) (f.0, h.1) in
     (g.0, ap (λ l. x ∷ l) g.1 ∙ ap (λ z. z ∷ take n ys) h.0)
 
-pub front_linked : (d : ℕ) (link : Option ℕ) (xs ys : List ℕ) → d ≤ 15 → IsFront xs ys → IsFront (pushed_by d link xs) (linked link ys)
-front_linked d None xs ys le f = f
-front_linked d (Some a) xs ys le f = front_take d 15 (a ∷ xs) (a ∷ ys) le (f.0, ap (λ l. a ∷ l) f.1)
+pub front_linked : (most : ℕ) (link : Option ℕ) (xs ys : List ℕ) → most ≤ 15 → IsFront xs ys → IsFront (pushed_by most link xs) (linked link ys)
+front_linked most None xs ys le f = f
+front_linked most (Some a) xs ys le f = front_take most 15 (a ∷ xs) (a ∷ ys) le (f.0, ap (λ l. a ∷ l) f.1)

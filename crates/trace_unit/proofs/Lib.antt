@@ -24,3 +24,5 @@ pub mod AllOrders
 pub mod RunOrders
 pub mod Examples
 pub mod Announced
+pub mod Sizes
+pub mod PlacesFew

@@ -130,8 +130,7 @@ info_told : (depth spec : ℕ) (done held : List Thing) (pre : Pre) (informed : 
     ≡ Ok (record { done = done; pending = record { held = held; pre = record pre { flush = true }; informed = true } })
 info_told depth spec done held pre true told = ap (λ d. Ok (record {
   done = d;
-  pending =
-      record { held = held; pre = record pre { flush = true }; informed = true };
+  pending = record { held = held; pre = record pre { flush = true }; informed = true };
 })) (append-nil done)
 info_told depth spec done held pre false (inl e) = absurd cc
 info_told depth spec done held pre false (inr e) =
@@ -164,8 +163,7 @@ tells depth c h (e ∷ es) rw rp told b =
       due = b.due;
       held = b.held;
       pre = ap (told_pre e) b.pre;
-      informed =
-          ap (λ i. informed_by i e) b.informed;
+      informed = ap (λ i. informed_by i e) b.informed;
       many = b.many;
       room = b.room;
       fits = b.fits;
@@ -307,8 +305,7 @@ same depth h r many fits =
       pre = refl;
       informed = refl;
       many = many;
-      room =
-          omega (arith, many, fits);
+      room = omega (arith, many, fits);
       fits = fits;
     })
 
@@ -519,8 +516,7 @@ turns depth r others last other e f =
     ∙ pre_behind_at others last r.pending.pre in
     simp (flips, pre) (ap (λ d. Ok (record {
       done = d;
-      pending =
-          record { held = others ++ other ∷ []; pre = turned_pre last r.pending.pre; informed = r.pending.informed };
+      pending = record { held = others ++ other ∷ []; pre = turned_pre last r.pending.pre; informed = r.pending.informed };
     })) (append-nil r.done))
 
 -- no atom is held: the whole reader has the same newest thing

@@ -92,8 +92,7 @@ abbrev pub entered : ℕ → Resolved → Pre → P0 → Resolved
 entered zero r pre p0 = record { done = r.done ++ entry pre p0 ∷ []; pending = record { held = []; pre = nothing_told; informed = r.pending.informed } }
 entered (suc depth) r pre p0 = record {
   done = r.done;
-  pending =
-      record { held = r.pending.held ++ entry pre p0 ∷ []; pre = nothing_told; informed = r.pending.informed };
+  pending = record { held = r.pending.held ++ entry pre p0 ∷ []; pre = nothing_told; informed = r.pending.informed };
 }
 
 abbrev pub HasRoom : ℕ → List Thing → Type 0
@@ -120,23 +119,24 @@ fresh_start : (o : Begun) (t : RunStep) (xs : List RunStep) → is_p0 t ≡ true
 fresh_start o t xs p = ap (λ (b : Begun). b.start) (begun-append o xs (t ∷ [])) ∙ simp p
 
 -- the rows behind one more
-pends_on : (image : Image) (d : ℕ) (before : State) (rows : List Row) (x : Row) (p : Places) (t : RunStep) → d ≤ 15 → Executes image t.kind t
+pends_on : (image : Image) (most : ℕ) (before : State) (rows : List Row) (x : Row) (p : Places) (t : RunStep) → most ≤ 15 → Executes image t.kind t
     → is_p0 t ≡ true → x.block.last ≡ t → x.block.ctx ≡ t.ctx
     → Ready (first_behind true rows) (after_all before rows) x.pre p.start t.ctx p.stack
-    → Pends (left d p t).needs (first_behind true (rows ++ x ∷ [])) (after_all before (rows ++ x ∷ [])) nothing_told t.next t.ctx (left d p t).stack
-pends_on image d before rows x p t le does p0 is ctx ready =
+    → Pends (left most p t).needs (first_behind true (rows ++ x ∷ [])) (after_all before (rows ++ x ∷ [])) nothing_told t.next t.ctx (left most p t).stack
+pends_on image most before rows x p t le does p0 is ctx ready =
     let w = after_all before rows in
-    let here : Pends (left d p t).needs false (standing (pc_after t.kind t)
-    (linked (link_after t) (start_of w x.pre).stack) t.ctx) nothing_told t.next t.ctx (left d p t).stack =
-    pends_behind image d t.kind t p.stack (start_of w x.pre).stack t.ctx does p0 le ready.front in
-    let there : Pends (left d p t).needs false (standing (pc_after x.block.last.kind x.block.last)
-    (linked (link_after x.block.last) (start_of w x.pre).stack) x.block.ctx) nothing_told t.next t.ctx (left d p t).stack =
-    subst (λ c. Pends (left d p t).needs false (standing (pc_after x.block.last.kind x.block.last)
-    (linked (link_after x.block.last) (start_of w x.pre).stack) c) nothing_told t.next t.ctx (left d p t).stack) (sym ctx)
-    (subst (λ (l : RunStep). Pends (left d p t).needs false (standing (pc_after l.kind l)
-    (linked (link_after l) (start_of w x.pre).stack) t.ctx) nothing_told t.next t.ctx (left d p t).stack) (sym is) here) in
-    subst (λ f. Pends (left d p t).needs f (after_all before (rows ++ x ∷ [])) nothing_told t.next t.ctx (left d p t).stack) (sym (never_first true rows x))
-    (subst (λ v. Pends (left d p t).needs false v nothing_told t.next t.ctx (left d p t).stack) (sym (after_all-append before rows (x ∷ []))) there)
+    let here : Pends (left most p t).needs false (standing (pc_after t.kind t)
+    (linked (link_after t) (start_of w x.pre).stack) t.ctx) nothing_told t.next t.ctx (left most p t).stack =
+    pends_behind image most t.kind t p.stack (start_of w x.pre).stack t.ctx does p0 le ready.front in
+    let there : Pends (left most p t).needs false (standing (pc_after x.block.last.kind x.block.last)
+    (linked (link_after x.block.last) (start_of w x.pre).stack) x.block.ctx) nothing_told t.next t.ctx (left most p t).stack =
+    subst (λ c. Pends (left most p t).needs false (standing (pc_after x.block.last.kind x.block.last)
+    (linked (link_after x.block.last) (start_of w x.pre).stack) c) nothing_told t.next t.ctx (left most p t).stack) (sym ctx)
+    (subst (λ (l : RunStep). Pends (left most p t).needs false (standing (pc_after l.kind l)
+    (linked (link_after l) (start_of w x.pre).stack) t.ctx) nothing_told t.next t.ctx (left most p t).stack) (sym is) here) in
+    subst (λ f. Pends (left most p t).needs f (after_all before (rows ++ x ∷ [])) nothing_told t.next t.ctx (left most p t).stack)
+    (sym (never_first true rows x))
+    (subst (λ v. Pends (left most p t).needs false v nothing_told t.next t.ctx (left most p t).stack) (sym (after_all-append before rows (x ∷ []))) there)
 
 -- the step's row
 abbrev row_for : Running → Places → RunStep → Pre → Row
@@ -144,8 +144,7 @@ row_for s p t pre =
     record {
       block = record {
         start = (begun (fresh s.start) (s.retired ++ s.held)).start;
-        plain =
-            (begun (fresh s.start) (s.retired ++ s.held)).plain;
+        plain = (begun (fresh s.start) (s.retired ++ s.held)).plain;
         ctx = t.ctx;
         last = t;
       };
@@ -163,12 +162,12 @@ no_rows : (rows : List Row) → map block_of rows ≡ [] → rows ≡ []
 no_rows [] e = refl
 no_rows (x ∷ rows) e = absurd cc
 
-pub p0_step : (image : Image) (depth d : ℕ) (closed : List (List RunStep × Closing)) (s : Running) (p : Places) (r : Resolved) (t : RunStep) (ctx : Ctx)
-    (pre : Pre) → d ≤ 15 → IsFlat depth s
+pub p0_step : (image : Image) (depth most : ℕ) (closed : List (List RunStep × Closing)) (s : Running) (p : Places) (r : Resolved) (t : RunStep) (ctx : Ctx)
+    (pre : Pre) → most ≤ 15 → IsFlat depth s
     → CanRun image s t ctx → is_p0 t ≡ true → (o : IsOpen image closed s p r)
     → Ready (first_behind true (o.early ++ o.late)) (after_all o.before (o.early ++ o.late)) pre p.start t.ctx p.stack
-    → IsOpen image closed (runs depth s t ctx) (placed_behind depth d p t) (entered depth r pre (p0_of t.kind t.addr))
-p0_step image zero d closed s p r t ctx pre le flat can p0 o ready =
+    → IsOpen image closed (runs depth s t ctx) (placed_behind depth most p t) (entered depth r pre (p0_of t.kind t.addr))
+p0_step image zero most closed s p r t ctx pre le flat can p0 o ready =
     let f = fresh s.start in
     let fits : s.held ≡ [] = flat refl in
     let x = row_for s p t pre in
@@ -196,11 +195,11 @@ p0_step image zero d closed s p r t ctx pre le flat can p0 o ready =
       unretired = ap (blocks (begun f (s.retired ++ t ∷ []))) (sym fits);
       led = subst (Led true o.before) (sym (append-nil y)) led;
       start = sym (ap (λ l. (begun f l).start) steps' ∙ fresh_start f t s.retired p0);
-      pends = subst (λ l. Pends (left d p t).needs (first_behind true l) (after_all o.before l) nothing_told t.next t.ctx (left d p t).stack)
+      pends = subst (λ l. Pends (left most p t).needs (first_behind true l) (after_all o.before l) nothing_told t.next t.ctx (left most p t).stack)
           (sym (append-nil y))
-          (pends_on image d o.before o.early x p t le can.does p0 refl refl ready');
+          (pends_on image most o.before o.early x p t le can.does p0 refl refl ready');
     }
-p0_step image (suc depth) d closed s p r t ctx pre le fits can p0 o ready =
+p0_step image (suc depth) most closed s p r t ctx pre le fits can p0 o ready =
     let f = fresh s.start in
     let x = row_for s p t pre in
     let rows = o.early ++ o.late in
@@ -224,6 +223,6 @@ p0_step image (suc depth) d closed s p r t ctx pre le fits can p0 o ready =
           ∙ sym (one_block (begun f s.retired) t s.held p0);
       led = subst (Led true o.before) joined (led_on s p t pre o.before rows o.start o.led ready);
       start = sym (ap (λ l. (begun f l).start) (sym (append_assoc s.retired s.held (t ∷ []))) ∙ fresh_start f t (s.retired ++ s.held) p0);
-      pends = subst (λ l. Pends (left d p t).needs (first_behind true l) (after_all o.before l) nothing_told t.next t.ctx (left d p t).stack) joined
-          (pends_on image d o.before rows x p t le can.does p0 refl refl ready);
+      pends = subst (λ l. Pends (left most p t).needs (first_behind true l) (after_all o.before l) nothing_told t.next t.ctx (left most p t).stack) joined
+          (pends_on image most o.before rows x p t le can.does p0 refl refl ready);
     }

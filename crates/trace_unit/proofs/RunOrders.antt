@@ -82,7 +82,7 @@ Suits depth p order = CanTake depth p order × Counts p order
 
 -- ---- the orders of an event
 
-held_many : (image : Image) (closed : List (List RunStep × Closing)) (s : Running) (p : Places) (r : Resolved) → IsOpen image closed s p r
+pub held_many : (image : Image) (closed : List (List RunStep × Closing)) (s : Running) (p : Places) (r : Resolved) → IsOpen image closed s p r
     → length r.pending.held ≡ p0s s.held
 held_many image closed s p r o =
     ap length o.held ∙ length-map o.late thing_of ∙ length-rows (begun (fresh s.start) s.retired) o.late s.held o.unretired
@@ -160,12 +160,14 @@ event_takes image depth most closed (Some s) p r (effect.Cancelled n) is can fit
 event_takes image depth most closed (Some s) p r effect.Flipped is can fits m =
     let f = flipped_so image depth most closed s p r m can in
     ((flip_takes depth r f.0 f.1, tt), λ next e. tt)
-event_takes image depth most closed (Some s) p r effect.Synced is can fits m =
-    ((tt, tt), λ next e.
-    let is : r ≡ next = same_ok r next e in
-    let many : length next.pending.held ≡ p0s s.held = ap (λ (n : Resolved). length n.pending.held) (sym is) ∙ held_many image closed s p r m in
-    let informed : next.pending.informed ≡ true = ap (λ (n : Resolved). n.pending.informed) (sym is) ∙ m.informed in
-    ((inl informed, many), λ next e. ((tt, tt), λ next e. tt)))
+event_takes image depth most closed (Some s) p r effect.Synced is can fits m = (
+  (tt, tt),
+  λ next e.
+      let is : r ≡ next = same_ok r next e in
+      let many : length next.pending.held ≡ p0s s.held = ap (λ (n : Resolved). length n.pending.held) (sym is) ∙ held_many image closed s p r m in
+      let informed : next.pending.informed ≡ true = ap (λ (n : Resolved). n.pending.informed) (sym is) ∙ m.informed in
+      ((inl informed, many), λ next e. ((tt, tt), λ next e. tt)),
+)
 event_takes image depth most closed (Some s) p r effect.Overflowed is can fits m = ((tt, tt), λ next e. tt)
 event_takes image depth most closed (Some s) p r effect.Stopped is can fits m = ((tt, tt), λ next e. tt)
 

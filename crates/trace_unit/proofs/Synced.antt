@@ -56,8 +56,7 @@ bare_led first w (r ∷ rows) led = (
     ctx = led.0.ctx;
     front = ((start_of w r.pre).stack, refl);
     on = led.0.on;
-    lost =
-        led.0.lost;
+    lost = led.0.lost;
   },
   bare_led false (after w r) rows led.1,
 )
@@ -87,8 +86,7 @@ ready_again : (first : Bool) (w : State) (pre : Pre) (start : ℕ) (context ctx 
 ready_again first w pre start context ctx stack true p = record {
   agrees = ap (λ c. mismatch_of c (Some start)) p.awaited;
   at = refl;
-  ctx =
-      refl;
+  ctx = refl;
   front = ([], refl);
   on = p.on;
   lost = p.lost;
@@ -99,8 +97,7 @@ ready_again first w pre start context ctx stack false p =
       at = refl;
       ctx = refl;
       front = ([], refl);
-      on =
-          p.on;
+      on = p.on;
       lost = p.lost;
     }
 
@@ -109,8 +106,7 @@ tells_again : (depth : ℕ) (r : Resolved) (n start : ℕ) (ctx : Ctx) → r.pen
 tells_again depth r n start ctx informed =
     simp informed (ap (λ d. Ok (record {
       done = d;
-      pending =
-          record { held = r.pending.held; pre = told_again r.pending.pre start ctx; informed = true };
+      pending = record { held = r.pending.held; pre = told_again r.pending.pre start ctx; informed = true };
     }))
     (append-nil ((r.done ++ []) ++ []) ∙ append-nil (r.done ++ []) ∙ append-nil r.done))
 

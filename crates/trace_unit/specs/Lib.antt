@@ -4,3 +4,4 @@ pub mod Told
 pub mod Packing
 pub mod Whole
 pub mod Taken
+pub mod Small

@@ -9,9 +9,11 @@ ghost use Rattle.program_image.specs.declared.image.Image.{Image};
 ghost use Rattle.return_stack.specs.Stack.{most_addresses};
 ghost use Rattle.spec_run.specs.RetiredItems.{retired_of};
 ghost use Rattle.spec_run.specs.RunAfter.{AreEvents, run_after};
-ghost use Rattle.spec_run.specs.Runs.{Execution};
+ghost use Rattle.spec_run.specs.Runs.{Execution, at_first};
 ghost use Rattle.spec_run.specs.declared.event.Event.{Event};
-ghost use Rattle.trace_unit.specs.Orders.{Order, Sync, Tell, orders};
+ghost use Rattle.trace_unit.specs.Orders.{Order, Sync, Tell, orders, places_from};
+ghost use Rattle.trace_unit.specs.Places.{no_places};
+ghost use Rattle.trace_unit.specs.Small.{IsWithin, Small, unretired};
 ghost use Rattle.trace_unit.specs.Taken.{Announces, CanTakeAll};
 ghost use Rattle.trace_unit.specs.Told.{all_told};
 ghost use Rattle.trace_unit.specs.Whole.{nothing_waits, out_elements, waits_all, whole_all, whole_settled};
@@ -55,4 +57,15 @@ pub fn trace_info_announces_what_is_held()
         → (r : Resolved) × (resolve_all s.depth unresolved (all_told front) ≡ Ok r)
         × (resolve_all s.depth unresolved (whole_all s.depth nothing_waits front) ≡ Ok r)
         × (out_elements (waits_all s.depth nothing_waits front) ≡ []) × Announces s.depth n r }
+{}
+
+/// What is kept behind a run is little: of places one for each P0 step that is not retired, and of what waits no more than the
+/// depth and a packet's atoms.
+pub fn a_unit_keeps_little()
+    ensures places { (image : Image) (s : Sizes) (most : ℕ) (events : List Event) (x : Execution) → HasGap image
+        → most ≤ most_addresses → AreEvents s events → run_after image s.depth events ≡ Ok x
+        → IsWithin most (unretired x.current) (places_from image s.depth most at_first no_places events) }
+    ensures waiting { (image : Image) (s : Sizes) (most : ℕ) (events : List Event) (x : Execution) → HasGap image
+        → most ≤ most_addresses → AreEvents s events → run_after image s.depth events ≡ Ok x
+        → Small s.depth (unretired x.current) (waits_all s.depth nothing_waits (orders image s most events)) }
 {}

@@ -8,6 +8,6 @@
 mod laws;
 
 pub use laws::{
-    both_forms_are_resolved_alike, told_elements_show_the_retired_path,
+    a_unit_keeps_little, both_forms_are_resolved_alike, told_elements_show_the_retired_path,
     trace_info_announces_what_is_held, whole_elements_show_the_retired_path,
 };
