@@ -1,7 +1,7 @@
 -- Cancel: back to what was told before the oldest of the blocks that go.
 use Rattle.std.proofs.Common.{◌≡◌, ℕ, zero, suc, ◌-◌, ◌≤◌, Bool, true, false, if◌then◌else◌, List, [], ◌∷◌, ◌++◌, length, Some, Ok, sym, ap, subst, ◌∙◌}
-use Rattle.std.proofs.Common.{arith, append_assoc, append-nil, length-append}
-use Rattle.std.proofs.lemmas.List.{take-append-drop, length-map, take_all, drop_all}
+use Rattle.std.proofs.Common.{arith, append_assoc, append-nil}
+use Rattle.std.proofs.lemmas.List.{take-append-drop, take_all, drop_all}
 use Rattle.std.proofs.lemmas.Bool.Decides.{nat_tests}
 use Rattle.std.specs.Prelude.{map, nat_le, ◌==◌}
 use Rattle.program_image.specs.declared.image.Image.{Image}
@@ -15,7 +15,7 @@ use Rattle.spec_run.specs.Runs.{Closing, Running}
 use Rattle.spec_run.specs.Steps.{kept, newest, p0s}
 use Rattle.spec_run.specs.declared.step.RunStep.{RunStep}
 use Rattle.spec_run.specs.declared.effect.Effect.TheVariants as effect
-use Rattle.trace_unit.proofs.Lists.{kept_map, newest_map, split}
+use Rattle.trace_unit.proofs.Lists.{kept_map, last_within, newest_map, split}
 use Rattle.trace_unit.proofs.Matching.{IsOpen, Keeps, Pends}
 use Rattle.trace_unit.proofs.RowLists.{after_all-append, first_behind-append, first_start, led_fronts, led_rests, length-rows, none_ended}
 use Rattle.trace_unit.proofs.Rows.{Led, Row, after_all, block_of, first_behind, saved_of, thing_of}
@@ -90,14 +90,7 @@ cancelled_so image depth most closed s p r n o =
     let held : r.pending.held ≡ map thing_of (cut.left ++ cut.right) = o.held ∙ ap (map thing_of) cut.whole in
     let saved : p.saved ≡ map saved_of (cut.left ++ cut.right) = o.saved ∙ ap (map saved_of) cut.whole in
     let rows : o.early ++ o.late ≡ (o.early ++ cut.left) ++ cut.right = ap (λ l. o.early ++ l) cut.whole ∙ sym (append_assoc o.early cut.left cut.right) in
-    let enough : q ≤ length r.pending.held = omega (
-      arith,
-      count,
-      ap length held,
-      length-map
-          (cut.left ++ cut.right) thing_of,
-      length-append cut.left cut.right,
-    ) in
+    let enough : q ≤ length r.pending.held = last_within thing_of q r.pending.held cut.left cut.right held count in
     let stays = o.early ++ cut.left in
     let led : Led true o.before (stays ++ cut.right) = subst (Led true o.before) rows o.led in
     let steps : begun (fresh s.start) (s.retired ++ keep) ≡ begun o₁ keep = begun-append (fresh s.start) s.retired keep in

@@ -136,10 +136,19 @@ is_later false w pre start context stack p = later pre p.on (p.lost refl)
 abbrev pub row : Block → Pre → List ℕ → Row
 row b pre stack = record { block = b; pre = pre; stack = stack }
 
+abbrev block_with : Begun → Ctx → RunStep → Block
+block_with o ctx last = record { start = o.start; plain = o.plain; ctx = ctx; last = last }
+
 one_row : (rows : List Row) (b : Block) → map block_of rows ≡ b ∷ [] → (pre : Pre) × (stack : List ℕ) × (rows ≡ row b pre stack ∷ [])
 one_row [] b e = absurd cc
 one_row (r ∷ []) b e = (r.pre, r.stack, ap (λ c. row c r.pre r.stack ∷ []) (heads r.block b [] [] e).0)
 one_row (r ∷ q ∷ rows) b e = absurd (let f = heads r.block b (block_of q ∷ map block_of rows) [] e in let g = f.1 in cc)
+
+last_row : (rows left right : List Row) (b : Block) → rows ≡ left ++ right → map block_of right ≡ b ∷ []
+    → (pre : Pre) × (stack : List ℕ) × (rows ≡ left ++ row b pre stack ∷ [])
+last_row rows left right b whole e =
+    let one = one_row right b e in
+    (one.0, one.1, whole ∙ ap (λ l. left ++ l) one.2)
 
 pub never_first : (first : Bool) (xs : List Row) (r : Row) → first_behind first (xs ++ r ∷ []) ≡ false
 never_first first [] r = refl
@@ -154,31 +163,30 @@ goes_on_behind w needs pre start context stack known other p =
     (goes_on w known other needs pre.flush pre.ctx pre.addr start context stack
     (subst (λ q. Pends needs false (at_known w known) q start context stack) same p))
 
-pub flipped_so : (image : Image) (depth most : ℕ) (closed : List (List RunStep × Closing)) (s : Running) (p : Places) (r : Resolved)
-    → IsOpen image closed s p r → ends_in_cond s.held ≡ true → Keeps image depth most (record { closed = closed; current = Some s }) p r effect.Flipped
-flipped_so image depth most closed s p r o is =
+-- the newest step, and the row of its block
+flipped_by : (image : Image) (depth most : ℕ) (closed : List (List RunStep × Closing)) (s : Running) (p : Places) (r : Resolved)
+    (o : IsOpen image closed s p r) (others : List RunStep) (addr : ℕ) (ctx : Ctx) (taken : Bool) (next : ℕ) (link : Bool) (left : List Row) (pre : Pre)
+    (stack : List ℕ) → s.held ≡ others ++ branch addr ctx taken next link ∷ [] → map block_of left ≡ blocks (begun (fresh s.start) s.retired) others
+    → o.late ≡ left ++ row (block_with (begun (begun (fresh s.start) s.retired) others) ctx (branch addr ctx taken next link)) pre stack ∷ []
+    → Keeps image depth most (record { closed = closed; current = Some s }) p r effect.Flipped
+flipped_by image depth most closed s p r o others addr ctx taken next link left pre stack whole lefts late =
     let o₁ = begun (fresh s.start) s.retired in
-    let end = ends_in_branch s.held is in
-    let step = branch end.addr end.ctx end.taken end.next end.link in
+    let step = branch addr ctx taken next link in
     let other = turned image step in
-    let o₂ = begun o₁ end.others in
-    let b : Block = record { start = o₂.start; plain = o₂.plain; ctx = end.ctx; last = step } in
-    let b' : Block = record { start = o₂.start; plain = o₂.plain; ctx = end.ctx; last = other } in
-    let cut = split block_of o.late (blocks o₁ end.others) (b ∷ []) (o.unretired ∙ ap (blocks o₁) end.whole ∙ blocks-append o₁ end.others (step ∷ [])) in
-    let last = one_row cut.right b cut.rights in
-    let x = row b last.0 last.1 in
-    let y = row b' last.0 last.1 in
-    let late : o.late ≡ cut.left ++ x ∷ [] = cut.whole ∙ ap (λ l. cut.left ++ l) last.2 in
-    let stays = o.early ++ cut.left in
+    let o₂ = begun o₁ others in
+    let b' = block_with o₂ ctx other in
+    let x = row (block_with o₂ ctx step) pre stack in
+    let y = row b' pre stack in
+    let stays = o.early ++ left in
     let w = after_all o.before stays in
-    let joined = λ (z : Row). sym (append_assoc o.early cut.left (z ∷ [])) in
+    let joined = λ (z : Row). sym (append_assoc o.early left (z ∷ [])) in
     let rows : o.early ++ o.late ≡ stays ++ x ∷ [] = ap (λ l. o.early ++ l) late ∙ joined x in
     let led : Led true o.before (stays ++ x ∷ []) = subst (Led true o.before) rows o.led in
-    let turns : turn_newest image s.held ≡ end.others ++ other ∷ [] = ap (turn_newest image) end.whole ∙ turn_newest_at image end.others step in
-    let pc : (flips image s).pc ≡ other.next = ap (next_behind s.pc) turns ∙ next_behind_at s.pc end.others other in
-    let held : r.pending.held ≡ map thing_of cut.left ++ thing_of x ∷ [] = o.held ∙ ap (map thing_of) late ∙ map-append thing_of cut.left (x ∷ []) in
-    let turns' = ap flip_newest held ∙ flip_newest_at (map thing_of cut.left) (thing_of x) in
-    let tells = ap (λ l. pre_behind l r.pending.pre) held ∙ pre_behind_at (map thing_of cut.left) (thing_of x) r.pending.pre in
+    let turns : turn_newest image s.held ≡ others ++ other ∷ [] = ap (turn_newest image) whole ∙ turn_newest_at image others step in
+    let pc : (flips image s).pc ≡ other.next = ap (next_behind s.pc) turns ∙ next_behind_at s.pc others other in
+    let held : r.pending.held ≡ map thing_of left ++ thing_of x ∷ [] = o.held ∙ ap (map thing_of) late ∙ map-append thing_of left (x ∷ []) in
+    let turns' = ap flip_newest held ∙ flip_newest_at (map thing_of left) (thing_of x) in
+    let tells = ap (λ l. pre_behind l r.pending.pre) held ∙ pre_behind_at (map thing_of left) (thing_of x) r.pending.pre in
     let before : Pends p.needs (first_behind true (stays ++ x ∷ [])) (after_all o.before (stays ++ x ∷ [])) r.pending.pre p.start p.reader_context p.stack =
     subst (λ l. Pends p.needs (first_behind true l) (after_all o.before l) r.pending.pre p.start p.reader_context p.stack) rows o.pends in
     let later : Pends p.needs false (after_all w (x ∷ [])) r.pending.pre p.start p.reader_context p.stack =
@@ -186,32 +194,45 @@ flipped_so image depth most closed s p r o is =
     (subst (λ f. Pends p.needs f (after_all o.before (stays ++ x ∷ [])) r.pending.pre p.start p.reader_context p.stack) (never_first true stays x) before) in
     let pre' : Pre = record (r.pending.pre) { addr = None } in
     let ready : Ready false (after_all w (y ∷ [])) (record (r.pending.pre) { addr = None }) other.next p.reader_context p.stack =
-    goes_on_behind (after_all w (x ∷ [])) p.needs r.pending.pre p.start p.reader_context p.stack end.next other.next later in
-    let ready' : Ready (first_behind true (o.early ++ (cut.left ++ y ∷ []))) (after_all o.before (o.early ++ (cut.left ++ y ∷ [])))
+    goes_on_behind (after_all w (x ∷ [])) p.needs r.pending.pre p.start p.reader_context p.stack next other.next later in
+    let ready' : Ready (first_behind true (o.early ++ (left ++ y ∷ []))) (after_all o.before (o.early ++ (left ++ y ∷ [])))
     (record (r.pending.pre) { addr = None }) (flips image s).pc p.reader_context p.stack =
     subst (λ l. Ready (first_behind true l) (after_all o.before l) pre' (flips image s).pc p.reader_context p.stack) (sym (joined y))
     (subst (λ a. Ready (first_behind true (stays ++ y ∷ [])) (after_all o.before (stays ++ y ∷ [])) pre' a p.reader_context p.stack) (sym pc)
     (subst (λ f. Ready f (after_all o.before (stays ++ y ∷ [])) pre' other.next p.reader_context p.stack) (sym (never_first true stays y))
     (subst (λ v. Ready false v pre' other.next p.reader_context p.stack) (sym (after_all-append o.before stays (y ∷ []))) ready))) in (
-      flipped r (map thing_of (cut.left ++ y ∷ [])),
-      flips_it depth r (map thing_of (cut.left ++ y ∷ [])) (turns' ∙ ap (λ (l : List Thing). Some l) (sym (map-append thing_of cut.left (y ∷ [])))) tells,
+      flipped r (map thing_of (left ++ y ∷ [])),
+      flips_it depth r (map thing_of (left ++ y ∷ [])) (turns' ∙ ap (λ (l : List Thing). Some l) (sym (map-append thing_of left (y ∷ [])))) tells,
       record {
         front = o.front;
         before = o.before;
         early = o.early;
-        late = cut.left ++ y ∷ [];
+        late = left ++ y ∷ [];
         walks = o.walks;
         done = o.done;
         informed = o.informed;
         held = refl;
-        saved = o.saved ∙ ap (map saved_of) late ∙ map-append saved_of cut.left (x ∷ []) ∙ sym (map-append saved_of cut.left (y ∷ []));
+        saved = o.saved ∙ ap (map saved_of) late ∙ map-append saved_of left (x ∷ []) ∙ sym (map-append saved_of left (y ∷ []));
         retired = o.retired;
-        unretired = map-append block_of cut.left (y ∷ []) ∙ ap (λ l. l ++ b' ∷ []) cut.lefts
-            ∙ sym (ap (blocks o₁) turns ∙ blocks-append o₁ end.others (other ∷ []));
+        unretired = map-append block_of left (y ∷ []) ∙ ap (λ l. l ++ b' ∷ []) lefts
+            ∙ sym (ap (blocks o₁) turns ∙ blocks-append o₁ others (other ∷ []));
         led = subst (Led true o.before) (sym (joined y)) (led_joined true o.before stays (y ∷ []) (led_fronts true o.before stays (x ∷ []) led)
             ((led_rests true o.before stays (x ∷ []) led).0, tt));
         start = pc ∙ sym (ap (λ (b : Begun). b.start) (ap (λ l. begun (fresh s.start) (s.retired ++ l)) turns
-            ∙ begun-append (fresh s.start) s.retired (end.others ++ other ∷ []) ∙ begun-append o₁ end.others (other ∷ [])));
+            ∙ begun-append (fresh s.start) s.retired (others ++ other ∷ []) ∙ begun-append o₁ others (other ∷ [])));
         pends = ready';
       },
     )
+
+pub flipped_so : (image : Image) (depth most : ℕ) (closed : List (List RunStep × Closing)) (s : Running) (p : Places) (r : Resolved)
+    → IsOpen image closed s p r → ends_in_cond s.held ≡ true → Keeps image depth most (record { closed = closed; current = Some s }) p r effect.Flipped
+flipped_so image depth most closed s p r o is =
+    let o₁ = begun (fresh s.start) s.retired in
+    let end = ends_in_branch s.held is in
+    let step = branch end.addr end.ctx end.taken end.next end.link in
+    let b = block_with (begun o₁ end.others) end.ctx step in
+    let cut = split block_of o.late (blocks o₁ end.others) (b ∷ [])
+    (o.unretired ∙ ap (blocks o₁) end.whole ∙ blocks-append o₁ end.others (step ∷ [])) in
+    let last = last_row o.late cut.left cut.right b cut.whole cut.rights in
+    flipped_by image depth most closed s p r o end.others end.addr end.ctx end.taken end.next end.link cut.left last.0 last.1 end.whole cut.lefts
+    last.2

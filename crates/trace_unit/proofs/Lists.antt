@@ -1,5 +1,5 @@
 -- Lists that are images of one list, and the two parts of a list, counted from its end.
-use Rattle.std.proofs.Common.{◌≡◌, ℕ, ◌-◌, List, [], ◌∷◌, ◌++◌, length, take, drop, refl, ap, ◌∙◌, arith, length-append}
+use Rattle.std.proofs.Common.{◌≡◌, ℕ, ◌-◌, ◌≤◌, List, [], ◌∷◌, ◌++◌, length, take, drop, refl, ap, ◌∙◌, arith, length-append}
 use Rattle.std.proofs.lemmas.List.{take_at, drop_at, length-map, map-append}
 use Rattle.std.specs.Prelude.{map}
 use Rattle.spec_run.specs.Steps.{kept, newest}
@@ -51,3 +51,10 @@ take_map f n l xs ys e c = ap (take n) (e ∙ map-append f xs ys) ∙ take_at (m
 
 pub drop_map : {X Y : Type 0} (f : X → Y) (n : ℕ) (l : List Y) (xs ys : List X) → l ≡ map f (xs ++ ys) → length xs ≡ n → drop n l ≡ map f ys
 drop_map f n l xs ys e c = ap (drop n) (e ∙ map-append f xs ys) ∙ drop_at (map f xs) (map f ys) n (length-map xs f ∙ c)
+
+-- neither part is longer than the whole
+pub first_within : {X Y : Type 0} (f : X → Y) (n : ℕ) (l : List Y) (xs ys : List X) → l ≡ map f (xs ++ ys) → length xs ≡ n → n ≤ length l
+first_within f n l xs ys e c = omega (arith, c, ap length e, length-map (xs ++ ys) f, length-append xs ys)
+
+pub last_within : {X Y : Type 0} (f : X → Y) (n : ℕ) (l : List Y) (xs ys : List X) → l ≡ map f (xs ++ ys) → length ys ≡ n → n ≤ length l
+last_within f n l xs ys e c = omega (arith, c, ap length e, length-map (xs ++ ys) f, length-append xs ys)

@@ -1,7 +1,7 @@
 -- Retire: the seam between what is done and what is held moves.
 use Rattle.std.proofs.Common.{◌≡◌, ℕ, zero, suc, ◌≤◌, Bool, true, if◌then◌else◌, List, ◌++◌, length, take, drop, Some, Ok, sym, ap, subst, ◌∙◌, arith}
-use Rattle.std.proofs.Common.{append_assoc, append-nil, length-append}
-use Rattle.std.proofs.lemmas.List.{take-append-drop, map-append, length-map}
+use Rattle.std.proofs.Common.{append_assoc, append-nil}
+use Rattle.std.proofs.lemmas.List.{take-append-drop, map-append}
 use Rattle.std.proofs.lemmas.Bool.Decides.{nat_tests}
 use Rattle.std.specs.Prelude.{map, nat_le}
 use Rattle.program_image.specs.declared.image.Image.{Image}
@@ -12,7 +12,7 @@ use Rattle.spec_run.specs.Runs.{Closing, Running}
 use Rattle.spec_run.specs.Steps.{p0s}
 use Rattle.spec_run.specs.declared.step.RunStep.{RunStep}
 use Rattle.spec_run.specs.declared.effect.Effect.TheVariants as effect
-use Rattle.trace_unit.proofs.Lists.{drop_map, split, take_map}
+use Rattle.trace_unit.proofs.Lists.{drop_map, first_within, split, take_map}
 use Rattle.trace_unit.proofs.Matching.{IsOpen, Keeps, Pends}
 use Rattle.trace_unit.proofs.RowLists.{length-rows}
 use Rattle.trace_unit.proofs.Rows.{Led, after_all, block_of, first_behind, saved_of, thing_of}
@@ -48,14 +48,7 @@ retired image depth most closed s p r n o =
     let held : r.pending.held ≡ map thing_of (cut.left ++ cut.right) = o.held ∙ ap (map thing_of) cut.whole in
     let saved : p.saved ≡ map saved_of (cut.left ++ cut.right) = o.saved ∙ ap (map saved_of) cut.whole in
     let rows : o.early ++ o.late ≡ (o.early ++ cut.left) ++ cut.right = ap (λ l. o.early ++ l) cut.whole ∙ sym (append_assoc o.early cut.left cut.right) in
-    let enough : p0s now ≤ length r.pending.held = omega (
-      arith,
-      count,
-      ap length held,
-      length-map
-          (cut.left ++ cut.right) thing_of,
-      length-append cut.left cut.right,
-    ) in (
+    let enough : p0s now ≤ length r.pending.held = first_within thing_of (p0s now) r.pending.held cut.left cut.right held count in (
       committed r (p0s now),
       ap (resolve_all depth r) (append-nil (commits_of (p0s now))) ∙ commits depth (p0s now) r enough,
       record {
