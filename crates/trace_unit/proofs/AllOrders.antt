@@ -2,7 +2,8 @@
 use Rattle.std.proofs.Common.{◌≡◌, ℕ, List, [], ◌∷◌, Ok, refl, ◌∙◌, arith}
 use Rattle.element_queue.specs.Resolved.{Resolved, resolve_all, unresolved}
 use Rattle.trace_unit.proofs.OneEvent.{goes_on}
-use Rattle.trace_unit.proofs.OneOrder.{one_order, settles}
+use Rattle.trace_unit.proofs.OneOrder.{one_order}
+use Rattle.trace_unit.proofs.OrderTold.{settles}
 use Rattle.trace_unit.proofs.Out.{Waits}
 use Rattle.trace_unit.specs.Orders.{Order, Settle}
 use Rattle.trace_unit.specs.Taken.{CanTakeAll}

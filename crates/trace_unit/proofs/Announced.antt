@@ -20,7 +20,8 @@ use Rattle.spec_run.specs.declared.step.StepKind.{StepKind}
 use Rattle.spec_run.specs.declared.step.StepKind.TheVariants.{Cond, Eret, Exc, Ind, Isb, Jump, Plain}
 use Rattle.trace_unit.proofs.AllOrders.{wait_first}
 use Rattle.trace_unit.proofs.OneEvent.{goes_on}
-use Rattle.trace_unit.proofs.OneOrder.{one_order, settles}
+use Rattle.trace_unit.proofs.OneOrder.{one_order}
+use Rattle.trace_unit.proofs.OrderTold.{settles}
 use Rattle.trace_unit.proofs.Out.{Waits, none_left, none_out}
 use Rattle.trace_unit.proofs.RunOrders.{Suits, run_suits, same_ok}
 use Rattle.trace_unit.specs.Orders.{Branch, Cancel, Close, Exception, Flip, Order, Retire, Settle, Sync, Tell}

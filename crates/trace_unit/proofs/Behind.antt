@@ -1,4 +1,4 @@
--- The reader of a whole unit is behind the reader of a told one by what waits.
+-- A reader of the whole form is behind a reader that is told at once by what waits.
 use Rattle.std.proofs.Common.{◌≡◌, ℕ, zero, suc, ◌+◌, ◌-◌, ◌≤◌, List, [], ◌∷◌, ◌++◌, length, take, drop, Ok, refl, sym, ap, ◌∙◌, arith, append_assoc}
 use Rattle.std.proofs.Common.{append-nil, length-append}
 use Rattle.std.proofs.lemmas.List.{take-append-le, drop-append-le, take-append-drop, length-drop, length-take-le, nil_from_length}
@@ -87,7 +87,7 @@ over : (depth held all : ℕ) → all ≡ held + 1 → held + 1 ≤ depth + at_o
 over zero held all e asks fits = omega (arith, e, asks, fits)
 over (suc depth) held all e asks fits = omega (arith, e, asks, fits)
 
--- the told reader takes one: it is held, and at depth 0 it is due at once
+-- the reader that is told at once takes one: it is held, and at depth 0 it is due at once
 pub pushed_on : (depth : ℕ) (xs : List P0) (q c h : ℕ) (rw rp : Resolved) (x : P0) → Behind depth xs q c h rw rp
     → length rp.pending.held + 1 ≤ depth + at_once depth
     → Behind depth (xs ++ x ∷ []) q (c + at_once depth) h rw (put depth rp x)
@@ -123,7 +123,7 @@ pends_none : (xs : List P0) → pend nothing_told xs ≡ nothing_told
 pends_none [] = refl
 pends_none (x ∷ xs) = refl
 
--- the whole reader takes the oldest that is held: of a full queue the oldest is committed, and is due no more
+-- the reader of the whole form takes the oldest that is held: of a full queue the oldest is committed, and is due no more
 pub put_out : (depth : ℕ) (x : P0) (xs : List P0) (c h : ℕ) (rw rp : Resolved) → Behind depth (x ∷ xs) 0 c h rw rp
     → Behind depth xs 0 (c - (h + 1 - depth)) (h + 1 - (h + 1 - depth)) (put depth rw x) rp
 put_out depth x xs c h rw rp b =

@@ -19,6 +19,9 @@ pub mod OneEvent
 pub mod AllEvents
 pub mod Behind
 pub mod Out
+pub mod OrderTold
+pub mod OrderCancelled
+pub mod OrderFlipped
 pub mod OneOrder
 pub mod AllOrders
 pub mod RunOrders

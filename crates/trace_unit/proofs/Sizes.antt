@@ -21,13 +21,14 @@ use Rattle.trace_unit.proofs.AllEvents.{all_events, stands_first}
 use Rattle.trace_unit.proofs.AllOrders.{all_orders, wait_first}
 use Rattle.trace_unit.proofs.Behind.{Behind, back, entries, length-entries}
 use Rattle.trace_unit.proofs.Matching.{MatchesBy}
+use Rattle.trace_unit.proofs.OrderTold.{wrote_atoms}
 use Rattle.trace_unit.proofs.Out.{Waits, none_left, p0s_of}
 use Rattle.trace_unit.proofs.RunOrders.{held_many, run_takes, same_ok}
 use Rattle.trace_unit.specs.Orders.{Branch, Cancel, Close, Exception, Flip, Order, Retire, Settle, Tell, orders}
 use Rattle.trace_unit.specs.Packing.{byte_of, longest, longest_within}
 use Rattle.trace_unit.specs.Places.{Places, no_places}
 use Rattle.trace_unit.specs.Small.{Small, unretired}
-use Rattle.trace_unit.specs.Whole.{Waiting, at_once, flipped, is_full, nothing_waits, out, spilled, turn_last, waits, waits_all, with_atom, wrote}
+use Rattle.trace_unit.specs.Whole.{Waiting, at_once, flipped, is_full, nothing_waits, out, spilled, turn_last, waits, waits_all, with_atom}
 
 -- ---- the atoms
 
@@ -38,9 +39,6 @@ some_front (suc n) atoms = by (nat_le (n + 2) (length atoms) && is_some (byte_of
     by : (test : Bool) (n rest : ℕ) → 1 ≤ rest → 1 ≤ (if test then n + 2 else rest)
     by true n rest le = omega arith
     by false n rest le = le
-
-wrote_atoms : (depth : ℕ) (u : Waiting) → (wrote depth u).atoms ≡ u.atoms
-wrote_atoms depth u = elim (cases_Bool (nat_le (u.held + 1) depth)) [ inl t ↦ simp t | inr f ↦ simp f ]
 
 turn_many : (atoms : List Bool) → length (turn_last atoms) ≡ length atoms
 turn_many [] = refl
