@@ -1,7 +1,7 @@
 -- Runs over small images: their orders, and the elements that these tell at once and in the whole form.
-use Rattle.std.proofs.Common.{◌≡◌, ℕ, true, false, List, [], ◌∷◌, Option, Some, None, Result, Ok, Err, ◌++◌, replicate, refl}
+use Rattle.std.proofs.Common.{◌≡◌, ℕ, true, false, List, [], ◌∷◌, Option, Some, None, Result, Ok, Err, ◌++◌, replicate, refl, sym, ap, subst, ◌∙◌, arith}
 use Rattle.a64_branches.specs.Classes.{class_of}
-use Rattle.etm_types.specs.Settings.{Sizes}
+use Rattle.etm_types.specs.Settings.{FitsSettings, Sizes}
 use Rattle.etm_types.specs.declared.context.Ctx.{Ctx}
 use Rattle.etm_types.specs.declared.element.Elem.TheVariants as elem
 use Rattle.etm_types.specs.declared.element.P0.TheVariants as p0
@@ -9,7 +9,13 @@ use Rattle.etm_types.specs.declared.item.Item.{Item}
 use Rattle.etm_types.specs.declared.item.Item.TheVariants as item
 use Rattle.program_image.specs.Part.{Part}
 use Rattle.spec_run.specs.RetiredItems.{retired_of}
-use Rattle.spec_run.specs.RunAfter.{run_after}
+use Rattle.spec_run.specs.RunAfter.{AreEvents, run_after}
+use Rattle.program_image.specs.Blocks.{HasGap}
+use Rattle.element_queue.specs.Resolved.{Resolved, resolve_all, unresolved}
+use Rattle.path_walker.specs.State.{State, first_state}
+use Rattle.path_walker.specs.Things.{Walks}
+use Rattle.trace_unit.proofs.AllEvents.{told_shows}
+use Rattle.trace_unit.proofs.RunOrders.{whole_shows}
 use Rattle.spec_run.specs.Runs.{ByOff, ByOverflow, Execution}
 use Rattle.spec_run.specs.declared.event.Event.{Event}
 use Rattle.spec_run.specs.declared.event.Event.TheVariants as event
@@ -74,12 +80,14 @@ mixed_orders =
     ∷ Tell (Address 0x1010) ∷ Branch true ∷ Branch true ∷ Tell (Address 0x1014) ∷ Branch true ∷ Retire 3 ∷ Tell (Place 0x1008 program)
     ∷ Branch false ∷ Retire 1 ∷ Close ByOff ∷ []
 
-mixed_is_accepted : path_of (run_after code 4 mixed) ≡ Some (
+abbrev mixed_items : List Item
+mixed_items =
     item.On ∷ item.Instr 0x1000 program ∷ item.Instr 0x1004 program ∷ item.Instr 0x1008 program ∷ item.Instr 0x100c program
     ∷ item.Instr 0x1000 program ∷ item.Instr 0x1004 program ∷ item.Instr 0x1008 handler ∷ item.Gap ∷ item.On ∷ item.Instr 0x100c handler
     ∷ item.Instr 0x1000 handler ∷ item.Instr 0x1004 handler ∷ item.Instr 0x1008 handler ∷ item.Exc 3 0x1010 ∷ item.Instr 0x1010 handler
     ∷ item.Instr 0x1010 handler ∷ item.Instr 0x1014 handler ∷ item.Stop ∷ []
-    )
+
+mixed_is_accepted : path_of (run_after code 4 mixed) ≡ Some mixed_items
 unfolding class_of
 mixed_is_accepted = refl
 
@@ -117,9 +125,11 @@ abbrev many_orders : List Order
 many_orders =
     Tell (Sync 0) ∷ Tell On ∷ Tell (Start 0x1000 program) ∷ (replicate 26 (Branch true) ++ Cancel 3 ∷ Flip ∷ Retire 20 ∷ [])
 
-many_is_accepted : path_of (run_after loop 30 many) ≡ Some (
+abbrev many_items : List Item
+many_items =
     item.On ∷ (replicate 20 (item.Instr 0x1000 program) ++ [])
-    )
+
+many_is_accepted : path_of (run_after loop 30 many) ≡ Some many_items
 unfolding class_of
 many_is_accepted = refl
 
@@ -149,10 +159,12 @@ flat_orders =
     Tell (Sync 0) ∷ Tell On ∷ Tell (Start 0x100c program) ∷ Branch true ∷ Branch true ∷ Branch false ∷ Settle ∷ Tell (Sync 0)
     ∷ Tell (Start 0x100c program) ∷ Branch true ∷ Close ByOverflow ∷ []
 
-flat_is_accepted : path_of (run_after code 0 flat) ≡ Some (
+abbrev flat_items : List Item
+flat_items =
     item.On ∷ item.Instr 0x100c program ∷ item.Instr 0x1000 program ∷ item.Instr 0x1004 program ∷ item.Instr 0x1008 program
     ∷ item.Instr 0x100c program ∷ item.Gap ∷ []
-    )
+
+flat_is_accepted : path_of (run_after code 0 flat) ≡ Some flat_items
 unfolding class_of
 flat_is_accepted = refl
 
@@ -169,3 +181,151 @@ flat_is_told_late : whole_settled 0 flat_orders ≡
     elem.Info 0 ∷ elem.On ∷ elem.Ctx program ∷ elem.Addr 0x100c ∷ elem.P0 (p0.Atom true) ∷ elem.P0 (p0.Atom true) ∷ elem.P0 (p0.Atom false)
     ∷ elem.Info 0 ∷ elem.Ctx program ∷ elem.Addr 0x100c ∷ elem.P0 (p0.Atom true) ∷ elem.Overflow ∷ []
 flat_is_told_late = refl
+
+-- ---- the laws speak of these runs
+
+program_fits : FitsSettings (sizes 4) program
+program_fits = record { el = omega arith; vmid = omega arith; cid = omega arith }
+
+handler_fits : FitsSettings (sizes 4) handler
+handler_fits = record { el = omega arith; vmid = omega arith; cid = omega arith }
+
+code_has_a_gap : HasGap code
+code_has_a_gap = record { address = 0; within = omega arith; aligned = refl; none = refl }
+
+mixed_are_events : AreEvents (sizes 4) mixed
+mixed_are_events = (
+  (omega arith, program_fits),
+  (
+    tt,
+    (
+      tt,
+      (
+        tt,
+        (
+          tt,
+          (
+            tt,
+            (
+              tt,
+              (
+                tt,
+                (
+                  tt,
+                  (
+                    tt,
+                    (
+                      tt,
+                      (
+                        tt,
+                        (
+                          tt,
+                          (
+                            handler_fits,
+                            (
+                              tt,
+                              (
+                                tt,
+                                (
+                                  (omega arith, omega arith, program_fits),
+                                  (
+                                    omega arith,
+                                    (
+                                      tt,
+                                      (
+                                        tt,
+                                        (
+                                          (omega arith, handler_fits),
+                                          (
+                                            tt,
+                                            (
+                                              tt,
+                                              (
+                                                tt,
+                                                (
+                                                  tt,
+                                                  (
+                                                    tt,
+                                                    (
+                                                      omega arith,
+                                                      (
+                                                        omega arith,
+                                                        (
+                                                          tt,
+                                                          (
+                                                            (omega arith, omega arith, handler_fits),
+                                                            (
+                                                              tt,
+                                                              (
+                                                                omega arith,
+                                                                (
+                                                                  omega arith,
+                                                                  (
+                                                                    (omega arith, program_fits),
+                                                                    (
+                                                                      tt,
+                                                                      (
+                                                                        tt,
+                                                                        (tt, (tt, tt)),
+                                                                      ),
+                                                                    ),
+                                                                  ),
+                                                                ),
+                                                              ),
+                                                            ),
+                                                          ),
+                                                        ),
+                                                      ),
+                                                    ),
+                                                  ),
+                                                ),
+                                              ),
+                                            ),
+                                          ),
+                                        ),
+                                      ),
+                                    ),
+                                  ),
+                                ),
+                              ),
+                            ),
+                          ),
+                        ),
+                      ),
+                    ),
+                  ),
+                ),
+              ),
+            ),
+          ),
+        ),
+      ),
+    ),
+  ),
+)
+
+accepted : (run : Result Execution (ℕ × RunFault)) (items : List Item) → path_of run ≡ Some items
+    → (x : Execution) × (run ≡ Ok x) × (retired_of x ≡ items)
+accepted (Ok x) items e = (x, refl, cc)
+accepted (Err refusal) items e = absurd cc
+
+mixed_is_shown : (r : Resolved) × (w : State) × (resolve_all 4 unresolved (all_told mixed_orders) ≡ Ok r) × Walks code first_state r.done mixed_items (Ok w)
+mixed_is_shown =
+    let run = accepted (run_after code 4 mixed) mixed_items mixed_is_accepted in
+    let shown = told_shows code (sizes 4) 2 mixed run.0 code_has_a_gap (omega arith) mixed_are_events run.1 in (
+      shown.0,
+      shown.1,
+      ap (λ l. resolve_all 4 unresolved (all_told l)) (sym mixed_has_orders) ∙ shown.2,
+      subst (λ l. Walks code first_state (shown.0).done l (Ok shown.1)) run.2 shown.3,
+    )
+
+mixed_is_shown_late :
+    (r : Resolved) × (w : State) × (resolve_all 4 unresolved (whole_settled 4 mixed_orders) ≡ Ok r) × Walks code first_state r.done mixed_items (Ok w)
+mixed_is_shown_late =
+    let run = accepted (run_after code 4 mixed) mixed_items mixed_is_accepted in
+    let shown = whole_shows code (sizes 4) 2 mixed run.0 code_has_a_gap (omega arith) mixed_are_events run.1 in (
+      shown.0,
+      shown.1,
+      ap (λ l. resolve_all 4 unresolved (whole_settled 4 l)) (sym mixed_has_orders) ∙ shown.2,
+      subst (λ l. Walks code first_state (shown.0).done l (Ok shown.1)) run.2 shown.3,
+    )
