@@ -1,6 +1,7 @@
 //! A bounded stack of addresses, over a buffer whose front is the newest.
-ghost use Rattle.std.specs.Prelude.{◌≡◌, ◌≤◌, ◌↔◌, ◌++◌, [], slice_get, option_to_list, IfOk, IsNone};
+ghost use Rattle.std.specs.Prelude.{◌≡◌, ◌≤◌, ◌↔◌, ◌++◌, [], length, slice_get, option_to_list, IfOk, IsNone};
 
+use crate::saved::SavedStack;
 use circular_buffer::HeapCircularBuffer;
 use std::alloc::{AllocError, Global};
 use std::marker::Model;
@@ -90,5 +91,26 @@ impl ReturnStack {
         self.clear();
         self.addresses.extend_from_slice(newer);
         self.addresses.extend_from_slice(older);
+    }
+
+    /// The addresses as they are now.
+    pub fn save(&self) -> SavedStack
+        ensures addresses { result ≡ self.now.addresses }
+        ensures few { length result ≤ self.now.depth }
+        ensures within { IsStack self.now }
+    {
+        let (newer, older) = self.addresses.as_slices();
+        SavedStack::joined(newer, older)
+    }
+
+    /// Takes saved addresses, no more than the depth, in place of its own.
+    pub fn restore(&mut self, saved: &SavedStack)
+        requires { length saved.now ≤ self.old.depth }
+        ensures addresses { self.new.addresses ≡ saved.now }
+        ensures depth { self.new.depth ≡ self.old.depth }
+        ensures within { IsStack self.new }
+    {
+        self.clear();
+        self.addresses.extend_from_slice(saved.as_slice());
     }
 }

@@ -1,5 +1,5 @@
 //! Each call once, a full stack and one of depth 0.
-use crate::ReturnStack;
+use crate::{ReturnStack, SavedStack};
 use std::test::*;
 
 #[test]
@@ -54,5 +54,26 @@ fn a_copy_goes_its_own_way(rt: HostRuntime) -> Result<(), Fail> {
     assert_eq!(rt; copy.pop(), Some(0x3000));
     assert_eq!(rt; copy.pop(), Some(0x2000));
     assert_eq!(rt; copy.pop(), None);
+    Ok(())
+}
+
+#[test]
+fn a_saved_stack_comes_back(rt: HostRuntime) -> Result<(), Fail> {
+    let mut stack = ReturnStack::new(rt.alloc(), 3)?;
+    for index in 0..5 {
+        stack.push(0x1000 + 4 * index);
+    }
+    let saved = stack.save();
+    stack.clear();
+    stack.push(0x2000);
+    stack.restore(&saved);
+    assert_eq!(rt; stack.save(), saved);
+    for index in (2..5).rev() {
+        assert_eq!(rt; stack.pop(), Some(0x1000 + 4 * index));
+    }
+    assert_eq!(rt; stack.pop(), None);
+    stack.push(0x3000);
+    stack.restore(&SavedStack::empty());
+    assert_eq!(rt; stack.pop(), None);
     Ok(())
 }
