@@ -9,6 +9,7 @@ pub mod Within
 pub mod Hunt
 pub mod Adds
 pub mod OneAnswer
+pub mod Told
 pub mod Asked
 pub mod Endings
 mod Fronts

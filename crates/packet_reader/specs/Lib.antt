@@ -3,3 +3,4 @@ pub mod States
 pub mod Fronts
 pub mod Stands
 pub mod Answered
+pub mod Told

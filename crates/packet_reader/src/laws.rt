@@ -2,6 +2,7 @@
 ghost use Rattle.std.specs.Prelude.{ℕ, List, []};
 ghost use Rattle.etm_types.specs.Settings.{Sizes, AreSettings};
 ghost use Rattle.packet_reader.specs.Answered.{Answered, AddUp, EachHasItsAnswer};
+ghost use Rattle.packet_reader.specs.Told.{EachSpellingIsTold};
 ghost use Rattle.packet_reader.specs.declared.step.Step.{Step};
 
 /// Where each byte of a stream has the answer that [`PacketReader::take`](crate::PacketReader::take)
@@ -17,4 +18,10 @@ pub fn the_answers_are_the_parse()
 /// it is Bad, or Stopped where the fault was there before.
 pub fn each_byte_has_its_answer()
     ensures { EachHasItsAnswer }
+{}
+
+/// Behind whole packets, each byte of a spelling but the last has the answer More, and the last one Whole, with the packet and the
+/// offset of its first byte. So what a writer of packets writes is read as it was written.
+pub fn each_spelling_is_told()
+    ensures { EachSpellingIsTold }
 {}

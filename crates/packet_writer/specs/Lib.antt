@@ -1,0 +1,6 @@
+pub mod Numbers
+pub mod Contexts
+pub mod Atoms
+pub mod Spelling
+pub mod Fitting
+pub mod Laws
