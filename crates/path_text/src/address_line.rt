@@ -1,7 +1,7 @@
 //! The line of an instruction, which moves from address to address.
 //!
-//! The addresses of a block go up by 4, so that most often one digit changes from a line to the next. The bytes of
-//! the line are kept, and only the digits that change are put.
+//! The addresses of a block go up by 4, and a loop comes back to the same block, so that most often one or two digits change
+//! from a line to the next. The bytes of the line are kept, and only the digits that change are put.
 ghost use Rattle.std.specs.Prelude.{◌≡◌, ◌+◌, ◌≤◌, length};
 ghost use Rattle.path_text.specs.Lines.{hex};
 ghost use Rattle.path_text.specs.Writing.{Writes};
@@ -59,6 +59,14 @@ impl AddressLine {
             bytes,
             len: 5,
         }
+    }
+
+    /// The ID of its stream.
+    #[inline(always)]
+    pub fn id(&self) -> Id
+        ensures { result ≡ self.now.id }
+    {
+        self.id
     }
 
     /// Moves to an address: only the digits that change are put, where there are as many as before.

@@ -18,12 +18,13 @@ mod packet_line;
 mod packet_lines;
 mod path_lines;
 
+pub use address_line::AddressLine;
 pub use end_lines::{write_end, write_frame_cut};
 pub use laws::lines_stand_one_by_one;
 pub use line::Line;
 pub use packet_grammar::End;
 pub use packet_line::{PacketLine, write_packet_line};
-pub use path_lines::{write_gap, write_stop, write_walked};
+pub use path_lines::{write_gap, write_stop, write_walked, write_walked_on};
 
 #[cfg(test)]
 mod tests;

@@ -67,10 +67,15 @@ fn write_context_once<K: Sink>(
 }
 
 /// Writes the lines of so many instructions, one after the other.
-fn write_instructions<K: Sink>(id: Id, start: u64, count: u64, sink: &mut K) -> Result<(), Failed>
-    ensures { Writes (K.state sink.old) (K.state sink.new) result (instruction_lines id start count) }
+fn write_instructions<K: Sink>(
+    line: &mut AddressLine,
+    start: u64,
+    count: u64,
+    sink: &mut K,
+) -> Result<(), Failed>
+    ensures id { line.new.id ≡ line.old.id }
+    ensures lines { Writes (K.state sink.old) (K.state sink.new) result (instruction_lines line.old.id start count) }
 {
-    let mut line = AddressLine::new(id);
     let mut address = start;
     for _done in 0..count {
         line.move_to(address);
@@ -82,35 +87,38 @@ fn write_instructions<K: Sink>(id: Id, start: u64, count: u64, sink: &mut K) -> 
 
 /// Writes the lines of the instructions of a walk, after that of their context.
 fn write_run<K: Sink>(
-    id: Id,
+    line: &mut AddressLine,
     walked: &Walked,
     shown: &mut Option<Ctx>,
     sink: &mut K,
 ) -> Result<(), Failed>
-    ensures lines { Writes (K.state sink.old) (K.state sink.new) result (run_lines id shown.old walked.now) }
+    ensures id { line.new.id ≡ line.old.id }
+    ensures lines { Writes (K.state sink.old) (K.state sink.new) result (run_lines line.old.id shown.old walked.now) }
     ensures shown { IfOk result (λ _. shown.new ≡ run_shown shown.old walked.now) }
 {
     if walked.count == 0 {
         return Ok(());
     }
-    write_context_once(id, &walked.ctx, shown, sink)?;
-    write_instructions(id, walked.start, walked.count, sink)
+    write_context_once(line.id(), &walked.ctx, shown, sink)?;
+    write_instructions(line, walked.start, walked.count, sink)
 }
 
 /// Writes the lines of what a walk shows between trace on and the exception.
+#[inline(always)]
 fn write_block<K: Sink>(
-    id: Id,
+    line: &mut AddressLine,
     walked: &Walked,
     shown: &mut Option<Ctx>,
     sink: &mut K,
 ) -> Result<(), Failed>
-    ensures lines { Writes (K.state sink.old) (K.state sink.new) result (lines_of id shown.old (block_items walked.now)) }
+    ensures id { line.new.id ≡ line.old.id }
+    ensures lines { Writes (K.state sink.old) (K.state sink.new) result (lines_of line.old.id shown.old (block_items walked.now)) }
     ensures shown { IfOk result (λ _. shown.new ≡ shown_after_all shown.old (block_items walked.now)) }
 {
     if walked.unknown {
-        write_text(id, b"?", sink)
+        write_text(line.id(), b"?", sink)
     } else {
-        write_run(id, walked, shown, sink)
+        write_run(line, walked, shown, sink)
     }
 }
 
@@ -161,6 +169,7 @@ fn write_mark<K: Sink>(id: Id, mark: &ExcMark, sink: &mut K) -> Result<(), Faile
 }
 
 /// Writes the line of an exception, where there is one.
+#[inline(always)]
 fn write_exception<K: Sink>(id: Id, exc: &Option<ExcMark>, sink: &mut K) -> Result<(), Failed>
     ensures { Writes (K.state sink.old) (K.state sink.new) result (lines_of id None (exception exc.now)) }
 {
@@ -182,8 +191,24 @@ pub fn write_walked<K: Sink>(
     ensures lines { Writes (K.state sink.old) (K.state sink.new) result (lines_of id shown.old (items_of walked.now)) }
     ensures shown { IfOk result (λ _. shown.new ≡ shown_after_all shown.old (items_of walked.now)) }
 {
+    write_walked_on(&mut AddressLine::new(id), walked, shown, sink)
+}
+
+/// The same, by a line of an instruction that goes on from walk to walk.
+#[inline(always)]
+pub fn write_walked_on<K: Sink>(
+    line: &mut AddressLine,
+    walked: &Walked,
+    shown: &mut Option<Ctx>,
+    sink: &mut K,
+) -> Result<(), Failed>
+    ensures id { line.new.id ≡ line.old.id }
+    ensures lines { Writes (K.state sink.old) (K.state sink.new) result (lines_of line.old.id shown.old (items_of walked.now)) }
+    ensures shown { IfOk result (λ _. shown.new ≡ shown_after_all shown.old (items_of walked.now)) }
+{
+    let id = line.id();
     write_on(id, walked.on, sink)?;
-    write_block(id, walked, shown, sink)?;
+    write_block(line, walked, shown, sink)?;
     write_exception(id, &walked.exc, sink)
 }
 

@@ -25,7 +25,7 @@ use crate::found::write_found;
 use element_queue::{Counts, Ledger};
 use etm_types::{Ctx, Id, Settings};
 use packet_grammar::End;
-use path_text::{write_end, write_walked};
+use path_text::{AddressLine, write_end, write_walked_on};
 use program_image::Image;
 use std::alloc::{AllocError, Global};
 use std::marker::Model;
@@ -40,6 +40,8 @@ pub struct StreamDecoder {
     decoding: Decoding,
     /// The context that was printed last.
     shown: Option<Ctx>,
+    /// The line of an instruction. It is made anew where the ID of a call is another one.
+    line: AddressLine,
     /// Whether a write failed.
     broken: bool,
 }
@@ -66,12 +68,14 @@ impl StreamDecoder {
         Ok(StreamDecoder {
             decoding: Decoding::new(alloc, settings)?,
             shown: None,
+            line: AddressLine::new(first_id()),
             broken: false,
         })
     }
 
     /// Takes the next byte, and writes the lines by which the path grows. Behind a fault of the stream no line
     /// comes any more. The error means that a write failed; then the decoder is broken.
+    #[inline(always)]
     pub fn take<K: Sink>(
         &mut self,
         image: &Image,
@@ -92,8 +96,15 @@ impl StreamDecoder {
         ensures settings { self.new.decoding.reader.settings ≡ self.old.decoding.reader.settings }
         ensures balanced { Balances self.new.decoding.counts (entries (self.new.decoding.due ++ self.new.decoding.pending.held)) }
     {
+        turn_to(&mut self.line, id);
         self.decoding.begin(byte);
-        match write_rest(&mut self.decoding, &mut self.shown, image, id, sink) {
+        match write_rest(
+            &mut self.decoding,
+            &mut self.shown,
+            &mut self.line,
+            image,
+            sink,
+        ) {
             Ok(()) => Ok(()),
             Err(failed) => {
                 self.broken = true;
@@ -164,9 +175,25 @@ impl StreamDecoder {
         let StreamDecoder {
             decoding,
             shown: _,
+            line: _,
             broken: _,
         } = self;
         decoding.close()
+    }
+}
+
+/// The ID of a line that is not used yet.
+fn first_id() -> Id {
+    Id::new(1).unwrap()
+}
+
+/// Makes a line anew where its ID is another one.
+#[inline(always)]
+fn turn_to(line: &mut AddressLine, id: Id)
+    ensures { line.new.id ≡ id }
+{
+    if line.id() != id {
+        *line = AddressLine::new(id);
     }
 }
 
@@ -174,26 +201,27 @@ impl StreamDecoder {
 fn write_rest<K: Sink>(
     decoding: &mut Decoding,
     shown: &mut Option<Ctx>,
+    line: &mut AddressLine,
     image: &Image,
-    id: Id,
     sink: &mut K,
 ) -> Result<(), Failed>
     requires holds { IsDecoding decoding.old }
     ensures prints { decoding.old.fault ≡ None
-        → Prints image.now id decoding.old shown.old decoding.new shown.new (K.state sink.old) (K.state sink.new) result }
+        → Prints image.now line.old.id decoding.old shown.old decoding.new shown.new (K.state sink.old) (K.state sink.new) result }
     ensures stopped { AtRest decoding.old → (result ≡ Ok tt) × (decoding.new ≡ decoding.old) × (shown.new ≡ shown.old) × (sink.new ≡ sink.old) }
     ensures rest { IsOk result → AtRest decoding.new }
     ensures cause { HasCause (K.state sink.old) (K.state sink.new) result }
     ensures shows { ShowsAsBefore (K.state sink.old) (K.state sink.new) }
     ensures reader { decoding.new.reader ≡ decoding.old.reader }
+    ensures id { line.new.id ≡ line.old.id }
     ensures holds { IsDecoding decoding.new }
 {
-    if let Err(failed) = write_atoms(decoding, shown, image, id, sink) {
+    if let Err(failed) = write_atoms(decoding, shown, line, image, sink) {
         has_gap(image);
         return Err(failed);
     }
     while let Some(found) = decoding.next(image) {
-        match write_found(id, &found, shown, sink) {
+        match write_found(line, &found, shown, sink) {
             Ok(()) => {}
             Err(failed) => {
                 has_gap(image);
@@ -209,22 +237,23 @@ fn write_rest<K: Sink>(
 fn write_atoms<K: Sink>(
     decoding: &mut Decoding,
     shown: &mut Option<Ctx>,
+    line: &mut AddressLine,
     image: &Image,
-    id: Id,
     sink: &mut K,
 ) -> Result<(), Failed>
     requires holds { IsDecoding decoding.old }
     ensures prints { (items : List Item) × Goes image.now decoding.old items decoding.new
-        × Writes (K.state sink.old) (K.state sink.new) result (lines_of id shown.old items)
+        × Writes (K.state sink.old) (K.state sink.new) result (lines_of line.old.id shown.old items)
         × IfOk result (λ done. shown.new ≡ shown_after_all shown.old items) }
     ensures stopped { AtRest decoding.old → (result ≡ Ok tt) × (decoding.new ≡ decoding.old) × (shown.new ≡ shown.old) × (sink.new ≡ sink.old) }
     ensures cause { HasCause (K.state sink.old) (K.state sink.new) result }
     ensures shows { ShowsAsBefore (K.state sink.old) (K.state sink.new) }
     ensures reader { decoding.new.reader ≡ decoding.old.reader }
+    ensures id { line.new.id ≡ line.old.id }
     ensures holds { IsDecoding decoding.new }
 {
     while let Some(walked) = decoding.next_atom(image) {
-        match write_walked(id, &walked, shown, sink) {
+        match write_walked_on(line, &walked, shown, sink) {
             Ok(()) => {}
             Err(failed) => return Err(failed),
         }

@@ -9,8 +9,8 @@ use Rattle.std.proofs.lemmas.List.{map-append}
 use Rattle.std.proofs.lemmas.List.Elements.{filter-append}
 use Rattle.etm_types.specs.Id.{IsId}
 use Rattle.path_text.specs.EndLines.{frame_cut_line}
-use Rattle.stream_demux.specs.Laws.{EndsOnce, GainsOnce, OthersDoNotCount, OthersHaveNone, SourceIsAlone, StreamBody, StreamLines, has_id, lines_with}
-use Rattle.stream_demux.specs.Texts.{BodyFrom, EndsOf, GainsIf, Listing, Printed, StreamEnds, cut_lines, is_source, lines_under, of, sources}
+use Rattle.stream_demux.specs.Laws.{EndsOnce, GainsOnce, OthersDoNotCount, OthersHaveNone, SourceIsAlone, StreamLines, has_id, lines_with}
+use Rattle.stream_demux.specs.Texts.{BodyFrom, EndsOf, GainsIf, Listing, Printed, StreamBody, StreamEnds, cut_lines, is_source, lines_under, of, sources}
 use Rattle.stream_demux.proofs.Bodies.{of_other, of_this}
 use Rattle.stream_demux.proofs.OneText.{stream_ends_once}
 use Rattle.stream_demux.proofs.Parted.{of_others}

@@ -20,9 +20,9 @@ use Rattle.path_text.proofs.Feeds.{cut_is, end_is}
 use Rattle.path_text.proofs.LineLemmas.{shown_after_all-append}
 use Rattle.path_text.proofs.LineLists.{line_list-append, list_each}
 use Rattle.program_image.specs.declared.image.Image.{Image}
-use Rattle.stream_demux.specs.Laws.{EachIsALine, PathIsAlone, PathPrinted, StreamBody, StreamLines, lines_with}
+use Rattle.stream_demux.specs.Laws.{EachIsALine, PathIsAlone, PathPrinted, StreamLines, lines_with}
 use Rattle.stream_demux.specs.Paths.{paths}
-use Rattle.stream_demux.specs.Texts.{BodyFrom, EndsOf, GainsIf, Printed, StreamEnds, cut_lines, is_source, lines_under, of, sources}
+use Rattle.stream_demux.specs.Texts.{BodyFrom, EndsOf, GainsIf, Printed, StreamBody, StreamEnds, cut_lines, is_source, lines_under, of, sources}
 use Rattle.stream_demux.proofs.Alone.{source_is_alone}
 use Rattle.stream_demux.proofs.PathTexts.{one_path}
 

@@ -4,6 +4,7 @@ pub mod Bodies
 pub mod Ending
 pub mod PathStreams
 pub mod RawStreams
+pub mod Runs
 pub mod Standing
 pub mod Examples
 pub mod OneText

@@ -14,7 +14,7 @@ use Rattle.program_image.specs.Part.{IsImage}
 use Rattle.program_image.specs.declared.image.Image.{Image}
 use Rattle.stream_demux.specs.Demuxed.{raw_id, raw_pairs}
 use Rattle.stream_demux.specs.Paths.{paths}
-use Rattle.stream_demux.specs.Texts.{BodyFrom, IsEnding, IsText, Listing, Printed, StreamEnds, lines_under, of}
+use Rattle.stream_demux.specs.Texts.{BodyFrom, IsEnding, IsText, Listing, Printed, StreamBody, StreamEnds, lines_under, of}
 
 -- ---- bytes are parted
 
@@ -127,13 +127,6 @@ SomeTextOfPaths =
     → (lines : List Printed) × (faulty : Bool) × IsText (paths image s) pairs left lines faulty
 
 -- ---- a stream is alone
-
--- the lines that the bytes of one stream add behind others of it, in order
-abbrev pub StreamBody : Listing → ℕ → List ℕ → List ℕ → List (List ℕ) → Type 0
-StreamBody g id before [] lines = lines ≡ []
-StreamBody g id before (b ∷ bytes) lines =
-    (first : List (List ℕ)) × (rest : List (List ℕ)) × g.gains id before b first × StreamBody g id (before ++ b ∷ []) bytes rest
-    × (lines ≡ first ++ rest)
 
 -- what is printed of a stream by its own bytes alone: the lines that they add, and that of how it ends
 pub record StreamLines (g : Listing) (id : ℕ) (bytes : List ℕ) (lines : List Printed) : Type 0 where

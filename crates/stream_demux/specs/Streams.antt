@@ -1,10 +1,11 @@
 -- What contracts see of the streams of a capture.
 use Rattle.std.specs.Prelude.{◌≡◌, ℕ, suc, ◌≤◌, Bool, false, List, [], ◌∷◌, ◌++◌, length, Result, IsOk}
+use Rattle.std.specs.List.{concat}
 use Rattle.element_queue.specs.Counting.{sum_of}
 use Rattle.element_queue.specs.declared.ledger.Counts.{Counts}
 use Rattle.etm_types.specs.Settings.{Sizes}
 use Rattle.path_text.specs.Writing.{Writes}
-use Rattle.stream_demux.specs.Texts.{BodyFrom, Listing, Printed, of, text_of}
+use Rattle.stream_demux.specs.Texts.{BodyFrom, Listing, Printed, StreamBody, of, text_of}
 use Rattle.trace_io.specs.State.{IoState}
 
 -- ---- the streams of all sources
@@ -52,4 +53,15 @@ pub record Adds {T E : Type 0} (g : Listing) (before pairs : List (ℕ × ℕ)) 
   pub lines : List Printed
   pub body : BodyFrom g before took lines
   pub writes : Writes old new result (text_of lines)
+  pub all : IsOk result → others ≡ []
+
+-- Bytes of one stream were taken behind others of it, and the lines that they add were written. Where a write failed, some of the
+-- bytes were taken, and a front of their lines is written.
+pub record RunAdds {T E : Type 0} (g : Listing) (id : ℕ) (before run : List ℕ) (old new : IoState) (result : Result T E) : Type 0 where
+  pub took : List ℕ
+  pub others : List ℕ
+  pub parts : run ≡ took ++ others
+  pub lines : List (List ℕ)
+  pub body : StreamBody g id before took lines
+  pub writes : Writes old new result (concat lines)
   pub all : IsOk result → others ≡ []

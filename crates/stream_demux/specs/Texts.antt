@@ -53,6 +53,13 @@ BodyFrom g before (pair ∷ pairs) lines =
     (first : List (List ℕ)) × (rest : List Printed) × PairGains g before pair first × BodyFrom g (before ++ pair ∷ []) pairs rest
     × (lines ≡ lines_under pair.0 first ++ rest)
 
+-- the lines that the bytes of one stream add behind others of it, in order
+abbrev pub StreamBody : Listing → ℕ → List ℕ → List ℕ → List (List ℕ) → Type 0
+StreamBody g id before [] lines = lines ≡ []
+StreamBody g id before (b ∷ bytes) lines =
+    (first : List (List ℕ)) × (rest : List (List ℕ)) × g.gains id before b first × StreamBody g id (before ++ b ∷ []) bytes rest
+    × (lines ≡ first ++ rest)
+
 -- ---- the lines of the ends
 
 -- how a stream ends, where it had a byte

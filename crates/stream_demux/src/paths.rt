@@ -38,6 +38,7 @@ impl Stream for StreamDecoder {
         StreamDecoder::new(alloc, settings)
     }
 
+    #[inline(always)]
     fn take<K: Sink>(
         &mut self,
         image: &Image,

@@ -58,11 +58,7 @@ impl<S: Stream> RawStream<S> {
         ensures broken { IsTrue (S.broken self.new) ↔ IsErr result }
         ensures taken { IsOk result → S.taken self.new ≡ S.taken self.old + length piece.now }
     {
-        let id = raw_id();
-        for byte in piece {
-            self.stream.take(shared, id, *byte, sink)?;
-        }
-        Ok(())
+        self.stream.take_run(shared, raw_id(), piece, sink)
     }
 
     /// Writes the line of how the stream ends, where it had a byte, and says whether it ends without a fault.

@@ -1,9 +1,10 @@
 //! One stream among many, whatever is printed of it.
-ghost use Rattle.std.specs.Prelude.{◌≡◌, ◌<◌, ◌+◌, ◌^◌, ◌++◌, ◌∷◌, [], ◌↔◌, ℕ, List, Bool, false, not, IsOk, IsErr, IsTrue, IfOk};
+ghost use Rattle.std.specs.Prelude.{◌≡◌, ◌<◌, ◌≤◌, ◌+◌, ◌^◌, ◌++◌, ◌∷◌, [], ◌↔◌, length, ℕ, List, Bool, false, not, IsOk, IsErr, IsTrue, IfOk};
 ghost use Rattle.std.specs.List.{concat};
 ghost use Rattle.element_queue.specs.declared.ledger.Counts.{Counts};
 ghost use Rattle.etm_types.specs.Settings.{Sizes};
 ghost use Rattle.path_text.specs.Writing.{Writes};
+ghost use Rattle.stream_demux.specs.Streams.{RunAdds};
 ghost use Rattle.stream_demux.specs.Texts.{Listing, Printed, StreamEnds, text_of};
 ghost use Rattle.trace_io.specs.Bytes.{ShowsAsBefore};
 ghost use Rattle.trace_io.specs.Causes.{HasCause};
@@ -68,6 +69,32 @@ pub trait Stream {
         ensures broken { IsTrue (broken self.new) ↔ IsErr result }
         ensures taken { taken self.new ≡ taken self.old + 1 }
         ensures sizes { sizes self.new ≡ sizes self.old };
+
+    /// Takes the next bytes, and writes the lines that they add, as [`take`](Stream::take) does of each. The error means that a
+    /// write failed; then nothing more is taken, and the stream is broken.
+    fn take_run<K: Sink>(
+        &mut self,
+        shared: &Self::Shared,
+        id: Id,
+        run: &[u8],
+        sink: &mut K,
+    ) -> Result<(), Failed>
+        requires whole { broken self.old ≡ false }
+        requires few { taken self.old + length run.now ≤ 2 ^ 62 }
+        ensures stands { IsOk result → (bytes : List ℕ) → stands shared.now self.old bytes → stands shared.now self.new (bytes ++ run.now) }
+        ensures gains { (bytes : List ℕ) → stands shared.now self.old bytes
+            → RunAdds (listing shared.now (sizes self.old)) id bytes run.now (K.state sink.old) (K.state sink.new) result }
+        ensures cause { HasCause (K.state sink.old) (K.state sink.new) result }
+        ensures shows { ShowsAsBefore (K.state sink.old) (K.state sink.new) }
+        ensures broken { IsTrue (broken self.new) ↔ IsErr result }
+        ensures taken { IsOk result → taken self.new ≡ taken self.old + length run.now }
+        ensures sizes { sizes self.new ≡ sizes self.old }
+    {
+        for byte in run {
+            self.take(shared, id, *byte, sink)?;
+        }
+        Ok(())
+    }
 
     /// What became of its P0 elements.
     fn ledger(&self) -> Counts

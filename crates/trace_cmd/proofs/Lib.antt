@@ -2,6 +2,7 @@ pub mod AnswerLemmas
 mod CommandLines
 pub mod Interrupts
 pub mod PacketLists
+pub mod PacketRuns
 pub mod Pieces
 pub mod Refused
 pub mod RetiredEvents

@@ -66,6 +66,10 @@ module _ (old new : Standing) (found : Option (ℕ × PacketFault)) (byte : ℕ)
         fault = next.fault;
       }
 
+  pub packets_more : (bytes : List ℕ) (is : HasRead old found bytes) → (read_more bytes is).packets ≡ is.packets ++ told step
+  unfolding read_more
+  packets_more bytes is = refl
+
   pub reads_more : IsReading old found → IsReading new (fault_after found step)
   reads_more is = record { settings = subst AreSettings (sym same) are; bytes = is.bytes ++ byte ∷ []; read = read_more is.bytes is.read }
 

@@ -1,12 +1,12 @@
 -- What is printed of a stream's packets.
-use Rattle.std.specs.Prelude.{◌≡◌, ℕ, ◌<◌, Bool, false, All, List, [], ◌∷◌, ◌++◌, map, Option}
+use Rattle.std.specs.Prelude.{◌≡◌, ℕ, ◌<◌, Bool, false, All, List, [], ◌∷◌, ◌++◌, length, map, Option}
 use Rattle.etm_types.specs.Settings.{AreSettings, Sizes}
 use Rattle.packet_grammar.specs.declared.fault.PacketFault.{PacketFault}
 use Rattle.packet_grammar.specs.declared.packet.Packet.{Packet}
 use Rattle.packet_grammar.specs.Ends.{end_of, is_fault}
 use Rattle.packet_grammar.specs.Parsed.{Ending, IsStream}
 use Rattle.packet_reader.specs.Answered.{fault_of}
-use Rattle.packet_reader.specs.Stands.{Standing, StandsAt}
+use Rattle.packet_reader.specs.Stands.{Standing, StandsAt, TakesPacket}
 use Rattle.path_text.specs.EndLines.{end_line}
 use Rattle.path_text.specs.PacketLines.{packet_line}
 use Rattle.stream_demux.specs.Texts.{Listing}
@@ -58,3 +58,10 @@ pub record IsReading (r : Standing) (found : Option (ℕ × PacketFault)) : Type
 pub record ListedAt (l : Listed) (bytes : List ℕ) : Type 0 where
   pub whole : l.broken ≡ false
   pub read : HasRead l.reader l.fault bytes
+
+-- a reader took the packet at the front of some bytes, and the others stand behind it
+pub record TakesFront (old new : Standing) (bytes behind : List ℕ) (at : ℕ) (packet : Packet) : Type 0 where
+  pub text : List ℕ
+  pub parts : bytes ≡ text ++ behind
+  pub some : 0 < length text
+  pub takes : TakesPacket old new text at packet

@@ -1,13 +1,14 @@
 //! The packets of a stream: a line each, and then the line of how it ends.
-ghost use Rattle.std.specs.Prelude.{◌≡◌, ◌<◌, ◌+◌, ◌^◌, ◌++◌, ◌∷◌, ℕ, List, []};
+ghost use Rattle.std.specs.Prelude.{◌≡◌, ◌⊎◌, ◌<◌, ◌≤◌, ◌+◌, ◌^◌, ◌++◌, ◌∷◌, ℕ, List, [], length, None, Ok, IsOk, IfOk, IfSome};
 ghost use Rattle.std.specs.List.{concat};
 ghost use Rattle.etm_types.specs.Settings.{AreSettings};
 ghost use Rattle.packet_grammar.specs.declared.packet.Packet.{Packet};
 ghost use Rattle.packet_grammar.specs.Ends.{end_of};
 ghost use Rattle.packet_reader.specs.Answered.{told, fault_after};
-ghost use Rattle.path_text.specs.PacketLines.{HasText};
+ghost use Rattle.path_text.specs.PacketLines.{HasText, packet_line};
 ghost use Rattle.path_text.specs.Writing.{Writes};
-ghost use Rattle.trace_cmd.specs.PacketList.{HasRead, IsReading, PacketGains, packet_lines};
+ghost use Rattle.stream_demux.specs.Streams.{RunAdds};
+ghost use Rattle.trace_cmd.specs.PacketList.{HasRead, IsReading, PacketGains, TakesFront, packet_lines, packet_lists};
 ghost use Rattle.trace_io.specs.Bytes.{ShowsAsBefore};
 ghost use Rattle.trace_io.specs.Causes.{HasCause};
 
@@ -117,6 +118,24 @@ impl Stream for PacketStream {
         }
     }
 
+    fn take_run<K: Sink>(
+        &mut self,
+        _shared: &(),
+        id: Id,
+        run: &[u8],
+        sink: &mut K,
+    ) -> Result<(), Failed> {
+        turn_to(&mut self.line, self.id, id);
+        self.id = id;
+        match take_bytes(&mut self.reader, &mut self.fault, &mut self.line, run, sink) {
+            Ok(()) => Ok(()),
+            Err(failed) => {
+                self.broken = true;
+                Err(failed)
+            }
+        }
+    }
+
     fn ledger(&self) -> Counts {
         Ledger::new().counts()
     }
@@ -184,6 +203,69 @@ fn take_byte<K: Sink>(
         return line.write_atoms(at, &run, sink);
     }
     write_step(line, fault, &reader.take(byte), sink)
+}
+
+/// Takes the next bytes, and writes the lines of the packets that they end.
+fn take_bytes<K: Sink>(
+    reader: &mut PacketReader,
+    fault: &mut Option<(u64, PacketFault)>,
+    line: &mut PacketLine,
+    run: &[u8],
+    sink: &mut K,
+) -> Result<(), Failed>
+    requires reads { IsReading reader.old fault.old }
+    requires few { reader.old.taken + length run.now ≤ 2 ^ 62 }
+    ensures reads { IsReading reader.new fault.new }
+    ensures settings { reader.new.settings ≡ reader.old.settings }
+    ensures taken { IsOk result → reader.new.taken ≡ reader.old.taken + length run.now }
+    ensures line { line.new ≡ line.old }
+    ensures read { IsOk result → (bytes : List ℕ) → HasRead reader.old fault.old bytes → HasRead reader.new fault.new (bytes ++ run.now) }
+    ensures gains { (bytes : List ℕ) → HasRead reader.old fault.old bytes
+        → RunAdds (packet_lists reader.old.settings) line.old bytes run.now (K.state sink.old) (K.state sink.new) result }
+    ensures cause { HasCause (K.state sink.old) (K.state sink.new) result }
+    ensures shows { ShowsAsBefore (K.state sink.old) (K.state sink.new) }
+{
+    let mut rest = run;
+    while let Some((byte, later)) = rest.split_first() {
+        if let Some(behind) = take_front(reader, line, rest, sink)? {
+            rest = behind;
+        } else {
+            write_step(line, fault, &reader.take(*byte), sink)?;
+            rest = later;
+        }
+    }
+    Ok(())
+}
+
+/// Takes the packet at the front of the bytes that come next, where it is one of atoms or an address that is all there, writes
+/// its line, and gives the bytes behind it. Else nothing is taken or written. A trace is mostly such packets.
+#[inline(always)]
+fn take_front<'a, K: Sink>(
+    reader: &mut PacketReader,
+    line: &mut PacketLine,
+    bytes: &'a [u8],
+    sink: &mut K,
+) -> Result<Option<&'a [u8]>, Failed>
+    requires { reader.old.taken + length bytes.now ≤ 2 ^ 62 }
+    ensures line { line.new ≡ line.old }
+    ensures none { result ≡ Ok None → (reader.new ≡ reader.old) × (sink.new ≡ sink.old) }
+    ensures front { (result ≡ Ok None) ⊎ ((behind : List ℕ) × (at : ℕ) × (packet : Packet)
+        × TakesFront reader.old reader.new bytes.now behind at packet
+        × Writes (K.state sink.old) (K.state sink.new) result (packet_line line.old at packet)
+        × IfOk result (λ rest. IfSome rest (λ rest. rest.now ≡ behind))) }
+{
+    let Some((byte, later)) = bytes.split_first() else {
+        return Ok(None);
+    };
+    if let Some((at, run)) = reader.take_atoms(*byte) {
+        line.write_atoms(at, &run, sink)?;
+        return Ok(Some(later));
+    }
+    if let Some((at, address, behind)) = reader.take_address(bytes) {
+        line.write_address(at, &address.form, &address.ctx, sink)?;
+        return Ok(Some(behind));
+    }
+    Ok(None)
 }
 
 /// Writes the line of the packet that a byte ends, and keeps the fault that it shows.

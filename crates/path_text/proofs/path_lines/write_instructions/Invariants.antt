@@ -7,7 +7,7 @@ abbrev pub invariant-loop-done : goal.invariant-loop-done
 invariant-loop-done g l =
     let state = g.K.Sink.state in
     record {
-      same_id : l.line.id ≡ l.fn.id;
+      same_id : l.line.id ≡ l.fn.line.id;
       so_far : (text : List ℕ) × Wrote (state l.fn.sink) (state l.sink) text
-          × (text ++ instruction_lines l.fn.id l.address (l.count - l._done) ≡ instruction_lines l.fn.id l.start l.count);
+          × (text ++ instruction_lines l.fn.line.id l.address (l.count - l._done) ≡ instruction_lines l.fn.line.id l.start l.count);
     }

@@ -11,7 +11,8 @@ abbrev pub invariant-loop-walked : goal.invariant-loop-walked
 invariant-loop-walked g l =
     let state = g.K.Sink.state in
     record {
-      printed : Printed l.image l.id l.fn.decoding l.fn.shown l.decoding l.shown (state l.fn.sink) (state l.sink);
+      printed : Printed l.image l.fn.line.id l.fn.decoding l.fn.shown l.decoding l.shown (state l.fn.sink) (state l.sink);
       rest : AtRest l.fn.decoding → (l.decoding ≡ l.fn.decoding) × (l.shown ≡ l.fn.shown) × (l.sink ≡ l.fn.sink);
+      id : l.line.id ≡ l.fn.line.id;
       holds : IsDecoding l.decoding;
     }

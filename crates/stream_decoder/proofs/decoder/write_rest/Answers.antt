@@ -9,10 +9,11 @@ use Rattle.stream_decoder.proofs.decoder.write_rest.Goals as goal
 pub loop-found-init : goal.loop-found-init
 loop-found-init g c =
     record {
-      printed = printed_by c.args.image.now c.args.id c.args.decoding.now c.write_atoms.new.decoding c.args.shown.now c.write_atoms.new.shown
+      printed = printed_by c.args.image.now c.args.line.now.id c.args.decoding.now c.write_atoms.new.decoding c.args.shown.now c.write_atoms.new.shown
           (g.K.Sink.state c.args.sink.now) (g.K.Sink.state c.write_atoms.new.sink) c.in_default.ensures.prints.0 c.in_default.ensures.prints.1
           c.in_default.ensures.prints.2 c.in_default.ensures.prints.3;
       rest = λ done. let same = c.in_default.ensures.stopped done in (same.1, same.2, same.3);
+      id = c.in_default.ensures.id;
       holds = c.in_default.ensures.holds;
     }
 
@@ -22,10 +23,10 @@ loop-found-smaller g c = c.next.ensures.fewer c.in-Some.found c.in-Some.is
 pub loop-found-preserved : goal.loop-found-preserved
 loop-found-preserved g c =
     let state = g.K.Sink.state in
-    let image = c.args.image.now in let id = c.args.id in
+    let image = c.args.image.now in let id = c.args.line.now.id in
     let goes = c.next.ensures.found c.in-Some.found c.in-Some.is in
     let wrote = wrote_by (state c.loop-found.sink) (state c.write_found.new.sink) tt (lines_of id c.loop-found.shown (items_of_found c.in-Some.found))
-    c.in-Ok.ensures.lines in
+    (rw c.loop-found.invariant.id at c.in-Ok.ensures.lines) in
     record {
       printed = printed_on image id c.args.decoding.now c.loop-found.decoding c.args.shown.now c.loop-found.shown
           (state c.args.sink.now) (state c.loop-found.sink)
@@ -34,6 +35,7 @@ loop-found-preserved g c =
       rest = λ done. absurd (
           let still = subst AtRest (sym (c.loop-found.invariant.rest done).0) done in
           let e : None ≡ Some c.in-Some.found = sym (c.next.ensures.stopped still).0 ∙ c.in-Some.is in cc);
+      id = c.in-Ok.ensures.id ∙ c.loop-found.invariant.id;
       holds = c.next.ensures.holds;
     }
 
@@ -41,24 +43,25 @@ pub returns-in-Err-write_found-clause-prints : goal.returns-in-Err-write_found-c
 returns-in-Err-write_found-clause-prints g c none =
     let state = g.K.Sink.state in
     let goes = c.next.ensures.found c.in-Some.found c.in-Some.is in
-    prints_front c.args.image.now c.args.id c.args.decoding.now c.loop-found.decoding c.args.shown.now c.loop-found.shown
+    prints_front c.args.image.now c.args.line.now.id c.args.decoding.now c.loop-found.decoding c.args.shown.now c.loop-found.shown
     (state c.args.sink.now) (state c.loop-found.sink)
     (state c.write_found.new.sink) c.loop-found.invariant.printed (items_of_found c.in-Some.found) c.next.new.self goes
     c.next.new.self c.write_found.new.shown c.in-Err-write_found.failed
-    c.has_gap-in-Err-write_found.ensures c.next.ensures.holds c.in-Err-write_found.ensures.lines
+    c.has_gap-in-Err-write_found.ensures c.next.ensures.holds
+    (rw c.loop-found.invariant.id at c.in-Err-write_found.ensures.lines)
 
 pub returns-clause-prints : goal.returns-clause-prints
 returns-clause-prints g c none =
     let state = g.K.Sink.state in
     let whole : c.loop-found.decoding.fault ≡ None = ap (λ (d : Decoding). d.fault) c.loop-found.invariant.printed.goes.rest ∙ none in
-    prints_all c.args.image.now c.args.id c.args.decoding.now c.loop-found.decoding c.args.shown.now c.loop-found.shown
+    prints_all c.args.image.now c.args.line.now.id c.args.decoding.now c.loop-found.decoding c.args.shown.now c.loop-found.shown
     (state c.args.sink.now) (state c.loop-found.sink)
     (state c.loop-found.sink) c.loop-found.invariant.printed c.next.new.self (c.next.ensures.ends c.in_default-next.is whole)
 
 pub returns-in-Err-clause-prints : goal.returns-in-Err-clause-prints
 returns-in-Err-clause-prints g c none =
     let state = g.K.Sink.state in let prints = c.in-Err.ensures.prints in
-    prints_front c.args.image.now c.args.id c.args.decoding.now c.args.decoding.now c.args.shown.now c.args.shown.now
+    prints_front c.args.image.now c.args.line.now.id c.args.decoding.now c.args.decoding.now c.args.shown.now c.args.shown.now
     (state c.args.sink.now) (state c.args.sink.now)
-    (state c.write_atoms.new.sink) (printed_first c.args.image.now c.args.id c.args.decoding.now c.args.shown.now (state c.args.sink.now)) prints.0
+    (state c.write_atoms.new.sink) (printed_first c.args.image.now c.args.line.now.id c.args.decoding.now c.args.shown.now (state c.args.sink.now)) prints.0
     c.write_atoms.new.decoding prints.1 c.write_atoms.new.decoding c.write_atoms.new.shown c.in-Err.failed c.has_gap.ensures c.in-Err.ensures.holds prints.2

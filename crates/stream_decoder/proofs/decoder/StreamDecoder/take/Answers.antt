@@ -58,7 +58,7 @@ returns-in-Ok-clause-grows g c bytes stands =
       grows_on image bytes c.args.byte c.ranges.byte.fits stands.items d m are settings begun stands.came c.args.self.now.shown
           stands.shown none p.items p.outcome p.took
           p.yields,
-      subst (λ (s : Option Ctx). Writes {T = Unit {0}} {E = Failed} a b (Ok tt) (lines_of c.args.id s p.items)) shown p.writes,
+      subst (λ (s : Option Ctx). Writes {T = Unit {0}} {E = Failed} a b (Ok tt) (lines_of c.args.id s p.items)) shown (rw c.turn_to.ensures at p.writes),
     ))
     (λ stop met.
     let stopped = c.in-Ok.ensures.stopped (c.begin.ensures.holds.stopped (not_none m.fault stop met)) in (
@@ -83,7 +83,8 @@ returns-in-Err-clause-grows g c bytes stands =
       grows_on image bytes c.args.byte c.ranges.byte.fits stands.items d m are settings begun stands.came c.args.self.now.shown
           stands.shown none p.items p.outcome p.took
           p.yields,
-      subst (λ (s : Option Ctx). Writes {T = Unit {0}} {E = Failed} a b (Err c.in-Err.failed) (lines_of c.args.id s p.items)) shown p.writes,
+      subst (λ (s : Option Ctx). Writes {T = Unit {0}} {E = Failed} a b (Err c.in-Err.failed) (lines_of c.args.id s p.items)) shown
+          (rw c.turn_to.ensures at p.writes),
     ))
     (λ stop met. absurd (let stopped = c.in-Err.ensures.stopped (c.begin.ensures.holds.stopped (not_none m.fault stop met)) in let e = stopped.0 in cc))
 
