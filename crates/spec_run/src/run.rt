@@ -87,6 +87,8 @@ impl Run {
             → run_after image.now s.depth (events ++ event.now ∷ []) ≡ Err (length events, fault) }
         ensures checked { refused_by result ≡ check image.now self.old.depth self.old.place event.now }
         ensures done { IfOk result (λ done. done ≡ done_of (held_at self.old.place) (effect_of image.now self.old.place event.now)) }
+        ensures place { IsOk result
+            → self.new.place ≡ place_after image.now self.old.depth self.old.place (effect_of image.now self.old.place event.now) }
         ensures kept { IsErr result → self.new ≡ self.old }
         ensures depth { self.new.depth ≡ self.old.depth }
     {

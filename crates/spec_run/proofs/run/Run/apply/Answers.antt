@@ -29,3 +29,8 @@ returns-clause-checked c = sym (planned_as _ _ _ c.in_ok-effect.ensures).0
 
 pub returns-clause-done : goal.returns-clause-done
 returns-clause-done c = c.take.ensures.done ∙ ap (done_of (held_at c.args.self.now.place)) (planned_as _ _ _ c.in_ok-effect.ensures).1
+
+pub returns-clause-place : goal.returns-clause-place
+returns-clause-place c ok =
+    let was = c.args.self.now in
+    c.take.ensures.place ∙ ap (place_after c.args.image.now was.depth was.place) (planned_as _ _ _ c.in_ok-effect.ensures).1
