@@ -36,7 +36,7 @@ abbrev sizes : ℕ → Sizes
 sizes depth = record { depth = depth; vmid_bytes = 1; cid_bytes = 4 }
 
 -- the retired path, where each event is accepted
-abbrev path_of : Result Execution (ℕ × RunFault) → Option (List Item)
+abbrev pub path_of : Result Execution (ℕ × RunFault) → Option (List Item)
 path_of (Ok x) = Some (retired_of x)
 path_of (Err refusal) = None
 
@@ -304,7 +304,7 @@ mixed_are_events = (
   ),
 )
 
-accepted : (run : Result Execution (ℕ × RunFault)) (items : List Item) → path_of run ≡ Some items
+pub accepted : (run : Result Execution (ℕ × RunFault)) (items : List Item) → path_of run ≡ Some items
     → (x : Execution) × (run ≡ Ok x) × (retired_of x ≡ items)
 accepted (Ok x) items e = (x, refl, cc)
 accepted (Err refusal) items e = absurd cc

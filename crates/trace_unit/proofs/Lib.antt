@@ -29,3 +29,13 @@ pub mod Examples
 pub mod Announced
 pub mod Sizes
 pub mod PlacesFew
+pub mod Packed
+pub mod Telling
+pub mod Chosen
+pub mod OrderPackets
+pub mod OrderSpelled
+pub mod EventFits
+pub mod Growing
+pub mod AllPackets
+pub mod TraceShown
+pub mod TraceExamples

@@ -61,7 +61,7 @@ flip_few : (u : Waiting) (atoms : List Bool) → length atoms ≤ 23 → u.atoms
 flip_few u [] le e = omega (arith, le, ap length e)
 flip_few u (a ∷ atoms) le e = omega (arith, le, turn_many (a ∷ atoms))
 
-few_atoms : (depth : ℕ) (u : Waiting) (order : Order) → length u.atoms ≤ 23 → length (waits depth u order).atoms ≤ 23
+pub few_atoms : (depth : ℕ) (u : Waiting) (order : Order) → length u.atoms ≤ 23 → length (waits depth u order).atoms ≤ 23
 few_atoms depth u (Tell notice) le = none_stay u
 few_atoms depth u (Branch taken) le =
     let v : Waiting = with_atom depth u taken in
@@ -80,7 +80,7 @@ always_few depth u (order ∷ orders) le = always_few depth (waits depth u order
 
 -- ---- the numbers
 
-small : (depth : ℕ) (u : Waiting) (rw rp : Resolved) → Waits depth u rw rp → length u.atoms ≤ 23 → Small depth (length rp.pending.held) u
+pub small : (depth : ℕ) (u : Waiting) (rw rp : Resolved) → Waits depth u rw rp → length u.atoms ≤ 23 → Small depth (length rp.pending.held) u
 small depth u rw rp b few =
     let es = entries (back b.gone rw.pending.pre) (p0s_of u.atoms) in
     let many : length es ≡ length u.atoms = length-entries (back b.gone rw.pending.pre) (p0s_of u.atoms) ∙ length-map u.atoms (λ a. Atom a) in

@@ -3,5 +3,10 @@ pub mod Orders
 pub mod Told
 pub mod Packing
 pub mod Whole
+pub mod Packets
+pub mod Written
+pub mod Telling
+pub mod Growing
 pub mod Taken
 pub mod Small
+pub mod Fitting
