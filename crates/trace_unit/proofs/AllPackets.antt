@@ -33,7 +33,7 @@ use Rattle.trace_unit.specs.Whole.{Waiting, nothing_waits, settle_elements, wait
 
 -- ---- elements
 
-orders_tell : (s : Sizes) (depth : ℕ) (u : Waiting) (shared : Shared) (orders : List Order) → All (FitsOrder s) orders
+pub orders_tell : (s : Sizes) (depth : ℕ) (u : Waiting) (shared : Shared) (orders : List Order) → All (FitsOrder s) orders
     → Tells (told_with shared) (packets_all depth u shared orders) (whole_all depth u orders) (told_with (shared_all shared orders))
 orders_tell s depth u shared [] fit = refl
 orders_tell s depth u shared (order ∷ orders) fit =

@@ -26,13 +26,13 @@ use Rattle.trace_unit.specs.Packing.{byte_of}
 use Rattle.trace_unit.specs.Whole.{whole_settled}
 use Rattle.atom_formats.specs.Formats.{atom_formats}
 
-abbrev program : Ctx
+abbrev pub program : Ctx
 program = record { el = 0; ns = true; vmid = 5; cid = 7 }
 
-abbrev handler : Ctx
+abbrev pub handler : Ctx
 handler = record { el = 1; ns = true; vmid = 5; cid = 7 }
 
-abbrev sizes : ℕ → Sizes
+abbrev pub sizes : ℕ → Sizes
 sizes depth = record { depth = depth; vmid_bytes = 1; cid_bytes = 4 }
 
 -- the retired path, where each event is accepted
@@ -41,7 +41,7 @@ path_of (Ok x) = Some (retired_of x)
 path_of (Err refusal) = None
 
 -- from 0x1000: NOP, ISB, B.EQ to 0x1010, BL to 0x1000, BR, ERET, DRPS
-abbrev code : List Part
+abbrev pub code : List Part
 code =
     record {
       start = 0x1000;
@@ -52,7 +52,7 @@ code =
     ∷ []
 
 -- at 0x1000: B.EQ to itself
-abbrev loop : List Part
+abbrev pub loop : List Part
 loop =
     record {
       start = 0x1000;
@@ -62,7 +62,7 @@ loop =
 
 -- ---- a flip, cancels, a synchronisation, an overflow; then a return that is taken off the return stack, and exceptions
 
-abbrev mixed : List Event
+abbrev pub mixed : List Event
 mixed =
     event.On 0x1000 program ∷ event.Step ∷ event.Step ∷ event.Taken ∷ event.Flip ∷ event.Taken ∷ event.Step ∷ event.Step ∷ event.Cancel 2
     ∷ event.Retire 2 ∷ event.Step ∷ event.Sync ∷ event.Step ∷ event.Context handler ∷ event.NotTaken ∷ event.Retire 3
@@ -117,7 +117,7 @@ mixed_is_told_late = refl
 
 -- ---- 24 atoms, one packet of them, and a cancel that takes back one of those
 
-abbrev many : List Event
+abbrev pub many : List Event
 many =
     event.On 0x1000 program ∷ (replicate 26 event.Taken ++ event.Cancel 3 ∷ event.Flip ∷ event.Retire 20 ∷ [])
 
@@ -150,7 +150,7 @@ many_is_told_late = refl
 
 -- ---- each step is retired at once
 
-abbrev flat : List Event
+abbrev pub flat : List Event
 flat =
     event.On 0x100c program ∷ event.Taken ∷ event.Step ∷ event.Step ∷ event.NotTaken ∷ event.Sync ∷ event.Taken ∷ event.Overflow ∷ []
 

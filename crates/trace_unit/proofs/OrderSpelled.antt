@@ -135,7 +135,7 @@ module _ (s : Sizes) where
       number zero less = tt
       number (suc n) less = less
 
-  notice_spelled : (shared : Shared) (notice : Notice) → IsShared s shared → FitsNotice s notice → AreSpelled (notice_packets shared notice)
+  pub notice_spelled : (shared : Shared) (notice : Notice) → IsShared s shared → FitsNotice s notice → AreSpelled (notice_packets shared notice)
   notice_spelled shared (Sync n) is fits = sync_spelled shared n fits
   notice_spelled shared On is fits = alone packet.On (by_values packet.On (tt, tt))
   notice_spelled shared (Start addr ctx) is fits =

@@ -32,7 +32,7 @@ use Rattle.trace_unit.specs.Whole.{Waiting, at_once, flipped, is_full, nothing_w
 
 -- ---- the atoms
 
-some_front : (n : ℕ) (atoms : List Bool) → 1 ≤ longest_within n atoms
+pub some_front : (n : ℕ) (atoms : List Bool) → 1 ≤ longest_within n atoms
 some_front zero atoms = omega arith
 some_front (suc n) atoms = by (nat_le (n + 2) (length atoms) && is_some (byte_of (take (n + 2) atoms))) n (longest_within n atoms) (some_front n atoms)
   where
@@ -40,7 +40,7 @@ some_front (suc n) atoms = by (nat_le (n + 2) (length atoms) && is_some (byte_of
     by true n rest le = omega arith
     by false n rest le = le
 
-turn_many : (atoms : List Bool) → length (turn_last atoms) ≡ length atoms
+pub turn_many : (atoms : List Bool) → length (turn_last atoms) ≡ length atoms
 turn_many [] = refl
 turn_many (a ∷ []) = refl
 turn_many (a ∷ b ∷ atoms) = ap (λ n. suc n) (turn_many (b ∷ atoms))

@@ -1,4 +1,4 @@
--- The bytes that are written for runs over small images, as they were worked out by hand, beside what a wrong rule would write.
+-- The bytes that are written for runs over small images, as they were worked out apart from these definitions, beside what a wrong rule would write.
 use Rattle.std.proofs.Common.{◌≡◌, ℕ, false, List, [], ◌∷◌, ◌++◌, replicate, refl}
 use Rattle.std.specs.Prelude.{All, ◌<◌, ◌≤◌}
 use Rattle.std.proofs.lemmas.List.Elements.{All-cons, All-from_recursion, All-nil}
@@ -9,7 +9,8 @@ use Rattle.packet_grammar.specs.declared.end.End.TheVariants as end
 use Rattle.path_elements.specs.Path.{IsPath}
 use Rattle.program_image.specs.Part.{IsImage, IsPart}
 use Rattle.spec_run.specs.RunAfter.{AreEvents, run_after}
-use Rattle.trace_unit.proofs.Examples.{accepted, path_of}
+use Rattle.trace_unit.proofs.Examples.{accepted, code, flat, mixed, path_of}
+use Rattle.trace_unit.proofs.Examples.{loop as branch, many as branches_taken, sizes as with_numbers}
 use Rattle.trace_unit.proofs.TraceShown.{trace_shows}
 use Rattle.std.proofs.Common.{Some, subst, arith}
 use Rattle.std.specs.Cmp.Lexicographic.{other_text}
@@ -23,17 +24,17 @@ use Rattle.spec_run.specs.declared.event.Event.TheVariants as event
 use Rattle.trace_unit.specs.Packing.{byte_of}
 use Rattle.trace_unit.specs.Written.{settled, written}
 
-abbrev user : Ctx
+abbrev pub user : Ctx
 user = record { el = 0; ns = false; vmid = 0; cid = 0 }
 
-abbrev sizes : ℕ → Sizes
+abbrev pub sizes : ℕ → Sizes
 sizes depth = record { depth = depth; vmid_bytes = 0; cid_bytes = 0 }
 
 -- from 0x1000: NOP, B.EQ to 0x100c, NOP, B to 0x1000
 abbrev words : List ℕ
 words = 0x1f ∷ 0x20 ∷ 0x03 ∷ 0xd5 ∷ 0x40 ∷ 0x00 ∷ 0x00 ∷ 0x54 ∷ 0x1f ∷ 0x20 ∷ 0x03 ∷ 0xd5 ∷ 0xfd ∷ 0xff ∷ 0xff ∷ 0x17 ∷ []
 
-abbrev branches : List Part
+abbrev pub branches : List Part
 branches = record { start = 0x1000; bytes = words } ∷ []
 
 -- at 0x2008: B to itself
@@ -46,7 +47,7 @@ loop =
     ∷ []
 
 -- eleven bytes 00, and 80
-abbrev async : List ℕ
+abbrev pub async : List ℕ
 async = 0x00 ∷ 0x00 ∷ 0x00 ∷ 0x00 ∷ 0x00 ∷ 0x00 ∷ 0x00 ∷ 0x00 ∷ 0x00 ∷ 0x00 ∷ 0x00 ∷ 0x80 ∷ []
 
 -- ---- the 24th atom: the longest front goes out
@@ -86,6 +87,13 @@ flip_none_is_written = refl
 not_with_a_cancel_of_one : settled branches (sizes 4) 15 flip_none ≡ flip_none_bytes 0x34 → ⊥
 unfolding class_of atom_formats byte_of
 not_with_a_cancel_of_one e = other_text (settled branches (sizes 4) 15 flip_none) (flip_none_bytes 0x34) refl e
+
+-- one is to be cancelled: a Cancel Format 2 packet
+flip_one_is_written : settled branch (with_numbers 30) 2 branches_taken ≡
+    async ++ 0x01 ∷ 0x01 ∷ 0x00 ∷ 0x04 ∷ 0x85 ∷ 0x00 ∷ 0x08 ∷ 0x00 ∷ 0x00 ∷ 0x00 ∷ 0x00 ∷ 0x00 ∷ 0x00 ∷ 0xf0 ∷ 0x05 ∷ 0x07 ∷ 0x00 ∷ 0x00 ∷ 0x00
+    ∷ 0xd4 ∷ 0x34 ∷ 0x2d ∷ 0x14 ∷ []
+unfolding class_of atom_formats byte_of
+flip_one_is_written = refl
 
 -- two are to be cancelled: a Cancel Format 3 packet
 abbrev flip_few : List Event
@@ -128,6 +136,28 @@ not_without_a_mispredict : settled branches (sizes 8) 15 flip_many ≡ flip_many
 unfolding class_of atom_formats byte_of
 not_without_a_mispredict e = other_text (settled branches (sizes 8) 15 flip_many) (flip_many_bytes (0x2e ∷ 0x06 ∷ [])) refl e
 
+-- ---- contexts with both numbers, exceptions, an overflow
+
+mixed_is_written : settled code (with_numbers 4) 2 mixed ≡
+    async ++ 0x01 ∷ 0x01 ∷ 0x00 ∷ 0x04 ∷ 0x85 ∷ 0x00 ∷ 0x08 ∷ 0x00 ∷ 0x00 ∷ 0x00 ∷ 0x00 ∷ 0x00 ∷ 0x00 ∷ 0xf0 ∷ 0x05 ∷ 0x07 ∷ 0x00 ∷ 0x00 ∷ 0x00
+    ∷ 0xfd ∷ 0x2d ∷ 0x01
+    ∷ (async ++ 0x01 ∷ 0x05 ∷ 0x00 ∷ 0x02 ∷ 0x85 ∷ 0x00 ∷ 0x08 ∷ 0x00 ∷ 0x00 ∷ 0x00 ∷ 0x00 ∷ 0x00 ∷ 0x00 ∷ 0xf0 ∷ 0x05 ∷ 0x07 ∷ 0x00 ∷ 0x00 ∷ 0x00
+    ∷ 0xf7 ∷ 0x81 ∷ 0x31 ∷ 0xf6 ∷ 0x06 ∷ 0x0b ∷ 0x95 ∷ 0x03 ∷ 0x82 ∷ 0x04 ∷ 0x08 ∷ 0x00 ∷ 0x00 ∷ 0x30 ∷ 0xf7 ∷ 0x2d ∷ 0x02 ∷ 0x00 ∷ 0x05
+    ∷ (async ++ 0x01 ∷ 0x01 ∷ 0x00 ∷ 0x04 ∷ 0x85 ∷ 0x03 ∷ 0x08 ∷ 0x00 ∷ 0x00 ∷ 0x00 ∷ 0x00 ∷ 0x00 ∷ 0x00 ∷ 0xf1 ∷ 0x05 ∷ 0x07 ∷ 0x00 ∷ 0x00 ∷ 0x00
+    ∷ 0xff ∷ 0x06 ∷ 0x07 ∷ 0x95 ∷ 0x04 ∷ 0x90 ∷ 0xdb ∷ 0x95 ∷ 0x05 ∷ 0xf7 ∷ 0x82 ∷ 0x02 ∷ 0x08 ∷ 0x00 ∷ 0x00 ∷ 0x30 ∷ 0xf6 ∷ 0x2d ∷ 0x03
+    ∷ 0x00 ∷ 0x03 ∷ []))
+unfolding class_of atom_formats byte_of
+mixed_is_written = refl
+
+-- each step is retired at once, so that no commit is written
+flat_is_written : settled code (with_numbers 0) 2 flat ≡
+    async ++ 0x01 ∷ 0x01 ∷ 0x00 ∷ 0x04 ∷ 0x85 ∷ 0x03 ∷ 0x08 ∷ 0x00 ∷ 0x00 ∷ 0x00 ∷ 0x00 ∷ 0x00 ∷ 0x00 ∷ 0xf0 ∷ 0x05 ∷ 0x07 ∷ 0x00 ∷ 0x00 ∷ 0x00
+    ∷ 0xfb
+    ∷ (async ++ 0x01 ∷ 0x01 ∷ 0x00 ∷ 0x85 ∷ 0x03 ∷ 0x08 ∷ 0x00 ∷ 0x00 ∷ 0x00 ∷ 0x00 ∷ 0x00 ∷ 0x00 ∷ 0xf0 ∷ 0x05 ∷ 0x07 ∷ 0x00 ∷ 0x00 ∷ 0x00
+    ∷ 0xf7 ∷ 0x00 ∷ 0x05 ∷ [])
+unfolding class_of atom_formats byte_of
+flat_is_written = refl
+
 -- ---- the law speaks of such a run
 
 abbrev flip_few_items : List Item
@@ -160,7 +190,10 @@ words_are_bytes = All-from_recursion IsByte words (
           omega arith,
           (
             omega arith,
-            (omega arith, (omega arith, (omega arith, (omega arith, (omega arith, (omega arith, (omega arith, (omega arith, (omega arith, (omega arith, tt)))))))))),
+            (
+              omega arith,
+              (omega arith, (omega arith, (omega arith, (omega arith, (omega arith, (omega arith, (omega arith, (omega arith, (omega arith, tt))))))))),
+            ),
           ),
         ),
       ),

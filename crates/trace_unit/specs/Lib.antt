@@ -7,6 +7,13 @@ pub mod Packets
 pub mod Written
 pub mod Telling
 pub mod Growing
+pub mod Room
+pub mod PlacesKept
+pub mod WindowKept
+pub mod Kept
 pub mod Taken
 pub mod Small
 pub mod Fitting
+pub mod Ordered
+pub mod Followed
+pub mod Agreeing

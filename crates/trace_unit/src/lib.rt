@@ -1,13 +1,21 @@
-//! A trace unit: what it has to tell of a run, the bytes that it writes for it, and that a reader of these comes to the run's
-//! retired path.
+//! A trace unit: it follows a run event by event, and writes a trace from which a reader comes to the run's retired path.
 //!
-//! A unit follows a run event by event. What it has to tell is a list of *orders*; each of them tells a reader some elements.
-//! They are told at once, one order after the other, or in the whole form, where atoms are held, and cancels and commits are
-//! put off. The packets of `specs/Packets.antt` carry the elements of the whole form, and `specs/Written.antt` says which bytes
-//! a unit writes for a run. [`a_trace_shows_the_retired_path`] is what all of this is for.
+//! What a unit has to tell is a list of *orders*; each of them tells a reader some elements. They are told at once, one order
+//! after the other, or in the whole form, where atoms are held, and cancels and commits are put off. The packets of
+//! `specs/Packets.antt` carry the elements of the whole form, and `specs/Written.antt` says which bytes [`Unit`] writes for a
+//! run. [`a_trace_shows_the_retired_path`] is what all of this is for.
 #![tactic(auto)]
 
+mod atoms;
+mod follower;
 mod laws;
+mod packets;
+mod places;
+mod shared;
+mod teller;
+mod unit;
+mod waiting;
+mod window;
 
 pub use laws::{
     a_trace_grows_event_by_event, a_trace_shows_the_retired_path, a_unit_keeps_little,
@@ -15,3 +23,4 @@ pub use laws::{
     told_elements_show_the_retired_path, trace_info_announces_what_is_held,
     whole_elements_show_the_retired_path,
 };
+pub use unit::{Unit, UnitFault};

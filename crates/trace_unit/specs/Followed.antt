@@ -1,0 +1,177 @@
+-- What a unit makes of what its run did: the orders that it tells, and what it keeps behind them of places and P0 elements.
+use Rattle.std.specs.Prelude.{◌≡◌, ℕ, ◌^◌, ◌<◌, ◌≤◌, Bool, true, false, if◌then◌else◌, List, [], ◌∷◌, ◌++◌, length, drop, Option, Some, None, IsSome, ⊤}
+use Rattle.element_queue.specs.Counting.{add, no_counts}
+use Rattle.etm_types.specs.Settings.{Sizes}
+use Rattle.etm_types.specs.declared.context.Ctx.{Ctx}
+use Rattle.etm_types.specs.declared.element.P0.{P0}
+use Rattle.etm_types.specs.declared.element.P0.TheVariants as p0
+use Rattle.spec_run.specs.Checks.{Place}
+use Rattle.spec_run.specs.Runs.{ByOff, ByOverflow, Closing}
+use Rattle.spec_run.specs.Steps.{is_p0, kept}
+use Rattle.spec_run.specs.declared.event.Done.{Done}
+use Rattle.spec_run.specs.declared.event.Done.TheVariants as done
+use Rattle.spec_run.specs.declared.step.RunStep.{RunStep}
+use Rattle.spec_run.specs.declared.step.StepKind.{StepKind}
+use Rattle.spec_run.specs.declared.step.StepKind.TheVariants.{Cond, Exc}
+use Rattle.trace_unit.specs.Ordered.{told_all, told_by}
+use Rattle.trace_unit.specs.Orders.{Cancel, Close, Flip, On, Order, Retire, Settle, Start, Sync, Tell, before, p0_order}
+use Rattle.trace_unit.specs.Packets.{nothing_shared}
+use Rattle.trace_unit.specs.Places.{Places, no_places, placed_back, placed_behind, placed_synced}
+use Rattle.trace_unit.specs.PlacesKept.{PlacesKept}
+use Rattle.trace_unit.specs.Whole.{nothing_waits}
+use Rattle.trace_unit.specs.WindowKept.{WindowKept, passed, turn_newest_p0}
+use Rattle.trace_unit.specs.declared.follower.Follower.{Follower}
+
+-- the P0 element of a P0 step
+abbrev pub element_of : StepKind → ℕ → P0
+element_of (Exc kind) addr = p0.Exc kind addr
+element_of (Cond taken) addr = p0.Atom taken
+element_of kind addr = p0.Atom true
+
+-- ---- the orders
+
+-- tracing begins at an address, in a context
+abbrev pub begin_orders : ℕ → Ctx → List Order
+begin_orders addr ctx = Tell (Sync 0) ∷ Tell On ∷ Tell (Start addr ctx) ∷ []
+
+-- a P0 step: what the reader lacks, and its P0 element
+abbrev pub step_orders : Places → RunStep → List Order
+step_orders p s = before p s.ctx ++ p0_order s.kind s.addr ∷ []
+
+-- synchronisation, where so many P0 steps are not retired, and the begun block starts at an address
+abbrev pub sync_orders : ℕ → ℕ → Ctx → List Order
+sync_orders n addr ctx = Settle ∷ Tell (Sync n) ∷ Tell (Start addr ctx) ∷ []
+
+-- ---- what is kept
+
+-- behind its begin
+abbrev pub placed_begun : ℕ → Ctx → Places
+placed_begun addr ctx = record { stack = []; saved = []; needs = false; start = addr; reader_context = ctx }
+
+-- where the newest step goes the other way, to an address
+abbrev pub placed_flipped : Places → ℕ → Places
+placed_flipped p pc = record p { needs = false; start = pc }
+
+-- what is held is lost
+abbrev pub placed_closed : Places → Places
+placed_closed p = record p { saved = [] }
+
+-- so many of the oldest are retired, or of the newest taken back; or all are lost
+abbrev pub windowed_retired : WindowKept → ℕ → WindowKept
+windowed_retired w n = record w { p0s = drop n w.p0s; counts = record (w.counts) { committed = add w.counts.committed n } }
+
+abbrev pub windowed_cancelled : WindowKept → ℕ → WindowKept
+windowed_cancelled w n = record w { p0s = kept n w.p0s; counts = record (w.counts) { cancelled = add w.counts.cancelled n } }
+
+abbrev pub windowed_lost : WindowKept → WindowKept
+windowed_lost w = record w { p0s = []; counts = record (w.counts) { lost = add w.counts.lost (length w.p0s) } }
+
+abbrev pub with_places : PlacesKept → Places → PlacesKept
+with_places k p = record k { places = p }
+
+-- ---- what each event makes of a follower: it tells the event's orders, and keeps what is behind it
+
+-- behind no event, with a return stack of so many addresses
+abbrev pub first_follower : Sizes → ℕ → Follower
+first_follower s most = record {
+  places = record { places = no_places; most = most; room = s.depth };
+  window = record { p0s = []; room = s.depth; counts = no_counts };
+  teller = record { settings = s; waiting = nothing_waits; shared = nothing_shared };
+}
+
+-- tracing began
+abbrev pub begun : Follower → ℕ → Ctx → Follower
+begun f addr ctx = record f { places = with_places f.places (placed_begun addr ctx); teller = told_all f.teller (begin_orders addr ctx) }
+
+-- a P0 step was executed
+abbrev pub stepped : Follower → RunStep → Follower
+stepped f s = record {
+  places = with_places f.places (placed_behind f.places.room f.places.most f.places.places s);
+  window = passed f.window f.window.room (element_of s.kind s.addr);
+  teller = told_all f.teller (step_orders f.places.places s);
+}
+
+-- so many P0 steps were retired, or taken back
+abbrev pub retired : Follower → ℕ → Follower
+retired f n = record {
+  places = with_places f.places (record (f.places.places) { saved = drop n f.places.places.saved });
+  window = windowed_retired f.window n;
+  teller = told_by f.teller (Retire n);
+}
+
+abbrev pub cancelled : Follower → ℕ → Follower
+cancelled f n = record {
+  places = with_places f.places (placed_back f.places.places n);
+  window = windowed_cancelled f.window n;
+  teller = told_by f.teller (Cancel n);
+}
+
+-- the newest step went the other way, to this address
+abbrev pub flipped : Follower → ℕ → Follower
+flipped f pc = record {
+  places = with_places f.places (placed_flipped f.places.places pc);
+  window = record (f.window) { p0s = turn_newest_p0 f.window.p0s };
+  teller = told_by f.teller Flip;
+}
+
+-- synchronisation was asked for, in this context
+abbrev pub synced : Follower → Ctx → Follower
+synced f ctx = record f {
+  places = with_places f.places (placed_synced f.places.places ctx);
+  teller = told_all f.teller (sync_orders (length f.window.p0s) f.places.places.start ctx);
+}
+
+-- tracing ended
+abbrev pub closed : Follower → Closing → Follower
+closed f closing = record {
+  places = with_places f.places (placed_closed f.places.places);
+  window = windowed_lost f.window;
+  teller = told_by f.teller (Close closing);
+}
+
+-- ---- what a run did, and where it is then
+
+-- what comes of a place, where there is one
+abbrev pub at_place : {X : Type 0} → Option Place → X → (Place → X) → X
+at_place None x f = x
+at_place (Some q) x f = f q
+
+-- the orders that are told of it
+abbrev pub orders_done : Done → Option Place → Follower → List Order
+orders_done done.Began place f = at_place place [] (λ q. begin_orders q.pc q.ctx)
+orders_done (done.Ran s) place f = if is_p0 s then step_orders f.places.places s else []
+orders_done done.Contexted place f = []
+orders_done (done.Retired n) place f = Retire n ∷ []
+orders_done (done.Cancelled n) place f = Cancel n ∷ []
+orders_done done.Flipped place f = Flip ∷ []
+orders_done done.Synced place f = at_place place [] (λ q. sync_orders (length f.window.p0s) f.places.places.start q.ctx)
+orders_done done.Overflowed place f = Close ByOverflow ∷ []
+orders_done done.Stopped place f = Close ByOff ∷ []
+
+-- the follower behind it
+abbrev pub followed : Done → Option Place → Follower → Follower
+followed done.Began place f = at_place place f (λ q. begun f q.pc q.ctx)
+followed (done.Ran s) place f = if is_p0 s then stepped f s else f
+followed done.Contexted place f = f
+followed (done.Retired n) place f = retired f n
+followed (done.Cancelled n) place f = cancelled f n
+followed done.Flipped place f = at_place place f (λ q. flipped f q.pc)
+followed done.Synced place f = at_place place f (λ q. synced f q.ctx)
+followed done.Overflowed place f = closed f ByOverflow
+followed done.Stopped place f = closed f ByOff
+
+-- there is room for one more, where any is kept
+abbrev pub HasRoomFor : {X : Type 0} → ℕ → List X → Type 0
+HasRoomFor room xs = 0 < room → length xs < room
+
+-- what is held is enough, and the run goes on
+abbrev pub CanFollow : Done → Option Place → Follower → Type 0
+CanFollow done.Began place f = IsSome place
+CanFollow (done.Ran s) place f = is_p0 s ≡ true → HasRoomFor f.places.room f.places.places.saved × HasRoomFor f.window.room f.window.p0s
+CanFollow done.Contexted place f = ⊤
+CanFollow (done.Retired n) place f = n ≤ length f.window.p0s
+CanFollow (done.Cancelled n) place f = (n ≤ length f.places.places.saved) × (n ≤ length f.window.p0s)
+CanFollow done.Flipped place f = IsSome place × ((p0s : List P0) × (taken : Bool) × (f.window.p0s ≡ p0s ++ p0.Atom taken ∷ []))
+CanFollow done.Synced place f = IsSome place × (length f.window.p0s < 2 ^ 32)
+CanFollow done.Overflowed place f = ⊤
+CanFollow done.Stopped place f = ⊤

@@ -1,0 +1,14 @@
+-- What a unit writes its packets with: bytes with room for them, and a queue of the reader's that has place for the P0 elements.
+use Rattle.std.specs.Prelude.{ℕ, ◌+◌, ◌≤◌, List, length}
+use Rattle.trace_unit.specs.Whole.{Waiting}
+
+-- there is room for these bytes more
+abbrev pub HasRoom : ℕ → ℕ → List ℕ → Type 0
+HasRoom len capacity more = len + length more ≤ capacity
+
+-- What is to be cancelled is held, and of each atom that is written the reader's queue has place for it, or something is to be committed.
+pub record Affords (depth : ℕ) (u : Waiting) : Type 0 where
+  pub held : u.held ≤ depth
+  pub cancels : u.cancels ≤ u.held
+  pub atoms : length u.atoms ≤ 24
+  pub place : u.held + length u.atoms ≤ depth + u.commits + u.cancels

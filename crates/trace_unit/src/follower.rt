@@ -1,0 +1,269 @@
+//! What a unit does of each thing that its run did: it tells it, and keeps what it may have to go back to.
+ghost use Rattle.std.specs.Prelude.{◌≡◌, ◌<◌, ◌≤◌, ◌^◌, ◌∷◌, ◌++◌, [], Bool, List, length, IfOk, IsSome, Some};
+ghost use Rattle.std.specs.Prelude.{vec_capacity, vec_len};
+ghost use Rattle.element_queue.specs.Counting.{Balances};
+ghost use Rattle.etm_types.specs.Settings.{AreSettings};
+ghost use Rattle.etm_types.specs.declared.element.P0.{P0 as Element};
+ghost use Rattle.etm_types.specs.declared.element.P0.TheVariants.{Atom};
+ghost use Rattle.return_stack.specs.Stack.{most_addresses};
+ghost use Rattle.spec_run.specs.Checks.{Place};
+ghost use Rattle.spec_run.specs.Runs.{ByOff, ByOverflow};
+ghost use Rattle.trace_unit.specs.Followed.{CanFollow, HasRoomFor, begin_orders, begun, cancelled, closed, element_of};
+ghost use Rattle.trace_unit.specs.Followed.{first_follower, flipped, followed, orders_done, retired, step_orders, stepped};
+ghost use Rattle.trace_unit.specs.Followed.{sync_orders, synced, windowed_lost};
+ghost use Rattle.trace_unit.specs.Ordered.{CanTell, CanTellAll, bytes_all, bytes_of, told_all, told_by};
+ghost use Rattle.trace_unit.specs.Orders.{Cancel, Close, Flip, Retire, before, p0_order};
+ghost use Rattle.trace_unit.specs.Room.{HasRoom};
+
+use crate::places::Places;
+use crate::teller::Teller;
+use crate::window::Window;
+use element_queue::Ledger;
+use etm_types::{Ctx, P0, Settings};
+use spec_run::{Done, Run, RunStep, StepKind};
+use std::alloc::{AllocError, Global};
+
+/// The places of the run, its P0 elements that are not retired, and what is told. It has no drop: `close` ends it.
+#[must_use]
+pub struct Follower {
+    pub places: Places,
+    pub window: Window,
+    pub teller: Teller,
+}
+
+impl Follower {
+    /// Behind no event. It takes all the memory that it needs, and the error means want of it.
+    pub fn new(
+        alloc: Global,
+        settings: &Settings,
+        stack_depth: usize,
+    ) -> Result<Follower, AllocError>
+        requires { stack_depth ≤ most_addresses }
+        ensures first { IfOk result (λ f. f ≡ first_follower settings.now stack_depth) }
+        ensures settings { AreSettings settings.now }
+    {
+        let room = settings.depth() as usize;
+        let places = Places::new(alloc, room, stack_depth)?;
+        Ok(Follower {
+            places,
+            window: Window::new(alloc, room)?,
+            teller: Teller::new(settings),
+        })
+    }
+
+    /// Follows what the run did, which now is where it is behind that.
+    pub fn follow(&mut self, done: &Done, run: &Run, bytes: &mut Vec<u8>)
+        requires can { CanFollow done.now run.now.place self.old }
+        requires tells { CanTellAll self.old.teller (orders_done done.now run.now.place self.old) }
+        requires room { HasRoom (vec_len bytes.old) (vec_capacity bytes.old)
+            (bytes_all self.old.teller (orders_done done.now run.now.place self.old)) }
+        ensures follower { self.new ≡ followed done.now run.now.place self.old }
+        ensures bytes { bytes.new.items
+            ≡ bytes.old.items ++ bytes_all self.old.teller (orders_done done.now run.now.place self.old) }
+    {
+        match *done {
+            Done::Began => {
+                let (pc, ctx) = standing(run);
+                self.begin(pc, ctx, bytes);
+            }
+            Done::Ran(step) => {
+                if step.kind.is_p0() {
+                    self.step(&step, bytes);
+                }
+            }
+            Done::Contexted => {}
+            Done::Retired { p0 } => self.retire(p0),
+            Done::Cancelled { p0 } => self.cancel(p0),
+            Done::Flipped => {
+                let (pc, _) = standing(run);
+                self.flip(pc, bytes);
+            }
+            Done::Synced => {
+                let (_, ctx) = standing(run);
+                self.sync(ctx, bytes);
+            }
+            Done::Overflowed => self.overflow(bytes),
+            Done::Stopped => self.stop(bytes),
+        }
+    }
+
+    /// Ends it. What is not retired is lost.
+    pub fn close(self) -> Ledger
+        ensures value { result ≡ (windowed_lost self.window).counts }
+        ensures balanced { Balances result 0 }
+    {
+        let Follower {
+            places: _,
+            window,
+            teller: _,
+        } = self;
+        window.close()
+    }
+
+    /// Tracing begins.
+    fn begin(&mut self, addr: u64, ctx: Ctx, bytes: &mut Vec<u8>)
+        requires tells { CanTellAll self.old.teller (begin_orders addr ctx) }
+        requires room { HasRoom (vec_len bytes.old) (vec_capacity bytes.old) (bytes_all self.old.teller (begin_orders addr ctx)) }
+        ensures follower { self.new ≡ begun self.old addr ctx }
+        ensures bytes { bytes.new.items ≡ bytes.old.items ++ bytes_all self.old.teller (begin_orders addr ctx) }
+    {
+        self.teller.sync(0, bytes);
+        self.teller.on(bytes);
+        self.teller.start(addr, ctx, bytes);
+        self.places.begin(addr, ctx);
+    }
+
+    /// A P0 step was executed.
+    fn step(&mut self, step: &RunStep, bytes: &mut Vec<u8>)
+        requires places { HasRoomFor self.old.places.room self.old.places.places.saved }
+        requires window { HasRoomFor self.old.window.room self.old.window.p0s }
+        requires tells { CanTellAll self.old.teller (step_orders self.old.places.places step.now) }
+        requires room { HasRoom (vec_len bytes.old) (vec_capacity bytes.old)
+            (bytes_all self.old.teller (step_orders self.old.places.places step.now)) }
+        ensures follower { self.new ≡ stepped self.old step.now }
+        ensures bytes { bytes.new.items
+            ≡ bytes.old.items ++ bytes_all self.old.teller (step_orders self.old.places.places step.now) }
+    {
+        self.tell_missing(step.ctx, bytes);
+        self.tell_step(step, bytes);
+        self.places.pass(step);
+        self.window.pass(element_of(step));
+    }
+
+    /// Tells what the reader lacks of the address and the context of the block.
+    fn tell_missing(&mut self, ctx: Ctx, bytes: &mut Vec<u8>)
+        requires tells { CanTellAll self.old.teller (before self.old.places.places ctx) }
+        requires room { HasRoom (vec_len bytes.old) (vec_capacity bytes.old)
+            (bytes_all self.old.teller (before self.old.places.places ctx)) }
+        ensures follower { self.new
+            ≡ record (self.old) { teller = told_all self.old.teller (before self.old.places.places ctx) } }
+        ensures bytes { bytes.new.items ≡ bytes.old.items ++ bytes_all self.old.teller (before self.old.places.places ctx) }
+        ensures capacity { vec_capacity bytes.new ≡ vec_capacity bytes.old }
+    {
+        let start = self.places.start();
+        match (ctx == self.places.reader_context(), self.places.needs()) {
+            (true, true) => self.teller.address(start, bytes),
+            (true, false) => {}
+            (false, true) => self.teller.place(start, ctx, bytes),
+            (false, false) => self.teller.context(ctx, bytes),
+        }
+    }
+
+    /// Tells a P0 step.
+    fn tell_step(&mut self, step: &RunStep, bytes: &mut Vec<u8>)
+        requires can { CanTell self.old.teller (p0_order step.now.kind step.now.addr) }
+        requires room { HasRoom (vec_len bytes.old) (vec_capacity bytes.old)
+            (bytes_of self.old.teller (p0_order step.now.kind step.now.addr)) }
+        ensures follower { self.new
+            ≡ record (self.old) { teller = told_by self.old.teller (p0_order step.now.kind step.now.addr) } }
+        ensures bytes { bytes.new.items ≡ bytes.old.items ++ bytes_of self.old.teller (p0_order step.now.kind step.now.addr) }
+    {
+        match step.kind {
+            StepKind::Exc { kind } => self.teller.exception(kind, step.addr, bytes),
+            StepKind::Cond { taken } => self.teller.branch(taken, bytes),
+            _ => self.teller.branch(true, bytes),
+        }
+    }
+
+    /// So many P0 steps are retired.
+    fn retire(&mut self, n: u32)
+        requires held { n ≤ length self.old.window.p0s }
+        requires can { CanTell self.old.teller (Retire n) }
+        ensures { self.new ≡ retired self.old n }
+    {
+        self.teller.retire(n);
+        self.places.retire(n as usize);
+        self.window.retire(n as usize);
+    }
+
+    /// So many of the newest P0 steps are taken back.
+    fn cancel(&mut self, n: u32)
+        requires saved { n ≤ length self.old.places.places.saved }
+        requires held { n ≤ length self.old.window.p0s }
+        requires can { CanTell self.old.teller (Cancel n) }
+        ensures { self.new ≡ cancelled self.old n }
+    {
+        self.teller.cancel(n);
+        self.places.cancel(n as usize);
+        self.window.cancel(n as usize);
+    }
+
+    /// The newest step goes the other way, to this address.
+    fn flip(&mut self, pc: u64, bytes: &mut Vec<u8>)
+        requires newest { (p0s : List Element) × (taken : Bool) × (self.old.window.p0s ≡ p0s ++ Atom taken ∷ []) }
+        requires can { CanTell self.old.teller Flip }
+        requires room { HasRoom (vec_len bytes.old) (vec_capacity bytes.old) (bytes_of self.old.teller Flip) }
+        ensures follower { self.new ≡ flipped self.old pc }
+        ensures bytes { bytes.new.items ≡ bytes.old.items ++ bytes_of self.old.teller Flip }
+    {
+        self.teller.flip(bytes);
+        self.places.flip(pc);
+        self.window.flip();
+    }
+
+    /// Synchronisation, in this context.
+    fn sync(&mut self, ctx: Ctx, bytes: &mut Vec<u8>)
+        requires few { length self.old.window.p0s < 2 ^ 32 }
+        requires tells { CanTellAll self.old.teller (sync_orders (length self.old.window.p0s) self.old.places.places.start ctx) }
+        requires room { HasRoom (vec_len bytes.old) (vec_capacity bytes.old)
+            (bytes_all self.old.teller (sync_orders (length self.old.window.p0s) self.old.places.places.start ctx)) }
+        ensures follower { self.new ≡ synced self.old ctx }
+        ensures bytes { bytes.new.items ≡ bytes.old.items
+            ++ bytes_all self.old.teller (sync_orders (length self.old.window.p0s) self.old.places.places.start ctx) }
+    {
+        self.teller.settle(bytes);
+        let announced = self.window.held() as u32;
+        self.teller.sync(announced, bytes);
+        self.teller.start(self.places.start(), ctx, bytes);
+        self.places.sync(ctx);
+    }
+
+    /// Tracing ends, by an overflow.
+    fn overflow(&mut self, bytes: &mut Vec<u8>)
+        requires can { CanTell self.old.teller (Close ByOverflow) }
+        requires room { HasRoom (vec_len bytes.old) (vec_capacity bytes.old) (bytes_of self.old.teller (Close ByOverflow)) }
+        ensures follower { self.new ≡ closed self.old ByOverflow }
+        ensures bytes { bytes.new.items ≡ bytes.old.items ++ bytes_of self.old.teller (Close ByOverflow) }
+    {
+        self.teller.overflow(bytes);
+        self.places.close();
+        self.window.lose();
+    }
+
+    /// Tracing ends.
+    fn stop(&mut self, bytes: &mut Vec<u8>)
+        requires can { CanTell self.old.teller (Close ByOff) }
+        requires room { HasRoom (vec_len bytes.old) (vec_capacity bytes.old) (bytes_of self.old.teller (Close ByOff)) }
+        ensures follower { self.new ≡ closed self.old ByOff }
+        ensures bytes { bytes.new.items ≡ bytes.old.items ++ bytes_of self.old.teller (Close ByOff) }
+    {
+        self.teller.stop(bytes);
+        self.places.close();
+        self.window.lose();
+    }
+}
+
+/// The P0 element of a P0 step.
+fn element_of(step: &RunStep) -> P0
+    ensures { result ≡ element_of step.now.kind step.now.addr }
+{
+    match step.kind {
+        StepKind::Exc { kind } => P0::Exc {
+            kind,
+            ret: step.addr,
+        },
+        StepKind::Cond { taken } => P0::Atom(taken),
+        _ => P0::Atom(true),
+    }
+}
+
+/// Where a run goes on, and in which context, while tracing is on.
+fn standing(run: &Run) -> (u64, Ctx)
+    requires { IsSome run.now.place }
+    ensures { (p : Place) → run.now.place ≡ Some p → result ≡ (p.pc, p.ctx) }
+{
+    match (run.pc(), run.ctx()) {
+        (Some(pc), Some(ctx)) => (pc, ctx),
+        _ => unreachable!(),
+    }
+}

@@ -1,0 +1,227 @@
+//! The places of a run, as far as its trace unit knows them.
+ghost use Rattle.std.specs.Prelude.{◌≡◌, ◌<◌, ◌≤◌, [], length, drop, false, IfOk};
+ghost use Rattle.return_stack.specs.Stack.{most_addresses};
+ghost use Rattle.trace_unit.specs.Places.{left_by, no_places, placed_back, placed_behind, placed_synced, saves};
+
+use circular_buffer::HeapCircularBuffer;
+use etm_types::Ctx;
+use return_stack::{ReturnStack, SavedStack};
+use spec_run::{RunStep, StepKind};
+use std::alloc::{AllocError, Global};
+use std::marker::Model;
+
+/// What is kept of a P0 step that is not retired.
+#[derive(Clone, Copy, Debug, Drop)]
+pub struct Saved {
+    /// The return addresses before it.
+    stack: SavedStack,
+    /// The context and the start of its block.
+    context: Ctx,
+    start: u64,
+}
+
+impl Model for Saved {
+    ghost use Rattle.trace_unit.specs.Places.{Saved as Keeps};
+
+    ghost Value = { Keeps };
+
+    ghost view = { λ s. record { stack = s.stack; context = s.context; start = s.start } };
+
+    ghost inverse = { λ s. record { stack = s.stack; context = s.context; start = s.start } };
+}
+
+/// The return addresses, what is saved of each P0 step that is held, and what the reader knows of
+/// the begun block.
+#[derive(Drop)]
+pub struct Places {
+    stack: ReturnStack,
+    /// Oldest first.
+    saved: HeapCircularBuffer<Saved>,
+    /// Whether the begun block needs an address.
+    needs: bool,
+    start: u64,
+    /// The context that the reader has for the begun block.
+    reader_context: Ctx,
+}
+
+impl Model for Places {
+    ghost use Rattle.std.specs.Prelude.{◌≤◌, All, length};
+    ghost use Rattle.trace_unit.specs.Places.{Saved as Keeps};
+    ghost use Rattle.trace_unit.specs.PlacesKept.{PlacesKept};
+
+    ghost Value = { PlacesKept };
+
+    ghost view = { λ p. record {
+      places = record {
+        stack = p.stack.addresses;
+        saved = p.saved.items;
+        needs = p.needs;
+        start = p.start;
+        reader_context = p.reader_context;
+      };
+      most = p.stack.depth;
+      room = p.saved.capacity;
+    } };
+
+    ghost invariant = { λ p. All (λ (s : Keeps). length s.stack ≤ p.stack.depth) p.saved.items };
+}
+
+impl Places {
+    /// No places, with room for so many P0 steps that are held, and for so many return addresses.
+    /// This is the one call that takes memory, and the error means want of it.
+    pub fn new(alloc: Global, room: usize, stack_depth: usize) -> Result<Places, AllocError>
+        requires { stack_depth ≤ most_addresses }
+        ensures { IfOk result (λ p. p ≡ record { places = no_places; most = stack_depth; room = room }) }
+    {
+        Ok(Places {
+            stack: ReturnStack::new(alloc, stack_depth)?,
+            saved: HeapCircularBuffer::with_capacity(alloc, room)?,
+            needs: false,
+            start: 0,
+            reader_context: Ctx::initial(),
+        })
+    }
+
+    /// Whether the begun block needs an address.
+    pub fn needs(&self) -> bool
+        ensures { result ≡ self.now.places.needs }
+    {
+        self.needs
+    }
+
+    /// Where the begun block starts.
+    pub fn start(&self) -> u64
+        ensures { result ≡ self.now.places.start }
+    {
+        self.start
+    }
+
+    /// The context that the reader has for it.
+    pub fn reader_context(&self) -> Ctx
+        ensures { result ≡ self.now.places.reader_context }
+    {
+        self.reader_context
+    }
+
+    /// How many P0 steps are held.
+    pub fn held(&self) -> usize
+        ensures held { result ≡ length self.now.places.saved }
+        ensures few { result ≤ self.now.room }
+    {
+        self.saved.len()
+    }
+
+    /// Tracing begins at an address.
+    pub fn begin(&mut self, addr: u64, ctx: Ctx)
+        ensures { self.new ≡ record (self.old) {
+          places = record { stack = []; saved = []; needs = false; start = addr; reader_context = ctx };
+        } }
+    {
+        self.stack.clear();
+        self.saved.clear();
+        self.needs = false;
+        self.start = addr;
+        self.reader_context = ctx;
+    }
+
+    /// A P0 step was executed. At depth 0, where there is no room, it is retired at once.
+    pub fn pass(&mut self, step: &RunStep)
+        requires { 0 < self.old.room → length self.old.places.saved < self.old.room }
+        ensures { self.new ≡ record (self.old) { places = placed_behind self.old.room self.old.most self.old.places step.now } }
+    {
+        self.save(step);
+        if step.link {
+            self.stack.push(step.addr.wrapping_add(4));
+        }
+        self.needs = self.leave(step);
+        self.start = step.next;
+        self.reader_context = step.ctx;
+    }
+
+    /// Keeps what the unit goes back to where a P0 step is taken back. At depth 0 nothing is kept.
+    fn save(&mut self, step: &RunStep)
+        requires { 0 < self.old.room → length self.old.places.saved < self.old.room }
+        ensures { self.new ≡ record (self.old) {
+          places = record (self.old.places) { saved = saves self.old.room self.old.places step.now };
+        } }
+    {
+        if self.saved.capacity() > 0 {
+            self.saved.push_back(Saved {
+                stack: self.stack.save(),
+                context: step.ctx,
+                start: self.start,
+            });
+        }
+    }
+
+    /// Takes the return address off where the reader does so too, and tells whether the block
+    /// behind a P0 step needs an address.
+    fn leave(&mut self, step: &RunStep) -> bool
+        ensures needs { result ≡ (left_by step.now.kind step.now.next self.old.places.stack).needs }
+        ensures places { self.new ≡ record (self.old) {
+          places = record (self.old.places) { stack = (left_by step.now.kind step.now.next self.old.places.stack).stack };
+        } }
+    {
+        match step.kind {
+            StepKind::Ind { link: false } if self.stack.top() == Some(step.next) => {
+                self.stack.pop();
+                false
+            }
+            StepKind::Ind { .. } | StepKind::Eret | StepKind::Exc { .. } => true,
+            _ => false,
+        }
+    }
+
+    /// So many of the oldest P0 steps are retired.
+    pub fn retire(&mut self, n: usize)
+        ensures { self.new ≡ record (self.old) { places = record (self.old.places) { saved = drop n self.old.places.saved } } }
+    {
+        let held = self.saved.len();
+        self.saved.truncate_front(held.saturating_sub(n));
+    }
+
+    /// So many of the newest P0 steps are taken back.
+    pub fn cancel(&mut self, n: usize)
+        requires { n ≤ length self.old.places.saved }
+        ensures { self.new ≡ record (self.old) { places = placed_back self.old.places n } }
+    {
+        let kept = self.saved.len() - n;
+        if let Some(&oldest) = self.saved.get(kept) {
+            self.stack.restore(&oldest.stack);
+            self.needs = false;
+            self.start = oldest.start;
+            self.reader_context = oldest.context;
+        }
+        self.saved.truncate_back(kept);
+    }
+
+    /// The newest step goes the other way, to this address.
+    pub fn flip(&mut self, pc: u64)
+        ensures { self.new ≡ record (self.old) { places = record (self.old.places) { needs = false; start = pc } } }
+    {
+        self.needs = false;
+        self.start = pc;
+    }
+
+    /// The reader is told the address and the context of the begun block. It empties its return
+    /// stack.
+    pub fn sync(&mut self, ctx: Ctx)
+        ensures { self.new ≡ record (self.old) { places = placed_synced self.old.places ctx } }
+    {
+        self.stack.clear();
+        for index in 0..self.saved.len() {
+            if let Some(saved) = self.saved.get_mut(index) {
+                saved.stack = SavedStack::empty();
+            }
+        }
+        self.needs = false;
+        self.reader_context = ctx;
+    }
+
+    /// Tracing ends: what is held is lost.
+    pub fn close(&mut self)
+        ensures { self.new ≡ record (self.old) { places = record (self.old.places) { saved = [] } } }
+    {
+        self.saved.clear();
+    }
+}
