@@ -120,7 +120,8 @@ impl Bench {
 
     /// A weave, by its place among them.
     pub fn weave_at(&self, k: usize) -> Option<Weave>
-        ensures { result ≡ slice_get self.now.weaves k }
+        ensures value { result ≡ slice_get self.now.weaves k }
+        ensures within { IsSome result → k + 1 < 2 ^ 64 }
     {
         self.weaves.get(k).copied()
     }

@@ -7,12 +7,13 @@ use Rattle.program_image.specs.Answers.{TakesImage, TakesNoImage}
 use Rattle.program_image.specs.declared.image.Image.{Image}
 use Rattle.program_image.specs.declared.fault.ImageWhy.{ImageWhy}
 use Rattle.trace_cmd.specs.Answers.{Answers, AnswersSo, Asks, Call, IsBenchBad, IsBenchFault, IsCall, IsImageBad, IsImageCall, IsImageFault}
-use Rattle.trace_cmd.specs.Answers.{IsNoMemory, IsRetired, IsRetiredCall, IsUsage, IsWriteFault}
+use Rattle.trace_cmd.specs.Answers.{IsNoMemory, IsRetired, IsRetiredCall, IsRunFileCall, IsTraceCall, IsTraced, IsUsage, IsWriteFault}
 use Rattle.trace_cmd.specs.Answers.{image_line, usage_line}
-use Rattle.trace_cmd.specs.Retired.{Prints, PrintsFront, RetiresSo}
+use Rattle.trace_cmd.specs.Retired.{Prints, PrintsFront, RetiresSo, RunsSo}
 use Rattle.trace_cmd.specs.Grows.{Grow, frames_grow, raw_grows}
 use Rattle.trace_cmd.specs.Listed.{Listed}
 use Rattle.trace_cmd.specs.Printing.{What, layout_of, left_of, listing_of, pairs_in, pairs_of}
+use Rattle.trace_cmd.specs.Traced.{TracesSo}
 use Rattle.trace_cmd.specs.Words.{meaning}
 use Rattle.trace_cmd.specs.declared.status.Status.{Status}
 use Rattle.trace_cmd.specs.declared.status.Status.TheVariants as status
@@ -83,22 +84,33 @@ bad_image_fails c old new e d line why command bad w =
     (w.cause.failed, inr (inl (line, why, (image_line line why, record { command = command; refused = bad; printed = refl }, w.front))))
 
 -- a run file was answered over the image
-pub so_of_run_file : (c : Call) (parts : Image) → IsRetiredCall c.words → TakesImage c.image c.image' parts → (old new : IoState) (r : Result Status Failed)
+module _ (c : Call) (parts : Image) (asks : IsRunFileCall c.words) (image : TakesImage c.image c.image' parts) (kind : List ℕ → Type 0) (old new : IoState)
+    (all : Prints kind old new → Answers c old new status.Done) (front : PrintsFront kind old new → IsWriteFault c old new) where
+  by_run_file : (r : Result Status Failed) → RunsSo kind parts c.input c.input' old new r → HasCause old new r → AnswersSo c old new r
+  by_run_file (Ok status.Done) prints cause = all prints
+  by_run_file (Ok (status.BenchBad line why)) (text, is, printed) cause = (text, (asks, (parts, image, is)), printed)
+  by_run_file (Ok status.ReadFault) (rose, none) cause = inr (inl (asks, (parts, image, (rose, none))))
+  by_run_file (Ok status.NoMemory) none cause = record { command = inl (inr asks); untouched = inr asks; printed = none }
+  by_run_file (Ok status.Usage) none cause = absurd none
+  by_run_file (Ok (status.ImageBad line why)) none cause = absurd none
+  by_run_file (Ok status.Faulted) none cause = absurd none
+  by_run_file (Ok status.WriteFault) none cause = absurd none
+  by_run_file (Ok status.InputTooLong) none cause = absurd none
+  by_run_file (Err e) (inl prints) cause = (cause.failed, front prints)
+  by_run_file (Err e) (inr (line, why, (text, is, some))) cause =
+      (cause.failed, inr (inr (inr (inr (inr (inr (inl (line, why, (text, (asks, (parts, image, is)), some)))))))))
+
+pub so_of_retired : (c : Call) (parts : Image) → IsRetiredCall c.words → TakesImage c.image c.image' parts → (old new : IoState) (r : Result Status Failed)
     → RetiresSo parts c.input c.input' old new r → HasCause old new r → AnswersSo c old new r
-so_of_run_file c parts asks image old new (Ok status.Done) (text, is, all) cause = inr (text, (asks, (parts, image, is)), all)
-so_of_run_file c parts asks image old new (Ok (status.BenchBad line why)) (text, is, all) cause = (text, (asks, (parts, image, is)), all)
-so_of_run_file c parts asks image old new (Ok status.ReadFault) (rose, none) cause = inr (inl (asks, (parts, image, (rose, none))))
-so_of_run_file c parts asks image old new (Ok status.NoMemory) none cause =
-    record { command = inl (inr asks); untouched = inr asks; printed = none }
-so_of_run_file c parts asks image old new (Ok status.Usage) none cause = absurd none
-so_of_run_file c parts asks image old new (Ok (status.ImageBad line why)) none cause = absurd none
-so_of_run_file c parts asks image old new (Ok status.Faulted) none cause = absurd none
-so_of_run_file c parts asks image old new (Ok status.WriteFault) none cause = absurd none
-so_of_run_file c parts asks image old new (Ok status.InputTooLong) none cause = absurd none
-so_of_run_file c parts asks image old new (Err e) (inl (text, is, front)) cause =
-    (cause.failed, inr (inr (inr (inr (inr (inl (text, (asks, (parts, image, is)), front)))))))
-so_of_run_file c parts asks image old new (Err e) (inr (line, why, (text, is, front))) cause =
-    (cause.failed, inr (inr (inr (inr (inr (inr (inl (line, why, (text, (asks, (parts, image, is)), front)))))))))
+so_of_retired c parts asks image old new =
+    by_run_file c parts (inl asks) image _ old new (λ prints. inr (inl (prints.0, (asks, (parts, image, prints.1)), prints.2)))
+    (λ prints. inr (inr (inr (inr (inr (inl (prints.0, (asks, (parts, image, prints.1)), prints.2)))))))
+
+pub so_of_traced : (c : Call) (parts : Image) → IsTraceCall c.words → TakesImage c.image c.image' parts → (old new : IoState) (r : Result Status Failed)
+    → TracesSo parts c.input c.input' old new r → HasCause old new r → AnswersSo c old new r
+so_of_traced c parts asks image old new =
+    by_run_file c parts (inr asks) image _ old new (λ prints. inr (inr (prints.0, (asks, (parts, image, prints.1)), prints.2)))
+    (λ prints. inr (inr (inr (inr (inr (inr (inr (inr (prints.0, (asks, (parts, image, prints.1)), prints.2)))))))))
 
 -- ---- behind the flush
 
@@ -147,7 +159,8 @@ module _ (c : Call) (old new newer : IoState) (kept : KeepsBytes new newer) wher
   kept_fault (inr (inr (inr (inr (inr (inl front)))))) = inr (inr (inr (inr (inr (inl (kept_front (IsRetired c) front))))))
   kept_fault (inr (inr (inr (inr (inr (inr (inl (line, why, front)))))))) =
       inr (inr (inr (inr (inr (inr (inl (line, why, kept_front (IsBenchBad c line why) front)))))))
-  kept_fault (inr (inr (inr (inr (inr (inr (inr f))))))) = inr (inr (inr (inr (inr (inr (inr (kept_bench f)))))))
+  kept_fault (inr (inr (inr (inr (inr (inr (inr (inl f)))))))) = inr (inr (inr (inr (inr (inr (inr (inl (kept_bench f))))))))
+  kept_fault (inr (inr (inr (inr (inr (inr (inr (inr front)))))))) = inr (inr (inr (inr (inr (inr (inr (inr (kept_front (IsTraced c) front))))))))
 
   -- it succeeds
   pub all_flushed : (s : Status) → new.faults ≤ newer.faults → Answers c old new s → Answers c old newer s
@@ -157,7 +170,8 @@ module _ (c : Call) (old new newer : IoState) (kept : KeepsBytes new newer) wher
         asks,
         record { bytes = done.bytes; read = done.read; few = done.few; lines = done.lines; shown = done.shown; printed = kept_all _ done.printed },
       )
-  all_flushed status.Done later (inr prints) = inr (kept_line (IsRetired c) prints)
+  all_flushed status.Done later (inr (inl prints)) = inr (inl (kept_line (IsRetired c) prints))
+  all_flushed status.Done later (inr (inr prints)) = inr (inr (kept_line (IsTraced c) prints))
   all_flushed status.Faulted later (what, asks, done) =
       (what, asks, record { bytes = done.bytes; read = done.read; few = done.few; lines = done.lines; shown = done.shown; printed = kept_all _ done.printed })
   all_flushed status.Usage later prints = kept_line (IsUsage c) prints
@@ -178,7 +192,8 @@ module _ (c : Call) (old new newer : IoState) (kept : KeepsBytes new newer) wher
 
   -- it fails behind an answer
   cut : (s : Status) → Answers c old new s → IsWriteFault c old newer
-  cut status.Done (inr prints) = inr (inr (inr (inr (inr (inl (line_front (IsRetired c) prints))))))
+  cut status.Done (inr (inl prints)) = inr (inr (inr (inr (inr (inl (line_front (IsRetired c) prints))))))
+  cut status.Done (inr (inr prints)) = inr (inr (inr (inr (inr (inr (inr (inr (line_front (IsTraced c) prints))))))))
   cut (status.BenchBad line why) prints = inr (inr (inr (inr (inr (inr (inl (line, why, line_front (IsBenchBad c line why) prints)))))))
   cut status.Done (inl (what, asks, done)) =
       inr (inr (inl (
@@ -197,7 +212,7 @@ module _ (c : Call) (old new newer : IoState) (kept : KeepsBytes new newer) wher
   cut status.Usage prints = inl (line_front (IsUsage c) prints)
   cut (status.ImageBad line why) prints = inr (inl (line, why, line_front (IsImageBad c line why) prints))
   cut status.ReadFault (inl f) = inr (inr (inr (inl (kept_image f))))
-  cut status.ReadFault (inr (inl f)) = inr (inr (inr (inr (inr (inr (inr (kept_bench f)))))))
+  cut status.ReadFault (inr (inl f)) = inr (inr (inr (inr (inr (inr (inr (inl (kept_bench f))))))))
   cut status.ReadFault (inr (inr (what, asks, b))) =
       inr (inr (inl (
         what,

@@ -10,9 +10,9 @@ use Rattle.etm_types.specs.Settings.{Sizes, AreSettings, is_vmid_size, is_cid_si
 use Rattle.trace_cmd.specs.declared.words.Layout.{Layout}
 use Rattle.trace_cmd.specs.declared.words.Layout.TheVariants.{Raw, Frames}
 use Rattle.program_image.specs.Line.{decimal_of}
-use Rattle.trace_cmd.specs.Words.{Command, Path, Packets, Retired, is_image_word, layout_at, option_at, sizes_of, sizes_at, only_image}
+use Rattle.trace_cmd.specs.Words.{Command, Path, Packets, Retired, Trace, is_image_word, layout_at, option_at, sizes_of, sizes_at, only_image}
 use Rattle.trace_cmd.specs.Words.{path_of, packets_of, meaning}
-use Rattle.trace_cmd.specs.CommandLines.{IsLayout, IsOption, IsPathLine, IsPacketsLine, IsRetiredLine}
+use Rattle.trace_cmd.specs.CommandLines.{IsLayout, IsOption, IsPathLine, IsPacketsLine, IsRetiredLine, IsTraceLine}
 
 -- ---- an option
 
@@ -258,17 +258,21 @@ BeginsLine name words c =
     ((name ≡ codes "path") × (path_of (layout_at words).0 (layout_at words).1 ≡ Some c))
     ⊎ ((name ≡ codes "packets") × (packets_of (layout_at words).0 (layout_at words).1 ≡ Some c))
     ⊎ ((name ≡ codes "retired") × (option_map Retired (only_image words) ≡ Some c))
+    ⊎ ((name ≡ codes "trace") × (option_map Trace (only_image words) ≡ Some c))
 
-line_by : (name : List ℕ) (words : List (List ℕ)) (c : Command) (a b d : Bool) → bytes_eq name (codes "path") ≡ a
-    → bytes_eq name (codes "packets") ≡ b → bytes_eq name (codes "retired") ≡ d → meaning (name ∷ words) ≡ Some c → BeginsLine name words c
-line_by name words c true b d x y z e = inl ((bytes_eq-Decides name (codes "path")).0 x, simp x at e)
-line_by name words c false true d x y z e = inr (inl ((bytes_eq-Decides name (codes "packets")).0 y, simp (x, y) at e))
-line_by name words c false false true x y z e = inr (inr ((bytes_eq-Decides name (codes "retired")).0 z, simp (x, y, z) at e))
-line_by name words c false false false x y z e = let f = simp (x, y, z) at e in absurd cc
+line_by : (name : List ℕ) (words : List (List ℕ)) (c : Command) (a b d t : Bool) → bytes_eq name (codes "path") ≡ a
+    → bytes_eq name (codes "packets") ≡ b → bytes_eq name (codes "retired") ≡ d → bytes_eq name (codes "trace") ≡ t
+    → meaning (name ∷ words) ≡ Some c → BeginsLine name words c
+line_by name words c true b d t x y z w e = inl ((bytes_eq-Decides name (codes "path")).0 x, simp x at e)
+line_by name words c false true d t x y z w e = inr (inl ((bytes_eq-Decides name (codes "packets")).0 y, simp (x, y) at e))
+line_by name words c false false true t x y z w e = inr (inr (inl ((bytes_eq-Decides name (codes "retired")).0 z, simp (x, y, z) at e)))
+line_by name words c false false false true x y z w e = inr (inr (inr ((bytes_eq-Decides name (codes "trace")).0 w, simp (x, y, z, w) at e)))
+line_by name words c false false false false x y z w e = let f = simp (x, y, z, w) at e in absurd cc
 
 line : (name : List ℕ) (words : List (List ℕ)) (c : Command) → meaning (name ∷ words) ≡ Some c → BeginsLine name words c
 line name words c e =
-    line_by name words c (bytes_eq name (codes "path")) (bytes_eq name (codes "packets")) (bytes_eq name (codes "retired")) refl refl refl e
+    line_by name words c (bytes_eq name (codes "path")) (bytes_eq name (codes "packets")) (bytes_eq name (codes "retired")) (bytes_eq name (codes "trace"))
+    refl refl refl refl e
 
 -- words behind `retired` that mean a command
 retired_found : (words : List (List ℕ)) (command : Command) → option_map Retired (only_image words) ≡ Some command
@@ -276,6 +280,13 @@ retired_found : (words : List (List ℕ)) (command : Command) → option_map Ret
 retired_found words command e =
     let i = map_some (only_image words) Retired command e in let image = one_image words i.0 i.1 in
     (i.0, sym i.2, record { row = ap (λ r. codes "retired" ∷ r) image.0; image_is = image.1 })
+
+-- and words behind `trace`
+trace_found : (words : List (List ℕ)) (command : Command) → option_map Trace (only_image words) ≡ Some command
+    → (image : List ℕ) × (command ≡ Trace image) × IsTraceLine (codes "trace" ∷ words) image
+trace_found words command e =
+    let i = map_some (only_image words) Trace command e in let image = one_image words i.0 i.1 in
+    (i.0, sym i.2, record { row = ap (λ r. codes "trace" ∷ r) image.0; image_is = image.1 })
 
 pub path_line : (words : List (List ℕ)) (image : List ℕ) (s : Sizes) (layout : Layout) → meaning words ≡ Some (Path image s layout)
     → IsPathLine words image s layout
@@ -292,7 +303,8 @@ path_line (name ∷ words) image s layout e =
       | inr (inl p) ↦
           let f = packets_found words (layout_at words).0 (layout_at words).1 (Path image s layout) (layout_found words) p.1 in
           let g = f.1 in absurd cc
-      | inr (inr p) ↦ let f = retired_found words (Path image s layout) p.1 in let g = f.1 in absurd cc
+      | inr (inr (inl p)) ↦ let f = retired_found words (Path image s layout) p.1 in let g = f.1 in absurd cc
+      | inr (inr (inr p)) ↦ let f = trace_found words (Path image s layout) p.1 in let g = f.1 in absurd cc
     ]
 
 pub packets_line : (words : List (List ℕ)) (s : Sizes) (layout : Layout) → meaning words ≡ Some (Packets s layout) → IsPacketsLine words s layout
@@ -306,7 +318,8 @@ packets_line (name ∷ words) s layout e =
           let sizes_are : f.0 ≡ s = let g = f.1 in cc in let layout_is : (layout_at words).0 ≡ layout = let g = f.1 in cc in
           rw p.0 (subst (λ z. IsPacketsLine (codes "packets" ∷ words) z layout) sizes_are
           (subst (λ l. IsPacketsLine (codes "packets" ∷ words) f.0 l) layout_is f.2))
-      | inr (inr p) ↦ let f = retired_found words (Packets s layout) p.1 in let g = f.1 in absurd cc
+      | inr (inr (inl p)) ↦ let f = retired_found words (Packets s layout) p.1 in let g = f.1 in absurd cc
+      | inr (inr (inr p)) ↦ let f = trace_found words (Packets s layout) p.1 in let g = f.1 in absurd cc
     ]
 
 pub retired_line : (words : List (List ℕ)) (image : List ℕ) → meaning words ≡ Some (Retired image) → IsRetiredLine words image
@@ -318,9 +331,25 @@ retired_line (name ∷ words) image e =
       | inr (inl p) ↦
           let f = packets_found words (layout_at words).0 (layout_at words).1 (Retired image) (layout_found words) p.1 in
           let g = f.1 in absurd cc
-      | inr (inr p) ↦
+      | inr (inr (inl p)) ↦
           let f = retired_found words (Retired image) p.1 in let image_is : f.0 ≡ image = let g = f.1 in cc in
           rw p.0 (subst (IsRetiredLine (codes "retired" ∷ words)) image_is f.2)
+      | inr (inr (inr p)) ↦ let f = trace_found words (Retired image) p.1 in let g = f.1 in absurd cc
+    ]
+
+pub trace_line : (words : List (List ℕ)) (image : List ℕ) → meaning words ≡ Some (Trace image) → IsTraceLine words image
+trace_line [] image e = absurd cc
+trace_line (name ∷ words) image e =
+    elim (line name words (Trace image) e) [
+      | inl p ↦
+          let f = path_found words (layout_at words).0 (layout_at words).1 (Trace image) (layout_found words) p.1 in let g = f.2 in absurd cc
+      | inr (inl p) ↦
+          let f = packets_found words (layout_at words).0 (layout_at words).1 (Trace image) (layout_found words) p.1 in
+          let g = f.1 in absurd cc
+      | inr (inr (inl p)) ↦ let f = retired_found words (Trace image) p.1 in let g = f.1 in absurd cc
+      | inr (inr (inr p)) ↦
+          let f = trace_found words (Trace image) p.1 in let image_is : f.0 ≡ image = let g = f.1 in cc in
+          rw p.0 (subst (IsTraceLine (codes "trace" ∷ words)) image_is f.2)
     ]
 
 -- and what is spelled so means it
@@ -350,3 +379,6 @@ packets_said words s layout l =
 
 pub retired_said : (words : List (List ℕ)) (image : List ℕ) → IsRetiredLine words image → meaning words ≡ Some (Retired image)
 retired_said words image l = let name : is_image_word image ≡ true = l.image_is in rw l.row (simp name)
+
+pub trace_said : (words : List (List ℕ)) (image : List ℕ) → IsTraceLine words image → meaning words ≡ Some (Trace image)
+trace_said words image l = let name : is_image_word image ≡ true = l.image_is in rw l.row (simp name)

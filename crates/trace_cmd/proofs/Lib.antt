@@ -8,5 +8,14 @@ pub mod Refused
 pub mod RetiredEvents
 pub mod RetiredSteps
 pub mod RetiredStreams
+pub mod TracedCalls
+mod TracedExamples
+pub mod TracedPaths
+pub mod TracedStreams
+pub mod Tracing
 mod WordExamples
 mod WordLemmas
+mod WovenExamples
+pub mod WovenFrames
+pub mod WovenPlaces
+pub mod WovenWhole

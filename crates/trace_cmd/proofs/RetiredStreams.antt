@@ -22,7 +22,7 @@ use Rattle.spec_run.specs.declared.event.Event.{Event}
 use Rattle.spec_run.specs.declared.run_fault.RunFault.{RunFault}
 use Rattle.trace_cmd.proofs.Refused.{all_lines, dropped_next, events_next, events_whole, not_below}
 use Rattle.trace_cmd.proofs.RetiredEvents.{Printed, front_are, printed_all, printed_front, printed_more, shown_by_all}
-use Rattle.trace_cmd.specs.Retired.{IsBadBench, IsRetiredText, RetiresSo, TakesBench, bench_line, retired_text, stream_text, streams_text}
+use Rattle.trace_cmd.specs.Retired.{IsBadBench, IsRetiredText, RunsSo, TakesBench, bench_line, retired_text, stream_text, streams_text}
 use Rattle.trace_cmd.specs.Retiring.{CanGoOn, IsRetiring, PrintsRetired, events_with, retired_items}
 use Rattle.trace_cmd.specs.declared.retiring.Retiring.{Retiring}
 use Rattle.trace_cmd.specs.declared.status.Status.{Status}
@@ -36,7 +36,7 @@ times_are : (s : Sizes) (n : ℕ) (e : Event) (more : List Event) → IsEvent s 
 times_are s zero e more is are = are
 times_are s (suc n) e more is are = (is, times_are s n e more is are)
 
-lines_are : (s : Sizes) (lines : List BenchLine) → All (IsBenchLine s) lines → AreEvents s (events_of lines)
+pub lines_are : (s : Sizes) (lines : List BenchLine) → All (IsBenchLine s) lines → AreEvents s (events_of lines)
 lines_are s [] all = tt
 lines_are s (l ∷ lines) all =
     times_are s l.times l.event (events_of lines) (All-head (IsBenchLine s) l lines all).event (lines_are s lines (All-tail (IsBenchLine s) l lines all))
@@ -49,7 +49,7 @@ streams_are s (x ∷ streams) zero stream all e =
     subst (λ (st : BenchStream). AreEvents s (events_of st.lines)) same (lines_are s x.lines (All-head (IsBenchStream s) x streams all).lines)
 streams_are s (x ∷ streams) (suc k) stream all e = streams_are s streams k stream (All-tail (IsBenchStream s) x streams all) e
 
-both_none : (a b : Option (ℕ × BenchWhy)) → first_of a b ≡ None → (a ≡ None) × (b ≡ None)
+pub both_none : (a b : Option (ℕ × BenchWhy)) → first_of a b ≡ None → (a ≡ None) × (b ≡ None)
 both_none None b e = (refl, e)
 both_none (Some fault) b e = absurd cc
 
@@ -62,7 +62,7 @@ none_refused image depth (x ∷ streams) zero stream none e =
 none_refused image depth (x ∷ streams) (suc k) stream none e =
     none_refused image depth streams k stream (both_none (stream_refusal image depth x) (refusal_among image depth streams) none).1 e
 
-accepted_by : (lines : List BenchLine) (outcome : Result Execution (ℕ × RunFault)) → refused_line lines outcome ≡ None
+pub accepted_by : (lines : List BenchLine) (outcome : Result Execution (ℕ × RunFault)) → refused_line lines outcome ≡ None
     → (x : Execution) × (outcome ≡ Ok x)
 accepted_by lines (Ok x) e = (x, refl)
 accepted_by lines (Err refused) e = absurd cc
@@ -185,12 +185,12 @@ pub bench_accepted : (image : Image) (text : List ℕ) (b : BenchParts) → leng
 bench_accepted image text b le e f =
     simp (not_below most_text (length text) le) (ap (unless_refused image) e ∙ ap (λ r. unless r b) f)
 
-pub refuses_so : (image : Image) (input input' out out' : IoState) (line : ℕ) (reason : BenchWhy) (result : Result Status Failed)
+pub refuses_so : (kind : List ℕ → Type 0) (image : Image) (input input' out out' : IoState) (line : ℕ) (reason : BenchWhy) (result : Result Status Failed)
     → IsBadBench image input input' line reason (bench_line line reason) → Writes out out' result (bench_line line reason)
-    → IfOk result (λ answer. answer ≡ status.BenchBad line reason) → RetiresSo image input input' out out' result
-refuses_so image input input' out out' line reason (Ok answer) bad writes is =
-    subst (λ answer. RetiresSo image input input' out out' (Ok answer)) (sym is) (bench_line line reason, bad, writes.whole)
-refuses_so image input input' out out' line reason (Err failed) bad writes is = inr (line, reason, (bench_line line reason, bad, writes.front))
+    → IfOk result (λ answer. answer ≡ status.BenchBad line reason) → RunsSo kind image input input' out out' result
+refuses_so kind image input input' out out' line reason (Ok answer) bad writes is =
+    subst (λ answer. RunsSo kind image input input' out out' (Ok answer)) (sym is) (bench_line line reason, bad, writes.whole)
+refuses_so kind image input input' out out' line reason (Err failed) bad writes is = inr (line, reason, (bench_line line reason, bad, writes.front))
 
 pub bad_bench : (image : Image) (input input' : IoState) (b : BenchParts) (line : ℕ) (reason : BenchWhy) → TakesBench input input' b
     → refusal_among image b.settings.depth b.streams ≡ Some (line, reason) → IsBadBench image input input' line reason (bench_line line reason)

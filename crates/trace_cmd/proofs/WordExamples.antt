@@ -2,7 +2,7 @@
 use Rattle.std.proofs.Common.{◌≡◌, ℕ, List, [], ◌∷◌, codes, Option, Some, None, refl, ap, arith}
 use Rattle.etm_types.specs.Settings.{Sizes}
 use Rattle.trace_cmd.specs.declared.words.Layout.TheVariants.{Raw, Frames}
-use Rattle.trace_cmd.specs.Words.{Command, Path, Packets, Retired, meaning, image_of}
+use Rattle.trace_cmd.specs.Words.{Command, Path, Packets, Retired, Trace, meaning, image_of}
 
 -- words that begin so, and go on so
 abbrev path_raw : List (List ℕ) → Option Command
@@ -222,7 +222,19 @@ a_run_says_its_depth_itself = refl
 pub two_images_of_a_run : meaning (codes "retired" ∷ codes "img" ∷ codes "img" ∷ []) ≡ None
 two_images_of_a_run = refl
 
-pub another_command : meaning (codes "trace" ∷ codes "img" ∷ []) ≡ None
+pub traces_of_a_run : meaning (codes "trace" ∷ codes "img" ∷ []) ≡ Some (Trace (codes "img"))
+traces_of_a_run = refl
+
+pub traced_by_a_dash : meaning (codes "trace" ∷ codes "-" ∷ []) ≡ Some (Trace (codes "-"))
+traced_by_a_dash = refl
+
+pub no_image_of_a_trace : meaning (codes "trace" ∷ []) ≡ None
+no_image_of_a_trace = refl
+
+pub a_trace_is_not_raw : meaning (codes "trace" ∷ codes "--raw" ∷ codes "img" ∷ []) ≡ None
+a_trace_is_not_raw = refl
+
+pub another_command : meaning (codes "selftest" ∷ codes "img" ∷ []) ≡ None
 another_command = refl
 
 pub no_words : meaning [] ≡ None
@@ -235,12 +247,14 @@ abbrev depth_in : Option Command → ℕ
 depth_in (Some (Path image s layout)) = s.depth
 depth_in (Some (Packets s layout)) = s.depth
 depth_in (Some (Retired image)) = 0
+depth_in (Some (Trace image)) = 0
 depth_in None = 0
 
 abbrev cid_in : Option Command → ℕ
 cid_in (Some (Path image s layout)) = s.cid_bytes
 cid_in (Some (Packets s layout)) = s.cid_bytes
 cid_in (Some (Retired image)) = 0
+cid_in (Some (Trace image)) = 0
 cid_in None = 0
 
 -- the default of the depth is not 0
@@ -267,6 +281,10 @@ not_frames e = absurd cc
 -- a run file has no sizes in the words
 pub not_a_path : meaning (codes "retired" ∷ codes "img" ∷ []) ≡ Some (Path (codes "img") (sizes 16 1 4) Frames) → ⊥
 not_a_path e = absurd cc
+
+-- traces are not retired paths
+pub not_retired : meaning (codes "trace" ∷ codes "img" ∷ []) ≡ Some (Retired (codes "img")) → ⊥
+not_retired e = absurd cc
 
 pub not_raw : packets [] ≡ Some (Packets (sizes 16 1 4) Raw) → ⊥
 not_raw e = absurd cc

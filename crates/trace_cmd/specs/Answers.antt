@@ -10,7 +10,8 @@ use Rattle.program_image.specs.declared.fault.ImageWhy.{ImageWhy}
 use Rattle.trace_cmd.specs.declared.status.Status.{Status}
 use Rattle.trace_cmd.specs.declared.status.Status.TheVariants as status
 use Rattle.trace_cmd.specs.Retired.{IsBadBench, IsRetiredText, Prints, PrintsFront}
-use Rattle.trace_cmd.specs.Words.{Path, Packets, Retired, meaning}
+use Rattle.trace_cmd.specs.Traced.{IsTracedFrames}
+use Rattle.trace_cmd.specs.Words.{Path, Packets, Retired, Trace, meaning}
 use Rattle.bench_text.specs.declared.fault.BenchWhy.{BenchWhy}
 use Rattle.path_text.specs.Lines.{decimal}
 use Rattle.etm_types.specs.Settings.{Sizes}
@@ -66,9 +67,16 @@ IsPacketsCall words = (s : Sizes) × (layout : Layout) × IsPacketsUnder s layou
 abbrev pub IsRetiredCall : List (List ℕ) → Type 0
 IsRetiredCall words = (image : List ℕ) × (meaning words ≡ Some (Retired image))
 
+abbrev pub IsTraceCall : List (List ℕ) → Type 0
+IsTraceCall words = (image : List ℕ) × (meaning words ≡ Some (Trace image))
+
+-- the words ask for a command that reads a run file over an image: for its retired paths, or for its traces
+abbrev pub IsRunFileCall : List (List ℕ) → Type 0
+IsRunFileCall words = IsRetiredCall words ⊎ IsTraceCall words
+
 -- the words ask for a command that reads an image
 abbrev pub IsImageCall : List (List ℕ) → Type 0
-IsImageCall words = IsPathCall words ⊎ IsRetiredCall words
+IsImageCall words = IsPathCall words ⊎ IsRunFileCall words
 
 abbrev pub IsCall : List (List ℕ) → Type 0
 IsCall words = IsImageCall words ⊎ IsPacketsCall words
@@ -110,28 +118,34 @@ pub record IsImageFault (c : Call) (out out' : IoState) : Type 0 where
   pub untouched : c.input' ≡ c.input
   pub printed : AppendsAll out out' []
 
--- NoMemory, which has no other cause than a command: nothing was printed, and of paths and packets nothing of the input taken
+-- NoMemory, which has no other cause than a command: nothing was printed, and of paths and packets nothing of the input taken. Of a run file,
+-- for its retired paths or its traces, some of the input may be.
 pub record IsNoMemory (c : Call) (out out' : IoState) : Type 0 where
   pub command : IsCall c.words
-  pub untouched : (c.input' ≡ c.input) ⊎ IsRetiredCall c.words
+  pub untouched : (c.input' ≡ c.input) ⊎ IsRunFileCall c.words
   pub printed : AppendsAll out out' []
 
 -- ---- answers of a run file
 
--- the words ask for retired paths, and this is so over the image, which was read to its end
-abbrev pub OverImage : Call → (Image → Type 0) → Type 0
-OverImage c Way = IsRetiredCall c.words × ((parts : Image) × TakesImage c.image c.image' parts × Way parts)
+-- the words ask for this, and that is so over the image, which was read to its end
+abbrev pub OverImage : (List (List ℕ) → Type 0) → Call → (Image → Type 0) → Type 0
+OverImage Asked c Way = Asked c.words × ((parts : Image) × TakesImage c.image c.image' parts × Way parts)
 
+-- the retired paths of a run file
 abbrev pub IsRetired : Call → List ℕ → Type 0
-IsRetired c text = OverImage c (λ parts. IsRetiredText parts c.input c.input' text)
+IsRetired c text = OverImage IsRetiredCall c (λ parts. IsRetiredText parts c.input c.input' text)
 
--- BenchBad: the run file has this fault first
+-- the frames of its traces
+abbrev pub IsTraced : Call → List ℕ → Type 0
+IsTraced c frames = OverImage IsTraceCall c (λ parts. IsTracedFrames parts c.input c.input' frames)
+
+-- BenchBad, of retired paths or of traces: the run file has this fault first
 abbrev pub IsBenchBad : Call → ℕ → BenchWhy → List ℕ → Type 0
-IsBenchBad c line why text = OverImage c (λ parts. IsBadBench parts c.input c.input' line why text)
+IsBenchBad c line why text = OverImage IsRunFileCall c (λ parts. IsBadBench parts c.input c.input' line why text)
 
--- ReadFault by the run file: nothing was printed
+-- ReadFault by the run file, of retired paths or of traces: nothing was printed
 abbrev pub IsBenchFault : Call → IoState → IoState → Type 0
-IsBenchFault c out out' = OverImage c (λ parts. Rose c.input c.input' × AppendsAll out out' [])
+IsBenchFault c out out' = OverImage IsRunFileCall c (λ parts. Rose c.input c.input' × AppendsAll out out' [])
 
 -- what is asked for is printed of the input in this way
 abbrev pub OfInput : Call → (What → Type 0) → Type 0
@@ -145,11 +159,13 @@ IsWriteFault c old new =
     ⊎ OfInput c (λ what. Interrupts (pairs_of what) (left_of what) (listing_of what) c.input c.input' old new)
     ⊎ IsImageFault c old new ⊎ IsNoMemory c old new
     ⊎ PrintsFront (IsRetired c) old new ⊎ ((line : ℕ) × (why : BenchWhy) × PrintsFront (IsBenchBad c line why) old new) ⊎ IsBenchFault c old new
+    ⊎ PrintsFront (IsTraced c) old new
 
 -- What each answer means, by what the output showed before and after.
 abbrev pub Answers : Call → IoState → IoState → Status → Type 0
 Answers c old new status.Done =
-    OfInput c (λ what. Completes (pairs_of what) (left_of what) (listing_of what) c.input c.input' old new false) ⊎ Prints (IsRetired c) old new
+    OfInput c (λ what. Completes (pairs_of what) (left_of what) (listing_of what) c.input c.input' old new false)
+    ⊎ Prints (IsRetired c) old new ⊎ Prints (IsTraced c) old new
 Answers c old new status.Faulted =
     OfInput c (λ what. Completes (pairs_of what) (left_of what) (listing_of what) c.input c.input' old new true)
 Answers c old new status.Usage = Prints (IsUsage c) old new

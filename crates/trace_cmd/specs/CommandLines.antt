@@ -48,3 +48,8 @@ pub record IsPacketsLine (words : List (List ℕ)) (s : Sizes) (layout : Layout)
 pub record IsRetiredLine (words : List (List ℕ)) (image : List ℕ) : Type 0 where
   pub row : words ≡ codes "retired" ∷ image ∷ []
   pub image_is : IsTrue (is_image_word image)
+
+-- `trace IMAGE`
+pub record IsTraceLine (words : List (List ℕ)) (image : List ℕ) : Type 0 where
+  pub row : words ≡ codes "trace" ∷ image ∷ []
+  pub image_is : IsTrue (is_image_word image)

@@ -8,4 +8,9 @@ pub mod Reading
 pub mod Retired
 pub mod Retiring
 pub mod Said
+pub mod Traced
+pub mod TracedCalls
+pub mod Tracing
+pub mod Weaving
 pub mod Words
+pub mod Woven

@@ -99,17 +99,20 @@ Prints kind out out' = (text : List ℕ) × kind text × AppendsAll out out' tex
 abbrev pub PrintsFront : (List ℕ → Type 0) → IoState → IoState → Type 0
 PrintsFront kind out out' = (text : List ℕ) × kind text × AppendsFront out out' text
 
--- how a run file is answered: its retired paths are printed, or why it is bad, or nothing where it can't be read, or memory is wanting; where
+-- how a run file is answered: a text of this kind is printed, or why it is bad, or nothing where it can't be read, or memory is wanting; where
 -- a write failed, a front of that
+abbrev pub RunsSo : (List ℕ → Type 0) → Image → IoState → IoState → IoState → IoState → Result Status Failed → Type 0
+RunsSo kind image input input' out out' (Ok status.Done) = Prints kind out out'
+RunsSo kind image input input' out out' (Ok (status.BenchBad line reason)) = Prints (IsBadBench image input input' line reason) out out'
+RunsSo kind image input input' out out' (Ok status.ReadFault) = Rose input input' × AppendsAll out out' []
+RunsSo kind image input input' out out' (Ok status.NoMemory) = AppendsAll out out' []
+RunsSo kind image input input' out out' (Ok status) = ⊥
+RunsSo kind image input input' out out' (Err failed) =
+    PrintsFront kind out out' ⊎ ((line : ℕ) × (reason : BenchWhy) × PrintsFront (IsBadBench image input input' line reason) out out')
+
+-- by its retired paths
 abbrev pub RetiresSo : Image → IoState → IoState → IoState → IoState → Result Status Failed → Type 0
-RetiresSo image input input' out out' (Ok status.Done) = Prints (IsRetiredText image input input') out out'
-RetiresSo image input input' out out' (Ok (status.BenchBad line reason)) = Prints (IsBadBench image input input' line reason) out out'
-RetiresSo image input input' out out' (Ok status.ReadFault) = Rose input input' × AppendsAll out out' []
-RetiresSo image input input' out out' (Ok status.NoMemory) = AppendsAll out out' []
-RetiresSo image input input' out out' (Ok status) = ⊥
-RetiresSo image input input' out out' (Err failed) =
-    PrintsFront (IsRetiredText image input input') out out'
-    ⊎ ((line : ℕ) × (reason : BenchWhy) × PrintsFront (IsBadBench image input input' line reason) out out')
+RetiresSo image input input' = RunsSo (IsRetiredText image input input') image input input'
 
 -- all of a run file was read, and its lines have no fault of their own
 abbrev pub TakesBench : IoState → IoState → BenchParts → Type 0

@@ -20,6 +20,8 @@ pub data Command : Type 0 where
   Packets : Sizes → Layout → Command
   -- the retired path of each stream of a run file: the name of the image
   Retired : List ℕ → Command
+  -- the trace of each stream of a run file, in frames: the name of the image
+  Trace : List ℕ → Command
 
 -- ---- a word
 
@@ -69,8 +71,8 @@ abbrev pub packets_of : Layout → List (List ℕ) → Option Command
 packets_of layout words =
     option_and_then (λ (s : Sizes × List (List ℕ)). if length s.1 == 0 then Some (Packets s.0 layout) else None) (sizes_at 16 words)
 
--- `path [--raw] [--depth N] [--vmid N] [--cid N] IMAGE`, `packets [--raw] [--vmid N] [--cid N]` and `retired IMAGE`, in this order;
--- all other words mean nothing
+-- `path [--raw] [--depth N] [--vmid N] [--cid N] IMAGE`, `packets [--raw] [--vmid N] [--cid N]`, `retired IMAGE` and `trace IMAGE`, in this
+-- order; all other words mean nothing
 abbrev pub meaning : List (List ℕ) → Option Command
 meaning [] = None
 meaning (command ∷ words) =
@@ -78,6 +80,7 @@ meaning (command ∷ words) =
     if bytes_eq command (codes "path") then path_of behind.0 behind.1
     else if bytes_eq command (codes "packets") then packets_of behind.0 behind.1
     else if bytes_eq command (codes "retired") then option_map Retired (only_image words)
+    else if bytes_eq command (codes "trace") then option_map Trace (only_image words)
     else None
 
 abbrev pub image_of : Option Command → Option (List ℕ)
@@ -85,3 +88,4 @@ image_of None = None
 image_of (Some (Path image sizes layout)) = Some image
 image_of (Some (Packets sizes layout)) = None
 image_of (Some (Retired image)) = Some image
+image_of (Some (Trace image)) = Some image

@@ -7,8 +7,9 @@ ghost use Rattle.program_image.specs.Answers.{TakesImage};
 ghost use Rattle.program_image.specs.Part.{Part};
 ghost use Rattle.trace_cmd.specs.Words.{meaning, texts};
 ghost use Rattle.path_text.specs.Writing.{Writes};
-ghost use Rattle.trace_cmd.specs.Answers.{Answers, AnswersSo, IsImageCall, IsPacketsCall, IsPathUnder, IsRetiredCall, IsWriteFault};
-ghost use Rattle.trace_cmd.specs.Answers.{NoReadFailed, ReadsFirst, ReadsImage, call, image_line, usage_line};
+ghost use Rattle.trace_cmd.specs.Answers.{Answers, AnswersSo, IsImageCall, IsPacketsCall, IsPathUnder, IsRetiredCall};
+ghost use Rattle.trace_cmd.specs.Answers.{IsRunFileCall, IsTraceCall, IsWriteFault, NoReadFailed, ReadsFirst, ReadsImage};
+ghost use Rattle.trace_cmd.specs.Answers.{call, image_line, usage_line};
 ghost use Rattle.trace_cmd.specs.Listed.{Listed};
 ghost use Rattle.trace_cmd.specs.Printing.{left_in, pairs_in};
 
@@ -16,6 +17,7 @@ use crate::input::print_input;
 use crate::packet_list::PacketStream;
 use crate::retired::retire_input;
 use crate::status::Status;
+use crate::traced::trace_input;
 use crate::words::{Command, Layout, command_of};
 use etm_types::Settings;
 use path_text::Line;
@@ -160,6 +162,34 @@ fn answer_retired<I: Source, J: Source, K: Sink>(
     }
 }
 
+/// Reads the image and the run file, and writes the frames of its traces.
+fn answer_trace<I: Source, J: Source, K: Sink>(
+    alloc: Global,
+    image: &mut I,
+    input: &mut J,
+    out: &mut K,
+) -> Result<Status, Failed>
+    ensures answer { (words : List (List ℕ)) → IsTraceCall words
+        → AnswersSo (call words (I.state image.old) (I.state image.new) (J.state input.old) (J.state input.new))
+        (K.state out.old) (K.state out.new) result }
+    ensures kept { (result ≡ Ok Status.ReadFault)
+        ⊎ (KeepsFaults (I.state image.old) (I.state image.new) × KeepsFaults (J.state input.old) (J.state input.new)) }
+    ensures order { (input.new ≡ input.old) ⊎ ReadsImage (I.state image.old) (I.state image.new) }
+    ensures image_failed { KeepsFaults (I.state image.old) (I.state image.new) ⊎ (input.new ≡ input.old) }
+    ensures image_first { (line : ℕ) (why : ImageWhy) → result ≡ Ok (Status.ImageBad line why) → input.new ≡ input.old }
+    ensures image_shows { ShowsAsBefore (I.state image.old) (I.state image.new) }
+    ensures image_later { (I.state image.old).faults ≤ (I.state image.new).faults }
+    ensures input_shows { ShowsAsBefore (J.state input.old) (J.state input.new) }
+    ensures input_later { (J.state input.old).faults ≤ (J.state input.new).faults }
+    ensures cause { HasCause (K.state out.old) (K.state out.new) result }
+    ensures shows { ShowsAsBefore (K.state out.old) (K.state out.new) }
+{
+    match read_image(alloc, image, out)? {
+        Ok(image) => trace_input(alloc, &image, input, out),
+        Err(status) => Ok(status),
+    }
+}
+
 /// Writes the line of usage.
 fn answer_usage<K: Sink>(out: &mut K) -> Result<Status, Failed>
     ensures { Writes (K.state out.old) (K.state out.new) result usage_line × IfOk result (λ status. status ≡ Status.Usage) }
@@ -188,7 +218,7 @@ fn answer_words<I: Source, J: Source, K: Sink>(
     ensures image_untouched { IsPacketsCall (texts words.now) → image.new ≡ image.old }
     ensures image_failed { KeepsFaults (I.state image.old) (I.state image.new) ⊎ (input.new ≡ input.old) }
     ensures image_first { (line : ℕ) (why : ImageWhy) → result ≡ Ok (Status.ImageBad line why) → input.new ≡ input.old }
-    ensures memory { result ≡ Ok Status.NoMemory → (input.new ≡ input.old) ⊎ IsRetiredCall (texts words.now) }
+    ensures memory { result ≡ Ok Status.NoMemory → (input.new ≡ input.old) ⊎ IsRunFileCall (texts words.now) }
     ensures image_shows { ShowsAsBefore (I.state image.old) (I.state image.new) }
     ensures image_later { (I.state image.old).faults ≤ (I.state image.new).faults }
     ensures input_shows { ShowsAsBefore (J.state input.old) (J.state input.new) }
@@ -209,18 +239,20 @@ fn answer_words<I: Source, J: Source, K: Sink>(
             print_streams::<PacketStream, J, K>(alloc, settings, *layout, &(), input, out)
         }
         Command::Retired { .. } => answer_retired(alloc, image, input, out),
+        Command::Trace { .. } => answer_trace(alloc, image, input, out),
     }
 }
 
 /// Runs the command that the words mean: `path [--raw] [--depth N] [--vmid N] [--cid N] IMAGE` prints the path of
 /// each stream of an input, and `packets [--raw] [--vmid N] [--cid N]` its packets. The input is formatter frames
 /// of up to 111 streams, or with `--raw` one stream that is not framed. `retired IMAGE` reads a run file, and prints the
-/// retired path of each of its streams. `image` is what the word IMAGE names.
+/// retired path of each of its streams. `trace IMAGE` reads a run file, and writes the traces of its streams in frames, of
+/// which `path` prints those retired paths. `image` is what the word IMAGE names.
 ///
 /// Of paths and packets all memory is taken before the first byte of the input is read. That input is read by pieces of at
 /// most 4096 bytes, whose lines are written and flushed before the next is read. A run file is read whole, at most 64 MiB of
-/// it, and all its lines and events are tested before anything is written. All is flushed before it answers, and a flush that
-/// fails is `WriteFault`.
+/// it, and all its lines and events are tested before anything is written, and all memory is taken. All is flushed before it
+/// answers, and a flush that fails is `WriteFault`.
 pub fn run<I: Source, J: Source, K: Sink>(
     alloc: Global,
     words: &[String],
@@ -240,7 +272,7 @@ pub fn run<I: Source, J: Source, K: Sink>(
     ensures image_untouched { IsPacketsCall (texts words.now) → image.new ≡ image.old }
     ensures image_first { (line : ℕ) (why : ImageWhy) → result ≡ Status.ImageBad line why → input.new ≡ input.old }
     ensures image_failed { KeepsFaults (I.state image.old) (I.state image.new) ⊎ (input.new ≡ input.old) }
-    ensures memory { result ≡ Status.NoMemory → (input.new ≡ input.old) ⊎ IsRetiredCall (texts words.now) }
+    ensures memory { result ≡ Status.NoMemory → (input.new ≡ input.old) ⊎ IsRunFileCall (texts words.now) }
     ensures order { (input.new ≡ input.old)
         ⊎ ReadsFirst (call (texts words.now) (I.state image.old) (I.state image.new) (J.state input.old) (J.state input.new)) }
 

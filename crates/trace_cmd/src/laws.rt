@@ -1,10 +1,19 @@
 //! What the definitions of a packet list and of the words' meaning are as a whole.
 ghost use Rattle.std.specs.Prelude.{◌≡◌, ◌<◌, ◌↔◌, ℕ, List, Bool, All, Some};
+ghost use Rattle.bench_text.specs.Parts.{BenchParts, IsBench};
 ghost use Rattle.etm_types.specs.Settings.{Sizes, AreSettings};
-ghost use Rattle.trace_cmd.specs.CommandLines.{IsPathLine, IsPacketsLine, IsRetiredLine};
+ghost use Rattle.program_image.specs.Part.{IsImage};
+ghost use Rattle.program_image.specs.declared.image.Image.{Image};
+ghost use Rattle.trace_cmd.specs.Answers.{Answers, Call};
+ghost use Rattle.trace_cmd.specs.CommandLines.{IsPathLine, IsPacketsLine, IsRetiredLine, IsTraceLine};
 ghost use Rattle.trace_cmd.specs.PacketList.{PacketEnds, PacketGains};
-ghost use Rattle.trace_cmd.specs.Words.{Path, Packets, Retired, meaning};
+ghost use Rattle.trace_cmd.specs.Traced.{AreAccepted, NoEventNoLine, TracesAreShown};
+ghost use Rattle.trace_cmd.specs.TracedCalls.{IsPathOfTrace, PrintsTraces};
+ghost use Rattle.trace_cmd.specs.Words.{Path, Packets, Retired, Trace, meaning};
+ghost use Rattle.trace_cmd.specs.Woven.{OthersHaveNoByte, WovenAlone, WovenBytes, WovenWhole};
+ghost use Rattle.trace_cmd.specs.declared.status.Status.{Status};
 ghost use Rattle.trace_cmd.specs.declared.words.Layout.{Layout};
+ghost use Rattle.trace_io.specs.State.{IoState};
 
 /// Under given sizes, the lines of the packets that a byte adds to a stream are settled by its bytes, and so are the line
 /// of how it ends and whether that is a fault.
@@ -27,4 +36,27 @@ pub fn words_mean_what_they_spell()
     ensures packets { (words : List (List ℕ)) (s : Sizes) (layout : Layout)
         → (meaning words ≡ Some (Packets s layout)) ↔ IsPacketsLine words s layout }
     ensures retired { (words : List (List ℕ)) (image : List ℕ) → (meaning words ≡ Some (Retired image)) ↔ IsRetiredLine words image }
+    ensures trace { (words : List (List ℕ)) (image : List ℕ) → (meaning words ≡ Some (Trace image)) ↔ IsTraceLine words image }
+{}
+
+/// However streams are woven, each comes out whole and in its own order, where their IDs are apart; and nothing else does.
+pub fn each_stream_is_woven_whole()
+    ensures whole { WovenWhole }
+    ensures alone { WovenAlone }
+    ensures others { OthersHaveNoByte }
+    ensures bytes { WovenBytes }
+{}
+
+/// Where all events of a run file are accepted, the frames of its traces show each stream's retired path, which ends clean, and
+/// nothing else. A stream without an event has no line.
+pub fn traced_streams_show_their_retired_paths()
+    ensures no_event { NoEventNoLine }
+    ensures shown { (image : Image) (b : BenchParts) → IsImage image → IsBench b → AreAccepted image b → TracesAreShown image b }
+{}
+
+/// So whatever `path` answers for these frames, under the sizes of the run file and over the same image, it finds no fault, and
+/// where it comes to their end it prints these paths and nothing else.
+pub fn path_prints_what_was_traced()
+    ensures { (c : Call) (old new : IoState) (status : Status) (image : Image) (b : BenchParts) → IsBench b → AreAccepted image b
+        → IsPathOfTrace c image b → Answers c old new status → PrintsTraces image b old new status }
 {}

@@ -6,11 +6,13 @@
 //! with files, and tests call it with memory.
 //!
 //! `retired` reads a run file whole, tests all of it, and then prints its retired paths while its events run again.
+//! `trace` traces all of its streams, and then weaves their traces into frames.
 //!
 //! `path` and `packets` have one driver: what is asked for chooses the streams, the layout chooses what parts the input
 //! into them, and the input then goes through that by pieces, each printed and flushed before the next is read.
 #![tactic(auto)]
 
+mod bench_input;
 mod bench_line;
 mod command;
 mod input;
@@ -20,9 +22,14 @@ mod printer;
 mod retired;
 mod retiring;
 mod status;
+mod traced;
+mod weaving;
 mod words;
 
 pub use command::run;
-pub use laws::{packets_have_one_list, words_mean_what_they_spell};
+pub use laws::{
+    each_stream_is_woven_whole, packets_have_one_list, path_prints_what_was_traced,
+    traced_streams_show_their_retired_paths, words_mean_what_they_spell,
+};
 pub use status::Status;
 pub use words::image_name;

@@ -1,5 +1,5 @@
 //! The command `retired`: a run file is read and tested whole, and then its retired paths are printed.
-ghost use Rattle.std.specs.Prelude.{◌≡◌, ◌⊎◌, ℕ, ◌≤◌, List, [], None, Some, Ok, Err, IsErrOf, IsOk, IfOk, slice_get};
+ghost use Rattle.std.specs.Prelude.{◌≡◌, ◌⊎◌, ◌≤◌, List, [], None, Some, Ok, Err, IsOk, slice_get};
 ghost use Rattle.bench_text.specs.Parts.{BenchStream, IsBench, events_of};
 ghost use Rattle.bench_text.specs.Refusals.{refusal_among, stream_refusal};
 ghost use Rattle.etm_types.specs.Settings.{Sizes};
@@ -7,62 +7,19 @@ ghost use Rattle.path_text.specs.Writing.{Writes};
 ghost use Rattle.program_image.specs.Blocks.{HasGap};
 ghost use Rattle.spec_run.specs.Stands.{StandsAt};
 ghost use Rattle.spec_run.specs.declared.event.Event.{Event};
-ghost use Rattle.trace_cmd.specs.Retired.{RetiresSo, TakesBench, TakesNoBench, bench_line, retired_text, stream_text};
+ghost use Rattle.trace_cmd.specs.Retired.{RetiresSo, retired_text, stream_text};
 ghost use Rattle.trace_cmd.specs.Retiring.{CanGoOn, RefusesLine, events_with, bad_line};
 ghost use Rattle.trace_io.specs.Bytes.{ShowsAsBefore};
-ghost use Rattle.trace_io.specs.Causes.{HasCause, KeepsFaults, Rose};
+ghost use Rattle.trace_io.specs.Causes.{HasCause, KeepsFaults};
 
-use crate::bench_line::write_bench_bad;
+use crate::bench_input::{Unread, read_bench, refuse};
 use crate::retiring::Retiring;
 use crate::status::Status;
-use bench_text::{Bench, BenchFault, BenchLine, BenchWhy};
+use bench_text::{Bench, BenchLine, BenchWhy};
 use program_image::Image;
 use spec_run::{Run, RunFault};
 use std::alloc::Global;
-use trace_io::{Failed, ReadAllFault, Sink, Source, read_all};
-
-/// The longest text of a run file, in bytes: 64 MiB.
-const MOST_TEXT: usize = 64 << 20;
-
-/// Why no run file was read.
-#[derive(Clone, Copy, Debug)]
-pub enum Unread {
-    /// Its text is bad.
-    Bad { line: u64, why: BenchWhy },
-    /// A read failed.
-    ReadFault,
-    /// Memory is wanting.
-    Memory,
-}
-
-/// Reads a run file: all that the input has left, at most 64 MiB.
-fn read_bench<J: Source>(alloc: Global, input: &mut J) -> Result<Bench, Unread>
-    ensures ok { IfOk result (TakesBench (J.state input.old) (J.state input.new)) }
-    ensures parts { IfOk result IsBench }
-    ensures bad { (line : ℕ) (why : BenchWhy) → result ≡ Err (Unread.Bad line why)
-        → TakesNoBench (J.state input.old) (J.state input.new) line why }
-    ensures kept { IsErrOf result Unread.ReadFault ⊎ KeepsFaults (J.state input.old) (J.state input.new) }
-    ensures failed { IsErrOf result Unread.ReadFault → Rose (J.state input.old) (J.state input.new) }
-    ensures shows { ShowsAsBefore (J.state input.old) (J.state input.new) }
-    ensures later { (J.state input.old).faults ≤ (J.state input.new).faults }
-{
-    let text = match read_all(alloc, input, MOST_TEXT) {
-        Ok(text) => text,
-        Err(ReadAllFault::Failed) => return Err(Unread::ReadFault),
-        Err(ReadAllFault::TooLong) => {
-            return Err(Unread::Bad {
-                line: 0,
-                why: BenchWhy::TooLong,
-            });
-        }
-        Err(ReadAllFault::Memory) => return Err(Unread::Memory),
-    };
-    match Bench::read(alloc, &text) {
-        Ok(bench) => Ok(bench),
-        Err(BenchFault::Bad { line, why }) => Err(Unread::Bad { line, why }),
-        Err(BenchFault::Memory) => Err(Unread::Memory),
-    }
-}
+use trace_io::{Failed, Sink, Source};
 
 /// Runs the events of a line.
 fn run_line(run: &mut Run, image: &Image, line: &BenchLine) -> Result<(), RunFault>
@@ -190,13 +147,4 @@ pub fn retire_input<J: Source, K: Sink>(
         out,
     )?;
     Ok(Status::Done)
-}
-
-/// Says why a run file is bad.
-fn refuse<K: Sink>(line: u64, why: BenchWhy, out: &mut K) -> Result<Status, Failed>
-    ensures written { Writes (K.state out.old) (K.state out.new) result (bench_line line why) }
-    ensures status { IfOk result (λ status. status ≡ Status.BenchBad line why) }
-{
-    write_bench_bad(line, &why, out)?;
-    Ok(Status::BenchBad { line, why })
 }

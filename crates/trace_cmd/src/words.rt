@@ -1,8 +1,8 @@
 //! The words of the command line.
 ghost use Rattle.std.specs.Prelude.{◌≡◌, IfSome};
 ghost use Rattle.std.specs.Option.{option_map};
-ghost use Rattle.trace_cmd.specs.Words.{Retired, is_image_word, layout_at, meaning, only_image, path_of, packets_of, image_of};
-ghost use Rattle.trace_cmd.specs.Words.{option_at, sizes_of, sizes_at, texts};
+ghost use Rattle.trace_cmd.specs.Words.{Retired, Trace, is_image_word, layout_at, meaning, only_image, path_of, packets_of};
+ghost use Rattle.trace_cmd.specs.Words.{image_of, option_at, sizes_of, sizes_at, texts};
 ghost use Rattle.etm_types.specs.Settings.{AreSettings};
 ghost use Rattle.trace_cmd.specs.Said.{HasSettings, said};
 
@@ -43,6 +43,10 @@ pub enum Command<'a> {
     },
     /// The retired path of each stream of a run file, over the image of this name.
     Retired {
+        image: &'a str,
+    },
+    /// The trace of each stream of a run file, over the image of this name.
+    Trace {
         image: &'a str,
     },
 }
@@ -152,6 +156,15 @@ fn retired_of(words: &[String]) -> Option<Command<'_>>
     Some(Command::Retired { image })
 }
 
+/// The command of the words behind `trace`.
+fn trace_of(words: &[String]) -> Option<Command<'_>>
+    ensures value { option_map said result ≡ option_map Trace (only_image (texts words.now)) }
+    ensures within { IfSome result HasSettings }
+{
+    let image = only_image(words)?;
+    Some(Command::Trace { image })
+}
+
 /// The command that the words mean, where they mean one. It takes no memory.
 pub fn command_of(words: &[String]) -> Option<Command<'_>>
     ensures value { option_map said result ≡ meaning (texts words.now) }
@@ -163,6 +176,7 @@ pub fn command_of(words: &[String]) -> Option<Command<'_>>
         "path" => path_of(layout, words),
         "packets" => packets_of(layout, words),
         "retired" => retired_of(behind),
+        "trace" => trace_of(behind),
         _ => None,
     }
 }
@@ -173,7 +187,8 @@ pub fn image_name(words: &[String]) -> Option<&str>
     ensures { option_map (λ name. name.now) result ≡ image_of (meaning (texts words.now)) }
 {
     match command_of(words) {
-        Some(Command::Path { image, .. } | Command::Retired { image }) => Some(image),
+        Some(Command::Path { image, .. } | Command::Retired { image } | Command::Trace { image }) =>
+            Some(image),
         Some(Command::Packets { .. }) => None,
         None => None,
     }

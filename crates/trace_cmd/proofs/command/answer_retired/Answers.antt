@@ -1,7 +1,7 @@
-use Rattle.std.proofs.Common.{Ok, inr, refl, ap, subst}
+use Rattle.std.proofs.Common.{Ok, inl, inr, refl, ap, subst}
 use Rattle.stream_demux.proofs.Standing.{by_err}
 use Rattle.trace_cmd.specs.Answers.{AnswersSo, call}
-use Rattle.trace_cmd.proofs.AnswerLemmas.{so_of_run_file}
+use Rattle.trace_cmd.proofs.AnswerLemmas.{so_of_retired}
 use Rattle.trace_cmd.proofs.command.answer_retired.Goals as goal
 
 pub returns-in_err-image-clause-answer : goal.returns-in_err-image-clause-answer
@@ -9,7 +9,7 @@ returns-in_err-image-clause-answer g c words means =
     let image = g.I.Source.state in let input = g.J.Source.state in let out = g.K.Sink.state in
     let asked = call words (image c.args.image.now) (image c.read_image.new.image) (input c.args.input.now) (input c.args.input.now) in
     by_err (AnswersSo asked (out c.args.out.now) (out c.read_image.new.out)) c.from_residual.result c.from_residual.ensures.0 (λ e.
-    (c.in_err-image.ensures.cause.failed, c.in_err-image.ensures.failed refl words (input c.args.input.now) (inr means)))
+    (c.in_err-image.ensures.cause.failed, c.in_err-image.ensures.failed refl words (input c.args.input.now) (inr (inl means))))
 
 pub returns-in-Ok-clause-answer : goal.returns-in-Ok-clause-answer
 returns-in-Ok-clause-answer g c words means =
@@ -17,10 +17,10 @@ returns-in-Ok-clause-answer g c words means =
     let asked = call words (image c.args.image.now) (image c.read_image.new.image) (input c.args.input.now) (input c.retire_input.new.input) in
     let good = c.in_ok-image.ensures.good c.in-Ok.image (ap Ok c.in-Ok.is) in
     subst (λ o. AnswersSo asked (out o) (out c.retire_input.new.out) c.retire_input.result) good.1
-    (so_of_run_file asked c.in-Ok.image means good.0 (out c.read_image.new.out) (out c.retire_input.new.out)
+    (so_of_retired asked c.in-Ok.image means good.0 (out c.read_image.new.out) (out c.retire_input.new.out)
     c.retire_input.result c.retire_input.ensures.answer c.retire_input.ensures.cause)
 
 pub returns-in-Err-clause-answer : goal.returns-in-Err-clause-answer
 returns-in-Err-clause-answer g c words means =
     let input = g.J.Source.state in
-    c.in_ok-image.ensures.answered c.in-Err.status (ap Ok c.in-Err.is) words (input c.args.input.now) (inr means)
+    c.in_ok-image.ensures.answered c.in-Err.status (ap Ok c.in-Err.is) words (input c.args.input.now) (inr (inl means))

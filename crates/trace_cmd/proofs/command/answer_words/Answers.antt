@@ -1,4 +1,4 @@
-use Rattle.std.proofs.Common.{Some, inr, sym, ap, ◌∙◌}
+use Rattle.std.proofs.Common.{Some, inl, inr, sym, ap, ◌∙◌}
 use Rattle.std.specs.Option.{option_map}
 use Rattle.trace_cmd.specs.Answers.{call}
 use Rattle.trace_cmd.specs.Printing.{PacketsOf}
@@ -30,7 +30,17 @@ returns-in-Retired-clause-answer g c =
 pub returns-in-Retired-clause-memory : goal.returns-in-Retired-clause-memory
 returns-in-Retired-clause-memory g c is =
     let means = sym c.command_of.ensures.value ∙ ap (option_map said) (c.in-Some.is ∙ ap (λ (command : Told). Some command) c.in-Retired.is) in
-    inr (c.in-Retired.image.now, means)
+    inr (inl (c.in-Retired.image.now, means))
+
+pub returns-in-Trace-clause-answer : goal.returns-in-Trace-clause-answer
+returns-in-Trace-clause-answer g c =
+    let means = sym c.command_of.ensures.value ∙ ap (option_map said) (c.in-Some.is ∙ ap (λ (command : Told). Some command) c.in-Trace.is) in
+    c.answer_trace.ensures.answer (texts c.args.words.now) (c.in-Trace.image.now, means)
+
+pub returns-in-Trace-clause-memory : goal.returns-in-Trace-clause-memory
+returns-in-Trace-clause-memory g c is =
+    let means = sym c.command_of.ensures.value ∙ ap (option_map said) (c.in-Some.is ∙ ap (λ (command : Told). Some command) c.in-Trace.is) in
+    inr (inr (c.in-Trace.image.now, means))
 
 pub returns-in_default-clause-answer : goal.returns-in_default-clause-answer
 returns-in_default-clause-answer g c =

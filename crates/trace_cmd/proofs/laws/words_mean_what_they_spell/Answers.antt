@@ -1,4 +1,4 @@
-use Rattle.trace_cmd.proofs.CommandLines.{path_line, packets_line, retired_line, path_said, packets_said, retired_said}
+use Rattle.trace_cmd.proofs.CommandLines.{path_line, packets_line, retired_line, trace_line, path_said, packets_said, retired_said, trace_said}
 use Rattle.trace_cmd.proofs.laws.words_mean_what_they_spell.Goals as goal
 
 pub returns-clause-path : goal.returns-clause-path
@@ -9,3 +9,6 @@ returns-clause-packets c = λ words s layout. (packets_line words s layout, pack
 
 pub returns-clause-retired : goal.returns-clause-retired
 returns-clause-retired c = λ words image. (retired_line words image, retired_said words image)
+
+pub returns-clause-trace : goal.returns-clause-trace
+returns-clause-trace c = λ words image. (trace_line words image, trace_said words image)

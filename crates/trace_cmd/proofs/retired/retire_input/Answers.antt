@@ -14,7 +14,7 @@ returns-in-Some-clause-answer g c =
     let run = c.in-Ok-new.run' in
     let depth = depth_of_run image c.settings.result.now bench.settings run c.in-Ok-new.ensures.stands c.settings.ensures in
     let refused = found_first image bench run.depth _ c.in-Some.ensures.value depth in
-    refuses_so image _ _ _ _ c.in-Some.line (Run c.in-Some.fault) c.refuse-in-Some.result
+    refuses_so _ image _ _ _ _ c.in-Some.line (Run c.in-Some.fault) c.refuse-in-Some.result
     (bad_bench image (g.J.Source.state c.args.input.now) (g.J.Source.state c.read_bench.new.input) bench c.in-Some.line (Run c.in-Some.fault)
     c.in-Ok.ensures.ok refused)
     c.refuse-in-Some.ensures.written c.refuse-in-Some.ensures.status
