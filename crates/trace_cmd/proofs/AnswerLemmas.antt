@@ -51,7 +51,11 @@ pub nothing_printed : (old new : IoState) → new ≡ old → AppendsAll old new
 nothing_printed old new same = subst (λ (s : IoState). AppendsAll old s []) (sym same) (Appends-nil old.bytes)
 
 pub so_of_memory : (c : Call) (old new : IoState) → IsCall c.words → c.input' ≡ c.input → new ≡ old → IsNoMemory c old new
-so_of_memory c old new command untouched same = record { command = command; untouched = inl untouched; printed = nothing_printed old new same }
+so_of_memory c old new command untouched same = record { command = inl command; untouched = inl untouched; printed = nothing_printed old new same }
+
+-- the words could not be read for want of memory
+pub so_of_words : (c : Call) (old : IoState) → c.image' ≡ c.image → c.input' ≡ c.input → IsNoMemory c old old
+so_of_words c old image input = record { command = inr (image, input); untouched = inl input; printed = nothing_printed old old refl }
 
 pub so_of_image_fault : (c : Call) (old : IoState) → IsImageCall c.words → Rose c.image c.image' → c.input' ≡ c.input → IsImageFault c old old
 so_of_image_fault c old command rose untouched =
@@ -90,7 +94,7 @@ module _ (c : Call) (parts : Image) (asks : IsRunFileCall c.words) (image : Take
   by_run_file (Ok status.Done) prints cause = all prints
   by_run_file (Ok (status.BenchBad line why)) (text, is, printed) cause = (text, (asks, (parts, image, is)), printed)
   by_run_file (Ok status.ReadFault) (rose, none) cause = inr (inl (asks, (parts, image, (rose, none))))
-  by_run_file (Ok status.NoMemory) none cause = record { command = inl (inr asks); untouched = inr asks; printed = none }
+  by_run_file (Ok status.NoMemory) none cause = record { command = inl (inl (inr asks)); untouched = inr asks; printed = none }
   by_run_file (Ok status.Usage) none cause = absurd none
   by_run_file (Ok (status.ImageBad line why)) none cause = absurd none
   by_run_file (Ok status.Faulted) none cause = absurd none

@@ -1,384 +1,1045 @@
 -- What words mean is how they are spelled.
-use Rattle.std.proofs.Common.{◌≡◌, ℕ, Bool, true, false, nat_le, List, [], ◌∷◌, ◌++◌, length, ◌==◌, if◌then◌else◌, codes, Option, Some}
-use Rattle.std.proofs.Common.{None, refl, sym, ap, subst, ◌∙◌, inl, inr, ◌⊎◌, arith}
+use Rattle.std.proofs.Common.{◌≡◌, ◌⊎◌, ◌&&◌, ℕ, Bool, true, false, nat_le, List, [], ◌∷◌, ◌++◌, All, if◌then◌else◌, codes, Option, Some, None, is_some}
+use Rattle.std.proofs.Common.{IfSome, refl, sym, ap, subst, ◌∙◌, inl, inr, arith}
 use Rattle.std.proofs.lemmas.Bool.Decides.{nat_tests}
-use Rattle.std.proofs.lemmas.List.{append-nil}
+use Rattle.std.proofs.lemmas.List.Elements.{All-nil, All-cons, All-head, All-tail}
 use Rattle.std.proofs.lemmas.Slice.Eq.{bytes_eq-Decides}
 use Rattle.std.specs.Option.{option_map, option_and_then}
 use Rattle.std.specs.Str.{bytes_eq}
 use Rattle.etm_types.specs.Settings.{Sizes, AreSettings, is_vmid_size, is_cid_size}
+use Rattle.trace_cmd.specs.declared.words.CommandName.TheVariants as name
+use Rattle.trace_cmd.specs.declared.words.CommandOption.{CommandOption}
+use Rattle.trace_cmd.specs.declared.words.CommandOption.TheVariants as option
 use Rattle.trace_cmd.specs.declared.words.Layout.{Layout}
 use Rattle.trace_cmd.specs.declared.words.Layout.TheVariants.{Raw, Frames}
-use Rattle.program_image.specs.Line.{decimal_of}
-use Rattle.trace_cmd.specs.Words.{Command, Path, Packets, Retired, Trace, is_image_word, layout_at, option_at, sizes_of, sizes_at, only_image}
-use Rattle.trace_cmd.specs.Words.{path_of, packets_of, meaning}
-use Rattle.trace_cmd.specs.CommandLines.{IsLayout, IsOption, IsPathLine, IsPacketsLine, IsRetiredLine, IsTraceLine}
+use Rattle.trace_cmd.specs.Words.{Command, CommandRow, Path, Packets, Retired, Seen, Trace, command_in, is_dashed, is_seen, is_whole, layout_in}
+use Rattle.trace_cmd.specs.Words.{meaning, name_of, nothing_seen, number_of, row, seen_of, sizes_in, sizes_of, takes_value, with_dashed, with_option}
+use Rattle.trace_cmd.specs.Words.{with_value, with_word}
+use Rattle.trace_cmd.specs.CommandLines.{Piece, Apart, Joined, Flag, Image, IsEnd, IsLayout, IsLine, IsNumber, IsPiece, IsPathLine, IsPacketsLine}
+use Rattle.trace_cmd.specs.CommandLines.{IsRetiredLine, IsTraceLine, images_of, in_row, value_for, values_of, word_of, words_of}
+use Rattle.trace_cmd.proofs.WordLemmas.{within}
+use Rattle.trace_cmd.proofs.WordTurns.{Has, Turn, Ends, Waits, Joins, Flags, Values, Images, turn}
 
--- ---- an option
+-- ---- what was seen, as lists
 
--- an option that was found stands at the front of the words
-pub record Found (name : List ℕ) (default : ℕ) (words : List (List ℕ)) (n : ℕ) (rest : List (List ℕ)) : Type 0 where
-  pub front : List (List ℕ)
-  pub is : IsOption name default front n
-  pub row : words ≡ front ++ rest
+abbrev listed : Option (List ℕ) → List (List ℕ)
+listed None = []
+listed (Some value) = value ∷ []
 
-absent : (name : List ℕ) (default : ℕ) (words : List (List ℕ)) (n : ℕ) (rest : List (List ℕ))
-    → ◌≡◌ {A = Option (ℕ × List (List ℕ))} (Some (default, words)) (Some (n, rest)) → Found name default words n rest
-absent name default words n rest e =
-    let p : ◌≡◌ {A = ℕ × List (List ℕ)} (default, words) (n, rest) = cc in
-    record { front = []; is = sym (ap (λ (q : ℕ × List (List ℕ)). q.0) p); row = ap (λ (q : ℕ × List (List ℕ)). q.1) p }
+-- the values of an option that were seen, and of a flag an empty one
+abbrev given : CommandOption → Seen → List (List ℕ)
+given option.Raw seen = if seen.raw then [] ∷ [] else []
+given option.Depth seen = listed seen.depth
+given option.Vmid seen = listed seen.vmid
+given option.Cid seen = listed seen.cid
 
-present : (name : List ℕ) (default : ℕ) (word number : List ℕ) (more : List (List ℕ)) (n : ℕ) (rest : List (List ℕ)) (found : Option ℕ)
-    → decimal_of number ≡ found → word ≡ name
-    → option_map {U = ℕ × List (List ℕ)} (λ m. (m, more)) found ≡ Some (n, rest) → Found name default (word ∷ number ∷ more) n rest
-present name default word number more n rest None is same e = absurd cc
-present name default word number more n rest (Some m) is same e =
-    let p : ◌≡◌ {A = ℕ × List (List ℕ)} (m, more) (n, rest) = cc in
+none_listed : (o : Option (List ℕ)) → is_some o ≡ false → listed o ≡ []
+none_listed None e = refl
+none_listed (Some v) e = absurd cc
+
+-- a flag has no value
+abbrev IsValueOf : CommandOption → List ℕ → Type 0
+IsValueOf o value = (takes_value o ≡ true) ⊎ (value ≡ [])
+
+no_value : (value : List ℕ) → IsValueOf option.Raw value → value ≡ []
+no_value value (inl e) = absurd cc
+no_value value (inr e) = e
+
+-- an option that is seen adds its value
+given_more : (p o : CommandOption) (value : List ℕ) (seen : Seen) (values : List (List ℕ)) → IsValueOf o value → is_seen o seen ≡ false
+    → given p (with_value o value seen) ++ values ≡ given p seen ++ value_for p o value values
+given_more option.Raw option.Raw value seen values is none = simp (none, no_value value is)
+given_more option.Depth option.Depth value seen values is none = rw (none_listed seen.depth none) refl
+given_more option.Vmid option.Vmid value seen values is none = rw (none_listed seen.vmid none) refl
+given_more option.Cid option.Cid value seen values is none = rw (none_listed seen.cid none) refl
+given_more option.Raw option.Depth value seen values is none = refl
+given_more option.Raw option.Vmid value seen values is none = refl
+given_more option.Raw option.Cid value seen values is none = refl
+given_more option.Depth option.Raw value seen values is none = refl
+given_more option.Depth option.Vmid value seen values is none = refl
+given_more option.Depth option.Cid value seen values is none = refl
+given_more option.Vmid option.Raw value seen values is none = refl
+given_more option.Vmid option.Depth value seen values is none = refl
+given_more option.Vmid option.Cid value seen values is none = refl
+given_more option.Cid option.Raw value seen values is none = refl
+given_more option.Cid option.Depth value seen values is none = refl
+given_more option.Cid option.Vmid value seen values is none = refl
+
+-- the rest of what is seen stays
+record Stays (seen next : Seen) : Type 0 where
+  waits : next.waits ≡ None
+  ended : next.ended ≡ seen.ended
+  image : next.image ≡ seen.image
+
+value_stays : (o : CommandOption) (value : List ℕ) (seen : Seen) → Stays seen (with_value o value seen)
+value_stays option.Raw value seen = record { waits = refl; ended = refl; image = refl }
+value_stays option.Depth value seen = record { waits = refl; ended = refl; image = refl }
+value_stays option.Vmid value seen = record { waits = refl; ended = refl; image = refl }
+value_stays option.Cid value seen = record { waits = refl; ended = refl; image = refl }
+
+given_waits : (p : CommandOption) (waits : Option CommandOption) (seen : Seen) → given p (record seen { waits = waits }) ≡ given p seen
+given_waits option.Raw waits seen = refl
+given_waits option.Depth waits seen = refl
+given_waits option.Vmid waits seen = refl
+given_waits option.Cid waits seen = refl
+
+given_ended : (p : CommandOption) (ended : Bool) (seen : Seen) → given p (record seen { ended = ended }) ≡ given p seen
+given_ended option.Raw ended seen = refl
+given_ended option.Depth ended seen = refl
+given_ended option.Vmid ended seen = refl
+given_ended option.Cid ended seen = refl
+
+given_image : (p : CommandOption) (image : Option (List ℕ)) (seen : Seen) → given p (record seen { image = image }) ≡ given p seen
+given_image option.Raw image seen = refl
+given_image option.Depth image seen = refl
+given_image option.Vmid image seen = refl
+given_image option.Cid image seen = refl
+
+-- ---- words that mean something are pieces
+
+then_some : {X Y : Type 0} (o : Option X) (f : X → Option Y) (y : Y) → option_and_then f o ≡ Some y → (x : X) × (o ≡ Some x) × (f x ≡ Some y)
+then_some None f y e = absurd cc
+then_some (Some x) f y e = (x, refl, e)
+
+map_some : {X Y : Type 0} (o : Option X) (f : X → Y) (y : Y) → option_map f o ≡ Some y → (x : X) × (o ≡ Some x) × (f x ≡ y)
+map_some None f y e = absurd cc
+map_some (Some x) f y e = (x, refl, cc)
+
+whole_by : (row : CommandRow) (seen end : Seen) (b : Bool) → is_whole row seen ≡ b → seen_of row seen [] ≡ Some end → seen ≡ end
+whole_by row seen end true is e = let f : seen_of row seen [] ≡ Some seen = simp is in let g = sym f ∙ e in cc
+whole_by row seen end false is e = let f : seen_of row seen [] ≡ None = simp is in absurd (let g = sym f ∙ e in cc)
+
+-- what is whole waits for no value
+whole_waits : (row : CommandRow) (seen : Seen) (waits : Option CommandOption) (b : Bool) → seen.waits ≡ waits → is_whole row seen ≡ b
+    → (end : Seen) → seen_of row seen [] ≡ Some end → seen.waits ≡ None
+whole_waits row seen None b is whole end e = is
+whole_waits row seen (Some o) b is whole end e =
+    let f : is_whole row seen ≡ false = simp is in let g : seen_of row seen [] ≡ None = simp f in absurd (let h = sym g ∙ e in cc)
+
+-- behind `--`, the words are positionals
+record Behind (row : CommandRow) (seen end : Seen) (words : List (List ℕ)) : Type 0 where
+  values : (o : CommandOption) → given o end ≡ given o seen
+  images : listed end.image ≡ listed seen.image ++ words
+  allowed : (row.has_image ≡ true) ⊎ (words ≡ [])
+
+no_more : (seen end : Seen) → seen ≡ end → listed end.image ≡ listed seen.image ++ []
+no_more seen end e = ap (λ (s : Seen). listed s.image) (sym e) ∙ ending seen.image
+  where
+    ending : (o : Option (List ℕ)) → listed o ≡ listed o ++ []
+    ending None = refl
+    ending (Some v) = refl
+
+one_image : (seen next end : Seen) (word : List ℕ) (words : List (List ℕ)) → seen.image ≡ None → record seen { image = Some word } ≡ next
+    → listed end.image ≡ listed next.image ++ words → listed end.image ≡ listed seen.image ++ word ∷ words
+one_image seen next end word words none next_is images =
+    let now : listed next.image ≡ word ∷ [] = ap (λ (s : Seen). listed s.image) (sym next_is) in
+    let before : listed seen.image ≡ [] = ap listed none in images ∙ ap (λ (l : List (List ℕ)). l ++ words) now
+    ∙ ap (λ (l : List (List ℕ)). l ++ word ∷ words) (sym before)
+
+behind_turn : (row : CommandRow) (seen next end : Seen) (word : List ℕ) (words : List (List ℕ)) → seen.ended ≡ true → Turn row seen word next
+    → (next.ended ≡ true → next.waits ≡ None → Behind row next end words) → Behind row seen end (word ∷ words)
+behind_turn row seen next end word words on (Ends off _ _ _) rest = absurd (let f = sym on ∙ off in cc)
+behind_turn row seen next end word words on (Waits o off _ _ _ _ _ _) rest = absurd (let f = sym on ∙ off in cc)
+behind_turn row seen next end word words on (Joins o v off _ _ _ _ _ _) rest = absurd (let f = sym on ∙ off in cc)
+behind_turn row seen next end word words on (Flags o off _ _ _ _ _ _) rest = absurd (let f = sym on ∙ off in cc)
+behind_turn row seen next end word words on (Values o off _ _ _) rest = absurd (let f = sym on ∙ off in cc)
+behind_turn row seen next end word words on (Images free how has none next_is) rest =
+    let more = rest (ap (λ (s : Seen). s.ended) (sym next_is) ∙ on) (ap (λ (s : Seen). s.waits) (sym next_is) ∙ free) in
     record {
-      front = word ∷ number ∷ [];
-      is = (same, is ∙ ap (λ (q : ℕ × List (List ℕ)). Some q.0) p);
-      row = ap (λ (q : ℕ × List (List ℕ)). word ∷ number ∷ q.1) p;
+      values = λ o. more.values o ∙ ap (given o) (sym next_is) ∙ given_image o (Some word) seen;
+      images = one_image seen next end word words none next_is more.images;
+      allowed = inl has;
     }
 
-option_by : (name : List ℕ) (default : ℕ) (word number : List ℕ) (more : List (List ℕ)) (n : ℕ) (rest : List (List ℕ)) (b : Bool)
-    → bytes_eq word name ≡ b → option_at name default (word ∷ number ∷ more) ≡ Some (n, rest) → Found name default (word ∷ number ∷ more) n rest
-option_by name default word number more n rest true is e =
-    present name default word number more n rest (decimal_of number) refl ((bytes_eq-Decides word name).0 is) (simp is at e)
-option_by name default word number more n rest false is e = absent name default (word ∷ number ∷ more) n rest (simp is at e)
+behind : (row : CommandRow) (words : List (List ℕ)) (seen end : Seen) → seen.ended ≡ true → seen.waits ≡ None → seen_of row seen words ≡ Some end
+    → Behind row seen end words
+behind row [] seen end on free e =
+    let same = whole_by row seen end (is_whole row seen) refl e in
+    record { values = λ o. ap (given o) (sym same); images = no_more seen end same; allowed = inr refl }
+behind row (word ∷ words) seen end on free e =
+    let step = then_some (with_word row word seen) (λ next. seen_of row next words) end e in
+    behind_turn row seen step.0 end word words on (turn row seen word step.0 (λ _. free) step.1)
+    (λ still none. behind row words step.0 end still none step.2)
 
-pub found : (name : List ℕ) (default : ℕ) (words : List (List ℕ)) (n : ℕ) (rest : List (List ℕ)) → option_at name default words ≡ Some (n, rest)
-    → Found name default words n rest
-found name default [] n rest e = absent name default [] n rest e
-found name default (word ∷ []) n rest e = absent name default (word ∷ []) n rest e
-found name default (word ∷ number ∷ more) n rest e = option_by name default word number more n rest (bytes_eq word name) refl e
+-- the option that waits stands before the words
+abbrev front : Option CommandOption → List (List ℕ) → List (List ℕ)
+front None words = words
+front (Some o) words = word_of o ∷ words
 
--- an option is found, where the words behind it do not begin with its name
-pub taken : (name : List ℕ) (default : ℕ) (front : List (List ℕ)) (n : ℕ) (rest : List (List ℕ)) → IsOption name default front n
-    → option_at name default rest ≡ Some (default, rest) → option_at name default (front ++ rest) ≡ Some (n, rest)
-taken name default [] n rest is other = other ∙ ap (λ m. Some (m, rest)) (sym is)
-taken name default (word ∷ []) n rest is other = absurd is
-taken name default (word ∷ number ∷ []) n rest (same, is) other =
-    let test : bytes_eq word name ≡ true = (bytes_eq-Decides word name).1 same in simp (test, is)
-taken name default (word ∷ number ∷ more ∷ words) n rest is other = absurd is
+-- an option that waits is the command's, takes a value and was not seen
+abbrev MayWait : CommandRow → Seen → Option CommandOption → Type 0
+MayWait row seen None = Unit {0}
+MayWait row seen (Some o) = Has row o × (takes_value o ≡ true) × (is_seen o seen ≡ false)
 
--- ---- sizes
+record Parts (row : CommandRow) (seen end : Seen) (words : List (List ℕ)) : Type 0 where
+  pieces : List Piece
+  ended : List (List ℕ)
+  behind : List (List ℕ)
+  row_is : front seen.waits words ≡ in_row pieces ended
+  are_pieces : All IsPiece pieces
+  end_is : IsEnd ended behind
+  values : (o : CommandOption) → given o end ≡ given o seen ++ values_of o pieces
+  images : listed end.image ≡ listed seen.image ++ (images_of pieces ++ behind)
+  has : (o : CommandOption) → Has row o ⊎ (values_of o pieces ≡ [])
+  allowed : (row.has_image ≡ true) ⊎ (images_of pieces ++ behind ≡ [])
 
--- numbers that are sizes, and those of the sizes
-sized_by : (a b e : Bool) (d v c : ℕ) (s : Sizes) → nat_le d 4096 ≡ a → is_vmid_size v ≡ b → is_cid_size c ≡ e → sizes_of d v c ≡ Some s
-    → (s ≡ record { depth = d; vmid_bytes = v; cid_bytes = c }) × AreSettings s
-sized_by true true true d v c s x y z e =
-    let same : record { depth = d; vmid_bytes = v; cid_bytes = c } ≡ s = let f = simp (x, y, z) at e in cc in
-    (sym same, subst AreSettings same (record { depth = grind (arith, nat_tests, x); vmid = y; cid = z }))
-sized_by true true false d v c s x y z e = let f = simp (x, y, z) at e in absurd cc
-sized_by true false b d v c s x y z e = let f = simp (x, y) at e in absurd cc
-sized_by false a b d v c s x y z e = let f = simp x at e in absurd cc
+nothing_more : (xs : List (List ℕ)) → xs ≡ xs ++ []
+nothing_more [] = refl
+nothing_more (x ∷ xs) = ap (λ (l : List (List ℕ)). x ∷ l) (nothing_more xs)
 
-pub sized : (d v c : ℕ) (s : Sizes) → sizes_of d v c ≡ Some s → (s ≡ record { depth = d; vmid_bytes = v; cid_bytes = c }) × AreSettings s
-sized d v c s e = sized_by (nat_le d 4096) (is_vmid_size v) (is_cid_size c) d v c s refl refl refl e
+-- an option with a value in front
+has_more : (row : CommandRow) (p o : CommandOption) (value : List ℕ) (values : List (List ℕ)) → Has row o → Has row p ⊎ (values ≡ [])
+    → Has row p ⊎ (value_for p o value values ≡ [])
+has_more row option.Raw option.Raw value values there rest = inl there
+has_more row option.Depth option.Depth value values there rest = inl there
+has_more row option.Vmid option.Vmid value values there rest = inl there
+has_more row option.Cid option.Cid value values there rest = inl there
+has_more row option.Raw option.Depth value values there rest = rest
+has_more row option.Raw option.Vmid value values there rest = rest
+has_more row option.Raw option.Cid value values there rest = rest
+has_more row option.Depth option.Raw value values there rest = rest
+has_more row option.Depth option.Vmid value values there rest = rest
+has_more row option.Depth option.Cid value values there rest = rest
+has_more row option.Vmid option.Raw value values there rest = rest
+has_more row option.Vmid option.Depth value values there rest = rest
+has_more row option.Vmid option.Cid value values there rest = rest
+has_more row option.Cid option.Raw value values there rest = rest
+has_more row option.Cid option.Depth value values there rest = rest
+has_more row option.Cid option.Vmid value values there rest = rest
 
-pub sizes_there : (s : Sizes) → AreSettings s → sizes_of s.depth s.vmid_bytes s.cid_bytes ≡ Some s
+front_free : (seen : Seen) (words : List (List ℕ)) → seen.waits ≡ None → front seen.waits words ≡ words
+front_free seen words free = ap (λ (w : Option CommandOption). front w words) free
+
+-- a piece in front that gives an option its value
+piece_more : (row : CommandRow) (seen next end : Seen) (words before : List (List ℕ)) (o : CommandOption) (value : List ℕ) (piece : Piece)
+    → front seen.waits before ≡ words_of piece ++ words → IsPiece piece
+    → ((p : CommandOption) (ps : List Piece) → values_of p (piece ∷ ps) ≡ value_for p o value (values_of p ps))
+    → ((ps : List Piece) → images_of (piece ∷ ps) ≡ images_of ps) → IsValueOf o value → Has row o → is_seen o seen ≡ false
+    → with_value o value seen ≡ next → Parts row next end words → Parts row seen end before
+piece_more row seen next end words before o value piece spelled is says shows fits there none next_is more =
+    let stays = value_stays o value seen in let free : next.waits ≡ None = ap (λ (s : Seen). s.waits) (sym next_is) ∙ stays.waits in
+    let image : next.image ≡ seen.image = ap (λ (s : Seen). s.image) (sym next_is) ∙ stays.image in
+    record {
+      pieces = piece ∷ more.pieces;
+      ended = more.ended;
+      behind = more.behind;
+      row_is = spelled ∙ ap (λ (w : List (List ℕ)). words_of piece ++ w) (sym (front_free next words free) ∙ more.row_is);
+      are_pieces = All-cons IsPiece piece more.pieces is more.are_pieces;
+      end_is = more.end_is;
+      values = λ p. more.values p ∙ ap (λ (s : Seen). given p s ++ values_of p more.pieces) (sym next_is)
+          ∙ given_more p o value seen (values_of p more.pieces) fits none ∙ ap (λ (l : List (List ℕ)). given p seen ++ l) (sym (says p more.pieces));
+      images = more.images ∙ ap (λ (i : Option (List ℕ)). listed i ++ (images_of more.pieces ++ more.behind)) image
+          ∙ ap (λ (l : List (List ℕ)). listed seen.image ++ (l ++ more.behind)) (sym (shows more.pieces));
+      has = λ p. subst (λ (l : List (List ℕ)). Has row p ⊎ (l ≡ [])) (sym (says p more.pieces))
+          (has_more row p o value (values_of p more.pieces) there (more.has p));
+      allowed = subst (λ (l : List (List ℕ)). (row.has_image ≡ true) ⊎ (l ++ more.behind ≡ [])) (sym (shows more.pieces)) more.allowed;
+    }
+
+not_yet : (seen : Seen) → seen.ended ≡ true → seen.ended ≡ false → ⊥
+not_yet seen on off = let f = sym on ∙ off in absurd cc
+
+-- what is known of the next state, from which the words behind are pieces
+abbrev Next : CommandRow → Seen → Seen → List (List ℕ) → Type 0
+Next row next end words = next.ended ≡ false → MayWait row next next.waits → Parts row next end words
+
+waits_free : (row : CommandRow) (seen : Seen) → seen.waits ≡ None → MayWait row seen seen.waits
+waits_free row seen free = subst (MayWait row seen) (sym free) tt
+
+waiting : (row : CommandRow) (seen : Seen) (o : CommandOption) → seen.waits ≡ Some o → MayWait row seen seen.waits
+    → Has row o × (takes_value o ≡ true) × (is_seen o seen ≡ false)
+waiting row seen o is may = subst (MayWait row seen) is may
+
+seen_waits : (p : CommandOption) (waits : Option CommandOption) (seen : Seen) → is_seen p (record seen { waits = waits }) ≡ is_seen p seen
+seen_waits option.Raw waits seen = refl
+seen_waits option.Depth waits seen = refl
+seen_waits option.Vmid waits seen = refl
+seen_waits option.Cid waits seen = refl
+
+value_next : (row : CommandRow) (seen next end : Seen) (words before : List (List ℕ)) (o : CommandOption) (value : List ℕ) → seen.ended ≡ false
+    → with_value o value seen ≡ next → Next row next end words → Parts row next end words
+value_next row seen next end words before o value off next_is rest =
+    let stays = value_stays o value seen in
+    rest (ap (λ (s : Seen). s.ended) (sym next_is) ∙ (stays.ended ∙ off)) (waits_free row next (ap (λ (s : Seen). s.waits) (sym next_is) ∙ stays.waits))
+
+part_turn : (row : CommandRow) (seen next end : Seen) (word : List ℕ) (words : List (List ℕ)) → seen.ended ≡ false → MayWait row seen seen.waits
+    → Turn row seen word next → seen_of row next words ≡ Some end → Next row next end words → Parts row seen end (word ∷ words)
+part_turn row seen next end word words off may (Ends _ free is next_is) e rest =
+    let more = behind row words next end (ap (λ (s : Seen). s.ended) (sym next_is)) (ap (λ (s : Seen). s.waits) (sym next_is) ∙ free) e in
+    record {
+      pieces = [];
+      ended = word ∷ words;
+      behind = words;
+      row_is = front_free seen (word ∷ words) free;
+      are_pieces = All-nil IsPiece;
+      end_is = (is, refl);
+      values = λ o. more.values o ∙ ap (given o) (sym next_is) ∙ given_ended o true seen ∙ nothing_more (given o seen);
+      images = more.images ∙ ap (λ (s : Seen). listed s.image ++ words) (sym next_is);
+      has = λ o. inr refl;
+      allowed = more.allowed;
+    }
+part_turn row seen next end word words off may (Waits o _ free there takes none is next_is) e rest =
+    let next_waits : next.waits ≡ Some o = ap (λ (s : Seen). s.waits) (sym next_is) in
+    let next_none : is_seen o next ≡ false = ap (is_seen o) (sym next_is) ∙ (seen_waits o (Some o) seen ∙ none) in
+    let more = rest (ap (λ (s : Seen). s.ended) (sym next_is) ∙ off) (subst (MayWait row next) (sym next_waits) (there, takes, next_none)) in
+    record {
+      pieces = more.pieces;
+      ended = more.ended;
+      behind = more.behind;
+      row_is = front_free seen (word ∷ words) free ∙ ap (λ (w : List ℕ). w ∷ words) is
+          ∙ ap (λ (w : Option CommandOption). front w words) (sym next_waits) ∙ more.row_is;
+      are_pieces = more.are_pieces;
+      end_is = more.end_is;
+      values = λ p. more.values p ∙ ap (λ (s : Seen). given p s ++ values_of p more.pieces) (sym next_is)
+          ∙ ap (λ (l : List (List ℕ)). l ++ values_of p more.pieces) (given_waits p (Some o) seen);
+      images = more.images ∙ ap (λ (s : Seen). listed s.image ++ (images_of more.pieces ++ more.behind)) (sym next_is);
+      has = more.has;
+      allowed = more.allowed;
+    }
+part_turn row seen next end word words off may (Joins o value _ free there takes none is next_is) e rest =
+    piece_more row seen next end words (word ∷ words) o value (Joined o value) (front_free seen (word ∷ words) free ∙ ap (λ (w : List ℕ). w ∷ words) is) takes
+    (λ p ps. refl) (λ ps. refl) (inl takes) there none next_is (value_next row seen next end words words o value off next_is rest)
+part_turn row seen next end word words off may (Flags o _ free there takes none is next_is) e rest =
+    piece_more row seen next end words (word ∷ words) o [] (Flag o) (front_free seen (word ∷ words) free ∙ ap (λ (w : List ℕ). w ∷ words) is) takes
+    (λ p ps. refl) (λ ps. refl) (inr refl) there none next_is (value_next row seen next end words words o [] off next_is rest)
+part_turn row seen next end word words off may (Values o _ waits plain next_is) e rest =
+    let w = waiting row seen o waits may in
+    piece_more row seen next end words (word ∷ words) o word (Apart o word) (ap (λ (w : Option CommandOption). front w (word ∷ words)) waits)
+    (w.1, plain) (λ p ps. refl) (λ ps. refl) (inl w.1) w.0 w.2 next_is (value_next row seen next end words words o word off next_is rest)
+part_turn row seen next end word words off may (Images free (inl on) has none next_is) e rest = absurd (not_yet seen on off)
+part_turn row seen next end word words off may (Images free (inr plain) has none next_is) e rest =
+    let next_free : next.waits ≡ None = ap (λ (s : Seen). s.waits) (sym next_is) ∙ free in
+    let more = rest (ap (λ (s : Seen). s.ended) (sym next_is) ∙ off) (waits_free row next next_free) in
+    record {
+      pieces = Image word ∷ more.pieces;
+      ended = more.ended;
+      behind = more.behind;
+      row_is = front_free seen (word ∷ words) free ∙ ap (λ (w : List (List ℕ)). word ∷ w) (sym (front_free next words next_free) ∙ more.row_is);
+      are_pieces = All-cons IsPiece (Image word) more.pieces plain more.are_pieces;
+      end_is = more.end_is;
+      values = λ p. more.values p ∙ ap (λ (s : Seen). given p s ++ values_of p more.pieces) (sym next_is)
+          ∙ ap (λ (l : List (List ℕ)). l ++ values_of p more.pieces) (given_image p (Some word) seen);
+      images = one_image seen next end word (images_of more.pieces ++ more.behind) none next_is more.images;
+      has = more.has;
+      allowed = inl has;
+    }
+
+parts : (row : CommandRow) (words : List (List ℕ)) (seen end : Seen) → seen.ended ≡ false → MayWait row seen seen.waits → seen_of row seen words ≡ Some end
+    → Parts row seen end words
+parts row [] seen end off may e =
+    let same = whole_by row seen end (is_whole row seen) refl e in let free = whole_waits row seen seen.waits (is_whole row seen) refl refl end e in
+    record {
+      pieces = [];
+      ended = [];
+      behind = [];
+      row_is = front_free seen [] free;
+      are_pieces = All-nil IsPiece;
+      end_is = refl;
+      values = λ o. ap (given o) (sym same) ∙ nothing_more (given o seen);
+      images = no_more seen end same;
+      has = λ o. inr refl;
+      allowed = inr refl;
+    }
+parts row (word ∷ words) seen end off may e =
+    let step = then_some (with_word row word seen) (λ next. seen_of row next words) end e in
+    part_turn row seen step.0 end word words off may (turn row seen word step.0 (λ on. absurd (not_yet seen on off)) step.1) step.2
+    (λ still next_may. parts row words step.0 end still next_may step.2)
+
+-- ---- numbers and sizes
+
+-- sizes that are there have these numbers, and are settings
+sized_by : (d v c : ℕ) (s : Sizes) (b : Bool) → (nat_le d 4096 && is_vmid_size v && is_cid_size c) ≡ b → sizes_of d v c ≡ Some s
+    → record { depth = d; vmid_bytes = v; cid_bytes = c } ≡ s
+sized_by d v c s true is e = let f = simp is at e in cc
+sized_by d v c s false is e = absurd (let f = simp is at e in cc)
+
+record SizesIn (seen : Seen) (s : Sizes) : Type 0 where
+  depth_is : number_of 16 seen.depth ≡ Some s.depth
+  vmid_is : number_of 1 seen.vmid ≡ Some s.vmid_bytes
+  cid_is : number_of 4 seen.cid ≡ Some s.cid_bytes
+  within : AreSettings s
+
+sizes_found : (seen : Seen) (s : Sizes) → sizes_in seen ≡ Some s → SizesIn seen s
+sizes_found seen s e =
+    let d = then_some (number_of 16 seen.depth) _ s e in let v = then_some (number_of 1 seen.vmid) _ s d.2 in
+    let c = then_some (number_of 4 seen.cid) _ s v.2 in
+    let same = sized_by d.0 v.0 c.0 s (nat_le d.0 4096 && is_vmid_size v.0 && is_cid_size c.0) refl c.2 in
+    record {
+      depth_is = d.1 ∙ ap (λ (t : Sizes). Some t.depth) same;
+      vmid_is = v.1 ∙ ap (λ (t : Sizes). Some t.vmid_bytes) same;
+      cid_is = c.1 ∙ ap (λ (t : Sizes). Some t.cid_bytes) same;
+      within = subst (λ (o : Option Sizes). IfSome o AreSettings) c.2 (within d.0 v.0 c.0);
+    }
+
+sizes_there : (s : Sizes) → AreSettings s → sizes_of s.depth s.vmid_bytes s.cid_bytes ≡ Some s
 sizes_there s are =
     let deep : nat_le s.depth 4096 ≡ true = grind (arith, nat_tests, are.depth) in let vmid : is_vmid_size s.vmid_bytes ≡ true = are.vmid in
     let cid : is_cid_size s.cid_bytes ≡ true = are.cid in simp (deep, vmid, cid)
 
--- ---- words one after the other
+sizes_said : (seen : Seen) (s : Sizes) → SizesIn seen s → sizes_in seen ≡ Some s
+sizes_said seen s are = let d = are.depth_is in let v = are.vmid_is in let c = are.cid_is in let z = sizes_there s are.within in simp (d, v, c, z)
 
-then_some : {A B : Type 0} (x : Option A) (f : A → Option B) (b : B) → option_and_then f x ≡ Some b → (a : A) × (x ≡ Some a) × (f a ≡ Some b)
-then_some None f b e = absurd cc
-then_some (Some a) f b e = (a, refl, e)
+-- a number is that of the one value that is listed
+number_found : (default : ℕ) (value : Option (List ℕ)) (n : ℕ) → number_of default value ≡ Some n → IsNumber default (listed value) n
+number_found default None n e = sym cc
+number_found default (Some value) n e = e
 
-map_some : {A B : Type 0} (x : Option A) (f : A → B) (b : B) → option_map f x ≡ Some b → (a : A) × (x ≡ Some a) × (f a ≡ b)
-map_some None f b e = absurd cc
-map_some (Some a) f b e = (a, refl, cc)
+number_said : (default : ℕ) (value : Option (List ℕ)) (n : ℕ) → IsNumber default (listed value) n → number_of default value ≡ Some n
+number_said default None n e = ap Some (sym e)
+number_said default (Some value) n e = e
 
--- sizes that were found stand at the front of the words
-record SizesFound (depth : ℕ) (words : List (List ℕ)) (s : Sizes) (rest : List (List ℕ)) : Type 0 where
-  vmid : List (List ℕ)
-  cid : List (List ℕ)
-  row : words ≡ vmid ++ (cid ++ rest)
-  depth_is : s.depth ≡ depth
-  vmid_is : IsOption (codes "--vmid") 1 vmid s.vmid_bytes
-  cid_is : IsOption (codes "--cid") 4 cid s.cid_bytes
-  within : AreSettings s
+layout_found : (raw : Bool) → IsLayout (if raw then [] ∷ [] else []) (if raw then Raw else Frames)
+layout_found true = refl
+layout_found false = refl
 
-sizes_found : (depth : ℕ) (words : List (List ℕ)) (s : Sizes) (rest : List (List ℕ)) → sizes_at depth words ≡ Some (s, rest) → SizesFound depth words s rest
-sizes_found depth words s rest e =
-    let v = then_some (option_at (codes "--vmid") 1 words) _ (s, rest) e in let c = then_some (option_at (codes "--cid") 4 v.0.1) _ (s, rest) v.2 in
-    let z = map_some (sizes_of depth v.0.0 c.0.0) _ (s, rest) c.2 in
-    let vmid = found (codes "--vmid") 1 words v.0.0 v.0.1 v.1 in let cid = found (codes "--cid") 4 v.0.1 c.0.0 c.0.1 c.1 in
-    let are = sized depth v.0.0 c.0.0 z.0 z.1 in let same : z.0 ≡ s = ap (λ (q : Sizes × List (List ℕ)). q.0) z.2 in
-    let parts = sym same ∙ are.0 in
+layout_said : (raw : Bool) (layout : Layout) → IsLayout (if raw then [] ∷ [] else []) layout → (if raw then Raw else Frames) ≡ layout
+layout_said true layout e = sym e
+layout_said false layout e = sym e
+
+image_said : (image : Option (List ℕ)) (word : List ℕ) → listed image ≡ word ∷ [] → image ≡ Some word
+image_said None word e = absurd cc
+image_said (Some v) word e = ap Some cc
+
+-- ---- pieces are taken
+
+abbrev OnceAtMost : List (List ℕ) → Type 0
+OnceAtMost [] = Unit {0}
+OnceAtMost (x ∷ []) = Unit {0}
+OnceAtMost (x ∷ y ∷ xs) = ⊥
+
+not_listed : (x : Option (List ℕ)) (value : List ℕ) (values : List (List ℕ)) → OnceAtMost (listed x ++ value ∷ values) → is_some x ≡ false
+not_listed None value values once = refl
+not_listed (Some v) value values once = absurd once
+
+not_raw : (raw : Bool) (value : List ℕ) (values : List (List ℕ)) → OnceAtMost ((if raw then [] ∷ [] else []) ++ value ∷ values) → raw ≡ false
+not_raw false value values once = refl
+not_raw true value values once = absurd once
+
+not_seen : (o : CommandOption) (value : List ℕ) (seen : Seen) (values : List (List ℕ)) → OnceAtMost (given o seen ++ value_for o o value values)
+    → is_seen o seen ≡ false
+not_seen option.Raw value seen values once = not_raw seen.raw value values once
+not_seen option.Depth value seen values once = not_listed seen.depth value values once
+not_seen option.Vmid value seen values once = not_listed seen.vmid value values once
+not_seen option.Cid value seen values once = not_listed seen.cid value values once
+
+fewer_by : (b : Bool) (value : List ℕ) (values : List (List ℕ)) → ◌≡◌ {A = List (List ℕ)} (if b then value ∷ values else values) [] → values ≡ []
+fewer_by true value values e = absurd cc
+fewer_by false value values e = e
+
+has_fewer : (row : CommandRow) (p o : CommandOption) (value : List ℕ) (values : List (List ℕ)) → Has row p ⊎ (value_for p o value values ≡ [])
+    → Has row p ⊎ (values ≡ [])
+has_fewer row p o value values (inl has) = inl has
+has_fewer row p o value values (inr none) = inr (fewer_by (bytes_eq (name_of p) (name_of o)) value values none)
+
+has_this : (row : CommandRow) (o : CommandOption) (value : List ℕ) (values : List (List ℕ)) → Has row o ⊎ (value_for o o value values ≡ []) → Has row o
+has_this row o value values (inl has) = has
+has_this row option.Raw value values (inr none) = absurd cc
+has_this row option.Depth value values (inr none) = absurd cc
+has_this row option.Vmid value values (inr none) = absurd cc
+has_this row option.Cid value values (inr none) = absurd cc
+
+-- the word of an option of the command
+dashed_alone : (row : CommandRow) (o : CommandOption) (seen : Seen) → Has row o → with_dashed row (word_of o) seen ≡ with_option o None seen
+dashed_alone row option.Raw seen has = ap (option_and_then (λ p. with_option p None seen)) has
+dashed_alone row option.Depth seen has = ap (option_and_then (λ p. with_option p None seen)) has
+dashed_alone row option.Vmid seen has = ap (option_and_then (λ p. with_option p None seen)) has
+dashed_alone row option.Cid seen has = ap (option_and_then (λ p. with_option p None seen)) has
+
+dashed_joined : (row : CommandRow) (o : CommandOption) (value : List ℕ) (seen : Seen) → Has row o
+    → with_dashed row (word_of o ++ 61 ∷ value) seen ≡ with_option o (Some value) seen
+dashed_joined row option.Raw value seen has = ap (option_and_then (λ p. with_option p (Some value) seen)) has
+dashed_joined row option.Depth value seen has = ap (option_and_then (λ p. with_option p (Some value) seen)) has
+dashed_joined row option.Vmid value seen has = ap (option_and_then (λ p. with_option p (Some value) seen)) has
+dashed_joined row option.Cid value seen has = ap (option_and_then (λ p. with_option p (Some value) seen)) has
+
+taken_alone : (row : CommandRow) (o : CommandOption) (seen : Seen) → seen.waits ≡ None → seen.ended ≡ false → Has row o
+    → with_word row (word_of o) seen ≡ with_option o None seen
+taken_alone row o seen free off has =
+    let f : with_word row (word_of o) seen ≡ with_dashed row (word_of o) seen = simp (free, off) in f ∙ dashed_alone row o seen has
+
+taken_joined : (row : CommandRow) (o : CommandOption) (value : List ℕ) (seen : Seen) → seen.waits ≡ None → seen.ended ≡ false → Has row o
+    → with_word row (word_of o ++ 61 ∷ value) seen ≡ with_option o (Some value) seen
+taken_joined row o value seen free off has =
+    let f : with_word row (word_of o ++ 61 ∷ value) seen ≡ with_dashed row (word_of o ++ 61 ∷ value) seen = simp (free, off) in
+    f ∙ dashed_joined row o value seen has
+
+value_after : (o : CommandOption) (value : List ℕ) (seen : Seen) → with_value o value (record seen { waits = Some o }) ≡ with_value o value seen
+value_after option.Raw value seen = refl
+value_after option.Depth value seen = refl
+value_after option.Vmid value seen = refl
+value_after option.Cid value seen = refl
+
+-- what is seen of words that are taken
+record Taken (row : CommandRow) (seen : Seen) (pieces : List Piece) (behind words : List (List ℕ)) : Type 0 where
+  end : Seen
+  seen_is : seen_of row seen words ≡ Some end
+  values : (o : CommandOption) → given o end ≡ given o seen ++ values_of o pieces
+  images : listed end.image ≡ listed seen.image ++ (images_of pieces ++ behind)
+
+record Fits (row : CommandRow) (seen : Seen) (pieces : List Piece) (behind : List (List ℕ)) : Type 0 where
+  free : seen.waits ≡ None
+  once : (o : CommandOption) → OnceAtMost (given o seen ++ values_of o pieces)
+  one : OnceAtMost (listed seen.image ++ (images_of pieces ++ behind))
+  has : (o : CommandOption) → Has row o ⊎ (values_of o pieces ≡ [])
+  allowed : (row.has_image ≡ true) ⊎ (images_of pieces ++ behind ≡ [])
+  enough : (row.has_image ≡ false) ⊎ ((image : List ℕ) × (listed seen.image ++ (images_of pieces ++ behind) ≡ image ∷ []))
+
+one_more : (row : CommandRow) (seen next end : Seen) (word : List ℕ) (words : List (List ℕ)) → with_word row word seen ≡ Some next
+    → seen_of row next words ≡ Some end → seen_of row seen (word ∷ words) ≡ Some end
+one_more row seen next end word words step e = ap (option_and_then (λ n. seen_of row n words)) step ∙ e
+
+end_whole : (row : CommandRow) (seen : Seen) (image : Option (List ℕ)) → seen.image ≡ image → seen.waits ≡ None
+    → (row.has_image ≡ false) ⊎ ((v : List ℕ) × (listed image ++ ([] ++ []) ≡ v ∷ [])) → is_whole row seen ≡ true
+end_whole row seen (Some v) is free enough = simp (free, is)
+end_whole row seen None is free (inl none) = simp (free, is, none)
+end_whole row seen None is free (inr p) = let f = p.1 in absurd cc
+
+taken_end : (row : CommandRow) (seen : Seen) → Fits row seen [] [] → Taken row seen [] [] []
+taken_end row seen fits =
+    let whole = end_whole row seen seen.image refl fits.free fits.enough in
+    record { end = seen; seen_is = simp whole; values = λ o. nothing_more (given o seen); images = nothing_more (listed seen.image) }
+
+may_image : (row : CommandRow) (word : List ℕ) (words : List (List ℕ)) → (row.has_image ≡ true) ⊎ (word ∷ words ≡ []) → row.has_image ≡ true
+may_image row word words (inl has) = has
+may_image row word words (inr none) = absurd cc
+
+no_image : (image : Option (List ℕ)) → is_some image ≡ false → image ≡ None
+no_image None e = refl
+no_image (Some v) e = absurd cc
+
+-- a positional
+image_by : (row : CommandRow) (seen : Seen) (word : List ℕ) (ended : Bool) → seen.ended ≡ ended → seen.waits ≡ None
+    → (ended ≡ true) ⊎ (is_dashed word ≡ false) → row.has_image ≡ true → seen.image ≡ None
+    → with_word row word seen ≡ Some (record seen { image = Some word })
+image_by row seen word true is free how has none = simp (free, is, has, none)
+image_by row seen word false is free (inl on) has none = absurd cc
+image_by row seen word false is free (inr plain) has none = simp (free, is, plain, has, none)
+
+image_taken : (row : CommandRow) (seen : Seen) (word : List ℕ) → seen.waits ≡ None → (seen.ended ≡ true) ⊎ (is_dashed word ≡ false) → row.has_image ≡ true
+    → seen.image ≡ None → with_word row word seen ≡ Some (record seen { image = Some word })
+image_taken row seen word free how has none = image_by row seen word seen.ended refl free how has none
+
+fits_image : (row : CommandRow) (seen : Seen) (word : List ℕ) (pieces more : List Piece) (behind rest : List (List ℕ)) → seen.image ≡ None
+    → ((o : CommandOption) → values_of o pieces ≡ values_of o more) → images_of pieces ++ behind ≡ word ∷ (images_of more ++ rest)
+    → row.has_image ≡ true → Fits row seen pieces behind → Fits row (record seen { image = Some word }) more rest
+fits_image row seen word pieces more behind rest none says shows has fits =
+    let same : listed seen.image ++ (images_of pieces ++ behind) ≡ word ∷ (images_of more ++ rest) =
+    ap (λ (i : Option (List ℕ)). listed i ++ (images_of pieces ++ behind)) none ∙ shows in
     record {
-      vmid = vmid.front;
-      cid = cid.front;
-      row = vmid.row ∙ ap (λ r. vmid.front ++ r) (cid.row ∙ ap (λ (q : Sizes × List (List ℕ)). cid.front ++ q.1) z.2);
-      depth_is = ap (λ (t : Sizes). t.depth) parts;
-      vmid_is = subst (IsOption (codes "--vmid") 1 vmid.front) (sym (ap (λ (t : Sizes). t.vmid_bytes) parts)) vmid.is;
-      cid_is = subst (IsOption (codes "--cid") 4 cid.front) (sym (ap (λ (t : Sizes). t.cid_bytes) parts)) cid.is;
-      within = subst AreSettings same are.1;
+      free = fits.free;
+      once = λ o. subst (λ (l : List (List ℕ)). OnceAtMost (l ++ values_of o more)) (sym (given_image o (Some word) seen))
+          (subst (λ (l : List (List ℕ)). OnceAtMost (given o seen ++ l)) (says o) (fits.once o));
+      one = subst OnceAtMost same fits.one;
+      has = λ o. subst (λ (l : List (List ℕ)). Has row o ⊎ (l ≡ [])) (says o) (fits.has o);
+      allowed = inl has;
+      enough = subst (λ (l : List (List ℕ)). (row.has_image ≡ false) ⊎ ((image : List ℕ) × (l ≡ image ∷ []))) same fits.enough;
     }
 
--- an option of another name is passed over
-other_option : (name other : List ℕ) (default default' : ℕ) (front : List (List ℕ)) (n : ℕ) (rest : List (List ℕ)) → IsOption other default' front n
-    → bytes_eq other name ≡ false → option_at name default rest ≡ Some (default, rest)
-    → option_at name default (front ++ rest) ≡ Some (default, front ++ rest)
-other_option name other default default' [] n rest is differ e = e
-other_option name other default default' (word ∷ []) n rest is differ e = absurd is
-other_option name other default default' (word ∷ number ∷ []) n rest (same, is) differ e = rw same (simp differ)
-other_option name other default default' (word ∷ number ∷ more ∷ words) n rest is differ e = absurd is
+taken_image : (row : CommandRow) (seen : Seen) (word : List ℕ) (pieces more : List Piece) (behind rest words : List (List ℕ))
+    → (seen.ended ≡ true) ⊎ (is_dashed word ≡ false)
+    → ((o : CommandOption) → values_of o pieces ≡ values_of o more) → images_of pieces ++ behind ≡ word ∷ (images_of more ++ rest)
+    → Fits row seen pieces behind → (Fits row (record seen { image = Some word }) more rest → Taken row (record seen { image = Some word }) more rest words)
+    → Taken row seen pieces behind (word ∷ words)
+taken_image row seen word pieces more behind rest words how says shows fits go =
+    let none = no_image seen.image (not_listed seen.image word (images_of more ++ rest)
+    (subst (λ (l : List (List ℕ)). OnceAtMost (listed seen.image ++ l)) shows fits.one)) in
+    let has = may_image row word (images_of more ++ rest) (subst (λ (l : List (List ℕ)). (row.has_image ≡ true) ⊎ (l ≡ [])) shows fits.allowed) in
+    let taken = go (fits_image row seen word pieces more behind rest none says shows has fits) in
+    record {
+      end = taken.end;
+      seen_is = one_more row seen (record seen { image = Some word }) taken.end word words (image_taken row seen word fits.free how has none) taken.seen_is;
+      values = λ o. taken.values o ∙ ap (λ (l : List (List ℕ)). l ++ values_of o more) (given_image o (Some word) seen)
+          ∙ ap (λ (l : List (List ℕ)). given o seen ++ l) (sym (says o));
+      images = taken.images ∙ sym (ap (λ (i : Option (List ℕ)). listed i ++ (images_of pieces ++ behind)) none ∙ shows);
+    }
 
--- sizes are found, where the words behind them begin with no option
-sizes_said : (vmid cid rest : List (List ℕ)) (s : Sizes) → IsOption (codes "--vmid") 1 vmid s.vmid_bytes → IsOption (codes "--cid") 4 cid s.cid_bytes
-    → AreSettings s → option_at (codes "--vmid") 1 rest ≡ Some (1, rest) → option_at (codes "--cid") 4 rest ≡ Some (4, rest)
-    → sizes_at s.depth (vmid ++ (cid ++ rest)) ≡ Some (s, rest)
-sizes_said vmid cid rest s vmid_is cid_is are no_vmid no_cid =
-    let v = taken (codes "--vmid") 1 vmid s.vmid_bytes (cid ++ rest) vmid_is
-    (other_option (codes "--vmid") (codes "--cid") 1 4 cid s.cid_bytes rest cid_is refl no_vmid) in
-    let c = taken (codes "--cid") 4 cid s.cid_bytes rest cid_is no_cid in let z = sizes_there s are in simp (v, c, z)
+-- positionals behind `--`
+taken_behind : (row : CommandRow) (behind : List (List ℕ)) (seen : Seen) → seen.ended ≡ true → Fits row seen [] behind → Taken row seen [] behind behind
+taken_behind row [] seen on fits = taken_end row seen fits
+taken_behind row (word ∷ words) seen on fits =
+    taken_image row seen word [] [] (word ∷ words) words words (inl on) (λ o. refl) refl fits
+    (λ f. taken_behind row words (record seen { image = Some word }) on f)
 
--- ---- the layout
+ended_taken : (row : CommandRow) (seen : Seen) → seen.waits ≡ None → seen.ended ≡ false → with_word row (codes "--") seen ≡ Some (record seen { ended = true })
+ended_taken row seen free off = simp (free, off)
 
--- a layout that was found stands at the front of the words
-record LayoutFound (words : List (List ℕ)) (layout : Layout) (rest : List (List ℕ)) : Type 0 where
-  raw : List (List ℕ)
-  is : IsLayout raw layout
-  row : words ≡ raw ++ rest
+fits_ended : (row : CommandRow) (seen : Seen) (behind : List (List ℕ)) → Fits row seen [] behind → Fits row (record seen { ended = true }) [] behind
+fits_ended row seen behind fits = record {
+  free = fits.free;
+  once = λ o. subst (λ (l : List (List ℕ)). OnceAtMost (l ++ [])) (sym (given_ended o true seen)) (fits.once o);
+  one = fits.one;
+  has = fits.has;
+  allowed = fits.allowed;
+  enough = fits.enough;
+}
 
-layout_by : (word : List ℕ) (rest : List (List ℕ)) (b : Bool) → bytes_eq word (codes "--raw") ≡ b
-    → LayoutFound (word ∷ rest) (layout_at (word ∷ rest)).0 (layout_at (word ∷ rest)).1
-layout_by word rest true is =
-    let found : layout_at (word ∷ rest) ≡ (Raw, rest) = simp is in
-    rw found (record { raw = word ∷ []; is = ((bytes_eq-Decides word (codes "--raw")).0 is, refl); row = refl })
-layout_by word rest false is =
-    let found : layout_at (word ∷ rest) ≡ (Frames, word ∷ rest) = simp is in rw found (record { raw = []; is = refl; row = refl })
+taken_ended : (row : CommandRow) (ended behind : List (List ℕ)) (seen : Seen) → seen.ended ≡ false → IsEnd ended behind → Fits row seen [] behind
+    → Taken row seen [] behind ended
+taken_ended row [] behind seen off is fits =
+    subst (λ (b : List (List ℕ)). Taken row seen [] b []) (sym is) (taken_end row seen (subst (Fits row seen []) is fits))
+taken_ended row (word ∷ words) behind seen off is fits =
+    let taken = taken_behind row behind (record seen { ended = true }) refl (fits_ended row seen behind fits) in
+    let step : with_word row word seen ≡ Some (record seen { ended = true }) =
+    ap (λ (w : List ℕ). with_word row w seen) is.0 ∙ ended_taken row seen fits.free off in
+    record {
+      end = taken.end;
+      seen_is = one_more row seen (record seen { ended = true }) taken.end word words step
+          (ap (seen_of row (record seen { ended = true })) is.1 ∙ taken.seen_is);
+      values = λ o. taken.values o ∙ ap (λ (l : List (List ℕ)). l ++ []) (given_ended o true seen);
+      images = taken.images;
+    }
 
-layout_found : (words : List (List ℕ)) → LayoutFound words (layout_at words).0 (layout_at words).1
-layout_found [] = record { raw = []; is = refl; row = refl }
-layout_found (word ∷ rest) = layout_by word rest (bytes_eq word (codes "--raw")) refl
+-- a piece that gives an option its value
+fits_value : (row : CommandRow) (seen : Seen) (o : CommandOption) (value : List ℕ) (piece : Piece) (pieces : List Piece) (behind : List (List ℕ))
+    → ((p : CommandOption) → values_of p (piece ∷ pieces) ≡ value_for p o value (values_of p pieces)) → images_of (piece ∷ pieces) ≡ images_of pieces
+    → IsValueOf o value → is_seen o seen ≡ false → Fits row seen (piece ∷ pieces) behind → Fits row (with_value o value seen) pieces behind
+fits_value row seen o value piece pieces behind says shows is none fits =
+    let stays = value_stays o value seen in
+    let image : listed seen.image ++ (images_of (piece ∷ pieces) ++ behind) ≡ listed (with_value o value seen).image ++ (images_of pieces ++ behind) =
+    ap (λ (l : List (List ℕ)). listed seen.image ++ (l ++ behind)) shows
+    ∙ ap (λ (i : Option (List ℕ)). listed i ++ (images_of pieces ++ behind)) (sym stays.image) in
+    record {
+      free = stays.waits;
+      once = λ p. subst OnceAtMost (ap (λ (l : List (List ℕ)). given p seen ++ l) (says p)
+          ∙ sym (given_more p o value seen (values_of p pieces) is none)) (fits.once p);
+      one = subst OnceAtMost image fits.one;
+      has = λ p. has_fewer row p o value (values_of p pieces) (subst (λ (l : List (List ℕ)). Has row p ⊎ (l ≡ [])) (says p) (fits.has p));
+      allowed = subst (λ (l : List (List ℕ)). (row.has_image ≡ true) ⊎ (l ++ behind ≡ [])) shows fits.allowed;
+      enough = subst (λ (l : List (List ℕ)). (row.has_image ≡ false) ⊎ ((image : List ℕ) × (l ≡ image ∷ []))) image fits.enough;
+    }
 
--- a layout is found, where the words behind it do not begin with `--raw`
-layout_said : (raw : List (List ℕ)) (layout : Layout) (rest : List (List ℕ)) → IsLayout raw layout → layout_at rest ≡ (Frames, rest)
-    → layout_at (raw ++ rest) ≡ (layout, rest)
-layout_said [] layout rest is other = other ∙ ap (λ (l : Layout). (l, rest)) (sym is)
-layout_said (word ∷ []) layout rest (same, is) other =
-    let test : bytes_eq word (codes "--raw") ≡ true = (bytes_eq-Decides word (codes "--raw")).1 same in rw is (simp test)
-layout_said (word ∷ more ∷ words) layout rest is other = absurd is
+taken_value : (row : CommandRow) (seen : Seen) (o : CommandOption) (value : List ℕ) (piece : Piece) (pieces : List Piece) (behind words before : List (List ℕ))
+    → ((p : CommandOption) → values_of p (piece ∷ pieces) ≡ value_for p o value (values_of p pieces)) → images_of (piece ∷ pieces) ≡ images_of pieces
+    → IsValueOf o value
+    → ((end : Seen) → Has row o → is_seen o seen ≡ false → seen_of row (with_value o value seen) words ≡ Some end → seen_of row seen before ≡ Some end)
+    → Fits row seen (piece ∷ pieces) behind → (Fits row (with_value o value seen) pieces behind → Taken row (with_value o value seen) pieces behind words)
+    → Taken row seen (piece ∷ pieces) behind before
+taken_value row seen o value piece pieces behind words before says shows is step fits go =
+    let none = not_seen o value seen (values_of o pieces) (subst (λ (l : List (List ℕ)). OnceAtMost (given o seen ++ l)) (says o) (fits.once o)) in
+    let has = has_this row o value (values_of o pieces) (subst (λ (l : List (List ℕ)). Has row o ⊎ (l ≡ [])) (says o) (fits.has o)) in
+    let taken = go (fits_value row seen o value piece pieces behind says shows is none fits) in
+    let image : images_of pieces ++ behind ≡ images_of (piece ∷ pieces) ++ behind = ap (λ (l : List (List ℕ)). l ++ behind) (sym shows) in
+    record {
+      end = taken.end;
+      seen_is = step taken.end has none taken.seen_is;
+      values = λ p. taken.values p ∙ given_more p o value seen (values_of p pieces) is none ∙ ap (λ (l : List (List ℕ)). given p seen ++ l) (sym (says p));
+      images = taken.images ∙ ap (λ (i : Option (List ℕ)). listed i ++ (images_of pieces ++ behind)) (value_stays o value seen).image
+          ∙ ap (λ (l : List (List ℕ)). listed seen.image ++ l) image;
+    }
 
--- an option is no layout
-option_no_layout : (name : List ℕ) (default : ℕ) (front : List (List ℕ)) (n : ℕ) (rest : List (List ℕ)) → IsOption name default front n
-    → bytes_eq name (codes "--raw") ≡ false → layout_at rest ≡ (Frames, rest) → layout_at (front ++ rest) ≡ (Frames, front ++ rest)
-option_no_layout name default [] n rest is differ e = e
-option_no_layout name default (word ∷ []) n rest is differ e = absurd is
-option_no_layout name default (word ∷ number ∷ []) n rest (same, is) differ e = rw same (simp differ)
-option_no_layout name default (word ∷ number ∷ more ∷ words) n rest is differ e = absurd is
+apart_step : (row : CommandRow) (seen end : Seen) (o : CommandOption) (value : List ℕ) (words : List (List ℕ)) → seen.waits ≡ None → seen.ended ≡ false
+    → takes_value o ≡ true → is_dashed value ≡ false → Has row o → is_seen o seen ≡ false → seen_of row (with_value o value seen) words ≡ Some end
+    → seen_of row seen (word_of o ∷ value ∷ words) ≡ Some end
+apart_step row seen end o value words free off takes plain has none e =
+    let waits : with_option o None seen ≡ Some (record seen { waits = Some o }) = simp (none, takes) in
+    let second : with_word row value (record seen { waits = Some o }) ≡ Some (with_value o value (record seen { waits = Some o })) = simp (off, plain) in
+    one_more row seen (record seen { waits = Some o }) end (word_of o) (value ∷ words) (taken_alone row o seen free off has ∙ waits)
+    (one_more row (record seen { waits = Some o }) (with_value o value seen) end value words (second ∙ ap Some (value_after o value seen)) e)
 
--- nor is the name of an image
-image_by_name : (image : List ℕ) (b : Bool) → bytes_eq image (codes "--raw") ≡ b → is_image_word image ≡ true → layout_at (image ∷ []) ≡ (Frames, image ∷ [])
-image_by_name image false is name = simp is
-image_by_name image true is name =
-    let bad : is_image_word (codes "--raw") ≡ true = subst (λ w. is_image_word w ≡ true) ((bytes_eq-Decides image (codes "--raw")).0 is) name in absurd cc
+joined_step : (row : CommandRow) (seen end : Seen) (o : CommandOption) (value : List ℕ) (words : List (List ℕ)) → seen.waits ≡ None → seen.ended ≡ false
+    → takes_value o ≡ true → Has row o → is_seen o seen ≡ false → seen_of row (with_value o value seen) words ≡ Some end
+    → seen_of row seen ((word_of o ++ 61 ∷ value) ∷ words) ≡ Some end
+joined_step row seen end o value words free off takes has none e =
+    let step : with_option o (Some value) seen ≡ Some (with_value o value seen) = simp (none, takes) in
+    one_more row seen (with_value o value seen) end (word_of o ++ 61 ∷ value) words (taken_joined row o value seen free off has ∙ step) e
 
-image_no_layout : (image : List ℕ) → is_image_word image ≡ true → layout_at (image ∷ []) ≡ (Frames, image ∷ [])
-image_no_layout image name = image_by_name image (bytes_eq image (codes "--raw")) refl name
+flag_step : (row : CommandRow) (seen end : Seen) (o : CommandOption) (words : List (List ℕ)) → seen.waits ≡ None → seen.ended ≡ false
+    → takes_value o ≡ false → Has row o → is_seen o seen ≡ false → seen_of row (with_value o [] seen) words ≡ Some end
+    → seen_of row seen (word_of o ∷ words) ≡ Some end
+flag_step row seen end o words free off takes has none e =
+    let step : with_option o None seen ≡ Some (with_value o [] seen) = simp (none, takes) in
+    one_more row seen (with_value o [] seen) end (word_of o) words (taken_alone row o seen free off has ∙ step) e
+
+taken : (row : CommandRow) (pieces : List Piece) (ended behind : List (List ℕ)) (seen : Seen) → seen.ended ≡ false → All IsPiece pieces → IsEnd ended behind
+    → Fits row seen pieces behind → Taken row seen pieces behind (in_row pieces ended)
+taken row [] ended behind seen off are is fits = taken_ended row ended behind seen off is fits
+taken row (Apart o value ∷ pieces) ended behind seen off are is fits =
+    let piece = All-head IsPiece (Apart o value) pieces are in let others = All-tail IsPiece (Apart o value) pieces are in
+    taken_value row seen o value (Apart o value) pieces behind (in_row pieces ended) (in_row (Apart o value ∷ pieces) ended) (λ p. refl) refl (inl piece.0)
+    (λ end has none e. apart_step row seen end o value (in_row pieces ended) fits.free off piece.0 piece.1 has none e) fits
+    (λ f. taken row pieces ended behind (with_value o value seen) ((value_stays o value seen).ended ∙ off) others is f)
+taken row (Joined o value ∷ pieces) ended behind seen off are is fits =
+    let piece = All-head IsPiece (Joined o value) pieces are in let others = All-tail IsPiece (Joined o value) pieces are in
+    taken_value row seen o value (Joined o value) pieces behind (in_row pieces ended) (in_row (Joined o value ∷ pieces) ended) (λ p. refl) refl (inl piece)
+    (λ end has none e. joined_step row seen end o value (in_row pieces ended) fits.free off piece has none e) fits
+    (λ f. taken row pieces ended behind (with_value o value seen) ((value_stays o value seen).ended ∙ off) others is f)
+taken row (Flag o ∷ pieces) ended behind seen off are is fits =
+    let piece = All-head IsPiece (Flag o) pieces are in let others = All-tail IsPiece (Flag o) pieces are in
+    taken_value row seen o [] (Flag o) pieces behind (in_row pieces ended) (in_row (Flag o ∷ pieces) ended) (λ p. refl) refl (inr refl)
+    (λ end has none e. flag_step row seen end o (in_row pieces ended) fits.free off piece has none e) fits
+    (λ f. taken row pieces ended behind (with_value o [] seen) ((value_stays o [] seen).ended ∙ off) others is f)
+taken row (Image word ∷ pieces) ended behind seen off are is fits =
+    let piece = All-head IsPiece (Image word) pieces are in let others = All-tail IsPiece (Image word) pieces are in
+    taken_image row seen word (Image word ∷ pieces) pieces behind behind (in_row pieces ended) (inr piece) (λ o. refl) refl fits
+    (λ f. taken row pieces ended behind (record seen { image = Some word }) off others is f)
 
 -- ---- whole lines
 
-image_by : (word image : List ℕ) (b : Bool) → is_image_word word ≡ b → only_image (word ∷ []) ≡ Some image → (word ≡ image) × (is_image_word image ≡ true)
-image_by word image true is e = let same : word ≡ image = let f = simp is at e in cc in (same, subst (λ w. is_image_word w ≡ true) same is)
-image_by word image false is e = let f = simp is at e in absurd cc
+abbrev path_row : CommandRow
+path_row = row (codes "path") name.Path (option.Raw ∷ option.Depth ∷ option.Vmid ∷ option.Cid ∷ []) true
 
-one_image : (words : List (List ℕ)) (image : List ℕ) → only_image words ≡ Some image → (words ≡ image ∷ []) × (is_image_word image ≡ true)
-one_image [] image e = absurd cc
-one_image (word ∷ []) image e = let p = image_by word image (is_image_word word) refl e in (ap (λ w. w ∷ []) p.0, p.1)
-one_image (word ∷ more ∷ words) image e = absurd cc
+abbrev packets_row : CommandRow
+packets_row = row (codes "packets") name.Packets (option.Raw ∷ option.Vmid ∷ option.Cid ∷ []) false
 
--- words behind the name of a command, with the options among them
-line_row : (name : List ℕ) (words raw rest options : List (List ℕ)) → words ≡ raw ++ rest → rest ≡ options → name ∷ words ≡ name ∷ (raw ++ options)
-line_row name words raw rest options row same = ap (λ r. name ∷ r) (row ∙ ap (λ r. raw ++ r) same)
+abbrev retired_row : CommandRow
+retired_row = row (codes "retired") name.Retired [] true
 
--- words behind `path` that mean a command
-path_found : (words : List (List ℕ)) (layout : Layout) (rest : List (List ℕ)) (command : Command) → LayoutFound words layout rest
-    → path_of layout rest ≡ Some command
-    → (image : List ℕ) × (s : Sizes) × (command ≡ Path image s layout) × IsPathLine (codes "path" ∷ words) image s layout
-path_found words layout rest command front e =
-    let d = then_some (option_at (codes "--depth") 16 rest) _ command e in let z = then_some (sizes_at d.0.0 d.0.1) _ command d.2 in
-    let i = map_some (only_image z.0.1) _ command z.2 in let depth = found (codes "--depth") 16 rest d.0.0 d.0.1 d.1 in
-    let sizes = sizes_found d.0.0 d.0.1 z.0.0 z.0.1 z.1 in let image = one_image z.0.1 i.0 i.1 in (
-      i.0,
-      z.0.0,
-      sym i.2,
-      record {
-        raw = front.raw;
-        depth = depth.front;
-        vmid = sizes.vmid;
-        cid = sizes.cid;
-        row = line_row (codes "path") words front.raw rest (depth.front ++ (sizes.vmid ++ (sizes.cid ++ i.0 ∷ []))) front.row
-            (depth.row ∙ ap (λ r. depth.front ++ r) (sizes.row ∙ ap (λ r. sizes.vmid ++ (sizes.cid ++ r)) image.0));
-        layout_is = front.is;
-        depth_is = subst (IsOption (codes "--depth") 16 depth.front) (sym sizes.depth_is) depth.is;
-        vmid_is = sizes.vmid_is;
-        cid_is = sizes.cid_is;
-        image_is = image.1;
-        within = sizes.within;
-      },
-    )
+abbrev trace_row : CommandRow
+trace_row = row (codes "trace") name.Trace [] true
 
-end_by : (words : List (List ℕ)) (s : Sizes) (layout : Layout) (command : Command) (b : Bool) → (length words == 0) ≡ b
-    → (if length words == 0 then Some (Packets s layout) else None) ≡ Some command → (command ≡ Packets s layout) × (words ≡ [])
-end_by [] s layout command b is e = (sym cc, refl)
-end_by (word ∷ words) s layout command b is e =
-    let some : (length (word ∷ words) == 0) ≡ false = grind (arith, nat_tests) in let f = simp some at e in absurd cc
+-- the first word is a command's, and the others were seen behind it
+record Begins (line : CommandRow) (word : List ℕ) (words : List (List ℕ)) (c : Command) : Type 0 where
+  is : word ≡ line.word
+  end : Seen
+  seen_is : seen_of line nothing_seen words ≡ Some end
+  means : command_in line.name end ≡ Some c
 
--- words behind `packets` that mean a command
-packets_found : (words : List (List ℕ)) (layout : Layout) (rest : List (List ℕ)) (command : Command) → LayoutFound words layout rest
-    → packets_of layout rest ≡ Some command
-    → (s : Sizes) × (command ≡ Packets s layout) × IsPacketsLine (codes "packets" ∷ words) s layout
-packets_found words layout rest command front e =
-    let z = then_some (sizes_at 16 rest) _ command e in let sizes = sizes_found 16 rest z.0.0 z.0.1 z.1 in
-    let done = end_by z.0.1 z.0.0 layout command (length z.0.1 == 0) refl z.2 in (
-      z.0.0,
-      done.0,
-      record {
-        raw = front.raw;
-        vmid = sizes.vmid;
-        cid = sizes.cid;
-        row = line_row (codes "packets") words front.raw rest (sizes.vmid ++ sizes.cid) front.row
-            (sizes.row ∙ ap (λ r. sizes.vmid ++ (sizes.cid ++ r)) done.1 ∙ ap (λ r. sizes.vmid ++ r) (append-nil sizes.cid));
-        layout_is = front.is;
-        depth_is = sizes.depth_is;
-        vmid_is = sizes.vmid_is;
-        cid_is = sizes.cid_is;
-        within = sizes.within;
-      },
-    )
+begins_by : (line : CommandRow) (word : List ℕ) (words : List (List ℕ)) (c : Command) → bytes_eq word line.word ≡ true
+    → option_and_then (command_in line.name) (seen_of line nothing_seen words) ≡ Some c → Begins line word words c
+begins_by line word words c is e =
+    let step = then_some (seen_of line nothing_seen words) (command_in line.name) c e in
+    record { is = (bytes_eq-Decides word line.word).0 is; end = step.0; seen_is = step.1; means = step.2 }
 
--- the first word, and what the others mean behind it and the layout
-abbrev BeginsLine : List ℕ → List (List ℕ) → Command → Type 0
-BeginsLine name words c =
-    ((name ≡ codes "path") × (path_of (layout_at words).0 (layout_at words).1 ≡ Some c))
-    ⊎ ((name ≡ codes "packets") × (packets_of (layout_at words).0 (layout_at words).1 ≡ Some c))
-    ⊎ ((name ≡ codes "retired") × (option_map Retired (only_image words) ≡ Some c))
-    ⊎ ((name ≡ codes "trace") × (option_map Trace (only_image words) ≡ Some c))
+abbrev Line : List ℕ → List (List ℕ) → Command → Type 0
+Line word words c =
+    Begins path_row word words c ⊎ Begins packets_row word words c ⊎ Begins retired_row word words c ⊎ Begins trace_row word words c
 
-line_by : (name : List ℕ) (words : List (List ℕ)) (c : Command) (a b d t : Bool) → bytes_eq name (codes "path") ≡ a
-    → bytes_eq name (codes "packets") ≡ b → bytes_eq name (codes "retired") ≡ d → bytes_eq name (codes "trace") ≡ t
-    → meaning (name ∷ words) ≡ Some c → BeginsLine name words c
-line_by name words c true b d t x y z w e = inl ((bytes_eq-Decides name (codes "path")).0 x, simp x at e)
-line_by name words c false true d t x y z w e = inr (inl ((bytes_eq-Decides name (codes "packets")).0 y, simp (x, y) at e))
-line_by name words c false false true t x y z w e = inr (inr (inl ((bytes_eq-Decides name (codes "retired")).0 z, simp (x, y, z) at e)))
-line_by name words c false false false true x y z w e = inr (inr (inr ((bytes_eq-Decides name (codes "trace")).0 w, simp (x, y, z, w) at e)))
-line_by name words c false false false false x y z w e = let f = simp (x, y, z, w) at e in absurd cc
+line_by : (word : List ℕ) (words : List (List ℕ)) (c : Command) (a b d t : Bool) → bytes_eq word (codes "path") ≡ a
+    → bytes_eq word (codes "packets") ≡ b → bytes_eq word (codes "retired") ≡ d → bytes_eq word (codes "trace") ≡ t
+    → meaning (word ∷ words) ≡ Some c → Line word words c
+line_by word words c true b d t x y z w e = inl (begins_by path_row word words c x (simp x at e))
+line_by word words c false true d t x y z w e = inr (inl (begins_by packets_row word words c y (simp (x, y) at e)))
+line_by word words c false false true t x y z w e = inr (inr (inl (begins_by retired_row word words c z (simp (x, y, z) at e))))
+line_by word words c false false false true x y z w e = inr (inr (inr (begins_by trace_row word words c w (simp (x, y, z, w) at e))))
+line_by word words c false false false false x y z w e = let f = simp (x, y, z, w) at e in absurd cc
 
-line : (name : List ℕ) (words : List (List ℕ)) (c : Command) → meaning (name ∷ words) ≡ Some c → BeginsLine name words c
-line name words c e =
-    line_by name words c (bytes_eq name (codes "path")) (bytes_eq name (codes "packets")) (bytes_eq name (codes "retired")) (bytes_eq name (codes "trace"))
+line : (word : List ℕ) (words : List (List ℕ)) (c : Command) → meaning (word ∷ words) ≡ Some c → Line word words c
+line word words c e =
+    line_by word words c (bytes_eq word (codes "path")) (bytes_eq word (codes "packets")) (bytes_eq word (codes "retired")) (bytes_eq word (codes "trace"))
     refl refl refl refl e
 
--- words behind `retired` that mean a command
-retired_found : (words : List (List ℕ)) (command : Command) → option_map Retired (only_image words) ≡ Some command
-    → (image : List ℕ) × (command ≡ Retired image) × IsRetiredLine (codes "retired" ∷ words) image
-retired_found words command e =
-    let i = map_some (only_image words) Retired command e in let image = one_image words i.0 i.1 in
-    (i.0, sym i.2, record { row = ap (λ r. codes "retired" ∷ r) image.0; image_is = image.1 })
+abbrev begin_parts : (line : CommandRow) (word : List ℕ) (words : List (List ℕ)) (c : Command) (b : Begins line word words c)
+    → Parts line nothing_seen b.end words
+begin_parts line word words c b = parts line words nothing_seen b.end refl tt b.seen_is
 
--- and words behind `trace`
-trace_found : (words : List (List ℕ)) (command : Command) → option_map Trace (only_image words) ≡ Some command
-    → (image : List ℕ) × (command ≡ Trace image) × IsTraceLine (codes "trace" ∷ words) image
-trace_found words command e =
-    let i = map_some (only_image words) Trace command e in let image = one_image words i.0 i.1 in
-    (i.0, sym i.2, record { row = ap (λ r. codes "trace" ∷ r) image.0; image_is = image.1 })
+-- the line of the pieces
+abbrev line_of : (line : CommandRow) (word : List ℕ) (words images : List (List ℕ)) (c : Command) (b : Begins line word words c)
+    → (p : Parts line nothing_seen b.end words) → listed b.end.image ≡ images → IsLine line.word (word ∷ words) images
+line_of line word words images c b p are = record {
+  pieces = p.pieces;
+  ended = p.ended;
+  behind = p.behind;
+  row = ap (λ (w : List ℕ). w ∷ words) b.is ∙ ap (λ (ws : List (List ℕ)). line.word ∷ ws) p.row_is;
+  are_pieces = p.are_pieces;
+  end_is = p.end_is;
+  images_are = sym p.images ∙ are;
+}
+
+-- what the end says of the numbers and the layout
+record Says (end : Seen) (s : Sizes) (layout : Layout) : Type 0 where
+  sizes : SizesIn end s
+  layout_is : layout_in end ≡ layout
+
+path_says : (end : Seen) (image : List ℕ) (s : Sizes) (layout : Layout) → command_in name.Path end ≡ Some (Path image s layout)
+    → (end.image ≡ Some image) × Says end s layout
+path_says end image s layout e =
+    let i = then_some end.image _ (Path image s layout) e in let z = map_some (sizes_in end) _ (Path image s layout) i.2 in
+    let image_is : i.0 ≡ image = let f = z.2 in cc in let sizes_are : z.0 ≡ s = let f = z.2 in cc in
+    let layout_is : layout_in end ≡ layout = let f = z.2 in cc in
+    (i.1 ∙ ap Some image_is, record { sizes = sizes_found end s (z.1 ∙ ap Some sizes_are); layout_is = layout_is })
+
+packets_says : (end : Seen) (s : Sizes) (layout : Layout) → command_in name.Packets end ≡ Some (Packets s layout) → Says end s layout
+packets_says end s layout e =
+    let z = map_some (sizes_in end) _ (Packets s layout) e in let sizes_are : z.0 ≡ s = let f = z.2 in cc in
+    let layout_is : layout_in end ≡ layout = let f = z.2 in cc in
+    record { sizes = sizes_found end s (z.1 ∙ ap Some sizes_are); layout_is = layout_is }
+
+retired_says : (end : Seen) (image : List ℕ) → command_in name.Retired end ≡ Some (Retired image) → end.image ≡ Some image
+retired_says end image e =
+    let i = map_some end.image Retired (Retired image) e in let image_is : i.0 ≡ image = let f = i.2 in cc in i.1 ∙ ap Some image_is
+
+trace_says : (end : Seen) (image : List ℕ) → command_in name.Trace end ≡ Some (Trace image) → end.image ≡ Some image
+trace_says end image e =
+    let i = map_some end.image Trace (Trace image) e in let image_is : i.0 ≡ image = let f = i.2 in cc in i.1 ∙ ap Some image_is
+
+layout_values : (end : Seen) (layout : Layout) (values : List (List ℕ)) → layout_in end ≡ layout → given option.Raw end ≡ values → IsLayout values layout
+layout_values end layout values is same =
+    subst (λ (l : List (List ℕ)). IsLayout l layout) same (subst (IsLayout (given option.Raw end)) is (layout_found end.raw))
+
+number_values : (default : ℕ) (value : Option (List ℕ)) (n : ℕ) (values : List (List ℕ)) → number_of default value ≡ Some n → listed value ≡ values
+    → IsNumber default values n
+number_values default value n values is same = subst (λ (l : List (List ℕ)). IsNumber default l n) same (number_found default value n is)
+
+path_of_line : (word : List ℕ) (words : List (List ℕ)) (image : List ℕ) (s : Sizes) (layout : Layout) → Begins path_row word words (Path image s layout)
+    → IsPathLine (word ∷ words) image s layout
+path_of_line word words image s layout b =
+    let p = begin_parts path_row word words (Path image s layout) b in let says = path_says b.end image s layout b.means in let sizes = says.1.sizes in
+    record {
+      line = line_of path_row word words (image ∷ []) (Path image s layout) b p (ap listed says.0);
+      layout_is = layout_values b.end layout (values_of option.Raw p.pieces) says.1.layout_is (p.values option.Raw);
+      depth_is = number_values 16 b.end.depth s.depth (values_of option.Depth p.pieces) sizes.depth_is (p.values option.Depth);
+      vmid_is = number_values 1 b.end.vmid s.vmid_bytes (values_of option.Vmid p.pieces) sizes.vmid_is (p.values option.Vmid);
+      cid_is = number_values 4 b.end.cid s.cid_bytes (values_of option.Cid p.pieces) sizes.cid_is (p.values option.Cid);
+      within = sizes.within;
+    }
+
+no_depth : (values : List (List ℕ)) → Has packets_row option.Depth ⊎ (values ≡ []) → values ≡ []
+no_depth values (inl has) = absurd cc
+no_depth values (inr none) = none
+
+no_images : (images : List (List ℕ)) → (packets_row.has_image ≡ true) ⊎ (images ≡ []) → images ≡ []
+no_images images (inl has) = absurd cc
+no_images images (inr none) = none
+
+packets_of_line : (word : List ℕ) (words : List (List ℕ)) (s : Sizes) (layout : Layout) → Begins packets_row word words (Packets s layout)
+    → IsPacketsLine (word ∷ words) s layout
+packets_of_line word words s layout b =
+    let p = begin_parts packets_row word words (Packets s layout) b in let says = packets_says b.end s layout b.means in let sizes = says.sizes in
+    let none = no_depth (values_of option.Depth p.pieces) (p.has option.Depth) in
+    record {
+      line = line_of packets_row word words [] (Packets s layout) b p (p.images ∙ no_images (images_of p.pieces ++ p.behind) p.allowed);
+      layout_is = layout_values b.end layout (values_of option.Raw p.pieces) says.layout_is (p.values option.Raw);
+      no_depth = none;
+      depth_is = number_values 16 b.end.depth s.depth [] sizes.depth_is (p.values option.Depth ∙ none);
+      vmid_is = number_values 1 b.end.vmid s.vmid_bytes (values_of option.Vmid p.pieces) sizes.vmid_is (p.values option.Vmid);
+      cid_is = number_values 4 b.end.cid s.cid_bytes (values_of option.Cid p.pieces) sizes.cid_is (p.values option.Cid);
+      within = sizes.within;
+    }
+
+no_option : (o : CommandOption) (values : List (List ℕ)) → Has retired_row o ⊎ (values ≡ []) → values ≡ []
+no_option o values (inl has) = absurd cc
+no_option o values (inr none) = none
+
+retired_of_line : (word : List ℕ) (words : List (List ℕ)) (image : List ℕ) → Begins retired_row word words (Retired image)
+    → IsRetiredLine (word ∷ words) image
+retired_of_line word words image b =
+    let p = begin_parts retired_row word words (Retired image) b in
+    record {
+      line = line_of retired_row word words (image ∷ []) (Retired image) b p (ap listed (retired_says b.end image b.means));
+      no_option = λ o. no_option o (values_of o p.pieces) (p.has o);
+    }
+
+trace_of_line : (word : List ℕ) (words : List (List ℕ)) (image : List ℕ) → Begins trace_row word words (Trace image)
+    → IsTraceLine (word ∷ words) image
+trace_of_line word words image b =
+    let p = begin_parts trace_row word words (Trace image) b in
+    record {
+      line = line_of trace_row word words (image ∷ []) (Trace image) b p (ap listed (trace_says b.end image b.means));
+      no_option = λ o. no_option o (values_of o p.pieces) (p.has o);
+    }
+
+-- a command means what its name says
+not_path : (end : Seen) (image : List ℕ) (s : Sizes) (layout : Layout)
+    → (command_in name.Packets end ≡ Some (Path image s layout)) ⊎ (command_in name.Retired end ≡ Some (Path image s layout))
+    ⊎ (command_in name.Trace end ≡ Some (Path image s layout)) → ⊥
+not_path end image s layout (inl e) = let z = map_some (sizes_in end) _ (Path image s layout) e in let f = z.2 in absurd cc
+not_path end image s layout (inr (inl e)) = let i = map_some end.image Retired (Path image s layout) e in let f = i.2 in absurd cc
+not_path end image s layout (inr (inr e)) = let i = map_some end.image Trace (Path image s layout) e in let f = i.2 in absurd cc
+
+not_packets : (end : Seen) (s : Sizes) (layout : Layout)
+    → (command_in name.Path end ≡ Some (Packets s layout)) ⊎ (command_in name.Retired end ≡ Some (Packets s layout))
+    ⊎ (command_in name.Trace end ≡ Some (Packets s layout)) → ⊥
+not_packets end s layout (inl e) =
+    let i = then_some end.image _ (Packets s layout) e in let z = map_some (sizes_in end) _ (Packets s layout) i.2 in let f = z.2 in absurd cc
+not_packets end s layout (inr (inl e)) = let i = map_some end.image Retired (Packets s layout) e in let f = i.2 in absurd cc
+not_packets end s layout (inr (inr e)) = let i = map_some end.image Trace (Packets s layout) e in let f = i.2 in absurd cc
+
+not_retired : (end : Seen) (image : List ℕ)
+    → (command_in name.Path end ≡ Some (Retired image)) ⊎ (command_in name.Packets end ≡ Some (Retired image))
+    ⊎ (command_in name.Trace end ≡ Some (Retired image)) → ⊥
+not_retired end image (inl e) =
+    let i = then_some end.image _ (Retired image) e in let z = map_some (sizes_in end) _ (Retired image) i.2 in let f = z.2 in absurd cc
+not_retired end image (inr (inl e)) = let z = map_some (sizes_in end) _ (Retired image) e in let f = z.2 in absurd cc
+not_retired end image (inr (inr e)) = let i = map_some end.image Trace (Retired image) e in let f = i.2 in absurd cc
+
+not_trace : (end : Seen) (image : List ℕ)
+    → (command_in name.Path end ≡ Some (Trace image)) ⊎ (command_in name.Packets end ≡ Some (Trace image))
+    ⊎ (command_in name.Retired end ≡ Some (Trace image)) → ⊥
+not_trace end image (inl e) =
+    let i = then_some end.image _ (Trace image) e in let z = map_some (sizes_in end) _ (Trace image) i.2 in let f = z.2 in absurd cc
+not_trace end image (inr (inl e)) = let z = map_some (sizes_in end) _ (Trace image) e in let f = z.2 in absurd cc
+not_trace end image (inr (inr e)) = let i = map_some end.image Retired (Trace image) e in let f = i.2 in absurd cc
 
 pub path_line : (words : List (List ℕ)) (image : List ℕ) (s : Sizes) (layout : Layout) → meaning words ≡ Some (Path image s layout)
     → IsPathLine words image s layout
 path_line [] image s layout e = absurd cc
-path_line (name ∷ words) image s layout e =
-    elim (line name words (Path image s layout) e) [
-      | inl p ↦
-          let f = path_found words (layout_at words).0 (layout_at words).1 (Path image s layout) (layout_found words) p.1 in
-          let image_is : f.0 ≡ image = let g = f.2 in cc in let sizes_are : f.1 ≡ s = let g = f.2 in cc in
-          let layout_is : (layout_at words).0 ≡ layout = let g = f.2 in cc in
-          rw p.0 (subst (λ n. IsPathLine (codes "path" ∷ words) n s layout) image_is
-          (subst (λ z. IsPathLine (codes "path" ∷ words) f.0 z layout) sizes_are
-          (subst (λ l. IsPathLine (codes "path" ∷ words) f.0 f.1 l) layout_is f.3)))
-      | inr (inl p) ↦
-          let f = packets_found words (layout_at words).0 (layout_at words).1 (Path image s layout) (layout_found words) p.1 in
-          let g = f.1 in absurd cc
-      | inr (inr (inl p)) ↦ let f = retired_found words (Path image s layout) p.1 in let g = f.1 in absurd cc
-      | inr (inr (inr p)) ↦ let f = trace_found words (Path image s layout) p.1 in let g = f.1 in absurd cc
-    ]
+path_line (word ∷ words) image s layout e = elim (line word words (Path image s layout) e) [
+  | inl b ↦ path_of_line word words image s layout b
+  | inr (inl b) ↦ absurd (not_path b.end image s layout (inl b.means))
+  | inr (inr (inl b)) ↦ absurd (not_path b.end image s layout (inr (inl b.means)))
+  | inr (inr (inr b)) ↦ absurd (not_path b.end image s layout (inr (inr b.means)))
+]
 
 pub packets_line : (words : List (List ℕ)) (s : Sizes) (layout : Layout) → meaning words ≡ Some (Packets s layout) → IsPacketsLine words s layout
 packets_line [] s layout e = absurd cc
-packets_line (name ∷ words) s layout e =
-    elim (line name words (Packets s layout) e) [
-      | inl p ↦
-          let f = path_found words (layout_at words).0 (layout_at words).1 (Packets s layout) (layout_found words) p.1 in let g = f.2 in absurd cc
-      | inr (inl p) ↦
-          let f = packets_found words (layout_at words).0 (layout_at words).1 (Packets s layout) (layout_found words) p.1 in
-          let sizes_are : f.0 ≡ s = let g = f.1 in cc in let layout_is : (layout_at words).0 ≡ layout = let g = f.1 in cc in
-          rw p.0 (subst (λ z. IsPacketsLine (codes "packets" ∷ words) z layout) sizes_are
-          (subst (λ l. IsPacketsLine (codes "packets" ∷ words) f.0 l) layout_is f.2))
-      | inr (inr (inl p)) ↦ let f = retired_found words (Packets s layout) p.1 in let g = f.1 in absurd cc
-      | inr (inr (inr p)) ↦ let f = trace_found words (Packets s layout) p.1 in let g = f.1 in absurd cc
-    ]
+packets_line (word ∷ words) s layout e = elim (line word words (Packets s layout) e) [
+  | inl b ↦ absurd (not_packets b.end s layout (inl b.means))
+  | inr (inl b) ↦ packets_of_line word words s layout b
+  | inr (inr (inl b)) ↦ absurd (not_packets b.end s layout (inr (inl b.means)))
+  | inr (inr (inr b)) ↦ absurd (not_packets b.end s layout (inr (inr b.means)))
+]
 
 pub retired_line : (words : List (List ℕ)) (image : List ℕ) → meaning words ≡ Some (Retired image) → IsRetiredLine words image
 retired_line [] image e = absurd cc
-retired_line (name ∷ words) image e =
-    elim (line name words (Retired image) e) [
-      | inl p ↦
-          let f = path_found words (layout_at words).0 (layout_at words).1 (Retired image) (layout_found words) p.1 in let g = f.2 in absurd cc
-      | inr (inl p) ↦
-          let f = packets_found words (layout_at words).0 (layout_at words).1 (Retired image) (layout_found words) p.1 in
-          let g = f.1 in absurd cc
-      | inr (inr (inl p)) ↦
-          let f = retired_found words (Retired image) p.1 in let image_is : f.0 ≡ image = let g = f.1 in cc in
-          rw p.0 (subst (IsRetiredLine (codes "retired" ∷ words)) image_is f.2)
-      | inr (inr (inr p)) ↦ let f = trace_found words (Retired image) p.1 in let g = f.1 in absurd cc
-    ]
+retired_line (word ∷ words) image e = elim (line word words (Retired image) e) [
+  | inl b ↦ absurd (not_retired b.end image (inl b.means))
+  | inr (inl b) ↦ absurd (not_retired b.end image (inr (inl b.means)))
+  | inr (inr (inl b)) ↦ retired_of_line word words image b
+  | inr (inr (inr b)) ↦ absurd (not_retired b.end image (inr (inr b.means)))
+]
 
 pub trace_line : (words : List (List ℕ)) (image : List ℕ) → meaning words ≡ Some (Trace image) → IsTraceLine words image
 trace_line [] image e = absurd cc
-trace_line (name ∷ words) image e =
-    elim (line name words (Trace image) e) [
-      | inl p ↦
-          let f = path_found words (layout_at words).0 (layout_at words).1 (Trace image) (layout_found words) p.1 in let g = f.2 in absurd cc
-      | inr (inl p) ↦
-          let f = packets_found words (layout_at words).0 (layout_at words).1 (Trace image) (layout_found words) p.1 in
-          let g = f.1 in absurd cc
-      | inr (inr (inl p)) ↦ let f = retired_found words (Trace image) p.1 in let g = f.1 in absurd cc
-      | inr (inr (inr p)) ↦
-          let f = trace_found words (Trace image) p.1 in let image_is : f.0 ≡ image = let g = f.1 in cc in
-          rw p.0 (subst (IsTraceLine (codes "trace" ∷ words)) image_is f.2)
-    ]
+trace_line (word ∷ words) image e = elim (line word words (Trace image) e) [
+  | inl b ↦ absurd (not_trace b.end image (inl b.means))
+  | inr (inl b) ↦ absurd (not_trace b.end image (inr (inl b.means)))
+  | inr (inr (inl b)) ↦ absurd (not_trace b.end image (inr (inr b.means)))
+  | inr (inr (inr b)) ↦ trace_of_line word words image b
+]
 
--- and what is spelled so means it
+-- ---- and what is spelled so means it
+
+number_once : (default : ℕ) (values : List (List ℕ)) (n : ℕ) → IsNumber default values n → OnceAtMost values
+number_once default [] n is = tt
+number_once default (v ∷ []) n is = tt
+number_once default (v ∷ w ∷ values) n is = absurd is
+
+layout_once : (values : List (List ℕ)) (layout : Layout) → IsLayout values layout → OnceAtMost values
+layout_once [] layout is = tt
+layout_once (v ∷ []) layout is = tt
+layout_once (v ∷ w ∷ values) layout is = absurd is
+
+-- the numbers and the layout of what is seen
+said_by : (end : Seen) (s : Sizes) (layout : Layout) (raw depth vmid cid : List (List ℕ)) → given option.Raw end ≡ raw → listed end.depth ≡ depth
+    → listed end.vmid ≡ vmid → listed end.cid ≡ cid → IsLayout raw layout → IsNumber 16 depth s.depth → IsNumber 1 vmid s.vmid_bytes
+    → IsNumber 4 cid s.cid_bytes → AreSettings s → (sizes_in end ≡ Some s) × (layout_in end ≡ layout)
+said_by end s layout raw depth vmid cid r d v c layout_is depth_is vmid_is cid_is within = (
+  sizes_said end s (record {
+    depth_is = number_said 16 end.depth s.depth (subst (λ (l : List (List ℕ)). IsNumber 16 l s.depth) (sym d) depth_is);
+    vmid_is = number_said 1 end.vmid s.vmid_bytes (subst (λ (l : List (List ℕ)). IsNumber 1 l s.vmid_bytes) (sym v) vmid_is);
+    cid_is = number_said 4 end.cid s.cid_bytes (subst (λ (l : List (List ℕ)). IsNumber 4 l s.cid_bytes) (sym c) cid_is);
+    within = within;
+  }),
+  layout_said end.raw layout (subst (λ (l : List (List ℕ)). IsLayout l layout) (sym r) layout_is),
+)
+
+path_once : (words : List (List ℕ)) (image : List ℕ) (s : Sizes) (layout : Layout) (l : IsPathLine words image s layout) (o : CommandOption)
+    → OnceAtMost (given o nothing_seen ++ values_of o l.line.pieces)
+path_once words image s layout l option.Raw = layout_once (values_of option.Raw l.line.pieces) layout l.layout_is
+path_once words image s layout l option.Depth = number_once 16 (values_of option.Depth l.line.pieces) s.depth l.depth_is
+path_once words image s layout l option.Vmid = number_once 1 (values_of option.Vmid l.line.pieces) s.vmid_bytes l.vmid_is
+path_once words image s layout l option.Cid = number_once 4 (values_of option.Cid l.line.pieces) s.cid_bytes l.cid_is
+
+path_has : (o : CommandOption) → Has path_row o
+path_has option.Raw = refl
+path_has option.Depth = refl
+path_has option.Vmid = refl
+path_has option.Cid = refl
+
+image_once : (images : List (List ℕ)) (image : List ℕ) → images ≡ image ∷ [] → OnceAtMost images
+image_once images image are = subst OnceAtMost (sym are) tt
+
+path_means : (words : List (List ℕ)) (end : Seen) (image : List ℕ) (s : Sizes) (layout : Layout) → seen_of path_row nothing_seen words ≡ Some end
+    → end.image ≡ Some image → sizes_in end ≡ Some s → layout_in end ≡ layout → meaning (codes "path" ∷ words) ≡ Some (Path image s layout)
+path_means words end image s layout e i z l =
+    ap (option_and_then (command_in name.Path)) e ∙ (ap (option_and_then (λ v. option_map (λ sizes. Path v sizes (layout_in end)) (sizes_in end))) i
+    ∙ (ap (option_map (λ sizes. Path image sizes (layout_in end))) z ∙ ap (λ (y : Layout). Some (Path image s y)) l))
+
+packets_means : (words : List (List ℕ)) (end : Seen) (s : Sizes) (layout : Layout) → seen_of packets_row nothing_seen words ≡ Some end
+    → sizes_in end ≡ Some s → layout_in end ≡ layout → meaning (codes "packets" ∷ words) ≡ Some (Packets s layout)
+packets_means words end s layout e z l =
+    ap (option_and_then (command_in name.Packets)) e
+    ∙ (ap (option_map (λ sizes. Packets sizes (layout_in end))) z ∙ ap (λ (y : Layout). Some (Packets s y)) l)
+
+retired_means : (words : List (List ℕ)) (end : Seen) (image : List ℕ) → seen_of retired_row nothing_seen words ≡ Some end
+    → end.image ≡ Some image → meaning (codes "retired" ∷ words) ≡ Some (Retired image)
+retired_means words end image e i = ap (option_and_then (command_in name.Retired)) e ∙ ap (option_map Retired) i
+
+trace_means : (words : List (List ℕ)) (end : Seen) (image : List ℕ) → seen_of trace_row nothing_seen words ≡ Some end
+    → end.image ≡ Some image → meaning (codes "trace" ∷ words) ≡ Some (Trace image)
+trace_means words end image e i = ap (option_and_then (command_in name.Trace)) e ∙ ap (option_map Trace) i
+
 pub path_said : (words : List (List ℕ)) (image : List ℕ) (s : Sizes) (layout : Layout) → IsPathLine words image s layout
     → meaning words ≡ Some (Path image s layout)
 path_said words image s layout l =
-    let name : is_image_word image ≡ true = l.image_is in let behind = l.cid ++ image ∷ [] in let rest = l.vmid ++ behind in
-    let other = other_option (codes "--depth") (codes "--vmid") 16 1 l.vmid s.vmid_bytes behind l.vmid_is refl
-    (other_option (codes "--depth") (codes "--cid") 16 4 l.cid s.cid_bytes (image ∷ []) l.cid_is refl refl) in
-    let depth = taken (codes "--depth") 16 l.depth s.depth rest l.depth_is other in
-    let sizes = sizes_said l.vmid l.cid (image ∷ []) s l.vmid_is l.cid_is l.within refl refl in
-    let no_raw = option_no_layout (codes "--depth") 16 l.depth s.depth rest l.depth_is refl
-    (option_no_layout (codes "--vmid") 1 l.vmid s.vmid_bytes behind l.vmid_is refl
-    (option_no_layout (codes "--cid") 4 l.cid s.cid_bytes (image ∷ []) l.cid_is refl (image_no_layout image name))) in
-    let layout_is = layout_said l.raw layout (l.depth ++ rest) l.layout_is no_raw in rw l.row (simp (layout_is, depth, sizes, name))
+    let t = taken path_row l.line.pieces l.line.ended l.line.behind nothing_seen refl l.line.are_pieces l.line.end_is (record {
+      free = refl;
+      once = path_once words image s layout l;
+      one = image_once (images_of l.line.pieces ++ l.line.behind) image l.line.images_are;
+      has = λ o. inl (path_has o);
+      allowed = inl refl;
+      enough = inr (image, l.line.images_are);
+    }) in
+    let says = said_by t.end s layout (values_of option.Raw l.line.pieces) (values_of option.Depth l.line.pieces) (values_of option.Vmid l.line.pieces)
+    (values_of option.Cid l.line.pieces) (t.values option.Raw) (t.values option.Depth) (t.values option.Vmid) (t.values option.Cid)
+    l.layout_is l.depth_is l.vmid_is l.cid_is l.within in
+    ap meaning l.line.row
+    ∙ path_means (in_row l.line.pieces l.line.ended) t.end image s layout t.seen_is (image_said t.end.image image (t.images ∙ l.line.images_are)) says.0 says.1
+
+packets_once : (words : List (List ℕ)) (s : Sizes) (layout : Layout) (l : IsPacketsLine words s layout) (o : CommandOption)
+    → OnceAtMost (given o nothing_seen ++ values_of o l.line.pieces)
+packets_once words s layout l option.Raw = layout_once (values_of option.Raw l.line.pieces) layout l.layout_is
+packets_once words s layout l option.Depth = subst OnceAtMost (sym l.no_depth) tt
+packets_once words s layout l option.Vmid = number_once 1 (values_of option.Vmid l.line.pieces) s.vmid_bytes l.vmid_is
+packets_once words s layout l option.Cid = number_once 4 (values_of option.Cid l.line.pieces) s.cid_bytes l.cid_is
+
+packets_has : (words : List (List ℕ)) (s : Sizes) (layout : Layout) (l : IsPacketsLine words s layout) (o : CommandOption)
+    → Has packets_row o ⊎ (values_of o l.line.pieces ≡ [])
+packets_has words s layout l option.Raw = inl refl
+packets_has words s layout l option.Depth = inr l.no_depth
+packets_has words s layout l option.Vmid = inl refl
+packets_has words s layout l option.Cid = inl refl
 
 pub packets_said : (words : List (List ℕ)) (s : Sizes) (layout : Layout) → IsPacketsLine words s layout → meaning words ≡ Some (Packets s layout)
 packets_said words s layout l =
-    let sizes = sizes_said l.vmid l.cid [] s l.vmid_is l.cid_is l.within refl refl in
-    let found : ◌≡◌ {A = Option (Sizes × List (List ℕ))} (sizes_at 16 (l.vmid ++ l.cid)) (Some (s, [])) =
-    subst (λ (c : List (List ℕ)). ◌≡◌ {A = Option (Sizes × List (List ℕ))} (sizes_at 16 (l.vmid ++ c)) (Some (s, []))) (append-nil l.cid)
-    (subst (λ (d : ℕ). ◌≡◌ {A = Option (Sizes × List (List ℕ))} (sizes_at d (l.vmid ++ (l.cid ++ []))) (Some (s, []))) l.depth_is sizes) in
-    let no_raw = option_no_layout (codes "--vmid") 1 l.vmid s.vmid_bytes l.cid l.vmid_is refl
-    (subst (λ (c : List (List ℕ)). layout_at c ≡ (Frames, c)) (append-nil l.cid)
-    (option_no_layout (codes "--cid") 4 l.cid s.cid_bytes [] l.cid_is refl refl)) in
-    let layout_is = layout_said l.raw layout (l.vmid ++ l.cid) l.layout_is no_raw in rw l.row (simp (layout_is, found))
+    let t = taken packets_row l.line.pieces l.line.ended l.line.behind nothing_seen refl l.line.are_pieces l.line.end_is (record {
+      free = refl;
+      once = packets_once words s layout l;
+      one = subst OnceAtMost (sym l.line.images_are) tt;
+      has = packets_has words s layout l;
+      allowed = inr l.line.images_are;
+      enough = inl refl;
+    }) in
+    let says = said_by t.end s layout (values_of option.Raw l.line.pieces) [] (values_of option.Vmid l.line.pieces)
+    (values_of option.Cid l.line.pieces) (t.values option.Raw) (t.values option.Depth ∙ l.no_depth) (t.values option.Vmid) (t.values option.Cid)
+    l.layout_is l.depth_is l.vmid_is l.cid_is l.within in
+    ap meaning l.line.row ∙ packets_means (in_row l.line.pieces l.line.ended) t.end s layout t.seen_is says.0 says.1
+
+retired_once : (words : List (List ℕ)) (image : List ℕ) (l : IsRetiredLine words image) (o : CommandOption)
+    → OnceAtMost (given o nothing_seen ++ values_of o l.line.pieces)
+retired_once words image l option.Raw = subst OnceAtMost (sym (l.no_option option.Raw)) tt
+retired_once words image l option.Depth = subst OnceAtMost (sym (l.no_option option.Depth)) tt
+retired_once words image l option.Vmid = subst OnceAtMost (sym (l.no_option option.Vmid)) tt
+retired_once words image l option.Cid = subst OnceAtMost (sym (l.no_option option.Cid)) tt
 
 pub retired_said : (words : List (List ℕ)) (image : List ℕ) → IsRetiredLine words image → meaning words ≡ Some (Retired image)
-retired_said words image l = let name : is_image_word image ≡ true = l.image_is in rw l.row (simp name)
+retired_said words image l =
+    let t = taken retired_row l.line.pieces l.line.ended l.line.behind nothing_seen refl l.line.are_pieces l.line.end_is (record {
+      free = refl;
+      once = retired_once words image l;
+      one = image_once (images_of l.line.pieces ++ l.line.behind) image l.line.images_are;
+      has = λ o. inr (l.no_option o);
+      allowed = inl refl;
+      enough = inr (image, l.line.images_are);
+    }) in
+    ap meaning l.line.row
+    ∙ retired_means (in_row l.line.pieces l.line.ended) t.end image t.seen_is (image_said t.end.image image (t.images ∙ l.line.images_are))
+
+trace_once : (words : List (List ℕ)) (image : List ℕ) (l : IsTraceLine words image) (o : CommandOption)
+    → OnceAtMost (given o nothing_seen ++ values_of o l.line.pieces)
+trace_once words image l option.Raw = subst OnceAtMost (sym (l.no_option option.Raw)) tt
+trace_once words image l option.Depth = subst OnceAtMost (sym (l.no_option option.Depth)) tt
+trace_once words image l option.Vmid = subst OnceAtMost (sym (l.no_option option.Vmid)) tt
+trace_once words image l option.Cid = subst OnceAtMost (sym (l.no_option option.Cid)) tt
 
 pub trace_said : (words : List (List ℕ)) (image : List ℕ) → IsTraceLine words image → meaning words ≡ Some (Trace image)
-trace_said words image l = let name : is_image_word image ≡ true = l.image_is in rw l.row (simp name)
+trace_said words image l =
+    let t = taken trace_row l.line.pieces l.line.ended l.line.behind nothing_seen refl l.line.are_pieces l.line.end_is (record {
+      free = refl;
+      once = trace_once words image l;
+      one = image_once (images_of l.line.pieces ++ l.line.behind) image l.line.images_are;
+      has = λ o. inr (l.no_option o);
+      allowed = inl refl;
+      enough = inr (image, l.line.images_are);
+    }) in
+    ap meaning l.line.row
+    ∙ trace_means (in_row l.line.pieces l.line.ended) t.end image t.seen_is (image_said t.end.image image (t.images ∙ l.line.images_are))

@@ -13,8 +13,14 @@ mod TracedExamples
 pub mod TracedPaths
 pub mod TracedStreams
 pub mod Tracing
+pub mod WordAgreement
+pub mod WordEnds
 mod WordExamples
-mod WordLemmas
+pub mod WordLemmas
+pub mod WordMeaning
+pub mod WordParses
+pub mod WordTurns
+pub mod WordWalk
 mod WovenExamples
 pub mod WovenFrames
 pub mod WovenPlaces

@@ -1,55 +1,121 @@
 -- How the words of a command line stand in a row.
-use Rattle.std.specs.Prelude.{◌≡◌, ℕ, List, [], ◌∷◌, ◌++◌, codes, Some, IsTrue}
+use Rattle.std.specs.Prelude.{◌≡◌, ℕ, true, false, List, [], ◌∷◌, ◌++◌, codes, Some, All, if◌then◌else◌}
+use Rattle.std.specs.Str.{bytes_eq}
 use Rattle.etm_types.specs.Settings.{Sizes, AreSettings}
 use Rattle.program_image.specs.Line.{decimal_of}
-use Rattle.trace_cmd.specs.Words.{is_image_word}
+use Rattle.trace_cmd.specs.Words.{is_dashed, name_of, takes_value}
+use Rattle.trace_cmd.specs.declared.words.CommandOption.{CommandOption}
+use Rattle.trace_cmd.specs.declared.words.CommandOption.TheVariants as option
 use Rattle.trace_cmd.specs.declared.words.Layout.{Layout}
 use Rattle.trace_cmd.specs.declared.words.Layout.TheVariants.{Raw, Frames}
 
--- `[--raw]`: this word stands for one stream that is not framed, and no words for formatter frames
+-- ---- the pieces of a line
+
+-- what stands behind a command: an option with its value in the next word, or in its own behind `=`, a flag, or the positional
+pub data Piece : Type 0 where
+  Apart : CommandOption → List ℕ → Piece
+  Joined : CommandOption → List ℕ → Piece
+  Flag : CommandOption → Piece
+  Image : List ℕ → Piece
+
+abbrev pub word_of : CommandOption → List ℕ
+word_of o = codes "--" ++ name_of o
+
+-- its words
+abbrev pub words_of : Piece → List (List ℕ)
+words_of (Apart o value) = word_of o ∷ value ∷ []
+words_of (Joined o value) = (word_of o ++ 61 ∷ value) ∷ []
+words_of (Flag o) = word_of o ∷ []
+words_of (Image word) = word ∷ []
+
+-- the words of pieces in a row, and those behind them
+abbrev pub in_row : List Piece → List (List ℕ) → List (List ℕ)
+in_row [] behind = behind
+in_row (piece ∷ pieces) behind = words_of piece ++ in_row pieces behind
+
+-- a flag has no value and another option has one, and neither a positional nor a value in the next word is dashed
+abbrev pub IsPiece : Piece → Type 0
+IsPiece (Apart o value) = (takes_value o ≡ true) × (is_dashed value ≡ false)
+IsPiece (Joined o value) = takes_value o ≡ true
+IsPiece (Flag o) = takes_value o ≡ false
+IsPiece (Image word) = is_dashed word ≡ false
+
+-- nothing more, or `--` with positionals behind it
+abbrev pub IsEnd : List (List ℕ) → List (List ℕ) → Type 0
+IsEnd [] images = images ≡ []
+IsEnd (word ∷ words) images = (word ≡ codes "--") × (words ≡ images)
+
+-- ---- what the pieces say
+
+-- the value is added where the options are the same
+abbrev pub value_for : CommandOption → CommandOption → List ℕ → List (List ℕ) → List (List ℕ)
+value_for o p value values = if bytes_eq (name_of o) (name_of p) then value ∷ values else values
+
+-- the values of an option, in their order, and of a flag an empty one for each time that it stands
+abbrev pub values_of : CommandOption → List Piece → List (List ℕ)
+values_of o [] = []
+values_of o (Apart p value ∷ pieces) = value_for o p value (values_of o pieces)
+values_of o (Joined p value ∷ pieces) = value_for o p value (values_of o pieces)
+values_of o (Flag p ∷ pieces) = value_for o p [] (values_of o pieces)
+values_of o (Image word ∷ pieces) = values_of o pieces
+
+-- the positionals, in their order
+abbrev pub images_of : List Piece → List (List ℕ)
+images_of [] = []
+images_of (Apart p value ∷ pieces) = images_of pieces
+images_of (Joined p value ∷ pieces) = images_of pieces
+images_of (Flag p ∷ pieces) = images_of pieces
+images_of (Image word ∷ pieces) = word ∷ images_of pieces
+
+-- `--raw` once stands for one stream that is not framed, and its absence for formatter frames
 abbrev pub IsLayout : List (List ℕ) → Layout → Type 0
 IsLayout [] layout = layout ≡ Frames
-IsLayout (word ∷ []) layout = (word ≡ codes "--raw") × (layout ≡ Raw)
-IsLayout words layout = ⊥
+IsLayout (flag ∷ []) layout = layout ≡ Raw
+IsLayout (flag ∷ other ∷ flags) layout = ⊥
 
--- `[NAME N]`: NAME and a number, or no words, which stand for the default
-abbrev pub IsOption : List ℕ → ℕ → List (List ℕ) → ℕ → Type 0
-IsOption name default [] n = n ≡ default
-IsOption name default (word ∷ number ∷ []) n = (word ≡ name) × (decimal_of number ≡ Some n)
-IsOption name default words n = ⊥
+-- one value is a number, and the absence of one stands for the default
+abbrev pub IsNumber : ℕ → List (List ℕ) → ℕ → Type 0
+IsNumber default [] n = n ≡ default
+IsNumber default (value ∷ []) n = decimal_of value ≡ Some n
+IsNumber default (value ∷ other ∷ values) n = ⊥
 
--- `path [--raw] [--depth N] [--vmid N] [--cid N] IMAGE`, with numbers in range
+-- ---- lines
+
+-- the words of a command: its own, pieces in any order, and an end, with these positionals among them
+pub record IsLine (word : List ℕ) (words images : List (List ℕ)) : Type 0 where
+  pub pieces : List Piece
+  pub ended : List (List ℕ)
+  pub behind : List (List ℕ)
+  pub row : words ≡ word ∷ in_row pieces ended
+  pub are_pieces : All IsPiece pieces
+  pub end_is : IsEnd ended behind
+  pub images_are : images_of pieces ++ behind ≡ images
+
+-- `path`, with numbers in range and one positional
 pub record IsPathLine (words : List (List ℕ)) (image : List ℕ) (s : Sizes) (layout : Layout) : Type 0 where
-  pub raw : List (List ℕ)
-  pub depth : List (List ℕ)
-  pub vmid : List (List ℕ)
-  pub cid : List (List ℕ)
-  pub row : words ≡ codes "path" ∷ (raw ++ (depth ++ (vmid ++ (cid ++ image ∷ []))))
-  pub layout_is : IsLayout raw layout
-  pub depth_is : IsOption (codes "--depth") 16 depth s.depth
-  pub vmid_is : IsOption (codes "--vmid") 1 vmid s.vmid_bytes
-  pub cid_is : IsOption (codes "--cid") 4 cid s.cid_bytes
-  pub image_is : IsTrue (is_image_word image)
+  pub line : IsLine (codes "path") words (image ∷ [])
+  pub layout_is : IsLayout (values_of option.Raw line.pieces) layout
+  pub depth_is : IsNumber 16 (values_of option.Depth line.pieces) s.depth
+  pub vmid_is : IsNumber 1 (values_of option.Vmid line.pieces) s.vmid_bytes
+  pub cid_is : IsNumber 4 (values_of option.Cid line.pieces) s.cid_bytes
   pub within : AreSettings s
 
--- `packets [--raw] [--vmid N] [--cid N]`, with numbers in range; no packet depends on the depth, which is the default
+-- `packets`, with numbers in range and no positional; no packet depends on the depth, which is the default
 pub record IsPacketsLine (words : List (List ℕ)) (s : Sizes) (layout : Layout) : Type 0 where
-  pub raw : List (List ℕ)
-  pub vmid : List (List ℕ)
-  pub cid : List (List ℕ)
-  pub row : words ≡ codes "packets" ∷ (raw ++ (vmid ++ cid))
-  pub layout_is : IsLayout raw layout
+  pub line : IsLine (codes "packets") words []
+  pub layout_is : IsLayout (values_of option.Raw line.pieces) layout
+  pub no_depth : values_of option.Depth line.pieces ≡ []
   pub depth_is : s.depth ≡ 16
-  pub vmid_is : IsOption (codes "--vmid") 1 vmid s.vmid_bytes
-  pub cid_is : IsOption (codes "--cid") 4 cid s.cid_bytes
+  pub vmid_is : IsNumber 1 (values_of option.Vmid line.pieces) s.vmid_bytes
+  pub cid_is : IsNumber 4 (values_of option.Cid line.pieces) s.cid_bytes
   pub within : AreSettings s
 
--- `retired IMAGE`
+-- `retired`, with no option and one positional
 pub record IsRetiredLine (words : List (List ℕ)) (image : List ℕ) : Type 0 where
-  pub row : words ≡ codes "retired" ∷ image ∷ []
-  pub image_is : IsTrue (is_image_word image)
+  pub line : IsLine (codes "retired") words (image ∷ [])
+  pub no_option : (o : CommandOption) → values_of o line.pieces ≡ []
 
--- `trace IMAGE`
+-- `trace`, with no option and one positional
 pub record IsTraceLine (words : List (List ℕ)) (image : List ℕ) : Type 0 where
-  pub row : words ≡ codes "trace" ∷ image ∷ []
-  pub image_is : IsTrue (is_image_word image)
+  pub line : IsLine (codes "trace") words (image ∷ [])
+  pub no_option : (o : CommandOption) → values_of o line.pieces ≡ []

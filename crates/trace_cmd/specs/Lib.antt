@@ -12,5 +12,6 @@ pub mod Traced
 pub mod TracedCalls
 pub mod Tracing
 pub mod Weaving
+pub mod WordRules
 pub mod Words
 pub mod Woven

@@ -1,9 +1,12 @@
--- What contracts see of a command in the code.
+-- What contracts see of the words' types in the code.
 use Rattle.std.specs.Prelude.{⊤}
+use Rattle.std.specs.Option.{option_map}
 use Rattle.etm_types.specs.Settings.{AreSettings}
-use Rattle.trace_cmd.specs.Words.{Command, Path, Packets, Retired, Trace}
+use Rattle.trace_cmd.specs.Words.{Command, CommandRow, Path, Packets, Retired, Seen, Trace, row}
 use Rattle.trace_cmd.specs.declared.words.Command.{Command as Told}
 use Rattle.trace_cmd.specs.declared.words.Command.TheVariants as told
+use Rattle.trace_cmd.specs.declared.words.CommandLine.{CommandLine}
+use Rattle.trace_cmd.specs.declared.words.Seen.{Seen as ToldSeen}
 
 abbrev pub said : Told → Command
 said (told.Path image settings layout) = Path image.now settings layout
@@ -17,3 +20,17 @@ HasSettings (told.Path image settings layout) = AreSettings settings
 HasSettings (told.Packets settings layout) = AreSettings settings
 HasSettings (told.Retired image) = ⊤
 HasSettings (told.Trace image) = ⊤
+
+abbrev pub line_of : CommandLine → CommandRow
+line_of line = row line.word.now line.name line.options.now line.has_image
+
+abbrev pub seen_by : ToldSeen → Seen
+seen_by seen = record {
+  raw = seen.raw;
+  depth = option_map (λ text. text.now) seen.depth;
+  vmid = option_map (λ text. text.now) seen.vmid;
+  cid = option_map (λ text. text.now) seen.cid;
+  image = option_map (λ text. text.now) seen.image;
+  waits = seen.waits;
+  ended = seen.ended;
+}

@@ -1,10 +1,15 @@
 -- What the words of the command line mean.
-use Rattle.std.specs.Prelude.{ℕ, ◌==◌, ◌&&◌, nat_le, Bool, true, not, List, [], ◌∷◌, length, codes, Option, Some, None}
-use Rattle.std.specs.Prelude.{if◌then◌else◌, String, map, string_bytes}
-use Rattle.std.specs.Option.{option_map, option_and_then}
+use Rattle.std.specs.Prelude.{ℕ, ◌==◌, ◌&&◌, ◌||◌, nat_le, Bool, true, false, not, List, [], ◌∷◌, codes, Option, Some, None, is_some}
+use Rattle.std.specs.Prelude.{if◌then◌else◌, String, map, string_bytes, find}
+use Rattle.std.specs.List.{before_first, after_first, list_any}
+use Rattle.std.specs.Option.{option_map, option_and_then, option_map_or}
 use Rattle.std.specs.Str.{bytes_eq}
 use Rattle.etm_types.specs.Settings.{Sizes, is_vmid_size, is_cid_size}
 use Rattle.program_image.specs.Line.{decimal_of}
+use Rattle.trace_cmd.specs.declared.words.CommandName.{CommandName}
+use Rattle.trace_cmd.specs.declared.words.CommandName.TheVariants as name
+use Rattle.trace_cmd.specs.declared.words.CommandOption.{CommandOption}
+use Rattle.trace_cmd.specs.declared.words.CommandOption.TheVariants as option
 use Rattle.trace_cmd.specs.declared.words.Layout.{Layout}
 use Rattle.trace_cmd.specs.declared.words.Layout.TheVariants.{Raw, Frames}
 
@@ -23,65 +28,159 @@ pub data Command : Type 0 where
   -- the trace of each stream of a run file, in frames: the name of the image
   Trace : List ℕ → Command
 
+-- ---- the commands and their options
+
+-- the name of an option, which stands behind `--` in its word
+abbrev pub name_of : CommandOption → List ℕ
+name_of option.Raw = codes "raw"
+name_of option.Depth = codes "depth"
+name_of option.Vmid = codes "vmid"
+name_of option.Cid = codes "cid"
+
+-- an option takes a value, and a flag none
+abbrev pub takes_value : CommandOption → Bool
+takes_value option.Raw = false
+takes_value option.Depth = true
+takes_value option.Vmid = true
+takes_value option.Cid = true
+
+-- a command: its word, its options, and whether it has the positional IMAGE
+pub record CommandRow : Type 0 where
+  pub word : List ℕ
+  pub name : CommandName
+  pub options : List CommandOption
+  pub has_image : Bool
+
+abbrev pub row : List ℕ → CommandName → List CommandOption → Bool → CommandRow
+row word name options has_image = record { word = word; name = name; options = options; has_image = has_image }
+
+-- the table of commands; no packet depends on the depth
+abbrev pub commands : List CommandRow
+commands =
+    row (codes "path") name.Path (option.Raw ∷ option.Depth ∷ option.Vmid ∷ option.Cid ∷ []) true
+    ∷ row (codes "packets") name.Packets (option.Raw ∷ option.Vmid ∷ option.Cid ∷ []) false
+    ∷ row (codes "retired") name.Retired [] true
+    ∷ row (codes "trace") name.Trace [] true
+    ∷ []
+
 -- ---- a word
 
--- a word that names an image: `-` alone, or one that does not begin with `-`
-abbrev pub is_image_word : List ℕ → Bool
-is_image_word [] = true
-is_image_word (c ∷ []) = true
-is_image_word (c ∷ d ∷ rest) = not (c == 45)
+-- a word that begins with `-` and is longer; it is no positional, and no option's value
+abbrev pub is_dashed : List ℕ → Bool
+is_dashed [] = false
+is_dashed (a ∷ []) = false
+is_dashed (a ∷ b ∷ rest) = a == 45
+
+-- what stands behind a first `-`
+abbrev pub behind_dash : List ℕ → Option (List ℕ)
+behind_dash [] = None
+behind_dash (byte ∷ rest) = if byte == 45 then Some rest else None
+
+abbrev pub is_equals : ℕ → Bool
+is_equals byte = byte == 61
+
+-- NAME or NAME=VALUE: the name, and the value where `=` stands
+abbrev pub name_and_value : List ℕ → List ℕ × Option (List ℕ)
+name_and_value text = (before_first is_equals text, if list_any is_equals text then Some (after_first is_equals text) else None)
+
+-- ---- the walk over the words behind a command
+
+-- what was seen so far: the flag, the values of the options and the positional
+pub record Seen : Type 0 where
+  pub raw : Bool
+  pub depth : Option (List ℕ)
+  pub vmid : Option (List ℕ)
+  pub cid : Option (List ℕ)
+  pub image : Option (List ℕ)
+  -- the option that takes the next word
+  pub waits : Option CommandOption
+  -- whether `--` stood
+  pub ended : Bool
+
+abbrev pub nothing_seen : Seen
+nothing_seen = record { raw = false; depth = None; vmid = None; cid = None; image = None; waits = None; ended = false }
+
+abbrev pub is_seen : CommandOption → Seen → Bool
+is_seen option.Raw seen = seen.raw
+is_seen option.Depth seen = is_some seen.depth
+is_seen option.Vmid seen = is_some seen.vmid
+is_seen option.Cid seen = is_some seen.cid
+
+-- an option is seen, with its value, of which a flag has none
+abbrev pub with_value : CommandOption → List ℕ → Seen → Seen
+with_value option.Raw value seen = record seen { raw = true; waits = None }
+with_value option.Depth value seen = record seen { depth = Some value; waits = None }
+with_value option.Vmid value seen = record seen { vmid = Some value; waits = None }
+with_value option.Cid value seen = record seen { cid = Some value; waits = None }
+
+-- the word is the positional, which stands once
+abbrev pub with_image : CommandRow → List ℕ → Seen → Option Seen
+with_image row word seen = if row.has_image && not (is_some seen.image) then Some (record seen { image = Some word }) else None
+
+-- an option stands once: with the value of its own word, or it takes the next word; a flag has no value
+abbrev pub with_option : CommandOption → Option (List ℕ) → Seen → Option Seen
+with_option o (Some value) seen = if is_seen o seen || not (takes_value o) then None else Some (with_value o value seen)
+with_option o None seen =
+    if is_seen o seen then None else if takes_value o then Some (record seen { waits = Some o }) else Some (with_value o [] seen)
+
+-- `--NAME` or `--NAME=VALUE`, with the text behind `--`, is an option of the command
+abbrev pub with_named : CommandRow → List ℕ → Seen → Option Seen
+with_named row text seen =
+    option_and_then (λ o. with_option o (name_and_value text).1 seen) (find (λ o. bytes_eq (name_and_value text).0 (name_of o)) row.options)
+
+-- `--` ends the options, and another dashed word is an option
+abbrev pub with_dashed : CommandRow → List ℕ → Seen → Option Seen
+with_dashed row word seen =
+    if bytes_eq word (codes "--") then Some (record seen { ended = true })
+    else option_and_then (λ text. with_named row text seen) (option_and_then behind_dash (behind_dash word))
+
+-- one more word
+abbrev pub with_word : CommandRow → List ℕ → Seen → Option Seen
+with_word row word seen =
+    if not seen.ended && is_dashed word then (if is_some seen.waits then None else with_dashed row word seen)
+    else option_map_or (λ o. Some (with_value o word seen)) seen.waits (with_image row word seen)
+
+-- nothing is missing: no option lacks its value, and the positional is there where the command has one
+abbrev pub is_whole : CommandRow → Seen → Bool
+is_whole row seen = not (is_some seen.waits) && (is_some seen.image || not row.has_image)
+
+-- what is seen of all the words
+abbrev pub seen_of : CommandRow → Seen → List (List ℕ) → Option Seen
+seen_of row seen [] = if is_whole row seen then Some seen else None
+seen_of row seen (word ∷ words) = option_and_then (λ next. seen_of row next words) (with_word row word seen)
+
+-- ---- the meaning
 
 -- the sizes of a trace unit: a depth of at most 4096, a VMID of 0, 1, 2 or 4 bytes, a context ID of 0 or 4 bytes
 abbrev pub sizes_of : ℕ → ℕ → ℕ → Option Sizes
 sizes_of depth vmid cid =
     if nat_le depth 4096 && is_vmid_size vmid && is_cid_size cid then Some (record { depth = depth; vmid_bytes = vmid; cid_bytes = cid }) else None
 
--- ---- words in a row
+-- the number of a value's text, or the default where there is no value
+abbrev pub number_of : ℕ → Option (List ℕ) → Option ℕ
+number_of default None = Some default
+number_of default (Some value) = decimal_of value
 
--- `[--raw]` at the front of words: one stream where it is there, formatter frames where it is not, and the words behind it
-abbrev pub layout_at : List (List ℕ) → Layout × List (List ℕ)
-layout_at [] = (Frames, [])
-layout_at (word ∷ rest) = if bytes_eq word (codes "--raw") then (Raw, rest) else (Frames, word ∷ rest)
+abbrev pub sizes_in : Seen → Option Sizes
+sizes_in seen =
+    option_and_then (λ depth. option_and_then (λ vmid. option_and_then (λ cid. sizes_of depth vmid cid)
+    (number_of 4 seen.cid)) (number_of 1 seen.vmid)) (number_of 16 seen.depth)
 
--- `[NAME N]` at the front of words: N, or the default where NAME is not there, and the words behind it
-abbrev pub option_at : List ℕ → ℕ → List (List ℕ) → Option (ℕ × List (List ℕ))
-option_at name default (word ∷ number ∷ rest) =
-    if bytes_eq word name then option_map (λ n. (n, rest)) (decimal_of number) else Some (default, word ∷ number ∷ rest)
-option_at name default words = Some (default, words)
+-- one stream where `--raw` stood, formatter frames where it did not
+abbrev pub layout_in : Seen → Layout
+layout_in seen = if seen.raw then Raw else Frames
 
--- `[--vmid N] [--cid N]` at the front of words: the sizes, with the depth, and the words behind them
-abbrev pub sizes_at : ℕ → List (List ℕ) → Option (Sizes × List (List ℕ))
-sizes_at depth words =
-    option_and_then (λ (vmid : ℕ × List (List ℕ)). option_and_then (λ (cid : ℕ × List (List ℕ)).
-    option_map (λ sizes. (sizes, cid.1)) (sizes_of depth vmid.0 cid.0)) (option_at (codes "--cid") 4 vmid.1)) (option_at (codes "--vmid") 1 words)
+abbrev pub command_in : CommandName → Seen → Option Command
+command_in name.Path seen = option_and_then (λ image. option_map (λ sizes. Path image sizes (layout_in seen)) (sizes_in seen)) seen.image
+command_in name.Packets seen = option_map (λ sizes. Packets sizes (layout_in seen)) (sizes_in seen)
+command_in name.Retired seen = option_map Retired seen.image
+command_in name.Trace seen = option_map Trace seen.image
 
--- `IMAGE`, and no more words
-abbrev pub only_image : List (List ℕ) → Option (List ℕ)
-only_image (image ∷ []) = if is_image_word image then Some image else None
-only_image words = None
-
--- `[--depth N] [--vmid N] [--cid N] IMAGE`
-abbrev pub path_of : Layout → List (List ℕ) → Option Command
-path_of layout words =
-    option_and_then (λ (depth : ℕ × List (List ℕ)). option_and_then (λ (s : Sizes × List (List ℕ)).
-    option_map (λ image. Path image s.0 layout) (only_image s.1)) (sizes_at depth.0 depth.1)) (option_at (codes "--depth") 16 words)
-
--- `[--vmid N] [--cid N]`, and no more words; no packet depends on the depth
-abbrev pub packets_of : Layout → List (List ℕ) → Option Command
-packets_of layout words =
-    option_and_then (λ (s : Sizes × List (List ℕ)). if length s.1 == 0 then Some (Packets s.0 layout) else None) (sizes_at 16 words)
-
--- `path [--raw] [--depth N] [--vmid N] [--cid N] IMAGE`, `packets [--raw] [--vmid N] [--cid N]`, `retired IMAGE` and `trace IMAGE`, in this
--- order; all other words mean nothing
+-- The first word is a command, and the others are its options and its positional, in any order.
 abbrev pub meaning : List (List ℕ) → Option Command
 meaning [] = None
-meaning (command ∷ words) =
-    let behind = layout_at words in
-    if bytes_eq command (codes "path") then path_of behind.0 behind.1
-    else if bytes_eq command (codes "packets") then packets_of behind.0 behind.1
-    else if bytes_eq command (codes "retired") then option_map Retired (only_image words)
-    else if bytes_eq command (codes "trace") then option_map Trace (only_image words)
-    else None
+meaning (word ∷ words) =
+    option_and_then (λ row. option_and_then (command_in row.name) (seen_of row nothing_seen words)) (find (λ row. bytes_eq word row.word) commands)
 
 abbrev pub image_of : Option Command → Option (List ℕ)
 image_of None = None

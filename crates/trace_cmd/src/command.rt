@@ -15,10 +15,11 @@ ghost use Rattle.trace_cmd.specs.Printing.{left_in, pairs_in};
 
 use crate::input::print_input;
 use crate::packet_list::PacketStream;
+use crate::parser::command_of;
 use crate::retired::retire_input;
 use crate::status::Status;
 use crate::traced::trace_input;
-use crate::words::{Command, Layout, command_of};
+use crate::words::{Command, Layout};
 use etm_types::Settings;
 use path_text::Line;
 use program_image::{Image, ImageFault, ImageWhy};
@@ -226,8 +227,10 @@ fn answer_words<I: Source, J: Source, K: Sink>(
     ensures cause { HasCause (K.state out.old) (K.state out.new) result }
     ensures shows { ShowsAsBefore (K.state out.old) (K.state out.new) }
 {
-    let Some(command) = command_of(words) else {
-        return answer_usage(out);
+    let command = match command_of(alloc, words) {
+        Ok(Some(command)) => command,
+        Ok(None) => return answer_usage(out),
+        Err(_) => return Ok(Status::NoMemory),
     };
     match &command {
         Command::Path {
@@ -247,8 +250,10 @@ fn answer_words<I: Source, J: Source, K: Sink>(
 /// each stream of an input, and `packets [--raw] [--vmid N] [--cid N]` its packets. The input is formatter frames
 /// of up to 111 streams, or with `--raw` one stream that is not framed. `retired IMAGE` reads a run file, and prints the
 /// retired path of each of its streams. `trace IMAGE` reads a run file, and writes the traces of its streams in frames, of
-/// which `path` prints those retired paths. `image` is what the word IMAGE names.
+/// which `path` prints those retired paths. The words behind the command may stand in any order, `--depth=N` is `--depth N`,
+/// and behind `--` each word is an IMAGE. `image` is what the word IMAGE names.
 ///
+/// Words are read with memory of their own: where it is wanting, nothing is touched and nothing printed, whatever they mean.
 /// Of paths and packets all memory is taken before the first byte of the input is read. That input is read by pieces of at
 /// most 4096 bytes, whose lines are written and flushed before the next is read. A run file is read whole, at most 64 MiB of
 /// it, and all its lines and events are tested before anything is written, and all memory is taken. All is flushed before it
@@ -263,7 +268,7 @@ pub fn run<I: Source, J: Source, K: Sink>(
     // The answer has its cause, and what was printed is told by it.
     ensures answer { Answers (call (texts words.now) (I.state image.old) (I.state image.new) (J.state input.old) (J.state input.new))
         (K.state out.old) (K.state out.new) result }
-    ensures meaningless { meaning (texts words.now) ≡ None → (result ≡ Status.Usage) ⊎ (result ≡ Status.WriteFault) }
+    ensures meaningless { meaning (texts words.now) ≡ None → (result ≡ Status.Usage) ⊎ (result ≡ Status.WriteFault) ⊎ (result ≡ Status.NoMemory) }
     ensures flushed { (result ≡ Status.WriteFault) ⊎ IsTrue (K.flushed out.new) }
 
     // The words come first, then the image, then all memory, and then the input, which is touched only once the image is good,

@@ -28,8 +28,8 @@ pub fn packets_have_one_list()
         → (line : List ℕ) × (faulty : Bool) × PacketEnds s id bytes line faulty }
 {}
 
-/// Words mean a command exactly where they stand in its row: `--raw`, which tells the layout, and each option with its number
-/// at most once, in one order.
+/// Words mean a command exactly where they are a line of it: pieces in any order, which are its options with their numbers,
+/// `--raw`, which tells the layout, each at most once, and its positional, which may also stand behind `--`.
 pub fn words_mean_what_they_spell()
     ensures path { (words : List (List ℕ)) (image : List ℕ) (s : Sizes) (layout : Layout)
         → (meaning words ≡ Some (Path image s layout)) ↔ IsPathLine words image s layout }

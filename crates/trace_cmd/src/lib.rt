@@ -18,6 +18,7 @@ mod command;
 mod input;
 mod laws;
 mod packet_list;
+mod parser;
 mod printer;
 mod retired;
 mod retiring;

@@ -1,10 +1,13 @@
 //! The words of the command line.
-ghost use Rattle.std.specs.Prelude.{◌≡◌, IfSome};
+ghost use Rattle.std.specs.Prelude.{◌≡◌, IfSome, find, map};
 ghost use Rattle.std.specs.Option.{option_map};
-ghost use Rattle.trace_cmd.specs.Words.{Retired, Trace, is_image_word, layout_at, meaning, only_image, path_of, packets_of};
-ghost use Rattle.trace_cmd.specs.Words.{image_of, option_at, sizes_of, sizes_at, texts};
+ghost use Rattle.std.specs.Str.{bytes_eq};
+ghost use Rattle.trace_cmd.specs.Words.{behind_dash, commands, command_in, image_of, is_dashed, is_seen, is_whole, layout_in};
+ghost use Rattle.trace_cmd.specs.Words.{meaning, name_and_value, name_of, nothing_seen, number_of, seen_of, sizes_in, sizes_of};
+ghost use Rattle.trace_cmd.specs.Words.{takes_value, texts, with_dashed, with_image, with_named, with_option, with_value};
+ghost use Rattle.trace_cmd.specs.Words.{with_word};
 ghost use Rattle.etm_types.specs.Settings.{AreSettings};
-ghost use Rattle.trace_cmd.specs.Said.{HasSettings, said};
+ghost use Rattle.trace_cmd.specs.Said.{HasSettings, line_of, said, seen_by};
 
 use etm_types::Settings;
 use program_image::text::decimal;
@@ -51,36 +54,326 @@ pub enum Command<'a> {
     },
 }
 
-/// Whether a word may name an image: `-` alone, or a word that does not begin with `-`.
-fn is_image_word(word: &str) -> bool
-    ensures { result ≡ is_image_word word.now }
+/// The commands.
+#[derive(Clone, Copy, Debug)]
+pub enum CommandName {
+    Path,
+    Packets,
+    Retired,
+    Trace,
+}
+
+/// The options of the commands. `--raw` is a flag, and the others take a value.
+#[derive(Clone, Copy, Debug)]
+pub enum CommandOption {
+    Raw,
+    Depth,
+    Vmid,
+    Cid,
+}
+
+impl CommandOption {
+    /// Its name, which stands behind `--` in its word.
+    pub fn name(self) -> &'static str
+        ensures { result.now ≡ name_of self }
+    {
+        match self {
+            CommandOption::Raw => "raw",
+            CommandOption::Depth => "depth",
+            CommandOption::Vmid => "vmid",
+            CommandOption::Cid => "cid",
+        }
+    }
+
+    /// Whether it takes a value.
+    pub fn takes_value(self) -> bool
+        ensures { result ≡ takes_value self }
+    {
+        !matches!(self, CommandOption::Raw)
+    }
+}
+
+/// A command, with its options, and whether it has the positional IMAGE.
+#[derive(Clone, Copy, Debug)]
+pub struct CommandLine {
+    pub word: &'static str,
+    pub name: CommandName,
+    pub options: &'static [CommandOption],
+    pub has_image: bool,
+}
+
+/// The commands: `path [--raw] [--depth N] [--vmid N] [--cid N] IMAGE`, `packets [--raw] [--vmid N] [--cid N]`,
+/// `retired IMAGE` and `trace IMAGE`.
+pub const COMMANDS: [CommandLine; 4] = [
+    CommandLine {
+        word: "path",
+        name: CommandName::Path,
+        options: &[
+            CommandOption::Raw,
+            CommandOption::Depth,
+            CommandOption::Vmid,
+            CommandOption::Cid,
+        ],
+        has_image: true,
+    },
+    CommandLine {
+        word: "packets",
+        name: CommandName::Packets,
+        options: &[CommandOption::Raw, CommandOption::Vmid, CommandOption::Cid],
+        has_image: false,
+    },
+    CommandLine {
+        word: "retired",
+        name: CommandName::Retired,
+        options: &[],
+        has_image: true,
+    },
+    CommandLine {
+        word: "trace",
+        name: CommandName::Trace,
+        options: &[],
+        has_image: true,
+    },
+];
+
+/// The command of a word, among these.
+fn line_in(lines: &[CommandLine], word: &str) -> Option<CommandLine>
+    ensures { option_map line_of result ≡ find (λ row. bytes_eq word.now row.word) (map line_of lines.now) }
+{
+    match lines {
+        [line, ..] if word == line.word => Some(*line),
+        [_, rest @ ..] => line_in(rest, word),
+        [] => None,
+    }
+}
+
+/// The command of a word.
+pub fn line_of(word: &str) -> Option<CommandLine>
+    ensures { option_map line_of result ≡ find (λ row. bytes_eq word.now row.word) commands }
+{
+    line_in(&COMMANDS, word)
+}
+
+/// What was seen so far of the words behind a command.
+#[derive(Clone, Copy, Debug)]
+pub struct Seen<'a> {
+    pub raw: bool,
+    pub depth: Option<&'a str>,
+    pub vmid: Option<&'a str>,
+    pub cid: Option<&'a str>,
+    pub image: Option<&'a str>,
+    /// The option that takes the next word.
+    pub waits: Option<CommandOption>,
+    /// Whether `--` stood.
+    pub ended: bool,
+}
+
+/// Whether a word begins with `-` and is longer.
+fn is_dashed(word: &str) -> bool
+    ensures { result ≡ is_dashed word.now }
 {
     match word.as_bytes() {
-        [] | [_] => true,
-        [first, ..] => *first != b'-',
+        [] | [_] => false,
+        [first, ..] => *first == b'-',
     }
 }
 
-/// The layout that the front of the words tells, which is `--raw` or nothing, and the words behind it.
-fn take_layout(words: &[String]) -> (Layout, &[String])
-    ensures { (result.0, texts result.1.now) ≡ layout_at (texts words.now) }
+/// What stands behind a first `-`.
+fn behind_dash(word: &str) -> Option<&str>
+    ensures { option_map (λ s. s.now) result ≡ behind_dash word.now }
 {
-    match words {
-        [word, rest @ ..] if word.as_str() == "--raw" => (Layout::Raw, rest),
-        _ => (Layout::Frames, words),
+    word.strip_prefix('-')
+}
+
+/// The parts of NAME or NAME=VALUE.
+fn name_and_value(text: &str) -> (&str, Option<&str>)
+    ensures { (result.0.now, option_map (λ v. v.now) result.1) ≡ name_and_value text.now }
+{
+    match text.split_once('=') {
+        Some((name, value)) => (name, Some(value)),
+        None => (text, None),
     }
 }
 
-/// An option at the front of the words: its number, or the default where the option is absent, and the words behind it.
-fn take_option<'a>(words: &'a [String], name: &str, default: u64) -> Option<(u64, &'a [String])>
-    ensures { option_map (λ found. (found.0, texts found.1.now)) result ≡ option_at name.now default (texts words.now) }
-{
-    match words {
-        [word, digits, rest @ ..] if word.as_str() == name => {
-            let found = decimal(digits.as_bytes())?;
-            Some((found, rest))
+impl<'a> Seen<'a> {
+    /// Nothing.
+    fn nothing() -> Self
+        ensures { seen_by result ≡ nothing_seen }
+    {
+        Self {
+            raw: false,
+            depth: None,
+            vmid: None,
+            cid: None,
+            image: None,
+            waits: None,
+            ended: false,
         }
-        _ => Some((default, words)),
+    }
+
+    /// Whether an option stood.
+    fn has(&self, option: CommandOption) -> bool
+        ensures { result ≡ is_seen option (seen_by self.now) }
+    {
+        match option {
+            CommandOption::Raw => self.raw,
+            CommandOption::Depth => self.depth.is_some(),
+            CommandOption::Vmid => self.vmid.is_some(),
+            CommandOption::Cid => self.cid.is_some(),
+        }
+    }
+
+    /// An option, with its value.
+    fn with_value(mut self, option: CommandOption, value: &'a str) -> Self
+        ensures { seen_by result ≡ with_value option value.entry.now (seen_by self.entry) }
+    {
+        self.waits = None;
+        match option {
+            CommandOption::Raw => self.raw = true,
+            CommandOption::Depth => self.depth = Some(value),
+            CommandOption::Vmid => self.vmid = Some(value),
+            CommandOption::Cid => self.cid = Some(value),
+        }
+        self
+    }
+
+    /// The positional, where the command has one and it did not stand.
+    fn with_image(mut self, line: &CommandLine, word: &'a str) -> Option<Self>
+        ensures { option_map seen_by result ≡ with_image (line_of line.now) word.entry.now (seen_by self.entry) }
+    {
+        if line.has_image && self.image.is_none() {
+            self.image = Some(word);
+            Some(self)
+        } else {
+            None
+        }
+    }
+
+    /// An option that did not stand, with the value of its own word.
+    fn with_option(mut self, option: CommandOption, value: Option<&'a str>) -> Option<Self>
+        ensures { option_map seen_by result ≡ with_option option (option_map (λ v. v.now) value.entry) (seen_by self.entry) }
+    {
+        match value {
+            _ if self.has(option) => None,
+            Some(value) if option.takes_value() => Some(self.with_value(option, value)),
+            Some(_) => None,
+            None if option.takes_value() => {
+                self.waits = Some(option);
+                Some(self)
+            }
+            None => Some(self.with_value(option, "")),
+        }
+    }
+
+    /// An option of the command, by the text behind `--`.
+    fn with_named(self, line: &CommandLine, text: &'a str) -> Option<Self>
+        ensures { option_map seen_by result ≡ with_named (line_of line.now) text.entry.now (seen_by self.entry) }
+    {
+        let (name, value) = name_and_value(text);
+        let option = option_named(line.options, name)?;
+        self.with_option(option, value)
+    }
+
+    /// The end of the options, or an option of the command.
+    fn with_dashed(mut self, line: &CommandLine, word: &'a str) -> Option<Self>
+        ensures { option_map seen_by result ≡ with_dashed (line_of line.now) word.entry.now (seen_by self.entry) }
+    {
+        if word == "--" {
+            self.ended = true;
+            return Some(self);
+        }
+        let text = behind_dash(behind_dash(word)?)?;
+        self.with_named(line, text)
+    }
+
+    /// One more word.
+    fn with_word(self, line: &CommandLine, word: &'a str) -> Option<Self>
+        ensures { option_map seen_by result ≡ with_word (line_of line.now) word.entry.now (seen_by self.entry) }
+    {
+        match self.waits {
+            Some(_) if !self.ended && is_dashed(word) => None,
+            None if !self.ended && is_dashed(word) => self.with_dashed(line, word),
+            Some(option) => Some(self.with_value(option, word)),
+            None => self.with_image(line, word),
+        }
+    }
+
+    /// Whether nothing is missing.
+    fn is_whole(&self, line: &CommandLine) -> bool
+        ensures { result ≡ is_whole (line_of line.now) (seen_by self.now) }
+    {
+        self.waits.is_none() && (self.image.is_some() || !line.has_image)
+    }
+
+    /// The settings, where the values are numbers in range.
+    fn settings(&self) -> Option<Settings>
+        ensures value { result ≡ sizes_in (seen_by self.now) }
+        ensures within { IfSome result AreSettings }
+    {
+        let depth = number_of(self.depth, DEPTH)?;
+        let vmid_bytes = number_of(self.vmid, VMID_BYTES)?;
+        let cid_bytes = number_of(self.cid, CID_BYTES)?;
+        settings_of(depth, vmid_bytes, cid_bytes)
+    }
+
+    /// The layout.
+    fn layout(&self) -> Layout
+        ensures { result ≡ layout_in (seen_by self.now) }
+    {
+        if self.raw {
+            Layout::Raw
+        } else {
+            Layout::Frames
+        }
+    }
+
+    /// The command of this name.
+    pub fn command(&self, name: CommandName) -> Option<Command<'a>>
+        ensures value { option_map said result ≡ command_in name (seen_by self.now) }
+        ensures within { IfSome result HasSettings }
+    {
+        match name {
+            CommandName::Path => {
+                let image = self.image?;
+                let settings = self.settings()?;
+                let layout = self.layout();
+                Some(Command::Path {
+                    image,
+                    settings,
+                    layout,
+                })
+            }
+            CommandName::Packets => {
+                let settings = self.settings()?;
+                let layout = self.layout();
+                Some(Command::Packets { settings, layout })
+            }
+            CommandName::Retired => {
+                let image = self.image?;
+                Some(Command::Retired { image })
+            }
+            CommandName::Trace => {
+                let image = self.image?;
+                Some(Command::Trace { image })
+            }
+        }
+    }
+}
+
+/// The option of this name, where it is one of these.
+fn option_named(options: &[CommandOption], name: &str) -> Option<CommandOption>
+    ensures { result ≡ find (λ o. bytes_eq name.now (name_of o)) options.now }
+{
+    options.iter().copied().find(|option| name == option.name())
+}
+
+/// The number of a value's text, or the default where there is no value.
+fn number_of(value: Option<&str>, default: u64) -> Option<u64>
+    ensures { result ≡ number_of default (option_map (λ v. v.now) value.entry) }
+{
+    match value {
+        Some(text) => decimal(text.as_bytes()),
+        None => Some(default),
     }
 }
 
@@ -95,90 +388,30 @@ fn settings_of(depth: u64, vmid_bytes: u64, cid_bytes: u64) -> Option<Settings>
     Settings::new(depth, vmid_bytes, cid_bytes).ok()
 }
 
-/// The sizes of a VMID and a context ID at the front of the words, with the depth as settings, and the words behind them.
-fn take_settings(depth: u64, words: &[String]) -> Option<(Settings, &[String])>
-    ensures value { option_map (λ found. (found.0, texts found.1.now)) result ≡ sizes_at depth (texts words.now) }
-    ensures within { IfSome result (λ found. AreSettings found.0) }
+/// What is seen of the words behind a command.
+fn seen_of<'a>(line: &CommandLine, words: &'a [String]) -> Option<Seen<'a>>
+    ensures { option_map seen_by result ≡ seen_of (line_of line.now) nothing_seen (texts words.entry.now) }
 {
-    let (vmid_bytes, words) = take_option(words, "--vmid", VMID_BYTES)?;
-    let (cid_bytes, words) = take_option(words, "--cid", CID_BYTES)?;
-    Some((settings_of(depth, vmid_bytes, cid_bytes)?, words))
-}
-
-/// The word that names the image, where there is no other word.
-fn only_image(words: &[String]) -> Option<&str>
-    ensures { option_map (λ name. name.now) result ≡ only_image (texts words.now) }
-{
-    match words {
-        [image] if is_image_word(image.as_str()) => Some(image.as_str()),
-        _ => None,
+    let mut seen = Seen::nothing();
+    for word in words {
+        seen = seen.with_word(line, word.as_str())?;
     }
-}
-
-/// The command of the words behind `path` and the layout.
-fn path_of(layout: Layout, words: &[String]) -> Option<Command<'_>>
-    ensures value { option_map said result ≡ path_of layout (texts words.now) }
-    ensures within { IfSome result HasSettings }
-{
-    let (depth, words) = take_option(words, "--depth", DEPTH)?;
-    let Some((settings, words)) = take_settings(depth, words) else {
-        return None;
-    };
-    let image = only_image(words)?;
-    Some(Command::Path {
-        image,
-        settings,
-        layout,
-    })
-}
-
-/// The command of the words behind `packets` and the layout.
-fn packets_of(layout: Layout, words: &[String]) -> Option<Command<'_>>
-    ensures value { option_map said result ≡ packets_of layout (texts words.now) }
-    ensures within { IfSome result HasSettings }
-{
-    let Some((settings, words)) = take_settings(DEPTH, words) else {
-        return None;
-    };
-    if words.is_empty() {
-        Some(Command::Packets { settings, layout })
+    if seen.is_whole(line) {
+        Some(seen)
     } else {
         None
     }
 }
 
-/// The command of the words behind `retired`.
-fn retired_of(words: &[String]) -> Option<Command<'_>>
-    ensures value { option_map said result ≡ option_map Retired (only_image (texts words.now)) }
-    ensures within { IfSome result HasSettings }
-{
-    let image = only_image(words)?;
-    Some(Command::Retired { image })
-}
-
-/// The command of the words behind `trace`.
-fn trace_of(words: &[String]) -> Option<Command<'_>>
-    ensures value { option_map said result ≡ option_map Trace (only_image (texts words.now)) }
-    ensures within { IfSome result HasSettings }
-{
-    let image = only_image(words)?;
-    Some(Command::Trace { image })
-}
-
 /// The command that the words mean, where they mean one. It takes no memory.
-pub fn command_of(words: &[String]) -> Option<Command<'_>>
+fn read_command(words: &[String]) -> Option<Command<'_>>
     ensures value { option_map said result ≡ meaning (texts words.now) }
     ensures within { IfSome result HasSettings }
 {
-    let (command, behind) = words.split_first()?;
-    let (layout, words) = take_layout(behind);
-    match command.as_str() {
-        "path" => path_of(layout, words),
-        "packets" => packets_of(layout, words),
-        "retired" => retired_of(behind),
-        "trace" => trace_of(behind),
-        _ => None,
-    }
+    let (word, behind) = words.split_first()?;
+    let line = line_of(word.as_str())?;
+    let seen = seen_of(&line, behind)?;
+    seen.command(line.name)
 }
 
 /// The name of the image, where the words have a meaning and their command reads one. It takes no
@@ -186,7 +419,7 @@ pub fn command_of(words: &[String]) -> Option<Command<'_>>
 pub fn image_name(words: &[String]) -> Option<&str>
     ensures { option_map (λ name. name.now) result ≡ image_of (meaning (texts words.now)) }
 {
-    match command_of(words) {
+    match read_command(words) {
         Some(Command::Path { image, .. } | Command::Retired { image } | Command::Trace { image }) =>
             Some(image),
         Some(Command::Packets { .. }) => None,

@@ -1,21 +1,21 @@
-use Rattle.std.proofs.Common.{Some, inl, inr, sym, ap, ◌∙◌}
+use Rattle.std.proofs.Common.{Some, inl, inr, refl, sym, ap, ◌∙◌}
 use Rattle.std.specs.Option.{option_map}
 use Rattle.trace_cmd.specs.Answers.{call}
 use Rattle.trace_cmd.specs.Printing.{PacketsOf}
 use Rattle.trace_cmd.specs.Said.{said}
 use Rattle.trace_cmd.specs.Words.{texts}
 use Rattle.trace_cmd.specs.declared.words.Command.{Command as Told}
-use Rattle.trace_cmd.proofs.AnswerLemmas.{so_by, so_of_usage}
+use Rattle.trace_cmd.proofs.AnswerLemmas.{so_by, so_of_usage, so_of_words}
 use Rattle.trace_cmd.proofs.command.answer_words.Goals as goal
 
 pub returns-in-Path-clause-answer : goal.returns-in-Path-clause-answer
 returns-in-Path-clause-answer g c =
-    let means = sym c.command_of.ensures.value ∙ ap (option_map said) (c.in-Some.is ∙ ap (λ (command : Told). Some command) c.in-Path.is) in
+    let means = sym c.in-Ok-Some.ensures.value ∙ ap (option_map said) (c.in-Ok-Some.field-0-is ∙ ap (λ (command : Told). Some command) c.in-Path.is) in
     c.answer_path.ensures.answer (texts c.args.words.now) (c.in-Path.image.now, means)
 
 pub returns-in-Packets-clause-answer : goal.returns-in-Packets-clause-answer
 returns-in-Packets-clause-answer g c =
-    let means = sym c.command_of.ensures.value ∙ ap (option_map said) (c.in-Some.is ∙ ap (λ (command : Told). Some command) c.in-Packets.is) in
+    let means = sym c.in-Ok-Some.ensures.value ∙ ap (option_map said) (c.in-Ok-Some.field-0-is ∙ ap (λ (command : Told). Some command) c.in-Packets.is) in
     let image = g.I.Source.state in let input = g.J.Source.state in let out = g.K.Sink.state in
     let asked = call (texts c.args.words.now) (image c.args.image.now) (image c.args.image.now) (input c.args.input.now) (input c.print_streams.new.input) in
     so_by asked (PacketsOf c.in-Packets.settings c.in-Packets.layout) means (out c.args.out.now) (out c.print_streams.new.out) c.print_streams.result
@@ -24,27 +24,33 @@ returns-in-Packets-clause-answer g c =
 
 pub returns-in-Retired-clause-answer : goal.returns-in-Retired-clause-answer
 returns-in-Retired-clause-answer g c =
-    let means = sym c.command_of.ensures.value ∙ ap (option_map said) (c.in-Some.is ∙ ap (λ (command : Told). Some command) c.in-Retired.is) in
+    let means = sym c.in-Ok-Some.ensures.value ∙ ap (option_map said) (c.in-Ok-Some.field-0-is ∙ ap (λ (command : Told). Some command) c.in-Retired.is) in
     c.answer_retired.ensures.answer (texts c.args.words.now) (c.in-Retired.image.now, means)
 
 pub returns-in-Retired-clause-memory : goal.returns-in-Retired-clause-memory
 returns-in-Retired-clause-memory g c is =
-    let means = sym c.command_of.ensures.value ∙ ap (option_map said) (c.in-Some.is ∙ ap (λ (command : Told). Some command) c.in-Retired.is) in
+    let means = sym c.in-Ok-Some.ensures.value ∙ ap (option_map said) (c.in-Ok-Some.field-0-is ∙ ap (λ (command : Told). Some command) c.in-Retired.is) in
     inr (inl (c.in-Retired.image.now, means))
 
 pub returns-in-Trace-clause-answer : goal.returns-in-Trace-clause-answer
 returns-in-Trace-clause-answer g c =
-    let means = sym c.command_of.ensures.value ∙ ap (option_map said) (c.in-Some.is ∙ ap (λ (command : Told). Some command) c.in-Trace.is) in
+    let means = sym c.in-Ok-Some.ensures.value ∙ ap (option_map said) (c.in-Ok-Some.field-0-is ∙ ap (λ (command : Told). Some command) c.in-Trace.is) in
     c.answer_trace.ensures.answer (texts c.args.words.now) (c.in-Trace.image.now, means)
 
 pub returns-in-Trace-clause-memory : goal.returns-in-Trace-clause-memory
 returns-in-Trace-clause-memory g c is =
-    let means = sym c.command_of.ensures.value ∙ ap (option_map said) (c.in-Some.is ∙ ap (λ (command : Told). Some command) c.in-Trace.is) in
+    let means = sym c.in-Ok-Some.ensures.value ∙ ap (option_map said) (c.in-Ok-Some.field-0-is ∙ ap (λ (command : Told). Some command) c.in-Trace.is) in
     inr (inr (c.in-Trace.image.now, means))
 
-pub returns-in_default-clause-answer : goal.returns-in_default-clause-answer
-returns-in_default-clause-answer g c =
-    let none = sym c.command_of.ensures.value ∙ ap (option_map said) c.in_default.is in
+pub returns-in-Ok-None-clause-answer : goal.returns-in-Ok-None-clause-answer
+returns-in-Ok-None-clause-answer g c =
+    let none = sym c.in-Ok-None.ensures.value ∙ ap (option_map said) c.in-Ok-None.field-0-is in
     let image = g.I.Source.state in let input = g.J.Source.state in let out = g.K.Sink.state in
     let asked = call (texts c.args.words.now) (image c.args.image.now) (image c.args.image.now) (input c.args.input.now) (input c.args.input.now) in
     so_of_usage asked (out c.args.out.now) (out c.answer_usage.new.out) c.answer_usage.result none c.answer_usage.ensures.0 c.answer_usage.ensures.1
+
+pub returns-in-Err-clause-answer : goal.returns-in-Err-clause-answer
+returns-in-Err-clause-answer g c =
+    let image = g.I.Source.state in let input = g.J.Source.state in let out = g.K.Sink.state in
+    so_of_words (call (texts c.args.words.now) (image c.args.image.now) (image c.args.image.now) (input c.args.input.now) (input c.args.input.now))
+    (out c.args.out.now) refl refl
