@@ -1,5 +1,5 @@
 //! The queue of P0 elements that are not committed.
-ghost use Rattle.std.specs.Prelude.{◌≡◌, ◌≤◌, ◌-◌, ◌↔◌, [], length, take, drop, map, replicate, Bool, Ok, Err};
+ghost use Rattle.std.specs.Prelude.{◌≡◌, ◌≤◌, ◌<◌, ◌-◌, ◌↔◌, [], length, take, drop, map, replicate, Bool, Ok, Err};
 ghost use Rattle.std.specs.Prelude.{IfOk, IfSome, IsOk, IsErr, IsSome, IsTrue, ◌∷◌};
 ghost use Rattle.etm_types.specs.Pre.{trace_missing};
 ghost use Rattle.etm_types.specs.declared.element.Elem.TheVariants as elem;
@@ -142,7 +142,29 @@ impl Queue {
         }
     }
 
+    /// Which atom the oldest is. `None` where nothing is held, and where it is anything but an atom before which nothing was
+    /// given.
+    #[inline(always)]
+    pub fn oldest_atom(&self) -> Option<bool>
+        ensures { IfSome result (λ atom. take 1 self.now.held ≡ Seen (bare_atom atom) ∷ []) }
+    {
+        if self.unseen > 0 {
+            return None;
+        }
+        let oldest = self.ring.get(0)?;
+        bare_atom(oldest.entry())
+    }
+
+    /// Whether one more may be held, so that it commits nothing.
+    #[inline(always)]
+    pub fn has_room(&self) -> bool
+        ensures { IsTrue result ↔ (length self.now.held < self.now.depth) }
+    {
+        self.held() < self.depth
+    }
+
     /// Whether so many are held that can be committed.
+    #[inline(always)]
     pub fn check_commit(&self, n: u32) -> Result<(), QueueFault>
         ensures ok { IsOk result ↔ (n ≤ length self.now.held) }
         ensures fault { (fault : QueueFault) → result ≡ Err fault → Refuses self.now (elem.Commit n) fault }
@@ -155,6 +177,7 @@ impl Queue {
     }
 
     /// Commits the oldest.
+    #[inline(always)]
     pub fn commit_one(&mut self) -> Option<Committed>
         ensures oldest { things_of result ≡ take 1 self.old.held }
         ensures rest { self.new ≡ record (self.old) { held = drop 1 self.old.held; counts = counts_after self.old.counts 0 (committing (things_of result)) } }
@@ -260,6 +283,7 @@ impl Queue {
     }
 
     /// How many are held, those that were not seen too.
+    #[inline(always)]
     pub fn held(&self) -> u32
         ensures value { result ≡ length self.now.held }
         ensures within { result ≤ self.now.depth }

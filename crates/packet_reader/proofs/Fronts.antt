@@ -3,11 +3,12 @@ use Rattle.std.proofs.Common.{◌≡◌, ◌∙◌, ℕ, ◌+◌, ◌-◌, ◌*�
 use Rattle.std.proofs.Common.{refl, sym, ap, inl}
 use Rattle.std.proofs.Common.{append_assoc, length-append, subst, arith, ◌<◌, ◌≤◌}
 use Rattle.std.specs.Prelude.{All}
+use Rattle.std.proofs.lemmas.Bool.{lt-ltb}
 use Rattle.etm_types.specs.Settings.{Sizes}
 use Rattle.etm_types.specs.declared.address.AddrForm.TheVariants.{Match, Short1, Short2, Long32, Long64}
 use Rattle.etm_types.specs.declared.context.CtxBits.{CtxBits}
 use Rattle.packet_grammar.specs.declared.packet.Packet.{Packet}
-use Rattle.packet_grammar.specs.declared.packet.Packet.TheVariants.{Addr}
+use Rattle.packet_grammar.specs.declared.packet.Packet.TheVariants.{Addr, Commit}
 use Rattle.packet_grammar.specs.Contexts.{Context, Field, address_of}
 use Rattle.packet_grammar.specs.Fields.{bit, is_last, lowest}
 use Rattle.packet_grammar.specs.Numbers.{little}
@@ -164,3 +165,11 @@ takes_packet s start taken after text packet more small spells =
       gains = λ bytes stands. (stands.1.1.0, clean, stands.1.1.1, goes_on s start bytes text stands.1.1.0 packet stands.1.0 stands.1.1.1 spells);
       values = values_fit s packet text small spells;
     }
+
+-- ---- short commit packets
+
+pub last_below : (n : ℕ) → n < 0x80 → is_last n ≡ true
+last_below n few = lt-ltb n 0x80 few
+
+pub commit_spelled : (s : Sizes) (n : ℕ) → n < 0x80 → Spells s (Ok (Commit n)) (0x2d ∷ n ∷ [])
+commit_spelled s n few = (n ∷ [], refl, where_so (is_last n) _ _ _ [] (last_below n few) refl)

@@ -170,3 +170,7 @@ HeadsBy header progress =
 abbrev pub IsRun : ℕ → Progress → Type 0
 IsRun header (Done (Ok (Atoms run))) = IsAtomRun run × TellsAtoms header (atoms_in run)
 IsRun header progress = ⊥
+
+-- behind the header of a commit packet
+abbrev pub behind_commit : State
+behind_commit = Number ForCommit 4 0 0

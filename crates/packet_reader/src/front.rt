@@ -1,8 +1,8 @@
-//! Address packets that stand whole at the front of some bytes (Arm IHI 0064, "Exact Match Address packet", "Short
-//! Address packet", "Long Address packets", "Address with Context packet").
+//! Address packets and short commit packets that stand whole at the front of some bytes (Arm IHI 0064, "Exact Match
+//! Address packet", "Short Address packet", "Long Address packets", "Address with Context packet", "Commit packet").
 //!
 //! Where the bytes of a packet are all there, they are read at once, without a state between one byte and the next.
-ghost use Rattle.std.specs.Prelude.{◌≡◌, ◌∷◌, ◌++◌, ◌+◌, ◌≤◌, IfSome, IsTrue, IsSome, None, List, ℕ, length, drop};
+ghost use Rattle.std.specs.Prelude.{◌≡◌, ◌∷◌, ◌++◌, ◌+◌, ◌<◌, ◌≤◌, IfSome, IsTrue, IsSome, None, List, ℕ, length, drop};
 ghost use Rattle.etm_types.specs.Settings.{Sizes};
 ghost use Rattle.packet_grammar.specs.Contexts.{Context, Field, address_of};
 ghost use Rattle.packet_grammar.specs.Numbers.{little};
@@ -23,6 +23,9 @@ const SECOND: u32 = FIRST + 7;
 
 /// Where those of the third byte stand. From there on the bytes are whole.
 const THIRD: u32 = 2 * BYTE;
+
+/// The header of a commit packet.
+const COMMIT: u8 = 0x2d;
 
 /// An address packet.
 #[derive(Clone, Copy, Debug, PartialEq, Eq)]
@@ -80,6 +83,23 @@ pub fn address_at<'a>(settings: &Settings, bytes: &'a [u8]) -> Option<(Address, 
         }
         _ => None,
     }
+}
+
+/// The commit packet at the front of some bytes whose number has one byte, and what follows it.
+#[inline(always)]
+pub fn commit_at(bytes: &[u8]) -> Option<(u32, &[u8])>
+    ensures some { (n : ℕ) (rest : List ℕ) → bytes.now ≡ 0x2d ∷ n ∷ rest → n < 0x80 → IsSome result }
+    ensures only { IfSome result (λ r. (bytes.now ≡ 0x2d ∷ r.0 ∷ r.1.now) × (r.0 < 0x80)) }
+{
+    let (header, rest) = bytes.split_first()?;
+    if *header != COMMIT {
+        return None;
+    }
+    let (n, rest) = rest.split_first()?;
+    if *n >= CONTINUES {
+        return None;
+    }
+    Some((u32::from(*n), rest))
 }
 
 /// A short address behind its header, and what follows it.

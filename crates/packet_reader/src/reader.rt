@@ -3,19 +3,23 @@
 ghost use Rattle.std.specs.Prelude.{◌≡◌, ◌≤◌, ◌<◌, ◌+◌, ◌-◌, ◌^◌, ◌++◌, ◌∷◌, [], ◌↔◌, length, drop, List, ℕ, IsTrue, IsSome, IfSome, None, All};
 ghost use Rattle.etm_types.specs.Settings.{AreSettings};
 ghost use Rattle.packet_grammar.specs.Ranges.{IsPacket};
-ghost use Rattle.packet_reader.specs.States.{FitsAfter, HeadsBy};
+ghost use Rattle.packet_reader.specs.States.{FitsAfter, HeadsBy, behind_commit};
 ghost use Rattle.packet_reader.specs.Stands.{FitsPhase, Moved, Moves, settled, zeros_in, zeros_of_sync};
 
 use crate::advance::advance;
-use crate::front::{Address, address_at};
+use crate::fields::CONTINUES;
+use crate::front::{Address, address_at, commit_at};
 use crate::headers::{FIRST_OF_ATOMS, header, run_of};
 use crate::phase::Phase;
-use crate::state::Progress;
+use crate::state::{Progress, Purpose, State};
 use crate::step::Step;
 use crate::sync::{LENGTH_OF_SYNC, ends_sync};
 use etm_types::{AtomRun, Settings};
 use packet_grammar::{End, Packet, PacketFault};
 use std::marker::Model;
+
+/// How many bytes a commit packet has whose number has one byte.
+const LENGTH_OF_COMMIT: u64 = 2;
 
 /// Reads the packets of a stream, from its first A-sync on.
 #[derive(Drop)]
@@ -131,6 +135,47 @@ impl PacketReader {
         }
     }
 
+    /// Takes the commit packet at the front of `bytes`, the bytes that come next, where the reader stands between two packets
+    /// and the number has one byte. It answers the packet's offset, the number and the bytes behind it.
+    ///
+    /// It is for speed, as [`take_address`](PacketReader::take_address) is.
+    #[inline(always)]
+    pub fn take_commit<'a>(&mut self, bytes: &'a [u8]) -> Option<(u64, u32, &'a [u8])>
+        requires { self.old.taken + length bytes.now ≤ 2 ^ 62 }
+        ensures none { result ≡ None → self.new ≡ self.old }
+        ensures some { (n : ℕ) (rest : List ℕ) → self.old.phase ≡ Phase.Between → bytes.now ≡ 0x2d ∷ n ∷ rest → n < 0x80 → IsSome result }
+        ensures only { IfSome result (λ c. (self.old.phase ≡ Phase.Between) × (bytes.now ≡ 0x2d ∷ c.1 ∷ c.2.now) × (c.1 < 0x80)) }
+        ensures takes { IfSome result (λ c. TakesPacket self.old self.new (0x2d ∷ c.1 ∷ []) c.0 (Packet.Commit c.1)) }
+    {
+        match &self.phase {
+            Phase::Between => {
+                let (n, behind) = commit_at(bytes)?;
+                let (at, after) = (self.start, self.taken + LENGTH_OF_COMMIT);
+                (self.start, self.taken) = (after, after);
+                Some((at, n, behind))
+            }
+            _ => None,
+        }
+    }
+
+    /// Takes the next byte where the reader stands behind the header of a commit packet and the byte is the number's only
+    /// one, and answers the packet's offset and the number. Every other byte is left to [`take`](PacketReader::take), and
+    /// nothing changes.
+    #[inline(always)]
+    pub fn take_commit_end(&mut self, byte: u8) -> Option<(u64, u32)>
+        requires { self.old.taken < 2 ^ 62 }
+        ensures some { IsSome result ↔ ((self.old.phase ≡ Phase.Within behind_commit) × (byte < 0x80)) }
+        ensures none { result ≡ None → self.new ≡ self.old }
+        ensures takes { IfSome result (λ c. TakesPacket self.old self.new (byte ∷ []) c.0 (Packet.Commit c.1)) }
+    {
+        if byte >= CONTINUES || !is_behind_commit(&self.phase) {
+            return None;
+        }
+        let (at, after) = (self.start, self.taken + 1);
+        (self.phase, self.start, self.taken) = (Phase::Between, after, after);
+        Some((at, u32::from(byte)))
+    }
+
     /// How many bytes were taken.
     pub fn taken(&self) -> u64
         ensures value { result ≡ self.now.taken }
@@ -171,6 +216,24 @@ impl PacketReader {
             End::Cut(count)
         }
     }
+}
+
+/// Whether a reader stands behind the header of a commit packet.
+#[inline(always)]
+fn is_behind_commit(phase: &Phase) -> bool
+    ensures { IsTrue result ↔ (phase.now ≡ Phase.Within behind_commit) }
+{
+    matches!(
+        phase,
+        Phase::Within {
+            state: State::Number {
+                purpose: Purpose::Commit,
+                left: 4,
+                groups: 0,
+                value: 0,
+            },
+        }
+    )
 }
 
 /// What a byte makes of a reader, which with it has taken so many. Most bytes are atom packets, which leave

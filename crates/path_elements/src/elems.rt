@@ -96,6 +96,20 @@ impl Elems {
         }
     }
 
+    /// How many the commit at `i`, counted from 0, commits, where one stands there alone.
+    #[inline(always)]
+    pub fn commit(&self, i: usize) -> Option<u32>
+        ensures value { IfSome result (λ n. slice_get self.now i ≡ Some (elem.Commit n)) }
+    {
+        if i != 0 || self.atoms.count != 0 {
+            return None;
+        }
+        match self.rest {
+            Rest::One(Kind::Commit) => Some(self.values.number),
+            _ => None,
+        }
+    }
+
     /// The element at `i`, counted from 0.
     pub fn get(&self, i: usize) -> Option<Elem>
         ensures value { result ≡ slice_get self.now i }
@@ -181,6 +195,7 @@ impl Elems {
         }
     }
 
+    #[inline(always)]
     pub(crate) fn one(only: Kind, values: Values) -> Elems
         requires { IsElem (elem_of values only) }
         ensures { result ≡ elem_of values only ∷ [] }

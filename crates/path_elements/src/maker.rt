@@ -90,6 +90,21 @@ impl ElemMaker {
         }
     }
 
+    /// The elements of a commit packet, where it counts and may come: taking it changes nothing. Else it answers `None`, and
+    /// [`take`](ElemMaker::take) takes it.
+    #[inline(always)]
+    pub fn commit_of(&self, n: u32) -> Option<Elems>
+        ensures some { IfSome result (λ elems. (is_misplaced self.now (packet.Commit n) ≡ false)
+            × (elems ≡ elements_of self.now (packet.Commit n)) × (told_after self.now (packet.Commit n) ≡ self.now)) }
+        ensures within { IfSome result (λ elems. AreElems elems) }
+    {
+        if self.informed && self.awaiting.is_none() {
+            Some(Elems::one(Kind::Commit, Values::number(n)))
+        } else {
+            None
+        }
+    }
+
     /// Takes a packet of any kind. It is long; most packets are atoms, and [`ElemMaker::take`] answers
     /// those without it.
     #[inline(never)]

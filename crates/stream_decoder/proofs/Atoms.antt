@@ -40,7 +40,7 @@ committed_so q q' informed n w p0 things is none takes =
     ap committed_of (sym (takes.rule informed))
     ∙ ap (λ (v : Waiting). committed_by v p0) (ap (λ (k : ℕ). waiting_of q informed k) (sym none) ∙ is)
 
-whole_by : (f : Option (ℕ × Fault)) → (f ≢ None → ⊥) → f ≡ None
+pub whole_by : (f : Option (ℕ × Fault)) → (f ≢ None → ⊥) → f ≡ None
 whole_by None still = refl
 whole_by (Some stop) still = absurd (still (λ e. cc))
 

@@ -1,6 +1,7 @@
 pub mod Atoms
 pub mod Yielding
 pub mod Coming
+pub mod Dues
 pub mod Holds
 pub mod Beginning
 pub mod Lefts
@@ -8,5 +9,6 @@ pub mod Taking
 pub mod Stepping
 pub mod Waits
 pub mod Printing
+pub mod Quiet
 pub mod Standing
 pub mod Growing

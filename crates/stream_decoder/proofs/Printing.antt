@@ -1,6 +1,6 @@
 -- What a decoder prints, and at which bytes it stands then.
 use Rattle.std.proofs.Common.{◌≡◌, ℕ, ◌<◌, List, [], ◌∷◌, ◌++◌, Option, Result, Ok, Err, refl, sym, ap, subst, ◌∙◌, inl, inr, append-nil, append_assoc}
-use Rattle.std.specs.Prelude.{All}
+use Rattle.std.specs.Prelude.{All, IfOk}
 use Rattle.std.proofs.lemmas.List.Elements.{All-nil, All-cons, All-head, All-tail}
 use Rattle.etm_types.specs.Settings.{Sizes}
 use Rattle.etm_types.specs.declared.context.Ctx.{Ctx}
@@ -17,7 +17,7 @@ use Rattle.path_elements.specs.Held.{IsElem}
 use Rattle.path_elements.specs.Running.{Outcome}
 use Rattle.path_elements.specs.Standing.{ArePlacedElems, IsPlace}
 use Rattle.path_text.proofs.LineLemmas.{lines_of-append, shown_after_all-append}
-use Rattle.path_text.proofs.Wrote.{Wrote, fails_after, wrote_more, wrote_by, wrote_nothing, writes_all, last_fails}
+use Rattle.path_text.proofs.Wrote.{Wrote, fails_after, wrote_more, wrote_by, wrote_nothing, writes_all, last_fails, then_writes}
 use Rattle.path_text.specs.PathLines.{lines_of, shown_after_all}
 use Rattle.path_text.specs.Writing.{Writes}
 use Rattle.path_walker.proofs.OneTrail.{some_trail}
@@ -84,6 +84,22 @@ pub printed_by : (image : Image) (id : ℕ) (d d' : Decoding) (shown shown' : Op
     → Writes {T = Unit {0}} {E = Failed} a b (Ok tt) (lines_of id shown items) → shown' ≡ shown_after_all shown items → Printed image id d shown d' shown' a b
 printed_by image id d d' shown shown' a b items goes writes context =
     record { items = items; goes = goes; context = context; wrote = wrote_by a b tt (lines_of id shown items) writes }
+
+-- more is written behind what is written
+pub writes_behind : (id : ℕ) (shown mid shown' : Option Ctx) (a b c : IoState) (r : Result (Unit {0}) Failed) (first items : List Item)
+    → Wrote a b (lines_of id shown first) → mid ≡ shown_after_all shown first → Writes b c r (lines_of id mid items)
+    → IfOk r (λ done. shown' ≡ shown_after_all mid items)
+    → Writes a c r (lines_of id shown (first ++ items)) × IfOk r (λ done. shown' ≡ shown_after_all shown (first ++ items))
+writes_behind id shown mid shown' a b c r first items wrote context writes after = (
+  then_writes a b c r (lines_of id shown first) (lines_of id mid items) (lines_of id shown (first ++ items))
+      (ap (λ (s : Option Ctx). lines_of id shown first ++ lines_of id s items) context ∙ sym (lines_of-append id shown first items)) wrote writes,
+  shows r after,
+)
+  where
+    shows : (r : Result (Unit {0}) Failed) → IfOk r (λ done. shown' ≡ shown_after_all mid items)
+        → IfOk r (λ done. shown' ≡ shown_after_all shown (first ++ items))
+    shows (Ok done) is = is ∙ ap (λ (s : Option Ctx). shown_after_all s items) context ∙ sym (shown_after_all-append shown first items)
+    shows (Err f) is = tt
 
 module _ (image : Image) (id : ℕ) (d e : Decoding) (shown now : Option Ctx) (old mid new : IoState) (p : Printed image id d shown e now old mid) where
   -- the lines behind those that are written

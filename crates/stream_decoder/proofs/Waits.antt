@@ -1,6 +1,6 @@
 -- What waits: of what a queue holds, the oldest may be due.
 use Rattle.std.proofs.Common.{◌≡◌, ℕ, zero, suc, ◌+◌, ◌-◌, ◌^◌, ◌≤◌, ◌<◌, Bool, true, false, List, [], ◌∷◌, ◌++◌, length, take, drop, replicate}
-use Rattle.std.proofs.Common.{slice_get, Some, Err, refl, sym, ap, subst, ◌∙◌, arith, append-nil}
+use Rattle.std.proofs.Common.{slice_get, Some, Err, length-append, refl, sym, ap, subst, ◌∙◌, arith, append-nil}
 use Rattle.std.proofs.Math.Nat.{mod-lt}
 use Rattle.std.proofs.lemmas.Bool.{le-leb}
 use Rattle.std.proofs.lemmas.List.{drop_more, length-drop, length-take-le}
@@ -14,10 +14,11 @@ use Rattle.etm_types.specs.Pre.{trace_missing}
 use Rattle.etm_types.specs.declared.context.Ctx.{Ctx}
 use Rattle.etm_types.specs.declared.element.Elem.{Elem}
 use Rattle.etm_types.specs.declared.element.Elem.TheVariants as elem
+use Rattle.etm_types.specs.declared.element.P0.{P0}
 use Rattle.etm_types.specs.declared.element.Thing.{Thing}
-use Rattle.etm_types.specs.declared.element.Thing.TheVariants.{Gap, Stop, Unseen}
+use Rattle.etm_types.specs.declared.element.Thing.TheVariants.{Gap, Seen, Stop, Unseen}
 use Rattle.etm_types.specs.declared.queue_fault.QueueFault.{QueueFault}
-use Rattle.stream_decoder.specs.Waiting.{AreInRange, Commits, Waiting, counted_with, waiting_of}
+use Rattle.stream_decoder.specs.Waiting.{AreInRange, Commits, Waiting, committed_by, counted_with, waiting_of}
 
 -- ---- lists
 
@@ -208,3 +209,14 @@ gives_oldest q q' informed n w xs things is some queue same =
     } in
     subst (λ (v : Waiting). waiting_of q' informed (n - 1) ≡ record v { due = take (n - 1) q'.held; counts = counts_after v.counts 0 (committing things) })
     is one
+
+-- of some that are due the oldest is the oldest of all
+pub oldest_due : (xs : List Thing) (n : ℕ) (x : Thing) → (n ≡ 0 → ⊥) → take 1 xs ≡ x ∷ [] → (others : List Thing) × (take n xs ≡ x ∷ others)
+oldest_due xs n x some first = (take (n - 1) (drop 1 xs), take_one_less xs n some ∙ ap (λ (l : List Thing). l ++ take (n - 1) (drop 1 xs)) first)
+
+-- where there is room, one more commits nothing
+pub room_for : (w : Waiting) (p0 : P0) → length w.pending.held < w.depth → committed_by w p0 ≡ []
+room_for w p0 room =
+    let new : Thing = Seen (record { pre = w.pending.pre; p0 = p0 }) in
+    let none : length (w.pending.held ++ new ∷ []) - w.depth ≡ 0 = omega (arith, length-append w.pending.held (new ∷ []), room) in
+    rw none refl

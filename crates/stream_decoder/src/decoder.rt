@@ -1,5 +1,5 @@
 //! One stream, from its bytes to the lines of its path.
-ghost use Rattle.std.specs.Prelude.{◌≡◌, ◌<◌, ◌+◌, ◌^◌, ◌==◌, ◌++◌, ◌∷◌, ◌↔◌, [], List, ℕ, None, Ok, Err};
+ghost use Rattle.std.specs.Prelude.{◌≡◌, ◌<◌, ◌≤◌, ◌+◌, ◌^◌, ◌==◌, ◌++◌, ◌∷◌, ◌↔◌, [], List, ℕ, None, Ok, Err};
 ghost use Rattle.std.specs.Prelude.{IfOk, IsErr, IsOk, IsTrue, true, false, not, length, if◌then◌else◌};
 ghost use Rattle.element_queue.specs.Counting.{Balances, counts_after, entries, no_counts, tally};
 ghost use Rattle.element_queue.specs.Pending.{losing};
@@ -15,13 +15,13 @@ ghost use Rattle.path_text.specs.Writing.{Writes};
 ghost use Rattle.program_image.specs.Blocks.{HasGap};
 ghost use Rattle.program_image.specs.declared.image.Image.{Image};
 ghost use Rattle.stream_decoder.specs.Decoding.{AtRest, IsDecoding};
-ghost use Rattle.stream_decoder.specs.Yields.{Goes, Prints};
+ghost use Rattle.stream_decoder.specs.Yields.{Goes, Prints, items_of_found, left};
 ghost use Rattle.stream_decoder.specs.Stands.{Grows, StandsAt, shows_walk_fault};
 ghost use Rattle.trace_io.specs.Bytes.{ShowsAsBefore};
 ghost use Rattle.trace_io.specs.Causes.{HasCause};
 
 use crate::decoding::Decoding;
-use crate::found::write_found;
+use crate::found::{Found, write_found};
 use element_queue::{Counts, Ledger};
 use etm_types::{Ctx, Id, Settings};
 use packet_grammar::End;
@@ -221,7 +221,7 @@ fn write_rest<K: Sink>(
         return Err(failed);
     }
     while let Some(found) = decoding.next(image) {
-        match write_found(line, &found, shown, sink) {
+        match write_on(decoding, &found, shown, line, image, sink) {
             Ok(()) => {}
             Err(failed) => {
                 has_gap(image);
@@ -232,7 +232,35 @@ fn write_rest<K: Sink>(
     Ok(())
 }
 
-/// Writes what the next elements show, as long as they are atoms and commit such before which nothing was given.
+/// Writes what was found, and then what follows it, as long as that goes the short way.
+#[inline(never)]
+fn write_on<K: Sink>(
+    decoding: &mut Decoding,
+    found: &Found,
+    shown: &mut Option<Ctx>,
+    line: &mut AddressLine,
+    image: &Image,
+    sink: &mut K,
+) -> Result<(), Failed>
+    requires holds { IsDecoding decoding.old }
+    ensures prints { (items : List Item) × Goes image.now decoding.old items decoding.new
+        × Writes (K.state sink.old) (K.state sink.new) result (lines_of line.old.id shown.old (items_of_found found.now ++ items))
+        × IfOk result (λ done. shown.new ≡ shown_after_all shown.old (items_of_found found.now ++ items)) }
+    ensures fewer { left decoding.new ≤ left decoding.old }
+    ensures cause { HasCause (K.state sink.old) (K.state sink.new) result }
+    ensures shows { ShowsAsBefore (K.state sink.old) (K.state sink.new) }
+    ensures reader { decoding.new.reader ≡ decoding.old.reader }
+    ensures id { line.new.id ≡ line.old.id }
+    ensures holds { IsDecoding decoding.new }
+{
+    match write_found(line, found, shown, sink) {
+        Ok(()) => write_atoms(decoding, shown, line, image, sink),
+        Err(failed) => Err(failed),
+    }
+}
+
+/// Writes what goes the short way: what is due, and what the next elements show, as long as these are atoms before which nothing
+/// was given.
 #[inline(always)]
 fn write_atoms<K: Sink>(
     decoding: &mut Decoding,
@@ -245,6 +273,7 @@ fn write_atoms<K: Sink>(
     ensures prints { (items : List Item) × Goes image.now decoding.old items decoding.new
         × Writes (K.state sink.old) (K.state sink.new) result (lines_of line.old.id shown.old items)
         × IfOk result (λ done. shown.new ≡ shown_after_all shown.old items) }
+    ensures fewer { left decoding.new ≤ left decoding.old }
     ensures stopped { AtRest decoding.old → (result ≡ Ok tt) × (decoding.new ≡ decoding.old) × (shown.new ≡ shown.old) × (sink.new ≡ sink.old) }
     ensures cause { HasCause (K.state sink.old) (K.state sink.new) result }
     ensures shows { ShowsAsBefore (K.state sink.old) (K.state sink.new) }
@@ -252,6 +281,7 @@ fn write_atoms<K: Sink>(
     ensures id { line.new.id ≡ line.old.id }
     ensures holds { IsDecoding decoding.new }
 {
+    decoding.take_quiet();
     while let Some(walked) = decoding.next_atom(image) {
         match write_walked_on(line, &walked, shown, sink) {
             Ok(()) => {}

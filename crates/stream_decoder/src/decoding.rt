@@ -1,5 +1,5 @@
 //! One stream, from its bytes to what they show: a machine that knows no sink.
-ghost use Rattle.std.specs.Prelude.{◌≡◌, ◌<◌, ◌+◌, ◌^◌, ◌++◌, ◌∷◌, [], List, ℕ, Ok};
+ghost use Rattle.std.specs.Prelude.{◌≡◌, ◌<◌, ◌≤◌, ◌+◌, ◌^◌, ◌++◌, ◌∷◌, [], List, ℕ, Ok};
 ghost use Rattle.std.specs.Prelude.{Err, Some, None, IfOk, IfSome, IsErr, IsTrue, false, All, ◌↔◌, option_to_list};
 ghost use Rattle.element_queue.specs.Counting.{Balances, counts_after};
 ghost use Rattle.element_queue.specs.Pending.{losing};
@@ -13,6 +13,7 @@ ghost use Rattle.packet_reader.specs.Answered.{fault_of};
 ghost use Rattle.packet_reader.specs.Stands as stands;
 ghost use Rattle.path_elements.specs.Held.{CanBeTaken};
 ghost use Rattle.path_walker.specs.Things.{IsAlignedThing, Walks};
+ghost use Rattle.program_image.specs.declared.image.Image.{Image};
 ghost use Rattle.stream_decoder.specs.Decoding.{AtRest, Begins, IsDecoding};
 ghost use Rattle.stream_decoder.specs.Stands.{end_at};
 ghost use Rattle.stream_decoder.specs.Yields.{Begun, Ends, Goes, Leaves, OpensPacket, Refuses, Stops, items_of_found, items_found, left};
@@ -74,7 +75,7 @@ impl Decoding {
     /// Takes the next byte. The elements of the packet that it ends are left to do. Behind a fault nothing is
     /// taken but the byte.
     ///
-    /// Most packets are atoms: these go the short way.
+    /// Most packets are atoms or short commits: these go the short way.
     #[inline(always)]
     pub fn begin(&mut self, byte: u8)
         requires few { self.old.reader.taken < 2 ^ 62 }
@@ -89,6 +90,23 @@ impl Decoding {
         }
         match self.reader.take_atoms(byte) {
             Some((at, run)) => self.open_atoms(at, run),
+            None => self.begin_commit(byte),
+        }
+    }
+
+    /// Takes the next byte. One that ends a short commit packet goes a short way too.
+    #[inline(always)]
+    fn begin_commit(&mut self, byte: u8)
+        requires few { self.old.reader.taken < 2 ^ 62 }
+        requires rest { AtRest self.old }
+        requires whole { self.old.fault ≡ None }
+        ensures begun { Begun self.old byte self.new }
+        ensures taken { self.new.reader.taken ≡ self.old.reader.taken + 1 }
+        ensures settings { self.new.reader.settings ≡ self.old.reader.settings }
+        ensures holds { IsDecoding self.new }
+    {
+        match self.reader.take_commit_end(byte) {
+            Some((at, n)) => self.open_commit(at, n),
             None => self.begin_any(byte),
         }
     }
@@ -130,6 +148,21 @@ impl Decoding {
         }
     }
 
+    /// Leaves the element of a commit packet to do, or sets its fault where it may not come.
+    #[inline(always)]
+    fn open_commit(&mut self, at: u64, n: u32)
+        requires rest { AtRest self.old }
+        requires whole { self.old.fault ≡ None }
+        ensures opens { OpensPacket self.old at (Packet.Commit n) self.new }
+        ensures reader { self.new.reader ≡ self.old.reader }
+        ensures holds { IsDecoding self.new }
+    {
+        match self.maker.commit_of(n) {
+            Some(elems) => self.todo = Todo::of(at, elems),
+            None => self.open(at, &Packet::Commit(n)),
+        }
+    }
+
     /// Leaves the elements of a packet to do, or sets its fault where it may not come.
     #[inline(never)]
     fn open(&mut self, at: u64, packet: &Packet)
@@ -163,12 +196,98 @@ impl Decoding {
         self.next_any(image)
     }
 
-    /// Takes the next element where it is an atom and commits one before which nothing was given, and walks that one. Else,
-    /// and where the walk has a fault, nothing changes: [`next`](Decoding::next) goes on from there.
+    /// Takes the next elements that show nothing by themselves: atoms for which there is room, and then a commit. What it
+    /// commits is due.
+    #[inline(always)]
+    pub fn take_quiet(&mut self)
+        ensures goes { (image : Image) → Goes image self.old [] self.new }
+        ensures fewer { left self.new ≤ left self.old }
+        ensures stopped { AtRest self.old → self.new ≡ self.old }
+        ensures reader { self.new.reader ≡ self.old.reader }
+        ensures holds { IsDecoding self.new }
+    {
+        while self.hold_atom() {}
+        self.take_commit();
+    }
+
+    /// Takes the next element where it is an atom for which there is room. Else nothing changes.
+    #[inline(always)]
+    fn hold_atom(&mut self) -> bool
+        ensures goes { IsTrue result → (image : Image) → Goes image self.old [] self.new }
+        ensures fewer { IsTrue result → left self.new < left self.old }
+        ensures unchanged { result ≡ false → self.new ≡ self.old }
+        ensures stopped { AtRest self.old → result ≡ false }
+        ensures reader { self.new.reader ≡ self.old.reader }
+        ensures holds { IsDecoding self.new }
+    {
+        match self.todo.first_atom() {
+            Some(taken) if self.waiting.has_room() => {
+                self.waiting.take_atom(taken);
+                self.todo.advance();
+                true
+            }
+            _ => false,
+        }
+    }
+
+    /// Takes the next element where it is a commit of no more than are held, and nothing is due. Else nothing changes.
+    #[inline(always)]
+    fn take_commit(&mut self) -> bool
+        ensures goes { IsTrue result → (image : Image) → Goes image self.old [] self.new }
+        ensures fewer { IsTrue result → left self.new < left self.old }
+        ensures unchanged { result ≡ false → self.new ≡ self.old }
+        ensures stopped { AtRest self.old → result ≡ false }
+        ensures reader { self.new.reader ≡ self.old.reader }
+        ensures holds { IsDecoding self.new }
+    {
+        match self.todo.first_commit() {
+            Some(n) if self.waiting.take_commit(n) => {
+                self.todo.advance();
+                true
+            }
+            _ => false,
+        }
+    }
+
+    /// Walks the oldest that is due; or, where nothing is due, takes the next element where it is an atom, and walks what it
+    /// commits. It does so where that is an atom before which nothing was given. Else, and where the walk has a fault, nothing
+    /// changes: [`next`](Decoding::next) goes on from there.
     ///
     /// Most elements are such, and what is found of them stays where it is used.
     #[inline(always)]
     pub fn next_atom(&mut self, image: &Image) -> Option<Walked>
+        ensures goes { IfSome result (λ walked. Goes image.now self.old (items_of walked) self.new) }
+        ensures fewer { IfSome result (λ walked. left self.new < left self.old) }
+        ensures none { result ≡ None → self.new ≡ self.old }
+        ensures stopped { AtRest self.old → result ≡ None }
+        ensures reader { self.new.reader ≡ self.old.reader }
+        ensures holds { IsDecoding self.new }
+    {
+        if self.waiting.is_due() {
+            return self.walk_due(image);
+        }
+        self.walk_taken(image)
+    }
+
+    /// Walks the oldest that is due, where it is an atom before which nothing was given.
+    #[inline(always)]
+    fn walk_due(&mut self, image: &Image) -> Option<Walked>
+        ensures goes { IfSome result (λ walked. Goes image.now self.old (items_of walked) self.new) }
+        ensures fewer { IfSome result (λ walked. left self.new < left self.old) }
+        ensures none { result ≡ None → self.new ≡ self.old }
+        ensures stopped { AtRest self.old → result ≡ None }
+        ensures reader { self.new.reader ≡ self.old.reader }
+        ensures holds { IsDecoding self.new }
+    {
+        let atom = self.waiting.due_atom()?;
+        let walked = self.walker.walk_bare(image, atom)?;
+        self.waiting.drop_due();
+        Some(walked)
+    }
+
+    /// Takes the next element where it is an atom and commits one before which nothing was given, and walks that one.
+    #[inline(always)]
+    fn walk_taken(&mut self, image: &Image) -> Option<Walked>
         ensures goes { IfSome result (λ walked. Goes image.now self.old (items_of walked) self.new) }
         ensures fewer { IfSome result (λ walked. left self.new < left self.old) }
         ensures none { result ≡ None → self.new ≡ self.old }

@@ -78,6 +78,14 @@ impl Todo {
         self.elems.atom(self.next)
     }
 
+    /// How many the next one commits, where it is a commit and the first of its packet.
+    #[inline(always)]
+    pub fn first_commit(&self) -> Option<u32>
+        ensures { IfSome result (λ n. (others : List Elem) × (self.now.elements ≡ elem.Commit n ∷ others)) }
+    {
+        self.elems.commit(self.next)
+    }
+
     /// The next one is taken.
     #[inline(always)]
     pub fn advance(&mut self)

@@ -1,12 +1,13 @@
 //! The P0 elements that wait: those that may still be taken back, and those that an element committed and that
 //! are still to be walked.
-ghost use Rattle.std.specs.Prelude.{◌≡◌, ◌∷◌, ◌++◌, [], IsTrue, IfOk, IfSome, IsErr, None, Err, false, option_to_list, length, ◌<◌};
+ghost use Rattle.std.specs.Prelude.{◌≡◌, ◌∷◌, ◌++◌, [], List, IsTrue, IfOk, IfSome, IsErr, None, Err, false, option_to_list, length, ◌<◌};
 ghost use Rattle.element_queue.specs.Counting.{Balances, counts_after, no_counts};
 ghost use Rattle.element_queue.specs.Pending.{committing, losing, taken};
 ghost use Rattle.element_queue.specs.Queued.{bare_atom, things_of};
 ghost use Rattle.element_queue.specs.Resolved.{at_first};
 ghost use Rattle.etm_types.specs.declared.element.Elem.TheVariants as elem;
 ghost use Rattle.etm_types.specs.declared.element.P0.TheVariants.{Atom};
+ghost use Rattle.etm_types.specs.declared.element.P0.{P0};
 ghost use Rattle.etm_types.specs.declared.element.Thing.TheVariants.{Seen};
 ghost use Rattle.etm_types.specs.declared.element.Thing.{Thing};
 ghost use Rattle.etm_types.specs.declared.queue_fault.QueueFault.{QueueFault};
@@ -109,6 +110,34 @@ impl Waiting {
         self.queue.push(P0::Atom(taken));
     }
 
+    /// Whether one P0 element more commits nothing: nothing is due, and there is room for it.
+    #[inline(always)]
+    pub fn has_room(&self) -> bool
+        ensures { IsTrue result → (self.now.due ≡ []) × ((p0 : P0) → committed_by self.now p0 ≡ []) }
+    {
+        self.due == 0 && self.queue.has_room()
+    }
+
+    /// Takes a commit of so many where nothing is due and so many are held: they are due after it. Else nothing changes.
+    #[inline(always)]
+    pub fn take_commit(&mut self, n: u32) -> bool
+        ensures due { IsTrue result → self.old.due ≡ [] }
+        ensures commits { IsTrue result → Commits self.old (elem.Commit n) self.new [] }
+        ensures unchanged { result ≡ false → self.new ≡ self.old }
+        ensures holds { IsWaiting self.new }
+    {
+        if self.due > 0 {
+            return false;
+        }
+        match self.queue.check_commit(n) {
+            Ok(()) => {
+                self.due = n;
+                true
+            }
+            Err(_) => false,
+        }
+    }
+
     /// A trace info. The first one announces P0 elements from before it that are not committed.
     fn inform(&mut self, spec: u32) -> Result<Option<Thing>, QueueFault>
         requires begins { self.old.pending.informed ≡ false → self.old.pending.held ≡ [] }
@@ -135,7 +164,29 @@ impl Waiting {
         self.due > 0
     }
 
+    /// Which atom the oldest is that is due, where it is one before which nothing was given.
+    #[inline(always)]
+    pub fn due_atom(&self) -> Option<bool>
+        ensures { IfSome result (λ atom. (others : List Thing) × (self.now.due ≡ Seen (bare_atom atom) ∷ others)) }
+    {
+        if self.due == 0 {
+            return None;
+        }
+        self.queue.oldest_atom()
+    }
+
+    /// The oldest that is due was given out.
+    #[inline(always)]
+    pub fn drop_due(&mut self)
+        ensures others { (thing : Thing) (others : List Thing) → self.old.due ≡ thing ∷ others
+            → self.new ≡ record (self.old) { due = others; counts = counts_after self.old.counts 0 (committing (thing ∷ [])) } }
+        ensures holds { IsWaiting self.new }
+    {
+        self.next_due();
+    }
+
     /// Gives out the oldest that is due.
+    #[inline(always)]
     pub fn next_due(&mut self) -> Option<Thing>
         ensures order { self.old.due ≡ option_to_list result ++ self.new.due }
         ensures none { result ≡ None → (self.old.due ≡ []) × (self.new ≡ self.old) }
@@ -180,6 +231,7 @@ impl Waiting {
 }
 
 /// What is committed, as a thing.
+#[inline(always)]
 fn thing_of(committed: Option<Committed>) -> Option<Thing>
     ensures { option_to_list result ≡ things_of committed }
 {

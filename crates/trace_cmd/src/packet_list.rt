@@ -14,7 +14,7 @@ ghost use Rattle.trace_io.specs.Causes.{HasCause};
 
 use element_queue::{Counts, Ledger};
 use etm_types::{Id, Settings};
-use packet_grammar::{End, Fault, PacketFault};
+use packet_grammar::{End, Fault, Packet, PacketFault};
 use packet_reader::{PacketReader, Step};
 use path_text::{PacketLine, write_end};
 use std::alloc::{AllocError, Global};
@@ -237,8 +237,8 @@ fn take_bytes<K: Sink>(
     Ok(())
 }
 
-/// Takes the packet at the front of the bytes that come next, where it is one of atoms or an address that is all there, writes
-/// its line, and gives the bytes behind it. Else nothing is taken or written. A trace is mostly such packets.
+/// Takes the packet at the front of the bytes that come next, where it is one of atoms, or an address or a short commit that is
+/// all there, writes its line, and gives the bytes behind it. Else nothing is taken or written. A trace is mostly such packets.
 #[inline(always)]
 fn take_front<'a, K: Sink>(
     reader: &mut PacketReader,
@@ -263,6 +263,10 @@ fn take_front<'a, K: Sink>(
     }
     if let Some((at, address, behind)) = reader.take_address(bytes) {
         line.write_address(at, &address.form, &address.ctx, sink)?;
+        return Ok(Some(behind));
+    }
+    if let Some((at, n, behind)) = reader.take_commit(bytes) {
+        line.write(at, &Packet::Commit(n), sink)?;
         return Ok(Some(behind));
     }
     Ok(None)

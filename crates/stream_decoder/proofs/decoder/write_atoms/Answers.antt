@@ -1,20 +1,26 @@
-use Rattle.std.proofs.Common.{◌≡◌, ◌++◌, Some, None, refl, sym, subst, ◌∙◌}
+use Rattle.std.proofs.Common.{◌≡◌, ◌++◌, [], arith, Some, None, refl, sym, ap, subst, ◌∙◌}
 use Rattle.etm_types.specs.Walked.{items_of}
-use Rattle.path_text.proofs.Wrote.{wrote_by, writes_all}
+use Rattle.path_text.proofs.Wrote.{wrote_by, wrote_nothing, writes_all}
 use Rattle.path_text.specs.PathLines.{lines_of}
 use Rattle.stream_decoder.specs.Decoding.{AtRest, Decoding}
-use Rattle.stream_decoder.specs.Yields.{Goes}
-use Rattle.stream_decoder.proofs.Printing.{printed_first, printed_on, writes_front}
+use Rattle.stream_decoder.specs.Yields.{Goes, left}
+use Rattle.stream_decoder.proofs.Printing.{printed_on, writes_front}
 use Rattle.stream_decoder.proofs.Yielding.{goes_on}
 use Rattle.stream_decoder.proofs.decoder.write_atoms.Goals as goal
 
 pub loop-walked-init : goal.loop-walked-init
 loop-walked-init g c =
     record {
-      printed = printed_first c.args.image.now c.args.line.now.id c.args.decoding.now c.args.shown.now (g.K.Sink.state c.args.sink.now);
-      rest = λ done. (refl, refl, refl);
+      printed = record {
+        items = [];
+        goes = c.take_quiet.ensures.goes c.args.image.now;
+        context = refl;
+        wrote = wrote_nothing (g.K.Sink.state c.args.sink.now);
+      };
+      fewer = c.take_quiet.ensures.fewer;
+      rest = λ done. (c.take_quiet.ensures.stopped done, refl, refl);
       id = refl;
-      holds = c.requires.holds;
+      holds = c.take_quiet.ensures.holds;
     }
 
 pub loop-walked-smaller : goal.loop-walked-smaller
@@ -29,6 +35,7 @@ loop-walked-preserved g c =
     record {
       printed = printed_on image id c.args.decoding.now c.loop-walked.decoding c.args.shown.now c.loop-walked.shown (state c.args.sink.now) was now
           c.loop-walked.invariant.printed more c.next_atom.new.self c.in-Some.ensures.goes c.write_walked_on.new.shown c.in-Ok.ensures.shown wrote;
+      fewer = let less = c.in-Some.ensures.fewer in let before = c.loop-walked.invariant.fewer in omega (arith, less, before);
       rest = λ done. absurd (
           let still = subst AtRest (sym (c.loop-walked.invariant.rest done).0) done in
           let e : None ≡ Some c.in-Some.walked = sym (c.next_atom.ensures.stopped still) ∙ c.in-Some.is in cc);
@@ -55,3 +62,11 @@ returns-clause-prints g c =
       writes_all (state c.args.sink.now) (state c.loop-walked.sink) tt (lines_of c.args.line.now.id c.args.shown.now p.items) p.wrote,
       p.context,
     )
+
+pub returns-in-Err-clause-fewer : goal.returns-in-Err-clause-fewer
+returns-in-Err-clause-fewer g c =
+    let less = c.in-Some.ensures.fewer in let before = c.loop-walked.invariant.fewer in omega (arith, less, before)
+
+pub returns-clause-fewer : goal.returns-clause-fewer
+returns-clause-fewer g c =
+    let before = c.loop-walked.invariant.fewer in let same = ap left (c.next_atom.ensures.none c.in_default.is) in omega (arith, same, before)

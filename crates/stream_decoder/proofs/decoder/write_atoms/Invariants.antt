@@ -1,4 +1,4 @@
-use Rattle.std.proofs.Common.{◌≡◌}
+use Rattle.std.proofs.Common.{◌≡◌, ◌≤◌}
 use Rattle.stream_decoder.specs.Decoding.{AtRest, IsDecoding}
 use Rattle.stream_decoder.specs.Yields.{left}
 use Rattle.stream_decoder.proofs.Printing.{Printed}
@@ -12,6 +12,7 @@ invariant-loop-walked g l =
     let state = g.K.Sink.state in
     record {
       printed : Printed l.image l.fn.line.id l.fn.decoding l.fn.shown l.decoding l.shown (state l.fn.sink) (state l.sink);
+      fewer : left l.decoding ≤ left l.fn.decoding;
       rest : AtRest l.fn.decoding → (l.decoding ≡ l.fn.decoding) × (l.shown ≡ l.fn.shown) × (l.sink ≡ l.fn.sink);
       id : l.line.id ≡ l.fn.line.id;
       holds : IsDecoding l.decoding;

@@ -1,9 +1,10 @@
-use Rattle.std.proofs.Common.{◌≡◌, Some, None, sym, ap, subst, ◌∙◌}
+use Rattle.std.proofs.Common.{◌≡◌, ◌++◌, Some, None, arith, sym, ap, subst, ◌∙◌}
 use Rattle.path_text.proofs.Wrote.{wrote_by}
 use Rattle.path_text.specs.PathLines.{lines_of}
 use Rattle.stream_decoder.specs.Decoding.{AtRest, Decoding}
 use Rattle.stream_decoder.specs.Yields.{items_of_found}
 use Rattle.stream_decoder.proofs.Printing.{printed_by, printed_first, printed_on, prints_all, prints_front}
+use Rattle.stream_decoder.proofs.Yielding.{goes_on}
 use Rattle.stream_decoder.proofs.decoder.write_rest.Goals as goal
 
 pub loop-found-init : goal.loop-found-init
@@ -18,37 +19,43 @@ loop-found-init g c =
     }
 
 pub loop-found-smaller : goal.loop-found-smaller
-loop-found-smaller g c = c.next.ensures.fewer c.in-Some.found c.in-Some.is
+loop-found-smaller g c =
+    let less = c.next.ensures.fewer c.in-Some.found c.in-Some.is in
+    let on = c.in-Ok.ensures.fewer in omega (arith, less, on)
 
 pub loop-found-preserved : goal.loop-found-preserved
 loop-found-preserved g c =
     let state = g.K.Sink.state in
     let image = c.args.image.now in let id = c.args.line.now.id in
-    let goes = c.next.ensures.found c.in-Some.found c.in-Some.is in
-    let wrote = wrote_by (state c.loop-found.sink) (state c.write_found.new.sink) tt (lines_of id c.loop-found.shown (items_of_found c.in-Some.found))
-    (rw c.loop-found.invariant.id at c.in-Ok.ensures.lines) in
+    let on = c.in-Ok.ensures.prints in let more = items_of_found c.in-Some.found ++ on.0 in
+    let goes = goes_on image c.loop-found.decoding c.next.new.self c.write_on.new.decoding (items_of_found c.in-Some.found) on.0
+    (c.next.ensures.found c.in-Some.found c.in-Some.is) on.1 in
+    let wrote = wrote_by (state c.loop-found.sink) (state c.write_on.new.sink) tt (lines_of id c.loop-found.shown more)
+    (rw c.loop-found.invariant.id at on.2) in
     record {
       printed = printed_on image id c.args.decoding.now c.loop-found.decoding c.args.shown.now c.loop-found.shown
           (state c.args.sink.now) (state c.loop-found.sink)
-          (state c.write_found.new.sink) c.loop-found.invariant.printed (items_of_found c.in-Some.found) c.next.new.self goes
-          c.write_found.new.shown c.in-Ok.ensures.shown wrote;
+          (state c.write_on.new.sink) c.loop-found.invariant.printed more c.write_on.new.decoding goes
+          c.write_on.new.shown on.3 wrote;
       rest = λ done. absurd (
           let still = subst AtRest (sym (c.loop-found.invariant.rest done).0) done in
           let e : None ≡ Some c.in-Some.found = sym (c.next.ensures.stopped still).0 ∙ c.in-Some.is in cc);
       id = c.in-Ok.ensures.id ∙ c.loop-found.invariant.id;
-      holds = c.next.ensures.holds;
+      holds = c.in-Ok.ensures.holds;
     }
 
-pub returns-in-Err-write_found-clause-prints : goal.returns-in-Err-write_found-clause-prints
-returns-in-Err-write_found-clause-prints g c none =
-    let state = g.K.Sink.state in
-    let goes = c.next.ensures.found c.in-Some.found c.in-Some.is in
-    prints_front c.args.image.now c.args.line.now.id c.args.decoding.now c.loop-found.decoding c.args.shown.now c.loop-found.shown
+pub returns-in-Err-write_on-clause-prints : goal.returns-in-Err-write_on-clause-prints
+returns-in-Err-write_on-clause-prints g c none =
+    let state = g.K.Sink.state in let image = c.args.image.now in
+    let on = c.in-Err-write_on.ensures.prints in let more = items_of_found c.in-Some.found ++ on.0 in
+    let goes = goes_on image c.loop-found.decoding c.next.new.self c.write_on.new.decoding (items_of_found c.in-Some.found) on.0
+    (c.next.ensures.found c.in-Some.found c.in-Some.is) on.1 in
+    prints_front image c.args.line.now.id c.args.decoding.now c.loop-found.decoding c.args.shown.now c.loop-found.shown
     (state c.args.sink.now) (state c.loop-found.sink)
-    (state c.write_found.new.sink) c.loop-found.invariant.printed (items_of_found c.in-Some.found) c.next.new.self goes
-    c.next.new.self c.write_found.new.shown c.in-Err-write_found.failed
-    c.has_gap-in-Err-write_found.ensures c.next.ensures.holds
-    (rw c.loop-found.invariant.id at c.in-Err-write_found.ensures.lines)
+    (state c.write_on.new.sink) c.loop-found.invariant.printed more c.write_on.new.decoding goes
+    c.write_on.new.decoding c.write_on.new.shown c.in-Err-write_on.failed
+    c.has_gap-in-Err-write_on.ensures c.in-Err-write_on.ensures.holds
+    (rw c.loop-found.invariant.id at on.2)
 
 pub returns-clause-prints : goal.returns-clause-prints
 returns-clause-prints g c none =

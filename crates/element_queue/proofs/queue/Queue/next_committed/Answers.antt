@@ -1,17 +1,12 @@
 use Rattle.std.proofs.Common.{◌≡◌, ℕ, ◌-◌, Bool, List, [], ◌∷◌, ◌++◌, length, take}
-use Rattle.std.proofs.Common.{Option, Some, None, sym, ap, subst, ◌∙◌, arith, slice_get, length-append}
-use Rattle.std.specs.Prelude.{IfSome}
+use Rattle.std.proofs.Common.{Some, sym, ap, subst, ◌∙◌, arith, slice_get, length-append}
 use Rattle.etm_types.specs.declared.element.Entry.{Entry}
 use Rattle.etm_types.specs.declared.element.P0.TheVariants.{Atom}
 use Rattle.etm_types.specs.declared.element.Thing.{Thing}
 use Rattle.etm_types.specs.declared.element.Thing.TheVariants.{Seen}
 use Rattle.element_queue.specs.Queued.{Queued, bare_atom, committed_by}
-use Rattle.element_queue.proofs.Held.{length-things, things}
+use Rattle.element_queue.proofs.Held.{if_some, length-things, things}
 use Rattle.element_queue.proofs.queue.Queue.next_committed.Goals as goal
-
-if_some : (r : Option Bool) (P Q : Bool → Type 0) → ((b : Bool) → P b → Q b) → IfSome r P → IfSome r Q
-if_some None P Q f p = p
-if_some (Some b) P Q f p = f b p
 
 -- a full queue in which all were seen commits the oldest
 oldest_leaves : (unseen depth : ℕ) (xs : List Entry) (x : Entry) (new : Thing) → unseen ≡ 0 → length xs ≡ depth → slice_get xs 0 ≡ Some x

@@ -5,7 +5,7 @@ use Rattle.etm_types.specs.declared.element.P0.TheVariants.{Atom}
 use Rattle.stream_decoder.specs.Decoding.{Decoding, decoding_of}
 use Rattle.stream_decoder.specs.Yields.{Goes}
 use Rattle.stream_decoder.proofs.Atoms.{goes_by_atom, holds_by_atom}
-use Rattle.stream_decoder.proofs.decoding.Decoding.next_atom.Goals as goal
+use Rattle.stream_decoder.proofs.decoding.Decoding.walk_taken.Goals as goal
 
 pub invariant_of-self-2 : goal.invariant_of-self-2
 invariant_of-self-2 c =
