@@ -18,6 +18,7 @@ mod streams;
 mod weaves;
 
 pub use generated::{Generated, generate};
+pub use sizes::{round_count, stream_count};
 
 #[cfg(test)]
 mod tests;

@@ -6,14 +6,14 @@ ghost use Rattle.bench_gen.specs.Texts.{text};
 
 use crate::lines::{id, push_line};
 use crate::round::{next, push_round};
-use crate::sizes::{MOST_STREAMS, rounds, streams};
+use crate::sizes::{MOST_STREAMS, round_count, stream_count};
 use std::alloc::AllocError;
 
 /// Adds the lines of the streams, by ID.
 pub fn push_streams(out: &mut Vec<u8>, n: u32) -> Result<(), AllocError>
     ensures { OnOk result (out.new.items ≡ out.old.items ++ text (flat_map (stream_lines n) (ids n))) }
 {
-    for i in 1..=streams(n) {
+    for i in 1..=stream_count(n) {
         push_stream(out, n, i)?;
     }
     Ok(())
@@ -34,7 +34,7 @@ fn push_rounds(out: &mut Vec<u8>, n: u32, i: u8) -> Result<(), AllocError>
     ensures { OnOk result (out.new.items ≡ out.old.items ++ text (round_lines n i)) }
 {
     let mut x = u64::from(n) * u64::from(MOST_STREAMS) + u64::from(i);
-    for j in 0..rounds(n) {
+    for j in 0..round_count(n) {
         x = next(x);
         push_round(out, j, x)?;
     }

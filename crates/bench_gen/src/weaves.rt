@@ -5,7 +5,7 @@ ghost use Rattle.bench_gen.specs.Bench.{ids, rounds, weave_line, weave_word};
 ghost use Rattle.bench_gen.specs.Texts.{text};
 
 use crate::lines::{id, push_line};
-use crate::sizes::{rounds, streams};
+use crate::sizes::{round_count, stream_count};
 use std::alloc::AllocError;
 
 /// Adds a weave line for each round.
@@ -13,7 +13,7 @@ use std::alloc::AllocError;
 pub fn push_weaves(out: &mut Vec<u8>, n: u32) -> Result<(), AllocError>
     ensures { OnOk result (out.new.items ≡ out.old.items ++ text (replicate (rounds n) (weave_line n))) }
 {
-    for _ in 0..rounds(n) {
+    for _ in 0..round_count(n) {
         out.extend_from_slice(b"weave")?;
         push_words(out, n)?;
         push_line(out, b"")?;
@@ -25,7 +25,7 @@ pub fn push_weaves(out: &mut Vec<u8>, n: u32) -> Result<(), AllocError>
 fn push_words(out: &mut Vec<u8>, n: u32) -> Result<(), AllocError>
     ensures { OnOk result (out.new.items ≡ out.old.items ++ flat_map weave_word (ids n)) }
 {
-    for i in 1..=streams(n) {
+    for i in 1..=stream_count(n) {
         push_word(out, i)?;
     }
     Ok(())

@@ -1,18 +1,21 @@
 -- Answers of a call from those of its parts, and behind the flush.
-use Rattle.std.proofs.Common.{◌≡◌, ◌⊎◌, ℕ, ◌≤◌, true, false, List, [], None, Result, Ok, Err, refl, sym, subst, inl, inr, arith}
+use Rattle.std.proofs.Common.{◌≡◌, ◌⊎◌, ℕ, ◌≤◌, true, false, List, [], None, Option, Result, Ok, Err, refl, sym, subst, inl, inr, arith}
 use Rattle.std.specs.Prelude.{IfOk}
 use Rattle.std.proofs.KnownBytes.{Appends-kept, Appends-nil}
+use Rattle.bench_text.specs.declared.fault.BenchWhy.{BenchWhy}
 use Rattle.path_text.specs.Writing.{Writes}
 use Rattle.program_image.specs.Answers.{TakesImage, TakesNoImage}
 use Rattle.program_image.specs.declared.image.Image.{Image}
 use Rattle.program_image.specs.declared.fault.ImageWhy.{ImageWhy}
 use Rattle.trace_cmd.specs.Answers.{Answers, AnswersSo, Asks, Call, IsBenchBad, IsBenchFault, IsCall, IsImageBad, IsImageCall, IsImageFault}
-use Rattle.trace_cmd.specs.Answers.{IsNoMemory, IsRetired, IsRetiredCall, IsRunFileCall, IsTraceCall, IsTraced, IsUsage, IsWriteFault}
-use Rattle.trace_cmd.specs.Answers.{image_line, usage_line}
+use Rattle.trace_cmd.specs.Answers.{IsNoMemory, IsOwnBenchBad, IsOwnImageBad, IsOwnTooLong, IsRetired, IsRetiredCall, IsRunFileCall, IsSelftestOf}
+use Rattle.trace_cmd.specs.Answers.{IsTested, IsTraceCall, IsTraced, IsUsage, IsWriteFault, usage_line}
+use Rattle.trace_cmd.specs.ImageLine.{image_line}
 use Rattle.trace_cmd.specs.Retired.{Prints, PrintsFront, RetiresSo, RunsSo}
 use Rattle.trace_cmd.specs.Grows.{Grow, frames_grow, raw_grows}
-use Rattle.trace_cmd.specs.Listed.{Listed}
+use Rattle.trace_cmd.specs.Listed.{Interrupts, Listed}
 use Rattle.trace_cmd.specs.Printing.{What, layout_of, left_of, listing_of, pairs_in, pairs_of}
+use Rattle.trace_cmd.specs.Selftest.{TestsSo}
 use Rattle.trace_cmd.specs.Traced.{TracesSo}
 use Rattle.trace_cmd.specs.Words.{meaning}
 use Rattle.trace_cmd.specs.declared.status.Status.{Status}
@@ -26,6 +29,49 @@ use Rattle.trace_io.specs.State.{IoState}
 use Rattle.trace_io.specs.declared.traits.Failed.{Failed}
 use Rattle.trace_io.proofs.Known.{front_kept, front_of_all}
 
+-- ---- what a failed write leaves of each answer
+
+module _ (c : Call) (old new : IoState) where
+  own_image_front : (line : ℕ) (why : ImageWhy) → PrintsFront (IsOwnImageBad c line why) old new → IsWriteFault c old new
+  own_image_front line why front = inr (inr (inr (inr (inr (inr (inr (inr (inr (inr (inl (line, why, front)))))))))))
+
+  own_bench_front : (line : ℕ) (why : BenchWhy) → PrintsFront (IsOwnBenchBad c line why) old new → IsWriteFault c old new
+  own_bench_front line why front = inr (inr (inr (inr (inr (inr (inr (inr (inr (inr (inr (inl (line, why, front))))))))))))
+
+  tested_front : PrintsFront (IsTested c) old new → IsWriteFault c old new
+  tested_front front = inr (inr (inr (inr (inr (inr (inr (inr (inr (inl front)))))))))
+
+  too_long_front : IsOwnTooLong c old new → IsWriteFault c old new
+  too_long_front long = inr (inr (inr (inr (inr (inr (inr (inr (inr (inr (inr (inr long)))))))))))
+
+  traced_front : PrintsFront (IsTraced c) old new → IsWriteFault c old new
+  traced_front front = inr (inr (inr (inr (inr (inr (inr (inr (inl front))))))))
+
+  bench_fault_front : IsBenchFault c old new → IsWriteFault c old new
+  bench_fault_front fault = inr (inr (inr (inr (inr (inr (inr (inl fault)))))))
+
+  bench_front : (line : ℕ) (why : BenchWhy) → PrintsFront (IsBenchBad c line why) old new → IsWriteFault c old new
+  bench_front line why front = inr (inr (inr (inr (inr (inr (inl (line, why, front)))))))
+
+  retired_front : PrintsFront (IsRetired c) old new → IsWriteFault c old new
+  retired_front front = inr (inr (inr (inr (inr (inl front)))))
+
+  memory_front : IsNoMemory c old new → IsWriteFault c old new
+  memory_front fault = inr (inr (inr (inr (inl fault))))
+
+  image_fault_front : IsImageFault c old new → IsWriteFault c old new
+  image_fault_front fault = inr (inr (inr (inl fault)))
+
+  -- of an input
+  abbrev Cut : What → Type 0
+  Cut what = Interrupts (pairs_of what) (left_of what) (listing_of what) c.input c.input' old new
+
+  input_front : (what : What) → Asks c what → Cut what → IsWriteFault c old new
+  input_front what asks front = inr (inr (inl (what, asks, front)))
+
+  image_front : (line : ℕ) (why : ImageWhy) → PrintsFront (IsImageBad c line why) old new → IsWriteFault c old new
+  image_front line why front = inr (inl (line, why, front))
+
 -- ---- before the flush
 
 pub layout_grows : (layout : Layout) → Grow (pairs_in layout)
@@ -38,13 +84,13 @@ pub so_of_listed : (c : Call) (what : What) → Asks c what → (old new : IoSta
 so_of_listed c what asks old new (Ok status.Done) listed cause = inl (what, asks, listed)
 so_of_listed c what asks old new (Ok status.Faulted) listed cause = (what, asks, listed)
 so_of_listed c what asks old new (Ok status.ReadFault) listed cause = inr (inr (what, asks, listed))
-so_of_listed c what asks old new (Ok status.InputTooLong) listed cause = (what, asks, listed)
+so_of_listed c what asks old new (Ok status.InputTooLong) listed cause = inl (what, asks, listed)
 so_of_listed c what asks old new (Ok status.Usage) listed cause = absurd listed
 so_of_listed c what asks old new (Ok (status.ImageBad line why)) listed cause = absurd listed
 so_of_listed c what asks old new (Ok (status.BenchBad line why)) listed cause = absurd listed
 so_of_listed c what asks old new (Ok status.WriteFault) listed cause = absurd listed
 so_of_listed c what asks old new (Ok status.NoMemory) listed cause = absurd listed
-so_of_listed c what asks old new (Err e) listed cause = (cause.failed, inr (inr (inl (what, asks, listed))))
+so_of_listed c what asks old new (Err e) listed cause = (cause.failed, input_front c old new what asks listed)
 
 -- nothing was printed
 pub nothing_printed : (old new : IoState) → new ≡ old → AppendsAll old new []
@@ -56,10 +102,6 @@ so_of_memory c old new command untouched same = record { command = inl command; 
 -- the words could not be read for want of memory
 pub so_of_words : (c : Call) (old : IoState) → c.image' ≡ c.image → c.input' ≡ c.input → IsNoMemory c old old
 so_of_words c old image input = record { command = inr (image, input); untouched = inl input; printed = nothing_printed old old refl }
-
-pub so_of_image_fault : (c : Call) (old : IoState) → IsImageCall c.words → Rose c.image c.image' → c.input' ≡ c.input → IsImageFault c old old
-so_of_image_fault c old command rose untouched =
-    record { command = command; rose = rose; untouched = untouched; printed = nothing_printed old old refl }
 
 -- either of these two
 pub so_by : (c : Call) (what : What) → Asks c what → (old new : IoState) (r : Result Status Failed) → IsCall c.words → HasCause old new r
@@ -77,22 +119,12 @@ so_of_usage c old new (Ok s) none w same =
     subst (λ (t : Status). Answers c old new t) (sym same) (usage_line, record { meaningless = none; printed = refl }, w.whole)
 so_of_usage c old new (Err e) none w same = (w.cause.failed, inl (usage_line, record { meaningless = none; printed = refl }, w.front))
 
--- the line of an image that is bad
-pub so_of_bad_image : (c : Call) (old new : IoState) (line : ℕ) (why : ImageWhy) → IsImageCall c.words → TakesNoImage c.image c.image' line why
-    → AppendsAll old new (image_line line why) → Prints (IsImageBad c line why) old new
-so_of_bad_image c old new line why command bad printed = (image_line line why, record { command = command; refused = bad; printed = refl }, printed)
-
-pub bad_image_fails : (c : Call) (old new : IoState) (e d : Failed) (line : ℕ) (why : ImageWhy) → IsImageCall c.words → TakesNoImage c.image c.image' line why
-    → Writes {T = Unit {0}} old new (Err e) (image_line line why) → AnswersSo c old new (Err d)
-bad_image_fails c old new e d line why command bad w =
-    (w.cause.failed, inr (inl (line, why, (image_line line why, record { command = command; refused = bad; printed = refl }, w.front))))
-
 -- a run file was answered over the image
 module _ (c : Call) (parts : Image) (asks : IsRunFileCall c.words) (image : TakesImage c.image c.image' parts) (kind : List ℕ → Type 0) (old new : IoState)
     (all : Prints kind old new → Answers c old new status.Done) (front : PrintsFront kind old new → IsWriteFault c old new) where
   by_run_file : (r : Result Status Failed) → RunsSo kind parts c.input c.input' old new r → HasCause old new r → AnswersSo c old new r
   by_run_file (Ok status.Done) prints cause = all prints
-  by_run_file (Ok (status.BenchBad line why)) (text, is, printed) cause = (text, (asks, (parts, image, is)), printed)
+  by_run_file (Ok (status.BenchBad line why)) (text, is, printed) cause = inl (text, (asks, (parts, image, is)), printed)
   by_run_file (Ok status.ReadFault) (rose, none) cause = inr (inl (asks, (parts, image, (rose, none))))
   by_run_file (Ok status.NoMemory) none cause = record { command = inl (inl (inr asks)); untouched = inr asks; printed = none }
   by_run_file (Ok status.Usage) none cause = absurd none
@@ -102,19 +134,37 @@ module _ (c : Call) (parts : Image) (asks : IsRunFileCall c.words) (image : Take
   by_run_file (Ok status.InputTooLong) none cause = absurd none
   by_run_file (Err e) (inl prints) cause = (cause.failed, front prints)
   by_run_file (Err e) (inr (line, why, (text, is, some))) cause =
-      (cause.failed, inr (inr (inr (inr (inr (inr (inl (line, why, (text, (asks, (parts, image, is)), some)))))))))
+      (cause.failed, bench_front c old new line why (text, (asks, (parts, image, is)), some))
 
 pub so_of_retired : (c : Call) (parts : Image) → IsRetiredCall c.words → TakesImage c.image c.image' parts → (old new : IoState) (r : Result Status Failed)
     → RetiresSo parts c.input c.input' old new r → HasCause old new r → AnswersSo c old new r
 so_of_retired c parts asks image old new =
     by_run_file c parts (inl asks) image _ old new (λ prints. inr (inl (prints.0, (asks, (parts, image, prints.1)), prints.2)))
-    (λ prints. inr (inr (inr (inr (inr (inl (prints.0, (asks, (parts, image, prints.1)), prints.2)))))))
+    (λ prints. retired_front c old new (prints.0, (asks, (parts, image, prints.1)), prints.2))
 
 pub so_of_traced : (c : Call) (parts : Image) → IsTraceCall c.words → TakesImage c.image c.image' parts → (old new : IoState) (r : Result Status Failed)
     → TracesSo parts c.input c.input' old new r → HasCause old new r → AnswersSo c old new r
 so_of_traced c parts asks image old new =
-    by_run_file c parts (inr asks) image _ old new (λ prints. inr (inr (prints.0, (asks, (parts, image, prints.1)), prints.2)))
-    (λ prints. inr (inr (inr (inr (inr (inr (inr (inr (prints.0, (asks, (parts, image, prints.1)), prints.2)))))))))
+    by_run_file c parts (inr asks) image _ old new (λ prints. inr (inr (inl (prints.0, (asks, (parts, image, prints.1)), prints.2))))
+    (λ prints. traced_front c old new (prints.0, (asks, (parts, image, prints.1)), prints.2))
+
+-- a number was answered, and the input not touched
+module _ (c : Call) (n : ℕ) (cut : Option ℕ) (asks : IsSelftestOf n cut c.words) (untouched : c.input' ≡ c.input) (old new : IoState) where
+  pub so_of_number : (r : Result Status Failed) → TestsSo n cut old new r → HasCause old new r → AnswersSo c old new r
+  so_of_number (Ok status.Done) (text, is, printed) cause = inr (inr (inr (text, (n, cut, asks, is), printed)))
+  so_of_number (Ok (status.ImageBad line why)) (text, is, printed) cause = inr (text, (n, cut, asks, is), printed)
+  so_of_number (Ok (status.BenchBad line why)) (text, is, printed) cause = inr (text, (n, cut, asks, is), printed)
+  so_of_number (Ok status.InputTooLong) (long, none) cause = inr ((n, cut, asks, long), none)
+  so_of_number (Ok status.NoMemory) none cause = record { command = inl (inr (inr (n, cut, asks))); untouched = inl untouched; printed = none }
+  so_of_number (Ok status.Usage) none cause = absurd none
+  so_of_number (Ok status.Faulted) none cause = absurd none
+  so_of_number (Ok status.ReadFault) none cause = absurd none
+  so_of_number (Ok status.WriteFault) none cause = absurd none
+  so_of_number (Err e) (inl (text, is, some)) cause = (cause.failed, tested_front c old new (text, (n, cut, asks, is), some))
+  so_of_number (Err e) (inr (inl (line, why, (text, is, some)))) cause =
+      (cause.failed, own_image_front c old new line why (text, (n, cut, asks, is), some))
+  so_of_number (Err e) (inr (inr (line, why, (text, is, some)))) cause =
+      (cause.failed, own_bench_front c old new line why (text, (n, cut, asks, is), some))
 
 -- ---- behind the flush
 
@@ -140,31 +190,37 @@ module _ (c : Call) (old new newer : IoState) (kept : KeepsBytes new newer) wher
   kept_bench : IsBenchFault c old new → IsBenchFault c old newer
   kept_bench (asks, (parts, image, (rose, printed))) = (asks, (parts, image, (rose, kept_all [] printed)))
 
+  kept_long : IsOwnTooLong c old new → IsOwnTooLong c old newer
+  kept_long (long, printed) = (long, kept_all [] printed)
+
   -- a write failed before it
   kept_fault : IsWriteFault c old new → IsWriteFault c old newer
   kept_fault (inl front) = inl (kept_front (IsUsage c) front)
-  kept_fault (inr (inl (line, why, front))) = inr (inl (line, why, kept_front (IsImageBad c line why) front))
+  kept_fault (inr (inl (line, why, front))) = image_front c old newer line why (kept_front (IsImageBad c line why) front)
   kept_fault (inr (inr (inl (what, asks, i)))) =
-      inr (inr (inl (
-        what,
-        asks,
-        record {
-          bytes = i.bytes;
-          took = i.took;
-          few = i.few;
-          shown = i.shown;
-          printed = kept_all i.shown i.printed;
-          late = i.late;
-          early = i.early;
-        },
-      )))
-  kept_fault (inr (inr (inr (inl f)))) = inr (inr (inr (inl (kept_image f))))
-  kept_fault (inr (inr (inr (inr (inl f))))) = inr (inr (inr (inr (inl (kept_memory f)))))
-  kept_fault (inr (inr (inr (inr (inr (inl front)))))) = inr (inr (inr (inr (inr (inl (kept_front (IsRetired c) front))))))
+      input_front c old newer what asks
+      (record {
+        bytes = i.bytes;
+        took = i.took;
+        few = i.few;
+        shown = i.shown;
+        printed = kept_all i.shown i.printed;
+        late = i.late;
+        early = i.early;
+      })
+  kept_fault (inr (inr (inr (inl f)))) = image_fault_front c old newer (kept_image f)
+  kept_fault (inr (inr (inr (inr (inl f))))) = memory_front c old newer (kept_memory f)
+  kept_fault (inr (inr (inr (inr (inr (inl front)))))) = retired_front c old newer (kept_front (IsRetired c) front)
   kept_fault (inr (inr (inr (inr (inr (inr (inl (line, why, front)))))))) =
-      inr (inr (inr (inr (inr (inr (inl (line, why, kept_front (IsBenchBad c line why) front)))))))
-  kept_fault (inr (inr (inr (inr (inr (inr (inr (inl f)))))))) = inr (inr (inr (inr (inr (inr (inr (inl (kept_bench f))))))))
-  kept_fault (inr (inr (inr (inr (inr (inr (inr (inr front)))))))) = inr (inr (inr (inr (inr (inr (inr (inr (kept_front (IsTraced c) front))))))))
+      bench_front c old newer line why (kept_front (IsBenchBad c line why) front)
+  kept_fault (inr (inr (inr (inr (inr (inr (inr (inl f)))))))) = bench_fault_front c old newer (kept_bench f)
+  kept_fault (inr (inr (inr (inr (inr (inr (inr (inr (inl front))))))))) = traced_front c old newer (kept_front (IsTraced c) front)
+  kept_fault (inr (inr (inr (inr (inr (inr (inr (inr (inr (inl front)))))))))) = tested_front c old newer (kept_front (IsTested c) front)
+  kept_fault (inr (inr (inr (inr (inr (inr (inr (inr (inr (inr (inl (line, why, front)))))))))))) =
+      own_image_front c old newer line why (kept_front (IsOwnImageBad c line why) front)
+  kept_fault (inr (inr (inr (inr (inr (inr (inr (inr (inr (inr (inr (inl (line, why, front))))))))))))) =
+      own_bench_front c old newer line why (kept_front (IsOwnBenchBad c line why) front)
+  kept_fault (inr (inr (inr (inr (inr (inr (inr (inr (inr (inr (inr (inr long)))))))))))) = too_long_front c old newer (kept_long long)
 
   -- it succeeds
   pub all_flushed : (s : Status) → new.faults ≤ newer.faults → Answers c old new s → Answers c old newer s
@@ -175,13 +231,16 @@ module _ (c : Call) (old new newer : IoState) (kept : KeepsBytes new newer) wher
         record { bytes = done.bytes; read = done.read; few = done.few; lines = done.lines; shown = done.shown; printed = kept_all _ done.printed },
       )
   all_flushed status.Done later (inr (inl prints)) = inr (inl (kept_line (IsRetired c) prints))
-  all_flushed status.Done later (inr (inr prints)) = inr (inr (kept_line (IsTraced c) prints))
+  all_flushed status.Done later (inr (inr (inl prints))) = inr (inr (inl (kept_line (IsTraced c) prints)))
+  all_flushed status.Done later (inr (inr (inr prints))) = inr (inr (inr (kept_line (IsTested c) prints)))
   all_flushed status.Faulted later (what, asks, done) =
       (what, asks, record { bytes = done.bytes; read = done.read; few = done.few; lines = done.lines; shown = done.shown; printed = kept_all _ done.printed })
   all_flushed status.Usage later prints = kept_line (IsUsage c) prints
-  all_flushed (status.ImageBad line why) later prints = kept_line (IsImageBad c line why) prints
+  all_flushed (status.ImageBad line why) later (inl prints) = inl (kept_line (IsImageBad c line why) prints)
+  all_flushed (status.ImageBad line why) later (inr prints) = inr (kept_line (IsOwnImageBad c line why) prints)
+  all_flushed (status.BenchBad line why) later (inl prints) = inl (kept_line (IsBenchBad c line why) prints)
+  all_flushed (status.BenchBad line why) later (inr prints) = inr (kept_line (IsOwnBenchBad c line why) prints)
   all_flushed status.ReadFault later (inl f) = inl (kept_image f)
-  all_flushed (status.BenchBad line why) later prints = kept_line (IsBenchBad c line why) prints
   all_flushed status.ReadFault later (inr (inl f)) = inr (inl (kept_bench f))
   all_flushed status.ReadFault later (inr (inr (what, asks, b))) =
       inr (inr (
@@ -189,49 +248,42 @@ module _ (c : Call) (old new newer : IoState) (kept : KeepsBytes new newer) wher
         asks,
         record { bytes = b.bytes; took = b.took; few = b.few; printed = (b.printed.0, b.printed.1, kept_all _ b.printed.2); rose = b.rose },
       ))
-  all_flushed status.InputTooLong later (what, asks, b) =
-      (what, asks, record { bytes = b.bytes; byte = b.byte; took = b.took; many = b.many; printed = (b.printed.0, b.printed.1, kept_all _ b.printed.2) })
+  all_flushed status.InputTooLong later (inl (what, asks, b)) =
+      inl (
+        what,
+        asks,
+        record { bytes = b.bytes; byte = b.byte; took = b.took; many = b.many; printed = (b.printed.0, b.printed.1, kept_all _ b.printed.2) },
+      )
+  all_flushed status.InputTooLong later (inr long) = inr (kept_long long)
   all_flushed status.NoMemory later f = kept_memory f
   all_flushed status.WriteFault later (rose, f) = (omega (arith, rose, later), kept_fault f)
 
   -- it fails behind an answer
   cut : (s : Status) → Answers c old new s → IsWriteFault c old newer
-  cut status.Done (inr (inl prints)) = inr (inr (inr (inr (inr (inl (line_front (IsRetired c) prints))))))
-  cut status.Done (inr (inr prints)) = inr (inr (inr (inr (inr (inr (inr (inr (line_front (IsTraced c) prints))))))))
-  cut (status.BenchBad line why) prints = inr (inr (inr (inr (inr (inr (inl (line, why, line_front (IsBenchBad c line why) prints)))))))
   cut status.Done (inl (what, asks, done)) =
-      inr (inr (inl (
-        what,
-        asks,
-        completed_cut (pairs_of what) (left_of what) (layout_grows (layout_of what)) (listing_of what)
-            c.input c.input' old new newer false done kept,
-      )))
+      input_front c old newer what asks
+      (completed_cut (pairs_of what) (left_of what) (layout_grows (layout_of what)) (listing_of what) c.input c.input' old new newer false done kept)
+  cut status.Done (inr (inl prints)) = retired_front c old newer (line_front (IsRetired c) prints)
+  cut status.Done (inr (inr (inl prints))) = traced_front c old newer (line_front (IsTraced c) prints)
+  cut status.Done (inr (inr (inr prints))) = tested_front c old newer (line_front (IsTested c) prints)
   cut status.Faulted (what, asks, done) =
-      inr (inr (inl (
-        what,
-        asks,
-        completed_cut (pairs_of what) (left_of what) (layout_grows (layout_of what)) (listing_of what)
-            c.input c.input' old new newer true done kept,
-      )))
+      input_front c old newer what asks
+      (completed_cut (pairs_of what) (left_of what) (layout_grows (layout_of what)) (listing_of what) c.input c.input' old new newer true done kept)
   cut status.Usage prints = inl (line_front (IsUsage c) prints)
-  cut (status.ImageBad line why) prints = inr (inl (line, why, line_front (IsImageBad c line why) prints))
-  cut status.ReadFault (inl f) = inr (inr (inr (inl (kept_image f))))
-  cut status.ReadFault (inr (inl f)) = inr (inr (inr (inr (inr (inr (inr (inl (kept_bench f))))))))
+  cut (status.ImageBad line why) (inl prints) = image_front c old newer line why (line_front (IsImageBad c line why) prints)
+  cut (status.ImageBad line why) (inr prints) = own_image_front c old newer line why (line_front (IsOwnImageBad c line why) prints)
+  cut (status.BenchBad line why) (inl prints) = bench_front c old newer line why (line_front (IsBenchBad c line why) prints)
+  cut (status.BenchBad line why) (inr prints) = own_bench_front c old newer line why (line_front (IsOwnBenchBad c line why) prints)
+  cut status.ReadFault (inl f) = image_fault_front c old newer (kept_image f)
+  cut status.ReadFault (inr (inl f)) = bench_fault_front c old newer (kept_bench f)
   cut status.ReadFault (inr (inr (what, asks, b))) =
-      inr (inr (inl (
-        what,
-        asks,
-        broken_cut (pairs_of what) (left_of what) (layout_grows (layout_of what)) (listing_of what)
-            c.input c.input' old new newer b kept,
-      )))
-  cut status.InputTooLong (what, asks, b) =
-      inr (inr (inl (
-        what,
-        asks,
-        exceeded_cut (pairs_of what) (left_of what) (layout_grows (layout_of what)) (listing_of what)
-            c.input c.input' old new newer b kept,
-      )))
-  cut status.NoMemory f = inr (inr (inr (inr (inl (kept_memory f)))))
+      input_front c old newer what asks
+      (broken_cut (pairs_of what) (left_of what) (layout_grows (layout_of what)) (listing_of what) c.input c.input' old new newer b kept)
+  cut status.InputTooLong (inl (what, asks, b)) =
+      input_front c old newer what asks
+      (exceeded_cut (pairs_of what) (left_of what) (layout_grows (layout_of what)) (listing_of what) c.input c.input' old new newer b kept)
+  cut status.InputTooLong (inr long) = too_long_front c old newer (kept_long long)
+  cut status.NoMemory f = memory_front c old newer (kept_memory f)
   cut status.WriteFault (rose, f) = kept_fault f
 
   pub flush_fails : (s : Status) → Answers c old new s → old.faults ≤ new.faults → Rose new newer → Answers c old newer status.WriteFault

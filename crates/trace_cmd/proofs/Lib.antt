@@ -1,5 +1,6 @@
 pub mod AnswerLemmas
 mod CommandLines
+pub mod Complete
 pub mod Interrupts
 pub mod PacketLists
 pub mod PacketRuns
@@ -8,6 +9,9 @@ pub mod Refused
 pub mod RetiredEvents
 pub mod RetiredSteps
 pub mod RetiredStreams
+mod SelftestExamples
+pub mod SelftestLines
+pub mod SelftestTexts
 pub mod TracedCalls
 mod TracedExamples
 pub mod TracedPaths

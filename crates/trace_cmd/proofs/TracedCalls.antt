@@ -11,7 +11,7 @@ use Rattle.program_image.specs.declared.image.Image.{Image}
 use Rattle.stream_demux.specs.Paths.{paths}
 use Rattle.stream_demux.specs.Texts.{IsText, Printed, text_of}
 use Rattle.trace_cmd.proofs.TracedStreams.{shows_traces, traces_are_shown}
-use Rattle.trace_cmd.specs.Answers.{Answers, Asks, Call, IsRetired, IsTraced}
+use Rattle.trace_cmd.specs.Answers.{Answers, Asks, Call, IsRetired, IsTested, IsTraced}
 use Rattle.trace_cmd.specs.Listed.{Completes}
 use Rattle.trace_cmd.specs.Printing.{PathsOf, PacketsOf, What, left_in, left_of, listing_of, pairs_in, pairs_of}
 use Rattle.trace_cmd.specs.Traced.{AreAccepted, IsTraceText, trace_frames}
@@ -24,14 +24,14 @@ use Rattle.trace_io.specs.Bytes.{AppendsAll}
 use Rattle.trace_io.specs.State.{IoState}
 
 -- known bytes that were taken to their end were these
-taken_are : (old new : Option (List ℕ)) (known bytes : List ℕ) → old ≡ Some known → Consumes old new bytes × IsAtEnd new → bytes ≡ known
+pub taken_are : (old new : Option (List ℕ)) (known bytes : List ℕ) → old ≡ Some known → Consumes old new bytes × IsAtEnd new → bytes ≡ known
 taken_are None new known bytes is taken = absurd cc
 taken_are (Some xs) None known bytes is taken = absurd taken.0
 taken_are (Some xs) (Some ys) known bytes is taken =
     let same : xs ≡ known = cc in
     sym (append-nil bytes) ∙ ap (λ (l : List ℕ). bytes ++ l) (sym taken.1) ∙ sym taken.0 ∙ same
 
-one_image : (text other : List ℕ) (image parts : Image) → other ≡ text → image_of text ≡ Ok image → image_of other ≡ Ok parts → parts ≡ image
+pub one_image : (text other : List ℕ) (image parts : Image) → other ≡ text → image_of text ≡ Ok image → image_of other ≡ Ok parts → parts ≡ image
 one_image text other image parts same is also = let all : Ok parts ≡ Ok image = sym also ∙ ap image_of same ∙ is in cc
 
 module _ (c : Call) (old new : IoState) (image : Image) (b : BenchParts) (bench : IsBench b) (none : AreAccepted image b) (asks : IsPathOfTrace c image b)
@@ -69,12 +69,16 @@ module _ (c : Call) (old new : IoState) (image : Image) (b : BenchParts) (bench 
     not_traced : (frames : List ℕ) → IsTraced c frames → ⊥
     not_traced frames ((name, words), parts) = let both = sym words ∙ asks.words.1 in cc
 
+    not_tested : (text : List ℕ) → IsTested c text → ⊥
+    not_tested text (n, cut, words, summary) = let both = sym words ∙ asks.words.1 in cc
+
     pub prints_traces : (answer : Status) → Answers c old new answer → PrintsTraces image b old new answer
     prints_traces status.Done (inl (what, asked, done)) =
         let here = printing what false asked done in
         (here.0, shows_traces image b (image_read asks.text image asks.spells) bench none here.0 false here.1, here.2)
     prints_traces status.Done (inr (inl (text, retired, printed))) = absurd (not_retired text retired)
-    prints_traces status.Done (inr (inr (frames, traced, printed))) = absurd (not_traced frames traced)
+    prints_traces status.Done (inr (inr (inl (frames, traced, printed)))) = absurd (not_traced frames traced)
+    prints_traces status.Done (inr (inr (inr (text, tested, printed)))) = absurd (not_tested text tested)
     prints_traces status.Faulted (what, asked, done) =
         let here = printing what true asked done in
         let whole = traces_are_shown image b (image_read asks.text image asks.spells) bench none in

@@ -11,12 +11,13 @@ use Rattle.clap.specs.Kinds.{Kinds, or_else}
 use Rattle.trace_cmd.specs.declared.words.CommandOption.{CommandOption}
 use Rattle.trace_cmd.specs.declared.words.CommandOption.TheVariants as option
 use Rattle.trace_cmd.specs.Words.{CommandRow, Seen, is_dashed, is_seen, is_whole, name_and_value, name_of, seen_of, takes_value}
-use Rattle.trace_cmd.specs.Words.{with_image, with_named, with_option, with_value, with_word}
+use Rattle.trace_cmd.specs.Words.{with_named, with_option, with_positional, with_value, with_word}
 use Rattle.trace_cmd.proofs.WordTurns.{Has, has_found}
-use Rattle.trace_cmd.proofs.WordParses.{IsFault, Named, Positional, Shows, by_id, done_image, done_option, fault_first, fault_then, image_by_id, leaf, no_row}
-use Rattle.trace_cmd.proofs.WordParses.{row_for, rules, shows_more, some_row, text_in, use_again, use_bare, use_passes, values_for}
-use Rattle.trace_cmd.proofs.WordWalk.{IsValue, Pending, at, end_turn, end_waits, flag_bad, flag_turn, hold, image_none, image_turn, image_walk, join_turn}
-use Rattle.trace_cmd.proofs.WordWalk.{long_named, no_second, pending_bad, short_bad, stray, turn_bad, value_behind, value_plain, value_turn, wait_turn}
+use Rattle.trace_cmd.proofs.WordParses.{IsFault, Named, Positional, Shows, by_id, done_option, done_positional, fault_first, fault_then, leaf, no_row}
+use Rattle.trace_cmd.proofs.WordParses.{positional_by_id, row_for, rules, shows_more, some_row, text_in, use_again, use_bare, use_passes, values_for}
+use Rattle.trace_cmd.proofs.WordWalk.{IsValue, Pending, at, end_turn, end_waits, flag_bad, flag_turn, hold, join_turn, long_named, no_second}
+use Rattle.trace_cmd.proofs.WordWalk.{pending_bad, positional_none, positional_turn, positional_walk, short_bad, stray, turn_bad, value_behind}
+use Rattle.trace_cmd.proofs.WordWalk.{value_plain, value_turn, wait_turn}
 use Rattle.trace_cmd.proofs.WordEnds.{end_bad, end_fault, end_is, end_more, end_pending, missing}
 
 -- ---- kinds of words
@@ -47,35 +48,40 @@ AreTexts (word ∷ words) = ((b : ℕ) (rest : Text) → word ≡ 45 ∷ b ∷ r
 
 -- ---- what is seen
 
-value_image : (o : CommandOption) (v : Text) (seen : Seen) → (with_value o v seen).image ≡ seen.image
-value_image option.Raw v seen = refl
-value_image option.Depth v seen = refl
-value_image option.Vmid v seen = refl
-value_image option.Cid v seen = refl
+value_positional : (o : CommandOption) (v : Text) (seen : Seen) → (with_value o v seen).positional ≡ seen.positional
+value_positional option.Raw v seen = refl
+value_positional option.Depth v seen = refl
+value_positional option.Vmid v seen = refl
+value_positional option.Cid v seen = refl
+value_positional option.Cut v seen = refl
 
 value_ended : (o : CommandOption) (v : Text) (seen : Seen) → (with_value o v seen).ended ≡ seen.ended
 value_ended option.Raw v seen = refl
 value_ended option.Depth v seen = refl
 value_ended option.Vmid v seen = refl
 value_ended option.Cid v seen = refl
+value_ended option.Cut v seen = refl
 
 value_free : (o : CommandOption) (v : Text) (seen : Seen) → (with_value o v seen).waits ≡ None
 value_free option.Raw v seen = refl
 value_free option.Depth v seen = refl
 value_free option.Vmid v seen = refl
 value_free option.Cid v seen = refl
+value_free option.Cut v seen = refl
 
 values_is : (o : CommandOption) (v : Text) → takes_value o ≡ true → values_for (Named o) v ≡ v ∷ []
 values_is option.Raw v takes = absurd cc
 values_is option.Depth v takes = refl
 values_is option.Vmid v takes = refl
 values_is option.Cid v takes = refl
+values_is option.Cut v takes = refl
 
 values_none : (o : CommandOption) (v : Text) → takes_value o ≡ false → values_for (Named o) v ≡ []
 values_none option.Raw v takes = refl
 values_none option.Depth v takes = absurd cc
 values_none option.Vmid v takes = absurd cc
 values_none option.Cid v takes = absurd cc
+values_none option.Cut v takes = absurd cc
 
 none_of : (x : Option Text) → is_some x ≡ false → x ≡ None
 none_of None e = refl
@@ -93,12 +99,14 @@ not_shown option.Raw seen e = raw_none seen.raw e
 not_shown option.Depth seen e = none_of seen.depth e
 not_shown option.Vmid seen e = none_of seen.vmid e
 not_shown option.Cid seen e = none_of seen.cid e
+not_shown option.Cut seen e = none_of seen.cut e
 
 is_shown : (o : CommandOption) (seen : Seen) → is_seen o seen ≡ true → (v : Text) × (text_in (Named o) seen ≡ Some v)
 is_shown option.Raw seen e = (codes "true", simp e)
 is_shown option.Depth seen e = some_of seen.depth e
 is_shown option.Vmid seen e = some_of seen.vmid e
 is_shown option.Cid seen e = some_of seen.cid e
+is_shown option.Cut seen e = some_of seen.cut e
 
 row_there : (o : CommandOption) (rows : List Row) (seen : Seen) → Shows rows seen → is_seen o seen ≡ true → has_row (name_of o) rows ≡ true
 row_there o rows seen shows there =
@@ -126,11 +134,12 @@ place_of None = 1
 place_of (Some v) = 2
 
 -- a positional meets what is pending
-value_bad : (row : CommandRow) (rows : List Row) (p : Pending) (w : Waiting) (image : Option Text) (t : Bool) (word : Text) (b : Bool) → row.has_image ≡ b
-    → IsValue row rows p w (place_of image) t word → IsFault (settle_fault (rules row) false (hold rows p))
-    → IsFault (turn_fault (leaf row) [] (at rows p w (place_of image) t) word)
-value_bad row rows p w None t word true has is bad = subst IsFault (sym (image_turn row rows p w t word is has)) bad
-value_bad row rows p w None t word false has is bad = stray row rows p w 1 t word is (image_none row has)
+value_bad : (row : CommandRow) (rows : List Row) (p : Pending) (w : Waiting) (positional : Option Text) (t : Bool) (word : Text) (b : Bool)
+    → row.has_positional ≡ b
+    → IsValue row rows p w (place_of positional) t word → IsFault (settle_fault (rules row) false (hold rows p))
+    → IsFault (turn_fault (leaf row) [] (at rows p w (place_of positional) t) word)
+value_bad row rows p w None t word true has is bad = subst IsFault (sym (positional_turn row rows p w t word is has)) bad
+value_bad row rows p w None t word false has is bad = stray row rows p w 1 t word is (positional_none row has)
 value_bad row rows p w (Some v) t word b has is bad = stray row rows p w 2 t word is (no_second row)
 
 settle_is : (row : CommandRow) (rows : List Row) (o : CommandOption) (vs : List Text) → Has row o
@@ -138,15 +147,15 @@ settle_is : (row : CommandRow) (rows : List Row) (o : CommandOption) (vs : List 
 settle_is row rows o vs has = simp (by_id row o has)
 
 -- an option behind which `--` stands in place of its value
-pub bare_bad : (row : CommandRow) (rows : List Row) (o : CommandOption) (image : Option Text) (words : List Text) → Has row o → takes_value o ≡ true
-    → IsFault (end_fault row (at rows (Some (name_of o, [])) (waits_for (name_of o)) (place_of image) true) words)
-bare_bad row rows o image [] has takes =
-    end_pending row rows (Some (name_of o, [])) (waits_for (name_of o)) (place_of image) true
+pub bare_bad : (row : CommandRow) (rows : List Row) (o : CommandOption) (positional : Option Text) (words : List Text) → Has row o → takes_value o ≡ true
+    → IsFault (end_fault row (at rows (Some (name_of o, [])) (waits_for (name_of o)) (place_of positional) true) words)
+bare_bad row rows o positional [] has takes =
+    end_pending row rows (Some (name_of o, [])) (waits_for (name_of o)) (place_of positional) true
     (subst IsFault (sym (settle_is row rows o [] has)) (use_bare o rows takes))
-bare_bad row rows o image (word ∷ words) has takes =
+bare_bad row rows o positional (word ∷ words) has takes =
     let p = Some (name_of o, []) in let w = waits_for (name_of o) in
-    end_bad row (at rows p w (place_of image) true) word words (value_bad row rows p w image true word row.has_image refl
-    (value_behind row rows p w (place_of image) word) (subst IsFault (sym (settle_is row rows o [] has)) (use_bare o rows takes)))
+    end_bad row (at rows p w (place_of positional) true) word words (value_bad row rows p w positional true word row.has_positional refl
+    (value_behind row rows p w (place_of positional) word) (subst IsFault (sym (settle_is row rows o [] has)) (use_bare o rows takes)))
 
 -- an option that stands twice is pending, without its value or with it
 abbrev pending_of : CommandOption → Option Text → Text × List Text
@@ -158,7 +167,7 @@ waits_of o None = waits_for (name_of o)
 waits_of o (Some v) = idle
 
 abbrev again : List Row → CommandOption → Option Text → Option Text → Bool → Walk
-again rows o v image t = at rows (Some (pending_of o v)) (waits_of o v) (place_of image) t
+again rows o v positional t = at rows (Some (pending_of o v)) (waits_of o v) (place_of positional) t
 
 pending_again : (row : CommandRow) (rows : List Row) (o : CommandOption) (v : Option Text) → Has row o → has_row (name_of o) rows ≡ true
     → IsFault (settle_fault (rules row) false (hold rows (Some (pending_of o v))))
@@ -186,42 +195,45 @@ dash_bad row rows p w n b rest word is other kind texts =
     subst (λ (u : Text). IsFault (turn_fault (leaf row) [] (at rows p w n false) u)) (sym is)
     (turn_bad row rows p w n false (45 ∷ b ∷ rest) (short_bad row rows p b rest w kind other c.0 c.1 c.2))
 
-again_ends : (row : CommandRow) (rows : List Row) (o : CommandOption) (v image : Option Text) (word : Text) → word ≡ codes "--"
-    → (turn_fault (leaf row) [] (again rows o v image false) word ≡ []) × (walked (rules row) [] (again rows o v image false) word ≡ again rows o v image true)
-again_ends row rows o None image word is = rw is (end_waits row rows (Some (name_of o, [])) (name_of o) (place_of image))
-again_ends row rows o (Some v) image word is = rw is (end_turn row rows (Some (name_of o, v ∷ [])) (place_of image))
+again_ends : (row : CommandRow) (rows : List Row) (o : CommandOption) (v positional : Option Text) (word : Text) → word ≡ codes "--"
+    → (turn_fault (leaf row) [] (again rows o v positional false) word ≡ [])
+    × (walked (rules row) [] (again rows o v positional false) word ≡ again rows o v positional true)
+again_ends row rows o None positional word is = rw is (end_waits row rows (Some (name_of o, [])) (name_of o) (place_of positional))
+again_ends row rows o (Some v) positional word is = rw is (end_turn row rows (Some (name_of o, v ∷ [])) (place_of positional))
 
-again_plain : (row : CommandRow) (rows : List Row) (o : CommandOption) (v image : Option Text) (word : Text) (words : List Text) → Has row o
+again_plain : (row : CommandRow) (rows : List Row) (o : CommandOption) (v positional : Option Text) (word : Text) (words : List Text) → Has row o
     → takes_value o ≡ true
-    → has_row (name_of o) rows ≡ true → is_dashed word ≡ false → IsFault (end_fault row (again rows o (Some word) image false) words)
-    → IsFault (end_fault row (again rows o v image false) (word ∷ words))
-again_plain row rows o None image word words has takes there plain rest =
-    let turn = value_turn row rows (place_of image) o word has takes plain in
-    subst IsFault (sym (end_more row (again rows o None image false) (again rows o (Some word) image false) word words turn.0 turn.1)) rest
-again_plain row rows o (Some v) image word words has takes there plain rest =
-    end_bad row (again rows o (Some v) image false) word words (value_bad row rows (Some (name_of o, v ∷ [])) idle image false word row.has_image refl
-    (value_plain row rows (Some (name_of o, v ∷ [])) (place_of image) word plain) (pending_again row rows o (Some v) has there))
+    → has_row (name_of o) rows ≡ true → is_dashed word ≡ false → IsFault (end_fault row (again rows o (Some word) positional false) words)
+    → IsFault (end_fault row (again rows o v positional false) (word ∷ words))
+again_plain row rows o None positional word words has takes there plain rest =
+    let turn = value_turn row rows (place_of positional) o word has takes plain in
+    subst IsFault (sym (end_more row (again rows o None positional false) (again rows o (Some word) positional false) word words turn.0 turn.1)) rest
+again_plain row rows o (Some v) positional word words has takes there plain rest =
+    end_bad row (again rows o (Some v) positional false) word words
+    (value_bad row rows (Some (name_of o, v ∷ [])) idle positional false word row.has_positional refl
+    (value_plain row rows (Some (name_of o, v ∷ [])) (place_of positional) word plain) (pending_again row rows o (Some v) has there))
 
-again_bad : (row : CommandRow) (words : List Text) → AreTexts words → (rows : List Row) (o : CommandOption) (v image : Option Text) (t : Bool)
-    → Has row o → takes_value o ≡ true → has_row (name_of o) rows ≡ true → IsFault (end_fault row (again rows o v image t) words)
-again_bad row [] texts rows o v image t has takes there =
-    end_pending row rows (Some (pending_of o v)) (waits_of o v) (place_of image) t (pending_again row rows o v has there)
-again_bad row (word ∷ words) texts rows o v image true has takes there =
-    end_bad row (again rows o v image true) word words (value_bad row rows (Some (pending_of o v)) (waits_of o v) image true word row.has_image refl
-    (value_behind row rows (Some (pending_of o v)) (waits_of o v) (place_of image) word) (pending_again row rows o v has there))
-again_bad row (word ∷ words) texts rows o v image false has takes there = elim (kind_of word) [
+again_bad : (row : CommandRow) (words : List Text) → AreTexts words → (rows : List Row) (o : CommandOption) (v positional : Option Text) (t : Bool)
+    → Has row o → takes_value o ≡ true → has_row (name_of o) rows ≡ true → IsFault (end_fault row (again rows o v positional t) words)
+again_bad row [] texts rows o v positional t has takes there =
+    end_pending row rows (Some (pending_of o v)) (waits_of o v) (place_of positional) t (pending_again row rows o v has there)
+again_bad row (word ∷ words) texts rows o v positional true has takes there =
+    end_bad row (again rows o v positional true) word words
+    (value_bad row rows (Some (pending_of o v)) (waits_of o v) positional true word row.has_positional refl
+    (value_behind row rows (Some (pending_of o v)) (waits_of o v) (place_of positional) word) (pending_again row rows o v has there))
+again_bad row (word ∷ words) texts rows o v positional false has takes there = elim (kind_of word) [
   | Ends is ↦
-      let turn = again_ends row rows o v image word is in
-      subst IsFault (sym (end_more row (again rows o v image false) (again rows o v image true) word words turn.0 turn.1))
-      (again_bad row words texts.1 rows o v image true has takes there)
+      let turn = again_ends row rows o v positional word is in
+      subst IsFault (sym (end_more row (again rows o v positional false) (again rows o v positional true) word words turn.0 turn.1))
+      (again_bad row words texts.1 rows o v positional true has takes there)
   | Short b rest is other ↦
-      end_bad row (again rows o v image false) word words
-      (dash_bad row rows (Some (pending_of o v)) (waits_of o v) (place_of image) b rest word is other (waits_kind o v) (texts.0, tt))
+      end_bad row (again rows o v positional false) word words
+      (dash_bad row rows (Some (pending_of o v)) (waits_of o v) (place_of positional) b rest word is other (waits_kind o v) (texts.0, tt))
   | Long x text is ↦
-      end_bad row (again rows o v image false) word words
-      (dashed_bad row rows (Some (pending_of o v)) (waits_of o v) (place_of image) x text word is (waits_kind o v) (pending_again row rows o v has there))
+      end_bad row (again rows o v positional false) word words
+      (dashed_bad row rows (Some (pending_of o v)) (waits_of o v) (place_of positional) x text word is (waits_kind o v) (pending_again row rows o v has there))
   | Plain plain ↦
-      again_plain row rows o v image word words has takes there plain (again_bad row words texts.1 rows o (Some word) image false has takes there)
+      again_plain row rows o v positional word words has takes there plain (again_bad row words texts.1 rows o (Some word) positional false has takes there)
 ]
 
 -- ---- the agreement
@@ -264,26 +276,26 @@ pub data Stands (row : CommandRow) (seen : Seen) : Type 0 where
       → is_seen o seen ≡ false → Shows rows seen → Stands row seen
 
 abbrev pub walk_of : (row : CommandRow) (seen : Seen) → Stands row seen → Walk
-walk_of row seen (Idles rows p free clean shows) = at rows p idle (place_of seen.image) seen.ended
-walk_of row seen (Pends rows o waits off has takes none shows) = at rows (Some (name_of o, [])) (waits_for (name_of o)) (place_of seen.image) false
+walk_of row seen (Idles rows p free clean shows) = at rows p idle (place_of seen.positional) seen.ended
+walk_of row seen (Pends rows o waits off has takes none shows) = at rows (Some (name_of o, [])) (waits_for (name_of o)) (place_of seen.positional) false
 
 abbrev Rest : CommandRow → List Text → Seen → Type 0
 Rest row words next = (st : Stands row next) → Agrees row next words (walk_of row next st)
 
 -- ---- at the end
 
-whole_is : (row : CommandRow) (seen : Seen) (image : Option Text) (b : Bool) → seen.waits ≡ None → seen.image ≡ image → row.has_image ≡ b
-    → (missing b image ≡ []) × (seen_of row seen [] ≡ Some seen) ⊎ IsFault (missing b image) × (seen_of row seen [] ≡ None)
+whole_is : (row : CommandRow) (seen : Seen) (positional : Option Text) (b : Bool) → seen.waits ≡ None → seen.positional ≡ positional → row.has_positional ≡ b
+    → (missing b positional ≡ []) × (seen_of row seen [] ≡ Some seen) ⊎ IsFault (missing b positional) × (seen_of row seen [] ≡ None)
 whole_is row seen (Some v) true free is has = let w : is_whole row seen ≡ true = simp (free, is) in inl (refl, simp w)
 whole_is row seen (Some v) false free is has = let w : is_whole row seen ≡ true = simp (free, is) in inl (refl, simp w)
 whole_is row seen None false free is has = let w : is_whole row seen ≡ true = simp (free, is, has) in inl (refl, simp w)
 whole_is row seen None true free is has = let w : is_whole row seen ≡ false = simp (free, is, has) in inr (tt, simp w)
 
 ends_idle : (row : CommandRow) (seen : Seen) (rows : List Row) (p : Pending) → seen.waits ≡ None → settle_fault (rules row) false (hold rows p) ≡ []
-    → Shows (settled_rows (rules row) p rows) seen → Agrees row seen [] (at rows p idle (place_of seen.image) seen.ended)
+    → Shows (settled_rows (rules row) p rows) seen → Agrees row seen [] (at rows p idle (place_of seen.positional) seen.ended)
 ends_idle row seen rows p free clean shows =
-    let fault = end_is row rows p idle (place_of seen.image) seen.ended seen clean shows in
-    elim (whole_is row seen seen.image row.has_image free refl refl) [
+    let fault = end_is row rows p idle (place_of seen.positional) seen.ended seen clean shows in
+    elim (whole_is row seen seen.positional row.has_positional free refl refl) [
       | inl w ↦ record {
         meant = λ end e. (fault ∙ w.0, let same : seen ≡ end = (let f = sym w.1 ∙ e in cc) in subst (Shows (settled_rows (rules row) p rows)) same shows);
         refused = λ e. absurd (let f = sym w.1 ∙ e in cc);
@@ -292,48 +304,48 @@ ends_idle row seen rows p free clean shows =
     ]
 
 ends_pending : (row : CommandRow) (seen : Seen) (rows : List Row) (o : CommandOption) → seen.waits ≡ Some o → Has row o → takes_value o ≡ true
-    → Agrees row seen [] (at rows (Some (name_of o, [])) (waits_for (name_of o)) (place_of seen.image) false)
+    → Agrees row seen [] (at rows (Some (name_of o, [])) (waits_for (name_of o)) (place_of seen.positional) false)
 ends_pending row seen rows o waits has takes =
     let w : is_whole row seen ≡ false = simp waits in let none : seen_of row seen [] ≡ None = simp w in
     record {
       meant = λ end e. absurd (let f = sym none ∙ e in cc);
-      refused = λ e. end_pending row rows (Some (name_of o, [])) (waits_for (name_of o)) (place_of seen.image) false
+      refused = λ e. end_pending row rows (Some (name_of o, [])) (waits_for (name_of o)) (place_of seen.positional) false
           (subst IsFault (sym (settle_is row rows o [] has)) (use_bare o rows takes));
     }
 
 -- ---- a word for the positional
 
-abbrev image_stands : (row : CommandRow) (seen : Seen) (rows : List Row) (word : Text) → seen.waits ≡ None → Shows rows seen → seen.image ≡ None
-    → row.has_image ≡ true
-    → Stands row (record seen { image = Some word })
-image_stands row seen rows word free shows none has =
-    let found = image_by_id row has in
-    let clean : settle_fault (rules row) false (hold rows (Some (codes "IMAGE", word ∷ []))) ≡ [] =
-    simp found (use_passes Positional word rows (no_row (codes "IMAGE") rows (shows Positional ∙ ap (option_map (row_for Positional)) none))) in
-    let settles : settled_rows (rules row) (Some (codes "IMAGE", word ∷ [])) rows ≡ used done_image (word ∷ []) rows = simp found in
-    Idles rows (Some (codes "IMAGE", word ∷ [])) free clean
-    (subst (λ (r : List Row). Shows r (record seen { image = Some word })) (sym settles) (shows_more Positional word rows seen shows none))
+abbrev positional_stands : (row : CommandRow) (seen : Seen) (rows : List Row) (word : Text) → seen.waits ≡ None → Shows rows seen → seen.positional ≡ None
+    → row.has_positional ≡ true
+    → Stands row (record seen { positional = Some word })
+positional_stands row seen rows word free shows none has =
+    let found = positional_by_id row has in
+    let clean : settle_fault (rules row) false (hold rows (Some (codes "POSITIONAL", word ∷ []))) ≡ [] =
+    simp found (use_passes Positional word rows (no_row (codes "POSITIONAL") rows (shows Positional ∙ ap (option_map (row_for Positional)) none))) in
+    let settles : settled_rows (rules row) (Some (codes "POSITIONAL", word ∷ [])) rows ≡ used done_positional (word ∷ []) rows = simp found in
+    Idles rows (Some (codes "POSITIONAL", word ∷ [])) free clean
+    (subst (λ (r : List Row). Shows r (record seen { positional = Some word })) (sym settles) (shows_more Positional word rows seen shows none))
 
-image_case : (row : CommandRow) (seen : Seen) (word : Text) (words : List Text) (rows : List Row) (p : Pending) (image : Option Text) (b : Bool)
-    → seen.image ≡ image → row.has_image ≡ b → seen.waits ≡ None → settle_fault (rules row) false (hold rows p) ≡ []
-    → Shows (settled_rows (rules row) p rows) seen → IsValue row rows p idle (place_of image) seen.ended word
-    → with_word row word seen ≡ with_image row word seen
-    → Rest row words (record seen { image = Some word }) → Agrees row seen (word ∷ words) (at rows p idle (place_of image) seen.ended)
-image_case row seen word words rows p None false is has free clean shows taken step rest =
-    let none : with_image row word seen ≡ None = simp has in
-    turn_refused row seen word words (at rows p idle 1 seen.ended) (step ∙ none) (stray row rows p idle 1 seen.ended word taken (image_none row has))
-image_case row seen word words rows p (Some v) b is has free clean shows taken step rest =
+positional_case : (row : CommandRow) (seen : Seen) (word : Text) (words : List Text) (rows : List Row) (p : Pending) (positional : Option Text) (b : Bool)
+    → seen.positional ≡ positional → row.has_positional ≡ b → seen.waits ≡ None → settle_fault (rules row) false (hold rows p) ≡ []
+    → Shows (settled_rows (rules row) p rows) seen → IsValue row rows p idle (place_of positional) seen.ended word
+    → with_word row word seen ≡ with_positional row word seen
+    → Rest row words (record seen { positional = Some word }) → Agrees row seen (word ∷ words) (at rows p idle (place_of positional) seen.ended)
+positional_case row seen word words rows p None false is has free clean shows taken step rest =
+    let none : with_positional row word seen ≡ None = simp has in
+    turn_refused row seen word words (at rows p idle 1 seen.ended) (step ∙ none) (stray row rows p idle 1 seen.ended word taken (positional_none row has))
+positional_case row seen word words rows p (Some v) b is has free clean shows taken step rest =
     turn_refused row seen word words (at rows p idle 2 seen.ended) (step ∙ no_more b has) (stray row rows p idle 2 seen.ended word taken (no_second row))
   where
-    no_more : (c : Bool) → row.has_image ≡ c → with_image row word seen ≡ None
+    no_more : (c : Bool) → row.has_positional ≡ c → with_positional row word seen ≡ None
     no_more true has = simp (has, is)
     no_more false has = simp has
-image_case row seen word words rows p None true is has free clean shows taken step rest =
-    let some : with_image row word seen ≡ Some (record seen { image = Some word }) = simp (has, is) in
-    step_on row seen (record seen { image = Some word }) word words (at rows p idle 1 seen.ended)
-    (at (settled_rows (rules row) p rows) (Some (codes "IMAGE", word ∷ [])) idle 2 seen.ended) (step ∙ some)
-    (image_turn row rows p idle seen.ended word taken has ∙ clean) (image_walk row rows p seen.ended word taken has)
-    (rest (image_stands row seen (settled_rows (rules row) p rows) word free shows is has))
+positional_case row seen word words rows p None true is has free clean shows taken step rest =
+    let some : with_positional row word seen ≡ Some (record seen { positional = Some word }) = simp (has, is) in
+    step_on row seen (record seen { positional = Some word }) word words (at rows p idle 1 seen.ended)
+    (at (settled_rows (rules row) p rows) (Some (codes "POSITIONAL", word ∷ [])) idle 2 seen.ended) (step ∙ some)
+    (positional_turn row rows p idle seen.ended word taken has ∙ clean) (positional_walk row rows p seen.ended word taken has)
+    (rest (positional_stands row seen (settled_rows (rules row) p rows) word free shows is has))
 
 -- ---- an option
 
@@ -343,10 +355,10 @@ abbrev value_stands : (row : CommandRow) (seen : Seen) (rows : List Row) (o : Co
 value_stands row seen rows o v shows = Idles rows None (value_free o v seen) refl shows
 
 value_walk : (rows : List Row) (seen : Seen) (o : CommandOption) (v : Text)
-    → at rows None idle (place_of seen.image) seen.ended ≡ at rows None idle (place_of (with_value o v seen).image) (with_value o v seen).ended
+    → at rows None idle (place_of seen.positional) seen.ended ≡ at rows None idle (place_of (with_value o v seen).positional) (with_value o v seen).ended
 value_walk rows seen o v =
-    ap (λ (i : Option Text). at rows None idle (place_of i) seen.ended) (sym (value_image o v seen))
-    ∙ ap (λ (t : Bool). at rows None idle (place_of (with_value o v seen).image) t) (sym (value_ended o v seen))
+    ap (λ (i : Option Text). at rows None idle (place_of i) seen.ended) (sym (value_positional o v seen))
+    ∙ ap (λ (t : Bool). at rows None idle (place_of (with_value o v seen).positional) t) (sym (value_ended o v seen))
 
 both_clean : (a b : Kinds) → a ≡ [] → b ≡ [] → or_else (or_else a b) [] ≡ []
 both_clean a b x y = ap (λ (k : Kinds). or_else (or_else k b) []) x ∙ ap (λ (k : Kinds). or_else k []) y
@@ -372,18 +384,18 @@ named_is row seen rows p x text name v found is there =
     ∙ ap (option_and_then (λ o. with_option o v seen)) there
 
 abbrev idle_at : Seen → List Row → Pending → Walk
-idle_at seen rows p = at rows p idle (place_of seen.image) seen.ended
+idle_at seen rows p = at rows p idle (place_of seen.positional) seen.ended
 
-off_walk : (seen : Seen) (rows : List Row) (p : Pending) → seen.ended ≡ false → idle_at seen rows p ≡ at rows p idle (place_of seen.image) false
-off_walk seen rows p off = ap (at rows p idle (place_of seen.image)) off
+off_walk : (seen : Seen) (rows : List Row) (p : Pending) → seen.ended ≡ false → idle_at seen rows p ≡ at rows p idle (place_of seen.positional) false
+off_walk seen rows p off = ap (at rows p idle (place_of seen.positional)) off
 
 join_case : (row : CommandRow) (seen : Seen) (words : List Text) (rows : List Row) (p : Pending) (x : ℕ) (text name v : Text) (o : CommandOption) (b : Bool)
     → IsNamed row seen rows p x text name (Some v) → find (λ q. bytes_eq name (name_of q)) row.options ≡ Some o → takes_value o ≡ true → is_seen o seen ≡ b
-    → Rest row words (with_value o v seen) → Agrees row seen ((45 ∷ 45 ∷ x ∷ text) ∷ words) (at rows p idle (place_of seen.image) false)
+    → Rest row words (with_value o v seen) → Agrees row seen ((45 ∷ 45 ∷ x ∷ text) ∷ words) (at rows p idle (place_of seen.positional) false)
 join_case row seen words rows p x text name v o true is there takes seen_is rest =
     let none : with_option o (Some v) seen ≡ None = simp seen_is in
-    let turn = join_turn row rows p (place_of seen.image) x text name v o is.cut there takes in
-    turn_refused row seen (45 ∷ 45 ∷ x ∷ text) words (at rows p idle (place_of seen.image) false)
+    let turn = join_turn row rows p (place_of seen.positional) x text name v o is.cut there takes in
+    turn_refused row seen (45 ∷ 45 ∷ x ∷ text) words (at rows p idle (place_of seen.positional) false)
     (named_is row seen rows p x text name (Some v) (Some o) is there ∙ none)
     (subst IsFault (sym turn.0) (second_bad (settle_fault (rules row) false (hold rows p))
     (use_fault false (done_option o) (v ∷ []) (settled_rows (rules row) p rows))
@@ -391,8 +403,8 @@ join_case row seen words rows p x text name v o true is there takes seen_is rest
 join_case row seen words rows p x text name v o false is there takes seen_is rest =
     let some : with_option o (Some v) seen ≡ Some (with_value o v seen) = simp (seen_is, takes) in
     let settled = settled_rows (rules row) p rows in let shows = use_shows o v (v ∷ []) settled seen is.shows seen_is (values_is o v takes) in
-    let turn = join_turn row rows p (place_of seen.image) x text name v o is.cut there takes in let more = used (done_option o) (v ∷ []) settled in
-    step_on row seen (with_value o v seen) (45 ∷ 45 ∷ x ∷ text) words (at rows p idle (place_of seen.image) false)
+    let turn = join_turn row rows p (place_of seen.positional) x text name v o is.cut there takes in let more = used (done_option o) (v ∷ []) settled in
+    step_on row seen (with_value o v seen) (45 ∷ 45 ∷ x ∷ text) words (at rows p idle (place_of seen.positional) false)
     (idle_at (with_value o v seen) more None) (named_is row seen rows p x text name (Some v) (Some o) is there ∙ some)
     (turn.0 ∙ both_clean (settle_fault (rules row) false (hold rows p)) (use_fault false (done_option o) (v ∷ []) settled) is.clean
     (use_clean o v (v ∷ []) settled seen is.shows seen_is (values_is o v takes)))
@@ -400,11 +412,11 @@ join_case row seen words rows p x text name v o false is there takes seen_is res
 
 flag_case : (row : CommandRow) (seen : Seen) (words : List Text) (rows : List Row) (p : Pending) (x : ℕ) (text name : Text) (o : CommandOption) (b : Bool)
     → IsNamed row seen rows p x text name None → find (λ q. bytes_eq name (name_of q)) row.options ≡ Some o → takes_value o ≡ false → is_seen o seen ≡ b
-    → Rest row words (with_value o [] seen) → Agrees row seen ((45 ∷ 45 ∷ x ∷ text) ∷ words) (at rows p idle (place_of seen.image) false)
+    → Rest row words (with_value o [] seen) → Agrees row seen ((45 ∷ 45 ∷ x ∷ text) ∷ words) (at rows p idle (place_of seen.positional) false)
 flag_case row seen words rows p x text name o true is there takes seen_is rest =
     let none : with_option o None seen ≡ None = simp seen_is in
-    let turn = flag_turn row rows p (place_of seen.image) x text name o is.cut there takes in
-    turn_refused row seen (45 ∷ 45 ∷ x ∷ text) words (at rows p idle (place_of seen.image) false)
+    let turn = flag_turn row rows p (place_of seen.positional) x text name o is.cut there takes in
+    turn_refused row seen (45 ∷ 45 ∷ x ∷ text) words (at rows p idle (place_of seen.positional) false)
     (named_is row seen rows p x text name None (Some o) is there ∙ none)
     (subst IsFault (sym turn.0) (second_bad (settle_fault (rules row) false (hold rows p))
     (use_fault false (done_option o) [] (settled_rows (rules row) p rows))
@@ -412,8 +424,8 @@ flag_case row seen words rows p x text name o true is there takes seen_is rest =
 flag_case row seen words rows p x text name o false is there takes seen_is rest =
     let some : with_option o None seen ≡ Some (with_value o [] seen) = simp (seen_is, takes) in
     let settled = settled_rows (rules row) p rows in let shows = use_shows o [] [] settled seen is.shows seen_is (values_none o [] takes) in
-    let turn = flag_turn row rows p (place_of seen.image) x text name o is.cut there takes in let more = used (done_option o) [] settled in
-    step_on row seen (with_value o [] seen) (45 ∷ 45 ∷ x ∷ text) words (at rows p idle (place_of seen.image) false)
+    let turn = flag_turn row rows p (place_of seen.positional) x text name o is.cut there takes in let more = used (done_option o) [] settled in
+    step_on row seen (with_value o [] seen) (45 ∷ 45 ∷ x ∷ text) words (at rows p idle (place_of seen.positional) false)
     (idle_at (with_value o [] seen) more None) (named_is row seen rows p x text name None (Some o) is there ∙ some)
     (turn.0 ∙ both_clean (settle_fault (rules row) false (hold rows p)) (use_fault false (done_option o) [] settled) is.clean
     (use_clean o [] [] settled seen is.shows seen_is (values_none o [] takes)))
@@ -424,12 +436,14 @@ seen_waits option.Raw waits seen = refl
 seen_waits option.Depth waits seen = refl
 seen_waits option.Vmid waits seen = refl
 seen_waits option.Cid waits seen = refl
+seen_waits option.Cut waits seen = refl
 
 shows_waits : (rows : List Row) (waits : Option CommandOption) (seen : Seen) → Shows rows seen → Shows rows (record seen { waits = waits })
 shows_waits rows waits seen shows (Named option.Raw) = shows (Named option.Raw)
 shows_waits rows waits seen shows (Named option.Depth) = shows (Named option.Depth)
 shows_waits rows waits seen shows (Named option.Vmid) = shows (Named option.Vmid)
 shows_waits rows waits seen shows (Named option.Cid) = shows (Named option.Cid)
+shows_waits rows waits seen shows (Named option.Cut) = shows (Named option.Cut)
 shows_waits rows waits seen shows Positional = shows Positional
 
 shows_ended : (rows : List Row) (ended : Bool) (seen : Seen) → Shows rows seen → Shows rows (record seen { ended = ended })
@@ -437,40 +451,42 @@ shows_ended rows ended seen shows (Named option.Raw) = shows (Named option.Raw)
 shows_ended rows ended seen shows (Named option.Depth) = shows (Named option.Depth)
 shows_ended rows ended seen shows (Named option.Vmid) = shows (Named option.Vmid)
 shows_ended rows ended seen shows (Named option.Cid) = shows (Named option.Cid)
+shows_ended rows ended seen shows (Named option.Cut) = shows (Named option.Cut)
 shows_ended rows ended seen shows Positional = shows Positional
 
 wait_case : (row : CommandRow) (seen : Seen) (words : List Text) → AreTexts words
     → (rows : List Row) (p : Pending) (x : ℕ) (text name : Text) (o : CommandOption) (b : Bool)
     → IsNamed row seen rows p x text name None → find (λ q. bytes_eq name (name_of q)) row.options ≡ Some o → takes_value o ≡ true → is_seen o seen ≡ b
-    → Rest row words (record seen { waits = Some o }) → Agrees row seen ((45 ∷ 45 ∷ x ∷ text) ∷ words) (at rows p idle (place_of seen.image) false)
+    → Rest row words (record seen { waits = Some o }) → Agrees row seen ((45 ∷ 45 ∷ x ∷ text) ∷ words) (at rows p idle (place_of seen.positional) false)
 wait_case row seen words texts rows p x text name o true is there takes seen_is rest =
     let none : with_option o None seen ≡ None = simp seen_is in let settled = settled_rows (rules row) p rows in
-    let turn = wait_turn row rows p (place_of seen.image) x text name o is.cut there takes in
+    let turn = wait_turn row rows p (place_of seen.positional) x text name o is.cut there takes in
     let clean = turn.0 ∙ ap (λ (k : Kinds). or_else k []) is.clean in
-    step_bad row seen (45 ∷ 45 ∷ x ∷ text) words (at rows p idle (place_of seen.image) false)
+    step_bad row seen (45 ∷ 45 ∷ x ∷ text) words (at rows p idle (place_of seen.positional) false)
     (named_is row seen rows p x text name None (Some o) is there ∙ none)
-    (subst IsFault (sym (end_more row (at rows p idle (place_of seen.image) false) (again settled o None seen.image false)
+    (subst IsFault (sym (end_more row (at rows p idle (place_of seen.positional) false) (again settled o None seen.positional false)
     (45 ∷ 45 ∷ x ∷ text) words clean turn.1))
-    (again_bad row words texts settled o None seen.image false (has_found row name o there) takes (row_there o settled seen is.shows seen_is)))
+    (again_bad row words texts settled o None seen.positional false (has_found row name o there) takes (row_there o settled seen is.shows seen_is)))
 wait_case row seen words texts rows p x text name o false is there takes seen_is rest =
     let some : with_option o None seen ≡ Some (record seen { waits = Some o }) = simp (seen_is, takes) in let settled = settled_rows (rules row) p rows in
-    let turn = wait_turn row rows p (place_of seen.image) x text name o is.cut there takes in
+    let turn = wait_turn row rows p (place_of seen.positional) x text name o is.cut there takes in
     let clean = turn.0 ∙ ap (λ (k : Kinds). or_else k []) is.clean in
-    step_on row seen (record seen { waits = Some o }) (45 ∷ 45 ∷ x ∷ text) words (at rows p idle (place_of seen.image) false)
-    (at settled (Some (name_of o, [])) (waits_for (name_of o)) (place_of seen.image) false) (named_is row seen rows p x text name None (Some o) is there ∙ some)
+    step_on row seen (record seen { waits = Some o }) (45 ∷ 45 ∷ x ∷ text) words (at rows p idle (place_of seen.positional) false)
+    (at settled (Some (name_of o, [])) (waits_for (name_of o)) (place_of seen.positional) false)
+    (named_is row seen rows p x text name None (Some o) is there ∙ some)
     clean turn.1
     (rest (Pends settled o refl is.off (has_found row name o there) takes (seen_waits o (Some o) seen ∙ seen_is) (shows_waits settled (Some o) seen is.shows)))
 
 -- a flag with a value
 flag_value : (row : CommandRow) (seen : Seen) (words : List Text) (rows : List Row) (p : Pending) (x : ℕ) (text name v : Text) (o : CommandOption) (b : Bool)
     → IsNamed row seen rows p x text name (Some v) → find (λ q. bytes_eq name (name_of q)) row.options ≡ Some o → takes_value o ≡ false → is_seen o seen ≡ b
-    → Agrees row seen ((45 ∷ 45 ∷ x ∷ text) ∷ words) (at rows p idle (place_of seen.image) false)
+    → Agrees row seen ((45 ∷ 45 ∷ x ∷ text) ∷ words) (at rows p idle (place_of seen.positional) false)
 flag_value row seen words rows p x text name v o b is there takes seen_is =
     let none : with_option o (Some v) seen ≡ None = refused b seen_is in
     let fault = long_named row rows p x text idle name (Some v) (Some o) (inl refl) is.cut there in
-    turn_refused row seen (45 ∷ 45 ∷ x ∷ text) words (at rows p idle (place_of seen.image) false)
+    turn_refused row seen (45 ∷ 45 ∷ x ∷ text) words (at rows p idle (place_of seen.positional) false)
     (named_is row seen rows p x text name (Some v) (Some o) is there ∙ none)
-    (turn_bad row rows p idle (place_of seen.image) false (45 ∷ 45 ∷ x ∷ text) (subst IsFault (sym fault) (flag_bad row (hold rows p) o v takes)))
+    (turn_bad row rows p idle (place_of seen.positional) false (45 ∷ 45 ∷ x ∷ text) (subst IsFault (sym fault) (flag_bad row (hold rows p) o v takes)))
   where
     refused : (c : Bool) → is_seen o seen ≡ c → with_option o (Some v) seen ≡ None
     refused true e = simp e
@@ -479,16 +495,16 @@ flag_value row seen words rows p x text name v o b is there takes seen_is =
 -- another name
 other_name : (row : CommandRow) (seen : Seen) (words : List Text) (rows : List Row) (p : Pending) (x : ℕ) (text name : Text) (v : Option Text)
     → IsNamed row seen rows p x text name v → find (λ q. bytes_eq name (name_of q)) row.options ≡ None
-    → Agrees row seen ((45 ∷ 45 ∷ x ∷ text) ∷ words) (at rows p idle (place_of seen.image) false)
+    → Agrees row seen ((45 ∷ 45 ∷ x ∷ text) ∷ words) (at rows p idle (place_of seen.positional) false)
 other_name row seen words rows p x text name v is there =
     let fault = long_named row rows p x text idle name v None (inl refl) is.cut there in
-    turn_refused row seen (45 ∷ 45 ∷ x ∷ text) words (at rows p idle (place_of seen.image) false) (named_is row seen rows p x text name v None is there)
-    (turn_bad row rows p idle (place_of seen.image) false (45 ∷ 45 ∷ x ∷ text) (subst IsFault (sym fault) tt))
+    turn_refused row seen (45 ∷ 45 ∷ x ∷ text) words (at rows p idle (place_of seen.positional) false) (named_is row seen rows p x text name v None is there)
+    (turn_bad row rows p idle (place_of seen.positional) false (45 ∷ 45 ∷ x ∷ text) (subst IsFault (sym fault) tt))
 
 long_case : (row : CommandRow) (seen : Seen) (words : List Text) → AreTexts words → (rows : List Row) (p : Pending) (x : ℕ) (text name : Text) (v : Option Text)
     (found : Option CommandOption) (t : Bool) → IsNamed row seen rows p x text name v → find (λ q. bytes_eq name (name_of q)) row.options ≡ found
     → ((o : CommandOption) → found ≡ Some o → takes_value o ≡ t) → ((next : Seen) → Rest row words next)
-    → Agrees row seen ((45 ∷ 45 ∷ x ∷ text) ∷ words) (at rows p idle (place_of seen.image) false)
+    → Agrees row seen ((45 ∷ 45 ∷ x ∷ text) ∷ words) (at rows p idle (place_of seen.positional) false)
 long_case row seen words texts rows p x text name v None t is there takes rest = other_name row seen words rows p x text name v is there
 long_case row seen words texts rows p x text name (Some v) (Some o) true is there takes rest =
     join_case row seen words rows p x text name v o (is_seen o seen) is there (takes o refl) refl (rest (with_value o v seen))
@@ -516,41 +532,44 @@ is_short row seen b rest (Some o) off waits other = simp (off, waits)
 
 idle_off : (row : CommandRow) (seen : Seen) (word : Text) (words : List Text) → AreTexts (word ∷ words) → (rows : List Row) (p : Pending)
     → seen.waits ≡ None → settle_fault (rules row) false (hold rows p) ≡ [] → Shows (settled_rows (rules row) p rows) seen → seen.ended ≡ false → Kind word
-    → ((next : Seen) → Rest row words next) → Agrees row seen (word ∷ words) (at rows p idle (place_of seen.image) false)
+    → ((next : Seen) → Rest row words next) → Agrees row seen (word ∷ words) (at rows p idle (place_of seen.positional) false)
 idle_off row seen word words texts rows p free clean shows off (Ends is) rest =
-    let turn = end_turn row rows p (place_of seen.image) in
+    let turn = end_turn row rows p (place_of seen.positional) in
     let some : with_word row (codes "--") seen ≡ Some (record seen { ended = true }) = simp (free, off) in
-    subst (λ (u : Text). Agrees row seen (u ∷ words) (at rows p idle (place_of seen.image) false)) (sym is)
-    (step_on row seen (record seen { ended = true }) (codes "--") words (at rows p idle (place_of seen.image) false) (at rows p idle (place_of seen.image) true)
+    subst (λ (u : Text). Agrees row seen (u ∷ words) (at rows p idle (place_of seen.positional) false)) (sym is)
+    (step_on row seen (record seen { ended = true }) (codes "--") words (at rows p idle (place_of seen.positional) false)
+    (at rows p idle (place_of seen.positional) true)
     some turn.0 turn.1 (rest (record seen { ended = true }) (Idles rows p free clean (shows_ended (settled_rows (rules row) p rows) true seen shows))))
 idle_off row seen word words texts rows p free clean shows off (Short b more is other) rest =
     let none : with_word row word seen ≡ None = subst (λ (u : Text). with_word row u seen ≡ None) (sym is) (is_short row seen b more None off free other) in
-    turn_refused row seen word words (at rows p idle (place_of seen.image) false) none
-    (dash_bad row rows p idle (place_of seen.image) b more word is other (inl refl) (texts.0, tt))
+    turn_refused row seen word words (at rows p idle (place_of seen.positional) false) none
+    (dash_bad row rows p idle (place_of seen.positional) b more word is other (inl refl) (texts.0, tt))
 idle_off row seen word words texts rows p free clean shows off (Long x text is) rest =
     let cut = name_and_value (x ∷ text) in let found = find (λ q. bytes_eq cut.0 (name_of q)) row.options in
-    subst (λ (u : Text). Agrees row seen (u ∷ words) (at rows p idle (place_of seen.image) false)) (sym is)
+    subst (λ (u : Text). Agrees row seen (u ∷ words) (at rows p idle (place_of seen.positional) false)) (sym is)
     (long_case row seen words texts.1 rows p x text cut.0 cut.1 found (takes_of found)
     (record { cut = refl; free = free; off = off; clean = clean; shows = shows })
     refl (takes_found found) rest)
 idle_off row seen word words texts rows p free clean shows off (Plain plain) rest =
-    let step : with_word row word seen ≡ with_image row word seen = simp (free, off, plain) in
-    let taken = subst (λ (t : Bool). IsValue row rows p idle (place_of seen.image) t word) (sym off)
-    (value_plain row rows p (place_of seen.image) word plain) in
-    subst (λ (t : Bool). Agrees row seen (word ∷ words) (at rows p idle (place_of seen.image) t)) off
-    (image_case row seen word words rows p seen.image row.has_image refl refl free clean shows taken step (rest (record seen { image = Some word })))
+    let step : with_word row word seen ≡ with_positional row word seen = simp (free, off, plain) in
+    let taken = subst (λ (t : Bool). IsValue row rows p idle (place_of seen.positional) t word) (sym off)
+    (value_plain row rows p (place_of seen.positional) word plain) in
+    subst (λ (t : Bool). Agrees row seen (word ∷ words) (at rows p idle (place_of seen.positional) t)) off
+    (positional_case row seen word words rows p seen.positional row.has_positional refl refl free clean shows taken step
+    (rest (record seen { positional = Some word })))
 
 idle_by : (row : CommandRow) (seen : Seen) (word : Text) (words : List Text) → AreTexts (word ∷ words) → (rows : List Row) (p : Pending) (t : Bool)
     → seen.waits ≡ None → settle_fault (rules row) false (hold rows p) ≡ [] → Shows (settled_rows (rules row) p rows) seen → seen.ended ≡ t
-    → ((next : Seen) → Rest row words next) → Agrees row seen (word ∷ words) (at rows p idle (place_of seen.image) seen.ended)
+    → ((next : Seen) → Rest row words next) → Agrees row seen (word ∷ words) (at rows p idle (place_of seen.positional) seen.ended)
 idle_by row seen word words texts rows p false free clean shows ended rest =
     subst (Agrees row seen (word ∷ words)) (sym (off_walk seen rows p ended)) (idle_off row seen word words texts rows p free clean shows ended
     (kind_of word) rest)
 idle_by row seen word words texts rows p true free clean shows ended rest =
-    let step : with_word row word seen ≡ with_image row word seen = simp (free, ended) in
-    let taken = subst (λ (t : Bool). IsValue row rows p idle (place_of seen.image) t word) (sym ended)
-    (value_behind row rows p idle (place_of seen.image) word) in
-    image_case row seen word words rows p seen.image row.has_image refl refl free clean shows taken step (rest (record seen { image = Some word }))
+    let step : with_word row word seen ≡ with_positional row word seen = simp (free, ended) in
+    let taken = subst (λ (t : Bool). IsValue row rows p idle (place_of seen.positional) t word) (sym ended)
+    (value_behind row rows p idle (place_of seen.positional) word) in
+    positional_case row seen word words rows p seen.positional row.has_positional refl refl free clean shows taken step
+    (rest (record seen { positional = Some word }))
 
 -- an option waits
 dashed_waits : (row : CommandRow) (seen : Seen) (word : Text) (o : CommandOption) → seen.waits ≡ Some o → seen.ended ≡ false → is_dashed word ≡ true
@@ -560,37 +579,38 @@ dashed_waits row seen word o waits off dashed = simp (waits, off, dashed)
 pends_by : (row : CommandRow) (seen : Seen) (word : Text) (words : List Text) → AreTexts (word ∷ words) → (rows : List Row) (o : CommandOption)
     → seen.waits ≡ Some o → seen.ended ≡ false → Has row o → takes_value o ≡ true → is_seen o seen ≡ false → Shows rows seen → Kind word
     → ((next : Seen) → Rest row words next)
-    → Agrees row seen (word ∷ words) (at rows (Some (name_of o, [])) (waits_for (name_of o)) (place_of seen.image) false)
+    → Agrees row seen (word ∷ words) (at rows (Some (name_of o, [])) (waits_for (name_of o)) (place_of seen.positional) false)
 pends_by row seen word words texts rows o waits off has takes none shows (Ends is) rest =
-    let p = Some (name_of o, []) in let w = waits_for (name_of o) in let turn = end_waits row rows p (name_of o) (place_of seen.image) in
-    subst (λ (u : Text). Agrees row seen (u ∷ words) (at rows p w (place_of seen.image) false)) (sym is)
-    (step_bad row seen (codes "--") words (at rows p w (place_of seen.image) false) (dashed_waits row seen (codes "--") o waits off refl)
-    (subst IsFault (sym (end_more row (at rows p w (place_of seen.image) false) (at rows p w (place_of seen.image) true) (codes "--") words turn.0 turn.1))
-    (bare_bad row rows o seen.image words has takes)))
+    let p = Some (name_of o, []) in let w = waits_for (name_of o) in let turn = end_waits row rows p (name_of o) (place_of seen.positional) in
+    subst (λ (u : Text). Agrees row seen (u ∷ words) (at rows p w (place_of seen.positional) false)) (sym is)
+    (step_bad row seen (codes "--") words (at rows p w (place_of seen.positional) false) (dashed_waits row seen (codes "--") o waits off refl)
+    (subst IsFault (sym (end_more row (at rows p w (place_of seen.positional) false) (at rows p w (place_of seen.positional) true) (codes "--") words
+    turn.0 turn.1))
+    (bare_bad row rows o seen.positional words has takes)))
 pends_by row seen word words texts rows o waits off has takes none shows (Short b more is other) rest =
     let p = Some (name_of o, []) in let w = waits_for (name_of o) in
     let refuse : with_word row word seen ≡ None = subst (λ (u : Text). with_word row u seen ≡ None) (sym is)
     (is_short row seen b more (Some o) off waits other) in
-    turn_refused row seen word words (at rows p w (place_of seen.image) false) refuse
-    (dash_bad row rows p w (place_of seen.image) b more word is other (inr (name_of o, refl)) (texts.0, tt))
+    turn_refused row seen word words (at rows p w (place_of seen.positional) false) refuse
+    (dash_bad row rows p w (place_of seen.positional) b more word is other (inr (name_of o, refl)) (texts.0, tt))
 pends_by row seen word words texts rows o waits off has takes none shows (Long x text is) rest =
     let p = Some (name_of o, []) in let w = waits_for (name_of o) in
     let refuse : with_word row word seen ≡ None =
     subst (λ (u : Text). with_word row u seen ≡ None) (sym is) (dashed_waits row seen (45 ∷ 45 ∷ x ∷ text) o waits off refl) in
-    turn_refused row seen word words (at rows p w (place_of seen.image) false) refuse
-    (dashed_bad row rows p w (place_of seen.image) x text word is (inr (name_of o, refl))
+    turn_refused row seen word words (at rows p w (place_of seen.positional) false) refuse
+    (dashed_bad row rows p w (place_of seen.positional) x text word is (inr (name_of o, refl))
     (subst IsFault (sym (settle_is row rows o [] has)) (use_bare o rows takes)))
 pends_by row seen word words texts rows o waits off has takes none shows (Plain plain) rest =
     let p = Some (name_of o, []) in let w = waits_for (name_of o) in
     let some : with_word row word seen ≡ Some (with_value o word seen) = simp (waits, off, plain) in
-    let turn = value_turn row rows (place_of seen.image) o word has takes plain in let q = Some (name_of o, word ∷ []) in
+    let turn = value_turn row rows (place_of seen.positional) o word has takes plain in let q = Some (name_of o, word ∷ []) in
     let clean = settle_is row rows o (word ∷ []) has ∙ use_clean o word (word ∷ []) rows seen shows none (values_is o word takes) in
     let settles : settled_rows (rules row) q rows ≡ used (done_option o) (word ∷ []) rows = let found = by_id row o has in simp found in
     let more = subst (λ (r : List Row). Shows r (with_value o word seen)) (sym settles)
     (use_shows o word (word ∷ []) rows seen shows none (values_is o word takes)) in
-    let here = ap (λ (i : Option Text). at rows q idle (place_of i) false) (sym (value_image o word seen))
-    ∙ ap (λ (t : Bool). at rows q idle (place_of (with_value o word seen).image) t) (sym (value_ended o word seen ∙ off)) in
-    step_on row seen (with_value o word seen) word words (at rows p w (place_of seen.image) false) (idle_at (with_value o word seen) rows q)
+    let here = ap (λ (i : Option Text). at rows q idle (place_of i) false) (sym (value_positional o word seen))
+    ∙ ap (λ (t : Bool). at rows q idle (place_of (with_value o word seen).positional) t) (sym (value_ended o word seen ∙ off)) in
+    step_on row seen (with_value o word seen) word words (at rows p w (place_of seen.positional) false) (idle_at (with_value o word seen) rows q)
     some turn.0 (turn.1 ∙ here) (rest (with_value o word seen) (Idles rows q (value_free o word seen) clean more))
 
 pub agrees : (row : CommandRow) (words : List Text) → AreTexts words → (seen : Seen) (st : Stands row seen) → Agrees row seen words (walk_of row seen st)

@@ -15,8 +15,8 @@ use Rattle.trace_cmd.specs.declared.words.CommandOption.{CommandOption}
 use Rattle.trace_cmd.specs.declared.words.CommandOption.TheVariants as option
 use Rattle.trace_cmd.specs.Words.{CommandRow, Seen}
 use Rattle.trace_cmd.specs.WordRules.{is_true_text}
-use Rattle.trace_cmd.proofs.WordParses.{IsFault, Key, Named, Positional, Shows, done_option, fault_first, find_before, find_none, id_of, image_part}
-use Rattle.trace_cmd.proofs.WordParses.{leaf, lookup, row_added, row_for, rule_of, rules}
+use Rattle.trace_cmd.proofs.WordParses.{IsFault, Key, Named, Positional, Shows, done_option, fault_first, find_before, find_none, id_of, leaf}
+use Rattle.trace_cmd.proofs.WordParses.{lookup, positional_part, row_added, row_for, rule_of, rules}
 use Rattle.trace_cmd.proofs.WordWalk.{Pending, at, hold}
 
 -- ---- defaults
@@ -54,6 +54,7 @@ default_by (Named option.Raw) rows true is = same_rows rows (with_default rows (
 default_by (Named option.Depth) rows true is = same_rows rows (with_default rows (rule_of (Named option.Depth))) (simp is)
 default_by (Named option.Vmid) rows true is = same_rows rows (with_default rows (rule_of (Named option.Vmid))) (simp is)
 default_by (Named option.Cid) rows true is = same_rows rows (with_default rows (rule_of (Named option.Cid))) (simp is)
+default_by (Named option.Cut) rows true is = same_rows rows (with_default rows (rule_of (Named option.Cut))) (simp is)
 default_by Positional rows true is = same_rows rows (with_default rows (rule_of Positional)) (simp is)
 default_by (Named option.Raw) rows false is =
     let none = none_row (codes "raw") rows is in
@@ -63,23 +64,24 @@ default_by (Named option.Raw) rows false is =
 default_by (Named option.Depth) rows false is = same_rows rows (with_default rows (rule_of (Named option.Depth))) (simp is)
 default_by (Named option.Vmid) rows false is = same_rows rows (with_default rows (rule_of (Named option.Vmid))) (simp is)
 default_by (Named option.Cid) rows false is = same_rows rows (with_default rows (rule_of (Named option.Cid))) (simp is)
+default_by (Named option.Cut) rows false is = same_rows rows (with_default rows (rule_of (Named option.Cut))) (simp is)
 default_by Positional rows false is = same_rows rows (with_default rows (rule_of Positional)) (simp is)
 
 same_then : (rows more most : List Row) → Same rows more → Same more most → Same rows most
 same_then rows more most a b = record { texts = λ id differs. b.texts id differs ∙ a.texts id differs; raw = b.raw ∙ a.raw }
 
-same_image : (b : Bool) (rows : List Row) → Same rows (fold with_default rows (image_part b))
-same_image true rows = default_by Positional rows (has_row (codes "IMAGE") rows) refl
-same_image false rows = same_rows rows rows refl
+same_positional : (b : Bool) (rows : List Row) → Same rows (fold with_default rows (positional_part b))
+same_positional true rows = default_by Positional rows (has_row (codes "POSITIONAL") rows) refl
+same_positional false rows = same_rows rows rows refl
 
-same_all : (os : List CommandOption) (b : Bool) (rows : List Row) → Same rows (fold with_default rows (map done_option os ++ image_part b))
-same_all [] b rows = same_image b rows
+same_all : (os : List CommandOption) (b : Bool) (rows : List Row) → Same rows (fold with_default rows (map done_option os ++ positional_part b))
+same_all [] b rows = same_positional b rows
 same_all (o ∷ os) b rows =
-    same_then rows (with_default rows (done_option o)) (fold with_default (with_default rows (done_option o)) (map done_option os ++ image_part b))
+    same_then rows (with_default rows (done_option o)) (fold with_default (with_default rows (done_option o)) (map done_option os ++ positional_part b))
     (default_by (Named o) rows (has_row (id_of (Named o)) rows) refl) (same_all os b (with_default rows (done_option o)))
 
 pub finished_same : (row : CommandRow) (rows : List Row) (p : Pending) → Same (settled_rows (rules row) p rows) (finished (rules row) (hold rows p))
-finished_same row rows p = same_all row.options row.has_image (settled_rows (rules row) p rows)
+finished_same row rows p = same_all row.options row.has_positional (settled_rows (rules row) p rows)
 
 default_clean_by : (k : Key) (rows : List Row) (b : Bool) → has_row (id_of k) rows ≡ b → default_fault rows (rule_of k) ≡ []
 default_clean_by (Named option.Raw) rows true is = simp is
@@ -89,23 +91,25 @@ default_clean_by (Named option.Depth) rows false is = simp is
 default_clean_by (Named option.Vmid) rows true is = simp is
 default_clean_by (Named option.Vmid) rows false is = simp is
 default_clean_by (Named option.Cid) rows true is = simp is
+default_clean_by (Named option.Cut) rows true is = simp is
 default_clean_by (Named option.Cid) rows false is = simp is
+default_clean_by (Named option.Cut) rows false is = simp is
 default_clean_by Positional rows true is = simp is
 default_clean_by Positional rows false is = simp is
 
 default_clean : (k : Key) (rows : List Row) → default_fault rows (rule_of k) ≡ []
 default_clean k rows = default_clean_by k rows (has_row (id_of k) rows) refl
 
-defaults_image : (b : Bool) (rows : List Row) → defaults_fault rows (image_part b) ≡ []
+defaults_positional : (b : Bool) (rows : List Row) → defaults_fault rows (positional_part b) ≡ []
 unfolding defaults_fault
-defaults_image true rows = ap (λ (x : Kinds). or_else x []) (default_clean Positional rows)
-defaults_image false rows = refl
+defaults_positional true rows = ap (λ (x : Kinds). or_else x []) (default_clean Positional rows)
+defaults_positional false rows = refl
 
-defaults_clean : (os : List CommandOption) (b : Bool) (rows : List Row) → defaults_fault rows (map done_option os ++ image_part b) ≡ []
+defaults_clean : (os : List CommandOption) (b : Bool) (rows : List Row) → defaults_fault rows (map done_option os ++ positional_part b) ≡ []
 unfolding defaults_fault
-defaults_clean [] b rows = defaults_image b rows
+defaults_clean [] b rows = defaults_positional b rows
 defaults_clean (o ∷ os) b rows =
-    ap (λ (x : Kinds). or_else x (defaults_fault (with_default rows (done_option o)) (map done_option os ++ image_part b))) (default_clean (Named o) rows)
+    ap (λ (x : Kinds). or_else x (defaults_fault (with_default rows (done_option o)) (map done_option os ++ positional_part b))) (default_clean (Named o) rows)
     ∙ defaults_clean os b (with_default rows (done_option o))
 
 -- ---- what is required
@@ -119,19 +123,19 @@ required_only rows (o ∷ os) ys = required_only rows os ys
 abbrev pub missing : Bool → Option Text → Kinds
 missing true None = kind.MissingRequiredArgument ∷ []
 missing true (Some v) = []
-missing false image = []
+missing false positional = []
 
-check_by : (b : Bool) (rows : List Row) (image : Option Text) → lookup (codes "IMAGE") rows ≡ option_map (row_for Positional) image
-    → (if list_any (λ a. a.required && not (is_given a.id rows)) (image_part b) then kind.MissingRequiredArgument ∷ [] else []) ≡ missing b image
+check_by : (b : Bool) (rows : List Row) (positional : Option Text) → lookup (codes "POSITIONAL") rows ≡ option_map (row_for Positional) positional
+    → (if list_any (λ a. a.required && not (is_given a.id rows)) (positional_part b) then kind.MissingRequiredArgument ∷ [] else []) ≡ missing b positional
 check_by true rows None is = simp is
 check_by true rows (Some v) is = simp is
-check_by false rows image is = refl
+check_by false rows positional is = refl
 
-pub check_is : (row : CommandRow) (rows : List Row) (image : Option Text) → lookup (codes "IMAGE") rows ≡ option_map (row_for Positional) image
-    → check_fault (leaf row) rows false ≡ missing row.has_image image
-check_is row rows image is =
-    ap (λ (b : Bool). if b then kind.MissingRequiredArgument ∷ [] else []) (required_only rows row.options (image_part row.has_image))
-    ∙ check_by row.has_image rows image is
+pub check_is : (row : CommandRow) (rows : List Row) (positional : Option Text) → lookup (codes "POSITIONAL") rows ≡ option_map (row_for Positional) positional
+    → check_fault (leaf row) rows false ≡ missing row.has_positional positional
+check_is row rows positional is =
+    ap (λ (b : Bool). if b then kind.MissingRequiredArgument ∷ [] else []) (required_only rows row.options (positional_part row.has_positional))
+    ∙ check_by row.has_positional rows positional is
 
 -- ---- the end
 
@@ -169,10 +173,10 @@ end_pending row rows p w n t bad = fault_first (settle_fault (rules row) false (
 
 pub end_is : (row : CommandRow) (rows : List Row) (p : Pending) (w : Waiting) (n : ℕ) (t : Bool) (seen : Seen)
     → settle_fault (rules row) false (hold rows p) ≡ [] → Shows (settled_rows (rules row) p rows) seen
-    → end_fault row (at rows p w n t) [] ≡ missing row.has_image seen.image
+    → end_fault row (at rows p w n t) [] ≡ missing row.has_positional seen.positional
 unfolding walk_fault
 end_is row rows p w n t seen clean shows =
     let same = finished_same row rows p in let rest = check_fault (leaf row) (finished (rules row) (hold rows p)) false in
     ap (λ (x : Kinds). or_else x (or_else (defaults_fault (settled_rows (rules row) p rows) (rules row)) rest)) clean
-    ∙ ap (λ (x : Kinds). or_else x rest) (defaults_clean row.options row.has_image (settled_rows (rules row) p rows))
-    ∙ check_is row (finished (rules row) (hold rows p)) seen.image (same.texts (codes "IMAGE") refl ∙ shows Positional)
+    ∙ ap (λ (x : Kinds). or_else x rest) (defaults_clean row.options row.has_positional (settled_rows (rules row) p rows))
+    ∙ check_is row (finished (rules row) (hold rows p)) seen.positional (same.texts (codes "POSITIONAL") refl ∙ shows Positional)

@@ -115,6 +115,9 @@ retired_row = row (codes "retired") name.Retired [] true
 abbrev trace_row : CommandRow
 trace_row = row (codes "trace") name.Trace [] true
 
+abbrev selftest_row : CommandRow
+selftest_row = row (codes "selftest") name.Selftest (option.Cut ∷ []) true
+
 path_begins : Begins path_row
 unfolding walked
 path_begins = record { clean = refl; walks = refl; enters = λ words. refl; finds = λ words. refl; named = λ rows. refl }
@@ -130,6 +133,10 @@ retired_begins = record { clean = refl; walks = refl; enters = λ words. refl; f
 trace_begins : Begins trace_row
 unfolding walked
 trace_begins = record { clean = refl; walks = refl; enters = λ words. refl; finds = λ words. refl; named = λ rows. refl }
+
+selftest_begins : Begins selftest_row
+unfolding walked
+selftest_begins = record { clean = refl; walks = refl; enters = λ words. refl; finds = λ words. refl; named = λ rows. refl }
 
 or_nothing : (a : Kinds) → or_else a [] ≡ a
 or_nothing [] = refl
@@ -170,14 +177,21 @@ flag_is : (rows : List Row) (raw : Bool) → lookup (codes "raw") rows ≡ optio
 flag_is rows true is = simp is
 flag_is rows false is = simp is
 
-abbrev all_seen : Bool → Option Text → Option Text → Option Text → Option Text → Seen
-all_seen raw depth vmid cid image = record { raw = raw; depth = depth; vmid = vmid; cid = cid; image = image; waits = None; ended = false }
+abbrev all_seen : Bool → Option Text → Option Text → Option Text → Option Text → Option Text → Seen
+all_seen raw depth vmid cid cut positional =
+    record { raw = raw; depth = depth; vmid = vmid; cid = cid; cut = cut; positional = positional; waits = None; ended = false }
 
-in_all : (n : CommandName) (seen : Seen) → command_in n (all_seen seen.raw seen.depth seen.vmid seen.cid seen.image) ≡ command_in n seen
+in_all : (n : CommandName) (seen : Seen)
+    → command_in n (all_seen seen.raw seen.depth seen.vmid seen.cid seen.cut seen.positional) ≡ command_in n seen
 in_all name.Path seen = refl
 in_all name.Packets seen = refl
 in_all name.Retired seen = refl
 in_all name.Trace seen = refl
+in_all name.Selftest seen = refl
+
+pub same_seen : {a b : Bool} {c d e f g h i j k l : Option Text} → a ≡ b → c ≡ d → e ≡ f → g ≡ h → i ≡ j → k ≡ l
+    → all_seen a c e g i k ≡ all_seen b d f h j l
+same_seen p q r s t u = (λ x. all_seen (p x) (q x) (r x) (s x) (t x) (u x))
 
 command_same : (n : CommandName) (rows more : List Row) (seen : Seen) → Shows rows seen → Same rows more → command_in n (seen_in more) ≡ command_in n seen
 command_same n rows more seen shows same =
@@ -185,14 +199,9 @@ command_same n rows more seen shows same =
     let depth = first_is (Named option.Depth) more seen.depth (same.texts (codes "depth") refl ∙ shows (Named option.Depth)) in
     let vmid = first_is (Named option.Vmid) more seen.vmid (same.texts (codes "vmid") refl ∙ shows (Named option.Vmid)) in
     let cid = first_is (Named option.Cid) more seen.cid (same.texts (codes "cid") refl ∙ shows (Named option.Cid)) in
-    let image = first_is Positional more seen.image (same.texts (codes "IMAGE") refl ∙ shows Positional) in
-    ap (λ (x : Bool). command_in n (all_seen x (first_of (codes "depth") more) (first_of (codes "vmid") more) (first_of (codes "cid") more)
-    (first_of (codes "IMAGE") more))) raw
-    ∙ ap (λ (x : Option Text). command_in n (all_seen seen.raw x (first_of (codes "vmid") more) (first_of (codes "cid") more)
-    (first_of (codes "IMAGE") more))) depth
-    ∙ ap (λ (x : Option Text). command_in n (all_seen seen.raw seen.depth x (first_of (codes "cid") more) (first_of (codes "IMAGE") more))) vmid
-    ∙ ap (λ (x : Option Text). command_in n (all_seen seen.raw seen.depth seen.vmid x (first_of (codes "IMAGE") more))) cid
-    ∙ ap (λ (x : Option Text). command_in n (all_seen seen.raw seen.depth seen.vmid seen.cid x)) image ∙ in_all n seen
+    let cut = first_is (Named option.Cut) more seen.cut (same.texts (codes "cut") refl ∙ shows (Named option.Cut)) in
+    let positional = first_is Positional more seen.positional (same.texts (codes "POSITIONAL") refl ∙ shows Positional) in
+    ap (command_in n) (same_seen raw depth vmid cid cut positional) ∙ in_all n seen
 
 -- ---- the meaning
 
@@ -210,6 +219,7 @@ nothing_shown (Named option.Raw) = refl
 nothing_shown (Named option.Depth) = refl
 nothing_shown (Named option.Vmid) = refl
 nothing_shown (Named option.Cid) = refl
+nothing_shown (Named option.Cut) = refl
 nothing_shown Positional = refl
 
 begin : (line : CommandRow) (words : List Text) → AreTexts words → Agrees line nothing_seen words (walk_from nothing_held)
@@ -237,12 +247,13 @@ line_means line begins words are means (Some end) is =
 -- ---- a first word that names no command
 
 no_name : (word : Text) → bytes_eq word (codes "path") ≡ false → bytes_eq word (codes "packets") ≡ false → bytes_eq word (codes "retired") ≡ false
-    → bytes_eq word (codes "trace") ≡ false → subcommand_met names idle word ≡ None
-no_name word x y z w =
+    → bytes_eq word (codes "trace") ≡ false → bytes_eq word (codes "selftest") ≡ false → subcommand_met names idle word ≡ None
+no_name word x y z w v =
     let a : bytes_eq (codes "path") word ≡ false = same_other (codes "path") word ∙ x in
     let b : bytes_eq (codes "packets") word ≡ false = same_other (codes "packets") word ∙ y in
     let c : bytes_eq (codes "retired") word ≡ false = same_other (codes "retired") word ∙ z in
-    let d : bytes_eq (codes "trace") word ≡ false = same_other (codes "trace") word ∙ w in simp (a, b, c, d)
+    let d : bytes_eq (codes "trace") word ≡ false = same_other (codes "trace") word ∙ w in
+    let e : bytes_eq (codes "selftest") word ≡ false = same_other (codes "selftest") word ∙ v in simp (a, b, c, d, e)
 
 -- no flag and no option stands at the top
 refuses : (k : ℕ) (flags : Text) (h : Held) (first : Option ℕ) → slice_get (chars flags) 0 ≡ first
@@ -305,34 +316,35 @@ no_words : IsFault (fault_of etm [])
 unfolding walk_fault defaults_fault
 no_words = tt
 
-word_means : (word : Text) (words : List Text) → AreTexts words → (a b c d : Bool) → bytes_eq word (codes "path") ≡ a → bytes_eq word (codes "packets") ≡ b
-    → bytes_eq word (codes "retired") ≡ c → bytes_eq word (codes "trace") ≡ d → Means (word ∷ words)
-word_means word words are true b c d x y z t =
+word_means : (word : Text) (words : List Text) → AreTexts words → (a b c d e : Bool) → bytes_eq word (codes "path") ≡ a
+    → bytes_eq word (codes "packets") ≡ b → bytes_eq word (codes "retired") ≡ c → bytes_eq word (codes "trace") ≡ d
+    → bytes_eq word (codes "selftest") ≡ e → Means (word ∷ words)
+word_means word words are true b c d e x y z t v =
     subst (λ (w : Text). Means (w ∷ words)) (sym ((bytes_eq-Decides word (codes "path")).0 x))
     (line_means path_row path_begins words are refl (seen_of path_row nothing_seen words) refl)
-word_means word words are false true c d x y z t =
+word_means word words are false true c d e x y z t v =
     subst (λ (w : Text). Means (w ∷ words)) (sym ((bytes_eq-Decides word (codes "packets")).0 y))
     (line_means packets_row packets_begins words are refl (seen_of packets_row nothing_seen words) refl)
-word_means word words are false false true d x y z t =
+word_means word words are false false true d e x y z t v =
     subst (λ (w : Text). Means (w ∷ words)) (sym ((bytes_eq-Decides word (codes "retired")).0 z))
     (line_means retired_row retired_begins words are refl (seen_of retired_row nothing_seen words) refl)
-word_means word words are false false false true x y z t =
+word_means word words are false false false true e x y z t v =
     subst (λ (w : Text). Means (w ∷ words)) (sym ((bytes_eq-Decides word (codes "trace")).0 t))
     (line_means trace_row trace_begins words are refl (seen_of trace_row nothing_seen words) refl)
-word_means word words are false false false false x y z t =
-    let none : meaning (word ∷ words) ≡ None = simp (x, y, z, t) in let bad = other_bad word words (no_name word x y z t) in
-    record { clean = λ e. absurd (not_both (fault_of etm (word ∷ words)) e bad); faulty = λ some. none }
+word_means word words are false false false false true x y z t v =
+    subst (λ (w : Text). Means (w ∷ words)) (sym ((bytes_eq-Decides word (codes "selftest")).0 v))
+    (line_means selftest_row selftest_begins words are refl (seen_of selftest_row nothing_seen words) refl)
+word_means word words are false false false false false x y z t v =
+    let none : meaning (word ∷ words) ≡ None = simp (x, y, z, t, v) in let bad = other_bad word words (no_name word x y z t v) in
+    record { clean = λ f. absurd (not_both (fault_of etm (word ∷ words)) f bad); faulty = λ some. none }
 
 pub means : (words : List Text) → AreTexts words → Means words
 means [] are = record { clean = λ e. absurd (not_both (fault_of etm []) e no_words); faulty = λ some. refl }
 means (word ∷ words) are =
     word_means word words are.1 (bytes_eq word (codes "path")) (bytes_eq word (codes "packets")) (bytes_eq word (codes "retired"))
-    (bytes_eq word (codes "trace")) refl refl refl refl
+    (bytes_eq word (codes "trace")) (bytes_eq word (codes "selftest")) refl refl refl refl refl
 
 -- ---- what the code finds
-
-pub same_seen : {a b : Bool} {c d e f g h i j : Option Text} → a ≡ b → c ≡ d → e ≡ f → g ≡ h → i ≡ j → all_seen a c e g i ≡ all_seen b d f h j
-same_seen p q r s t = (λ x. all_seen (p x) (q x) (r x) (s x) (t x))
 
 pub sub_is : {Z : Type 0} (sub : Option (Box SubCommand Z)) (word : Text) (rows : List Row)
     → Some word ≡ option_map (λ b. (out-SubCommand (box_value b)).name.now) sub → Some rows ≡ option_map (λ p. p.1) (subcommand_rows sub)

@@ -16,7 +16,7 @@ use Rattle.clap.specs.declared.parser.matches.ValueSource.TheVariants.{CommandLi
 use Rattle.trace_cmd.specs.declared.words.CommandOption.{CommandOption}
 use Rattle.trace_cmd.specs.declared.words.CommandOption.TheVariants as option
 use Rattle.trace_cmd.specs.Words.{CommandRow, Seen, commands, name_of, takes_value, with_value}
-use Rattle.trace_cmd.specs.WordRules.{etm, image_rule, rule_for}
+use Rattle.trace_cmd.specs.WordRules.{etm, positional_rule, rule_for}
 use Rattle.trace_cmd.proofs.WordTurns.{Has}
 
 -- ---- the rules of a command, as clap fills them in
@@ -24,15 +24,15 @@ use Rattle.trace_cmd.proofs.WordTurns.{Has}
 abbrev pub done_option : CommandOption → Rule
 done_option o = with_index 1 (filled (rule_for o))
 
-abbrev pub done_image : Rule
-done_image = with_index 1 (filled image_rule)
+abbrev pub done_positional : Rule
+done_positional = with_index 1 (filled positional_rule)
 
-abbrev pub image_part : Bool → List Rule
-image_part true = done_image ∷ []
-image_part false = []
+abbrev pub positional_part : Bool → List Rule
+positional_part true = done_positional ∷ []
+positional_part false = []
 
 abbrev pub rules : CommandRow → List Rule
-rules row = map done_option row.options ++ image_part row.has_image
+rules row = map done_option row.options ++ positional_part row.has_positional
 
 abbrev pub leaf : CommandRow → Shape
 leaf row =
@@ -106,42 +106,43 @@ or_false : (b : Bool) → (b || false) ≡ b
 or_false true = refl
 or_false false = refl
 
-no_long : (b : Bool) (name : List ℕ) → arg_by_long (image_part b) name ≡ None
+no_long : (b : Bool) (name : List ℕ) → arg_by_long (positional_part b) name ≡ None
 no_long true name = refl
 no_long false name = refl
 
 pub by_long : (row : CommandRow) (name : List ℕ)
     → arg_by_long (rules row) name ≡ option_map done_option (find (λ o. bytes_eq name (name_of o)) row.options)
 by_long row name =
-    find_before _ (map done_option row.options) (image_part row.has_image) (no_long row.has_image name)
+    find_before _ (map done_option row.options) (positional_part row.has_positional) (no_long row.has_positional name)
     ∙ find_options _ (λ o. bytes_eq name (name_of o)) row.options (λ o. or_false (bytes_eq (name_of o) name) ∙ same_other (name_of o) name)
 
-no_short : (b : Bool) (x : ℕ) → arg_by_short (image_part b) x ≡ None
+no_short : (b : Bool) (x : ℕ) → arg_by_short (positional_part b) x ≡ None
 no_short true x = refl
 no_short false x = refl
 
 pub by_short : (row : CommandRow) (x : ℕ) → arg_by_short (rules row) x ≡ None
 by_short row x =
-    find_before _ (map done_option row.options) (image_part row.has_image) (no_short row.has_image x) ∙ no_options _ row.options (λ o. refl)
+    find_before _ (map done_option row.options) (positional_part row.has_positional) (no_short row.has_positional x) ∙ no_options _ row.options (λ o. refl)
 
 pub by_id : (row : CommandRow) (o : CommandOption) → Has row o → arg_by_id (rules row) (name_of o) ≡ Some (done_option o)
 by_id row o has =
-    find_some _ (map done_option row.options) (image_part row.has_image) (done_option o)
+    find_some _ (map done_option row.options) (positional_part row.has_positional) (done_option o)
     (find_options _ (λ p. bytes_eq (name_of o) (name_of p)) row.options (λ p. same_other (name_of p) (name_of o)) ∙ ap (option_map done_option) has)
 
-no_name : (o : CommandOption) → bytes_eq (name_of o) (codes "IMAGE") ≡ false
+no_name : (o : CommandOption) → bytes_eq (name_of o) (codes "POSITIONAL") ≡ false
 no_name option.Raw = refl
 no_name option.Depth = refl
 no_name option.Vmid = refl
 no_name option.Cid = refl
+no_name option.Cut = refl
 
-pub image_by_id : (row : CommandRow) → row.has_image ≡ true → arg_by_id (rules row) (codes "IMAGE") ≡ Some done_image
-image_by_id row has =
-    find_none _ (map done_option row.options) (image_part row.has_image) (no_options _ row.options no_name)
-    ∙ ap (λ b. arg_by_id (image_part b) (codes "IMAGE")) has
+pub positional_by_id : (row : CommandRow) → row.has_positional ≡ true → arg_by_id (rules row) (codes "POSITIONAL") ≡ Some done_positional
+positional_by_id row has =
+    find_none _ (map done_option row.options) (positional_part row.has_positional) (no_options _ row.options no_name)
+    ∙ ap (λ b. arg_by_id (positional_part b) (codes "POSITIONAL")) has
 
-pub at_index : (row : CommandRow) (n : ℕ) → arg_by_index (rules row) n ≡ arg_by_index (image_part row.has_image) n
-at_index row n = find_none _ (map done_option row.options) (image_part row.has_image) (no_options _ row.options (λ o. refl))
+pub at_index : (row : CommandRow) (n : ℕ) → arg_by_index (rules row) n ≡ arg_by_index (positional_part row.has_positional) n
+at_index row n = find_none _ (map done_option row.options) (positional_part row.has_positional) (no_options _ row.options (λ o. refl))
 
 -- ---- the rows of what is seen
 
@@ -152,11 +153,11 @@ pub data Key : Type 0 where
 
 abbrev pub id_of : Key → Text
 id_of (Named o) = name_of o
-id_of Positional = codes "IMAGE"
+id_of Positional = codes "POSITIONAL"
 
 abbrev pub rule_of : Key → Rule
 rule_of (Named o) = done_option o
-rule_of Positional = done_image
+rule_of Positional = done_positional
 
 -- the text in the row of what was seen
 abbrev pub text_in : Key → Seen → Option Text
@@ -164,7 +165,8 @@ text_in (Named option.Raw) seen = if seen.raw then Some (codes "true") else None
 text_in (Named option.Depth) seen = seen.depth
 text_in (Named option.Vmid) seen = seen.vmid
 text_in (Named option.Cid) seen = seen.cid
-text_in Positional seen = seen.image
+text_in (Named option.Cut) seen = seen.cut
+text_in Positional seen = seen.positional
 
 abbrev pub row_for : Key → Text → Row
 row_for k text = record { id = id_of k; values = text ∷ []; count = None; source = Some CommandLine; reading = AsWritten }
@@ -181,6 +183,7 @@ values_for (Named option.Raw) text = []
 values_for (Named option.Depth) text = text ∷ []
 values_for (Named option.Vmid) text = text ∷ []
 values_for (Named option.Cid) text = text ∷ []
+values_for (Named option.Cut) text = text ∷ []
 values_for Positional text = text ∷ []
 
 abbrev pub text_for : Key → Text → Text
@@ -188,11 +191,12 @@ text_for (Named option.Raw) text = codes "true"
 text_for (Named option.Depth) text = text
 text_for (Named option.Vmid) text = text
 text_for (Named option.Cid) text = text
+text_for (Named option.Cut) text = text
 text_for Positional text = text
 
 abbrev pub seen_with : Key → Text → Seen → Seen
 seen_with (Named o) text seen = with_value o text seen
-seen_with Positional text seen = record seen { image = Some text }
+seen_with Positional text seen = record seen { positional = Some text }
 
 pub no_row : (id : Text) (rows : List Row) → lookup id rows ≡ None → has_row id rows ≡ false
 no_row id [] e = refl
@@ -238,7 +242,8 @@ used_adds (Named option.Raw) text rows e =
 used_adds (Named option.Depth) text rows e = put_added (codes "depth") (more_values CommandLine (text ∷ [])) (row_for (Named option.Depth) text ∷ []) rows e
 used_adds (Named option.Vmid) text rows e = put_added (codes "vmid") (more_values CommandLine (text ∷ [])) (row_for (Named option.Vmid) text ∷ []) rows e
 used_adds (Named option.Cid) text rows e = put_added (codes "cid") (more_values CommandLine (text ∷ [])) (row_for (Named option.Cid) text ∷ []) rows e
-used_adds Positional text rows e = put_added (codes "IMAGE") (more_values CommandLine (text ∷ [])) (row_for Positional text ∷ []) rows e
+used_adds (Named option.Cut) text rows e = put_added (codes "cut") (more_values CommandLine (text ∷ [])) (row_for (Named option.Cut) text ∷ []) rows e
+used_adds Positional text rows e = put_added (codes "POSITIONAL") (more_values CommandLine (text ∷ [])) (row_for Positional text ∷ []) rows e
 
 shows_this : (k : Key) (text : Text) (rows : List Row) → lookup (id_of k) rows ≡ None → lookup (id_of k) (row_for k text ∷ []) ≡ Some (row_for k text)
     → lookup (id_of k) (rows ++ row_for k text ∷ []) ≡ Some (row_for k text)
@@ -251,11 +256,13 @@ shows_by (Named option.Raw) (Named option.Raw) text rows seen is none = shows_th
 shows_by (Named option.Depth) (Named option.Depth) text rows seen is none = shows_this (Named option.Depth) text rows none refl
 shows_by (Named option.Vmid) (Named option.Vmid) text rows seen is none = shows_this (Named option.Vmid) text rows none refl
 shows_by (Named option.Cid) (Named option.Cid) text rows seen is none = shows_this (Named option.Cid) text rows none refl
+shows_by (Named option.Cut) (Named option.Cut) text rows seen is none = shows_this (Named option.Cut) text rows none refl
 shows_by Positional Positional text rows seen is none = shows_this Positional text rows none refl
 shows_by Positional (Named option.Raw) text rows seen is none = find_before _ rows (row_for Positional text ∷ []) refl ∙ is
 shows_by Positional (Named option.Depth) text rows seen is none = find_before _ rows (row_for Positional text ∷ []) refl ∙ is
 shows_by Positional (Named option.Vmid) text rows seen is none = find_before _ rows (row_for Positional text ∷ []) refl ∙ is
 shows_by Positional (Named option.Cid) text rows seen is none = find_before _ rows (row_for Positional text ∷ []) refl ∙ is
+shows_by Positional (Named option.Cut) text rows seen is none = find_before _ rows (row_for Positional text ∷ []) refl ∙ is
 shows_by k j text rows seen is none = find_before _ rows (row_for k (text_for k text) ∷ []) refl ∙ is
 
 pub shows_more : (k : Key) (text : Text) (rows : List Row) (seen : Seen) → Shows rows seen → text_in k seen ≡ None
@@ -284,6 +291,7 @@ use_passes (Named option.Raw) text rows none = simp none
 use_passes (Named option.Depth) text rows none = simp none
 use_passes (Named option.Vmid) text rows none = simp none
 use_passes (Named option.Cid) text rows none = simp none
+use_passes (Named option.Cut) text rows none = simp none
 use_passes Positional text rows none = simp none
 
 -- and of what was seen has one
@@ -303,6 +311,7 @@ use_again option.Raw values rows there = action_again (done_option option.Raw) v
 use_again option.Depth values rows there = action_again (done_option option.Depth) values rows there refl
 use_again option.Vmid values rows there = action_again (done_option option.Vmid) values rows there refl
 use_again option.Cid values rows there = action_again (done_option option.Cid) values rows there refl
+use_again option.Cut values rows there = action_again (done_option option.Cut) values rows there refl
 
 -- an option has a value
 pub use_bare : (o : CommandOption) (rows : List Row) → takes_value o ≡ true → IsFault (use_fault false (done_option o) [] rows)
@@ -310,3 +319,4 @@ use_bare option.Raw rows takes = absurd cc
 use_bare option.Depth rows takes = tt
 use_bare option.Vmid rows takes = tt
 use_bare option.Cid rows takes = tt
+use_bare option.Cut rows takes = tt

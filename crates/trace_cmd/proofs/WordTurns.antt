@@ -11,7 +11,7 @@ use Rattle.clap.proofs.LexerLemmas.{name_and_value-at, name_and_value-without}
 use Rattle.trace_cmd.specs.declared.words.CommandOption.{CommandOption}
 use Rattle.trace_cmd.specs.CommandLines.{word_of}
 use Rattle.trace_cmd.specs.Words.{CommandRow, Seen, behind_dash, is_dashed, is_seen, name_and_value, name_of, takes_value}
-use Rattle.trace_cmd.specs.Words.{with_dashed, with_image, with_named, with_option, with_value, with_word}
+use Rattle.trace_cmd.specs.Words.{with_dashed, with_named, with_option, with_positional, with_value, with_word}
 
 -- ---- the text behind `--`
 
@@ -19,27 +19,27 @@ Lacks-cons : (c x : ℕ) (xs : List ℕ) → (x == c) ≡ false → Lacks c xs �
 Lacks-cons c x xs differ rest zero within = λ same. absurd (grind (arith, nat_tests, same))
 Lacks-cons c x xs differ rest (suc i) within = rest i (grind (arith, common_steps))
 
--- a text has no `=`, or is cut at the first
-abbrev pub IsCut : List ℕ → Type 0
-IsCut text =
+-- a text has no `=`, or is split at the first
+abbrev pub IsSplit : List ℕ → Type 0
+IsSplit text =
     (name_and_value text ≡ (text, None))
     ⊎ ((name : List ℕ) × (value : List ℕ) × (text ≡ name ++ 61 ∷ value) × (name_and_value text ≡ (name, Some value)))
 
-abbrev Cut : List ℕ → Type 0
-Cut text = Lacks 61 text ⊎ ((name : List ℕ) × (value : List ℕ) × (text ≡ name ++ 61 ∷ value) × Lacks 61 name)
+abbrev Split : List ℕ → Type 0
+Split text = Lacks 61 text ⊎ ((name : List ℕ) × (value : List ℕ) × (text ≡ name ++ 61 ∷ value) × Lacks 61 name)
 
-cut_by : (c : ℕ) (rest : List ℕ) (b : Bool) → (c == 61) ≡ b → Cut rest → Cut (c ∷ rest)
-cut_by c rest true is behind =
+split_by : (c : ℕ) (rest : List ℕ) (b : Bool) → (c == 61) ≡ b → Split rest → Split (c ∷ rest)
+split_by c rest true is behind =
     let same : c ≡ 61 = grind (arith, nat_tests) in inr ([], rest, ap (λ (x : ℕ). x ∷ rest) same, λ i within. absurd (omega arith))
-cut_by c rest false is (inl lacks) = inl (Lacks-cons 61 c rest is lacks)
-cut_by c rest false is (inr p) = inr (c ∷ p.0, p.1, ap (λ (r : List ℕ). c ∷ r) p.2, Lacks-cons 61 c p.0 is p.3)
+split_by c rest false is (inl lacks) = inl (Lacks-cons 61 c rest is lacks)
+split_by c rest false is (inr p) = inr (c ∷ p.0, p.1, ap (λ (r : List ℕ). c ∷ r) p.2, Lacks-cons 61 c p.0 is p.3)
 
-cut : (text : List ℕ) → Cut text
-cut [] = inl (λ i within. absurd (omega arith))
-cut (c ∷ rest) = cut_by c rest (c == 61) refl (cut rest)
+split : (text : List ℕ) → Split text
+split [] = inl (λ i within. absurd (omega arith))
+split (c ∷ rest) = split_by c rest (c == 61) refl (split rest)
 
-pub is_cut : (text : List ℕ) → IsCut text
-is_cut text = elim (cut text) [
+pub is_split : (text : List ℕ) → IsSplit text
+is_split text = elim (split text) [
   | inl lacks ↦ inl (name_and_value-without text lacks)
   | inr p ↦ inr (p.0, p.1, p.2, ap name_and_value p.2 ∙ name_and_value-at p.0 p.1 p.3)
 ]
@@ -98,15 +98,16 @@ pub data Turn (row : CommandRow) (seen : Seen) (word : List ℕ) (next : Seen) :
   -- the value of the option that waits
   Values : (o : CommandOption) → seen.ended ≡ false → seen.waits ≡ Some o → is_dashed word ≡ false → with_value o word seen ≡ next → Turn row seen word next
   -- the positional
-  Images : seen.waits ≡ None → (seen.ended ≡ true) ⊎ (is_dashed word ≡ false) → row.has_image ≡ true → seen.image ≡ None
-      → record seen { image = Some word } ≡ next → Turn row seen word next
+  Positionals : seen.waits ≡ None → (seen.ended ≡ true) ⊎ (is_dashed word ≡ false) → row.has_positional ≡ true → seen.positional ≡ None
+      → record seen { positional = Some word } ≡ next → Turn row seen word next
 
-image_by : (row : CommandRow) (seen : Seen) (word : List ℕ) (next : Seen) (b : Bool) (image : Option (List ℕ)) → row.has_image ≡ b → seen.image ≡ image
-    → with_image row word seen ≡ Some next → (row.has_image ≡ true) × (seen.image ≡ None) × (record seen { image = Some word } ≡ next)
-image_by row seen word next false image has is e = let f : with_image row word seen ≡ None = simp has in absurd (let g = sym f ∙ e in cc)
-image_by row seen word next true (Some v) has is e = let f : with_image row word seen ≡ None = simp (has, is) in absurd (let g = sym f ∙ e in cc)
-image_by row seen word next true None has is e =
-    let f : with_image row word seen ≡ Some (record seen { image = Some word }) = simp (has, is) in (has, is, let g = sym f ∙ e in cc)
+positional_by : (row : CommandRow) (seen : Seen) (word : List ℕ) (next : Seen) (b : Bool) (positional : Option (List ℕ))
+    → row.has_positional ≡ b → seen.positional ≡ positional
+    → with_positional row word seen ≡ Some next → (row.has_positional ≡ true) × (seen.positional ≡ None) × (record seen { positional = Some word } ≡ next)
+positional_by row seen word next false positional has is e = let f : with_positional row word seen ≡ None = simp has in absurd (let g = sym f ∙ e in cc)
+positional_by row seen word next true (Some v) has is e = let f : with_positional row word seen ≡ None = simp (has, is) in absurd (let g = sym f ∙ e in cc)
+positional_by row seen word next true None has is e =
+    let f : with_positional row word seen ≡ Some (record seen { positional = Some word }) = simp (has, is) in (has, is, let g = sym f ∙ e in cc)
 
 option_none : (row : CommandRow) (seen : Seen) (word : List ℕ) (next : Seen) (o : CommandOption) (b t : Bool) → is_seen o seen ≡ b → takes_value o ≡ t
     → seen.ended ≡ false → seen.waits ≡ None → Has row o → word ≡ word_of o → with_option o None seen ≡ Some next → Turn row seen word next
@@ -130,7 +131,7 @@ option_some row seen word next o value false true is takes on free has spelled e
 option_some row seen word next o value false false is takes on free has spelled e =
     let f : with_option o (Some value) seen ≡ None = simp (is, takes) in absurd (let g = sym f ∙ e in cc)
 
--- the option is found by the name that was cut
+-- the option is found by the name that was split off
 named_by : (row : CommandRow) (seen : Seen) (text : List ℕ) (next : Seen) (name : List ℕ) (value : Option (List ℕ)) (found : Option CommandOption)
     → name_and_value text ≡ (name, value) → find (λ q. bytes_eq name (name_of q)) row.options ≡ found → with_named row text seen ≡ Some next
     → (o : CommandOption) × (found ≡ Some o) × (with_option o value seen ≡ Some next)
@@ -145,9 +146,9 @@ named_by row seen text next name value (Some o) is find_is e =
 
 named_turn : (row : CommandRow) (seen : Seen) (word text : List ℕ) (next : Seen) → seen.ended ≡ false → seen.waits ≡ None → word ≡ 45 ∷ 45 ∷ text
     → with_named row text seen ≡ Some next → Turn row seen word next
-named_turn row seen word text next on free spelled e = elim (is_cut text) [
-  | inl cut ↦
-      let there = named_by row seen text next text None (find (λ q. bytes_eq text (name_of q)) row.options) cut refl e in
+named_turn row seen word text next on free spelled e = elim (is_split text) [
+  | inl whole ↦
+      let there = named_by row seen text next text None (find (λ q. bytes_eq text (name_of q)) row.options) whole refl e in
       let o = there.0 in let name = found_is text row.options o there.1 in
       option_none row seen word next o (is_seen o seen) (takes_value o) refl refl on free (has_found row text o there.1)
       (spelled ∙ ap (λ (t : List ℕ). 45 ∷ 45 ∷ t) name) there.2
@@ -176,11 +177,11 @@ turn_by : (row : CommandRow) (seen : Seen) (word : List ℕ) (next : Seen) (ende
     → is_dashed word ≡ dashed → seen.waits ≡ waits → (ended ≡ true → waits ≡ None) → with_word row word seen ≡ Some next → Turn row seen word next
 turn_by row seen word next true dashed (Some o) x y z once e = absurd (let f = once refl in cc)
 turn_by row seen word next true dashed None x y z once e =
-    let f : with_word row word seen ≡ with_image row word seen = simp (x, z) in
-    let i = image_by row seen word next row.has_image seen.image refl refl (sym f ∙ e) in Images z (inl x) i.0 i.1 i.2
+    let f : with_word row word seen ≡ with_positional row word seen = simp (x, z) in
+    let i = positional_by row seen word next row.has_positional seen.positional refl refl (sym f ∙ e) in Positionals z (inl x) i.0 i.1 i.2
 turn_by row seen word next false false None x y z once e =
-    let f : with_word row word seen ≡ with_image row word seen = simp (x, y, z) in
-    let i = image_by row seen word next row.has_image seen.image refl refl (sym f ∙ e) in Images z (inr y) i.0 i.1 i.2
+    let f : with_word row word seen ≡ with_positional row word seen = simp (x, y, z) in
+    let i = positional_by row seen word next row.has_positional seen.positional refl refl (sym f ∙ e) in Positionals z (inr y) i.0 i.1 i.2
 turn_by row seen word next false false (Some o) x y z once e =
     let f : with_word row word seen ≡ Some (with_value o word seen) = simp (x, y, z) in Values o x z y (let g = sym f ∙ e in cc)
 turn_by row seen word next false true (Some o) x y z once e =

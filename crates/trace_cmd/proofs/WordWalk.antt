@@ -15,7 +15,8 @@ use Rattle.trace_cmd.specs.declared.words.CommandOption.{CommandOption}
 use Rattle.trace_cmd.specs.declared.words.CommandOption.TheVariants as option
 use Rattle.trace_cmd.specs.Words.{CommandRow, is_dashed, name_and_value, name_of, takes_value}
 use Rattle.trace_cmd.proofs.WordTurns.{Has}
-use Rattle.trace_cmd.proofs.WordParses.{IsFault, at_index, by_id, by_long, by_short, done_image, done_option, fault_first, image_part, leaf, rules}
+use Rattle.trace_cmd.proofs.WordParses.{IsFault, at_index, by_id, by_long, by_short, done_option, done_positional, fault_first, leaf, positional_part}
+use Rattle.trace_cmd.proofs.WordParses.{rules}
 
 abbrev pub Pending : Type 0
 Pending = Option (Text × List Text)
@@ -65,18 +66,18 @@ met_plain row n (a ∷ b ∷ rest) h w (inr p) plain = rw p.1 (simp plain, simp 
 
 -- ---- a word for the positional
 
-pub image_next : (row : CommandRow) → row.has_image ≡ true → arg_by_index (rules row) 1 ≡ Some done_image
-image_next row has = at_index row 1 ∙ ap (λ b. arg_by_index (image_part b) 1) has
+pub positional_next : (row : CommandRow) → row.has_positional ≡ true → arg_by_index (rules row) 1 ≡ Some done_positional
+positional_next row has = at_index row 1 ∙ ap (λ b. arg_by_index (positional_part b) 1) has
 
-pub image_none : (row : CommandRow) → row.has_image ≡ false → arg_by_index (rules row) 1 ≡ None
-image_none row none = at_index row 1 ∙ ap (λ b. arg_by_index (image_part b) 1) none
+pub positional_none : (row : CommandRow) → row.has_positional ≡ false → arg_by_index (rules row) 1 ≡ None
+positional_none row none = at_index row 1 ∙ ap (λ b. arg_by_index (positional_part b) 1) none
 
-no_second_of : (b : Bool) → arg_by_index (image_part b) 2 ≡ None
+no_second_of : (b : Bool) → arg_by_index (positional_part b) 2 ≡ None
 no_second_of true = refl
 no_second_of false = refl
 
 pub no_second : (row : CommandRow) → arg_by_index (rules row) 2 ≡ None
-no_second row = at_index row 2 ∙ no_second_of row.has_image
+no_second row = at_index row 2 ∙ no_second_of row.has_positional
 
 and_false : (b : Bool) → (b && false) ≡ false
 and_false true = refl
@@ -103,30 +104,31 @@ stray row rows p w n t word is none =
 
 -- the fault of what is pending comes with a positional
 positional_settles : (row : CommandRow) (rows : List Row) (p : Pending)
-    → positional_fault (rules row) false done_image (hold rows p) ≡ settle_fault (rules row) false (hold rows p)
+    → positional_fault (rules row) false done_positional (hold rows p) ≡ settle_fault (rules row) false (hold rows p)
 positional_settles row rows None = refl
-positional_settles row rows (Some q) = simp (and_false (bytes_eq q.0 (codes "IMAGE")))
+positional_settles row rows (Some q) = simp (and_false (bytes_eq q.0 (codes "POSITIONAL")))
 
-pub image_turn : (row : CommandRow) (rows : List Row) (p : Pending) (w : Waiting) (t : Bool) (word : Text) → IsValue row rows p w 1 t word
-    → row.has_image ≡ true → turn_fault (leaf row) [] (at rows p w 1 t) word ≡ settle_fault (rules row) false (hold rows p)
-image_turn row rows p w t word is has =
+pub positional_turn : (row : CommandRow) (rows : List Row) (p : Pending) (w : Waiting) (t : Bool) (word : Text) → IsValue row rows p w 1 t word
+    → row.has_positional ≡ true → turn_fault (leaf row) [] (at rows p w 1 t) word ≡ settle_fault (rules row) false (hold rows p)
+positional_turn row rows p w t word is has =
     turn_by row rows p w 1 t word (hold rows p, value) [] is.met is.fault
-    ∙ ap (λ (a : Option Rule). option_map_or (λ r. positional_fault (rules row) false r (hold rows p)) a (kind.UnknownArgument ∷ [])) (image_next row has)
+    ∙ ap (λ (a : Option Rule). option_map_or (λ r. positional_fault (rules row) false r (hold rows p)) a (kind.UnknownArgument ∷ [])) (positional_next row has)
     ∙ positional_settles row rows p
 
-image_held : (row : CommandRow) (rows : List Row) (p : Pending) (t : Bool) (word : Text)
-    → to_positional (rules row) (Some done_image) word (at rows p idle 1 t) (hold rows p)
-    ≡ at (settled_rows (rules row) p rows) (Some (codes "IMAGE", word ∷ [])) idle 2 t
-image_held row rows None true word = refl
-image_held row rows None false word = refl
-image_held row rows (Some q) true word = simp (and_false (bytes_eq q.0 (codes "IMAGE")))
-image_held row rows (Some q) false word = simp (and_false (bytes_eq q.0 (codes "IMAGE")))
+positional_held : (row : CommandRow) (rows : List Row) (p : Pending) (t : Bool) (word : Text)
+    → to_positional (rules row) (Some done_positional) word (at rows p idle 1 t) (hold rows p)
+    ≡ at (settled_rows (rules row) p rows) (Some (codes "POSITIONAL", word ∷ [])) idle 2 t
+positional_held row rows None true word = refl
+positional_held row rows None false word = refl
+positional_held row rows (Some q) true word = simp (and_false (bytes_eq q.0 (codes "POSITIONAL")))
+positional_held row rows (Some q) false word = simp (and_false (bytes_eq q.0 (codes "POSITIONAL")))
 
-pub image_walk : (row : CommandRow) (rows : List Row) (p : Pending) (t : Bool) (word : Text) → IsValue row rows p idle 1 t word → row.has_image ≡ true
-    → walked (rules row) [] (at rows p idle 1 t) word ≡ at (settled_rows (rules row) p rows) (Some (codes "IMAGE", word ∷ [])) idle 2 t
-image_walk row rows p t word is has =
+pub positional_walk : (row : CommandRow) (rows : List Row) (p : Pending) (t : Bool) (word : Text) → IsValue row rows p idle 1 t word → row.has_positional ≡ true
+    → walked (rules row) [] (at rows p idle 1 t) word ≡ at (settled_rows (rules row) p rows) (Some (codes "POSITIONAL", word ∷ [])) idle 2 t
+positional_walk row rows p t word is has =
     walk_by row rows p idle 1 t word (hold rows p, value) is.met
-    ∙ ap (λ (a : Option Rule). to_positional (rules row) a word (at rows p idle 1 t) (hold rows p)) (image_next row has) ∙ image_held row rows p t word
+    ∙ ap (λ (a : Option Rule). to_positional (rules row) a word (at rows p idle 1 t) (hold rows p)) (positional_next row has)
+    ∙ positional_held row rows p t word
 
 -- ---- the value of an option that waits
 
@@ -135,12 +137,14 @@ most_is option.Raw takes = absurd cc
 most_is option.Depth takes = refl
 most_is option.Vmid takes = refl
 most_is option.Cid takes = refl
+most_is option.Cut takes = refl
 
 same_text : (o : CommandOption) → bytes_eq (name_of o) (name_of o) ≡ true
 same_text option.Raw = refl
 same_text option.Depth = refl
 same_text option.Vmid = refl
 same_text option.Cid = refl
+same_text option.Cut = refl
 
 -- the step over a value
 value_step : (row : CommandRow) (rows : List Row) (o : CommandOption) (word : Text) → Has row o → takes_value o ≡ true

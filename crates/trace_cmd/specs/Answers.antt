@@ -1,19 +1,19 @@
 -- What each answer of a call means, and the text that comes with it.
-use Rattle.std.specs.Prelude.{◌≡◌, ◌⊎◌, ℕ, true, false, List, [], ◌∷◌, ◌++◌, codes, Some, None, Result, Ok, Err}
+use Rattle.std.specs.Prelude.{◌≡◌, ◌⊎◌, ℕ, true, false, List, [], ◌∷◌, ◌++◌, codes, Option, Some, None, Result, Ok, Err}
 use Rattle.trace_io.specs.State.{IoState}
 use Rattle.trace_io.specs.Bytes.{AppendsAll}
 use Rattle.trace_io.specs.Causes.{KeepsFaults, Rose}
 use Rattle.program_image.specs.declared.image.Image.{Image}
 use Rattle.program_image.specs.Answers.{TakesImage, TakesNoImage}
-use Rattle.program_image.specs.Faults.{why_text}
 use Rattle.program_image.specs.declared.fault.ImageWhy.{ImageWhy}
 use Rattle.trace_cmd.specs.declared.status.Status.{Status}
 use Rattle.trace_cmd.specs.declared.status.Status.TheVariants as status
 use Rattle.trace_cmd.specs.Retired.{IsBadBench, IsRetiredText, Prints, PrintsFront}
+use Rattle.trace_cmd.specs.ImageLine.{image_line}
+use Rattle.trace_cmd.specs.Selftest.{HasBadBench, HasBadImage, IsSummary, IsTooLong}
 use Rattle.trace_cmd.specs.Traced.{IsTracedFrames}
-use Rattle.trace_cmd.specs.Words.{Path, Packets, Retired, Trace, meaning}
+use Rattle.trace_cmd.specs.Words.{Path, Packets, Retired, Selftest, Trace, meaning}
 use Rattle.bench_text.specs.declared.fault.BenchWhy.{BenchWhy}
-use Rattle.path_text.specs.Lines.{decimal}
 use Rattle.etm_types.specs.Settings.{Sizes}
 use Rattle.trace_cmd.specs.Listed.{Breaks, Completes, Exceeds, Interrupts}
 use Rattle.trace_cmd.specs.Printing.{What, PathsOf, PacketsOf, left_of, listing_of, pairs_of}
@@ -34,9 +34,6 @@ code_of status.InputTooLong = 8
 
 abbrev pub usage_line : List ℕ
 usage_line = codes "usage: etm path|packets|trace|retired|selftest" ++ 10 ∷ []
-
-abbrev pub image_line : ℕ → ImageWhy → List ℕ
-image_line line why = codes "image line " ++ decimal line ++ codes ": " ++ why_text why ++ 10 ∷ []
 
 -- ---- a call
 
@@ -74,12 +71,19 @@ IsTraceCall words = (image : List ℕ) × (meaning words ≡ Some (Trace image))
 abbrev pub IsRunFileCall : List (List ℕ) → Type 0
 IsRunFileCall words = IsRetiredCall words ⊎ IsTraceCall words
 
+-- the words ask to try both ends on the run file of a number, and how many bytes of its frames are read
+abbrev pub IsSelftestOf : ℕ → Option ℕ → List (List ℕ) → Type 0
+IsSelftestOf n cut words = meaning words ≡ Some (Selftest n cut)
+
+abbrev pub IsSelftestCall : List (List ℕ) → Type 0
+IsSelftestCall words = (n : ℕ) × (cut : Option ℕ) × IsSelftestOf n cut words
+
 -- the words ask for a command that reads an image
 abbrev pub IsImageCall : List (List ℕ) → Type 0
 IsImageCall words = IsPathCall words ⊎ IsRunFileCall words
 
 abbrev pub IsCall : List (List ℕ) → Type 0
-IsCall words = IsImageCall words ⊎ IsPacketsCall words
+IsCall words = IsImageCall words ⊎ IsPacketsCall words ⊎ IsSelftestCall words
 
 -- the image was read to its end, and it is good
 abbrev pub ReadsImage : IoState → IoState → Type 0
@@ -147,12 +151,35 @@ IsBenchBad c line why text = OverImage IsRunFileCall c (λ parts. IsBadBench par
 abbrev pub IsBenchFault : Call → IoState → IoState → Type 0
 IsBenchFault c out out' = OverImage IsRunFileCall c (λ parts. Rose c.input c.input' × AppendsAll out out' [])
 
+-- ---- answers of a number
+
+-- the words ask for it, and that is so of it
+abbrev pub OfNumber : Call → (ℕ → Option ℕ → Type 0) → Type 0
+OfNumber c Way = (n : ℕ) × (cut : Option ℕ) × IsSelftestOf n cut c.words × Way n cut
+
+-- the summary of a number
+abbrev pub IsTested : Call → List ℕ → Type 0
+IsTested c text = OfNumber c (λ n cut. IsSummary n cut text)
+
+-- ImageBad and BenchBad: the image that is made from the number, and its run file, has this fault first
+abbrev pub IsOwnImageBad : Call → ℕ → ImageWhy → List ℕ → Type 0
+IsOwnImageBad c line why text = OfNumber c (λ n cut. HasBadImage n line why text)
+
+abbrev pub IsOwnBenchBad : Call → ℕ → BenchWhy → List ℕ → Type 0
+IsOwnBenchBad c line why text = OfNumber c (λ n cut. HasBadBench n line why text)
+
+-- InputTooLong: its frames are longer than what is read, and nothing was printed
+abbrev pub IsOwnTooLong : Call → IoState → IoState → Type 0
+IsOwnTooLong c out out' = OfNumber c (λ n cut. IsTooLong n) × AppendsAll out out' []
+
+-- ---- all answers
+
 -- what is asked for is printed of the input in this way
 abbrev pub OfInput : Call → (What → Type 0) → Type 0
 OfInput c Way = (what : What) × Asks c what × Way what
 
 -- WriteFault: the count of the output rose. A front of the line of usage, of a bad image or of a bad run file was printed, or of what is
--- asked for of the input or of a run file; of another answer, nothing.
+-- asked for of the input, of a run file or of a number; of another answer, nothing.
 abbrev pub IsWriteFault : Call → IoState → IoState → Type 0
 IsWriteFault c old new =
     PrintsFront (IsUsage c) old new ⊎ ((line : ℕ) × (why : ImageWhy) × PrintsFront (IsImageBad c line why) old new)
@@ -160,19 +187,21 @@ IsWriteFault c old new =
     ⊎ IsImageFault c old new ⊎ IsNoMemory c old new
     ⊎ PrintsFront (IsRetired c) old new ⊎ ((line : ℕ) × (why : BenchWhy) × PrintsFront (IsBenchBad c line why) old new) ⊎ IsBenchFault c old new
     ⊎ PrintsFront (IsTraced c) old new
+    ⊎ PrintsFront (IsTested c) old new ⊎ ((line : ℕ) × (why : ImageWhy) × PrintsFront (IsOwnImageBad c line why) old new)
+    ⊎ ((line : ℕ) × (why : BenchWhy) × PrintsFront (IsOwnBenchBad c line why) old new) ⊎ IsOwnTooLong c old new
 
 -- What each answer means, by what the output showed before and after.
 abbrev pub Answers : Call → IoState → IoState → Status → Type 0
 Answers c old new status.Done =
     OfInput c (λ what. Completes (pairs_of what) (left_of what) (listing_of what) c.input c.input' old new false)
-    ⊎ Prints (IsRetired c) old new ⊎ Prints (IsTraced c) old new
+    ⊎ Prints (IsRetired c) old new ⊎ Prints (IsTraced c) old new ⊎ Prints (IsTested c) old new
 Answers c old new status.Faulted =
     OfInput c (λ what. Completes (pairs_of what) (left_of what) (listing_of what) c.input c.input' old new true)
 Answers c old new status.Usage = Prints (IsUsage c) old new
-Answers c old new (status.ImageBad line why) = Prints (IsImageBad c line why) old new
-Answers c old new (status.BenchBad line why) = Prints (IsBenchBad c line why) old new
+Answers c old new (status.ImageBad line why) = Prints (IsImageBad c line why) old new ⊎ Prints (IsOwnImageBad c line why) old new
+Answers c old new (status.BenchBad line why) = Prints (IsBenchBad c line why) old new ⊎ Prints (IsOwnBenchBad c line why) old new
 Answers c old new status.InputTooLong =
-    OfInput c (λ what. Exceeds (pairs_of what) (left_of what) (listing_of what) c.input c.input' old new)
+    OfInput c (λ what. Exceeds (pairs_of what) (left_of what) (listing_of what) c.input c.input' old new) ⊎ IsOwnTooLong c old new
 Answers c old new status.ReadFault =
     IsImageFault c old new ⊎ IsBenchFault c old new
     ⊎ OfInput c (λ what. Breaks (pairs_of what) (left_of what) (listing_of what) c.input c.input' old new)

@@ -1,9 +1,9 @@
 -- How the words of a command line stand in a row.
-use Rattle.std.specs.Prelude.{◌≡◌, ℕ, true, false, List, [], ◌∷◌, ◌++◌, codes, Some, All, if◌then◌else◌}
+use Rattle.std.specs.Prelude.{◌≡◌, ℕ, ◌≤◌, true, false, List, [], ◌∷◌, ◌++◌, codes, Option, Some, None, All, if◌then◌else◌}
 use Rattle.std.specs.Str.{bytes_eq}
 use Rattle.etm_types.specs.Settings.{Sizes, AreSettings}
 use Rattle.program_image.specs.Line.{decimal_of}
-use Rattle.trace_cmd.specs.Words.{is_dashed, name_of, takes_value}
+use Rattle.trace_cmd.specs.Words.{is_dashed, most_cut, most_number, name_of, takes_value}
 use Rattle.trace_cmd.specs.declared.words.CommandOption.{CommandOption}
 use Rattle.trace_cmd.specs.declared.words.CommandOption.TheVariants as option
 use Rattle.trace_cmd.specs.declared.words.Layout.{Layout}
@@ -16,7 +16,7 @@ pub data Piece : Type 0 where
   Apart : CommandOption → List ℕ → Piece
   Joined : CommandOption → List ℕ → Piece
   Flag : CommandOption → Piece
-  Image : List ℕ → Piece
+  Positional : List ℕ → Piece
 
 abbrev pub word_of : CommandOption → List ℕ
 word_of o = codes "--" ++ name_of o
@@ -26,7 +26,7 @@ abbrev pub words_of : Piece → List (List ℕ)
 words_of (Apart o value) = word_of o ∷ value ∷ []
 words_of (Joined o value) = (word_of o ++ 61 ∷ value) ∷ []
 words_of (Flag o) = word_of o ∷ []
-words_of (Image word) = word ∷ []
+words_of (Positional word) = word ∷ []
 
 -- the words of pieces in a row, and those behind them
 abbrev pub in_row : List Piece → List (List ℕ) → List (List ℕ)
@@ -38,12 +38,12 @@ abbrev pub IsPiece : Piece → Type 0
 IsPiece (Apart o value) = (takes_value o ≡ true) × (is_dashed value ≡ false)
 IsPiece (Joined o value) = takes_value o ≡ true
 IsPiece (Flag o) = takes_value o ≡ false
-IsPiece (Image word) = is_dashed word ≡ false
+IsPiece (Positional word) = is_dashed word ≡ false
 
 -- nothing more, or `--` with positionals behind it
 abbrev pub IsEnd : List (List ℕ) → List (List ℕ) → Type 0
-IsEnd [] images = images ≡ []
-IsEnd (word ∷ words) images = (word ≡ codes "--") × (words ≡ images)
+IsEnd [] positionals = positionals ≡ []
+IsEnd (word ∷ words) positionals = (word ≡ codes "--") × (words ≡ positionals)
 
 -- ---- what the pieces say
 
@@ -57,15 +57,15 @@ values_of o [] = []
 values_of o (Apart p value ∷ pieces) = value_for o p value (values_of o pieces)
 values_of o (Joined p value ∷ pieces) = value_for o p value (values_of o pieces)
 values_of o (Flag p ∷ pieces) = value_for o p [] (values_of o pieces)
-values_of o (Image word ∷ pieces) = values_of o pieces
+values_of o (Positional word ∷ pieces) = values_of o pieces
 
 -- the positionals, in their order
-abbrev pub images_of : List Piece → List (List ℕ)
-images_of [] = []
-images_of (Apart p value ∷ pieces) = images_of pieces
-images_of (Joined p value ∷ pieces) = images_of pieces
-images_of (Flag p ∷ pieces) = images_of pieces
-images_of (Image word ∷ pieces) = word ∷ images_of pieces
+abbrev pub positionals_of : List Piece → List (List ℕ)
+positionals_of [] = []
+positionals_of (Apart p value ∷ pieces) = positionals_of pieces
+positionals_of (Joined p value ∷ pieces) = positionals_of pieces
+positionals_of (Flag p ∷ pieces) = positionals_of pieces
+positionals_of (Positional word ∷ pieces) = word ∷ positionals_of pieces
 
 -- `--raw` once stands for one stream that is not framed, and its absence for formatter frames
 abbrev pub IsLayout : List (List ℕ) → Layout → Type 0
@@ -79,22 +79,29 @@ IsNumber default [] n = n ≡ default
 IsNumber default (value ∷ []) n = decimal_of value ≡ Some n
 IsNumber default (value ∷ other ∷ values) n = ⊥
 
+-- one value is how many bytes are read, and its absence stands for all
+abbrev pub IsCut : List (List ℕ) → Option ℕ → Type 0
+IsCut [] cut = cut ≡ None
+IsCut (value ∷ []) cut = (k : ℕ) × (decimal_of value ≡ Some k) × (k ≤ most_cut) × (cut ≡ Some k)
+IsCut (value ∷ other ∷ values) cut = ⊥
+
 -- ---- lines
 
 -- the words of a command: its own, pieces in any order, and an end, with these positionals among them
-pub record IsLine (word : List ℕ) (words images : List (List ℕ)) : Type 0 where
+pub record IsLine (word : List ℕ) (words positionals : List (List ℕ)) : Type 0 where
   pub pieces : List Piece
   pub ended : List (List ℕ)
   pub behind : List (List ℕ)
   pub row : words ≡ word ∷ in_row pieces ended
   pub are_pieces : All IsPiece pieces
   pub end_is : IsEnd ended behind
-  pub images_are : images_of pieces ++ behind ≡ images
+  pub positionals_are : positionals_of pieces ++ behind ≡ positionals
 
 -- `path`, with numbers in range and one positional
 pub record IsPathLine (words : List (List ℕ)) (image : List ℕ) (s : Sizes) (layout : Layout) : Type 0 where
   pub line : IsLine (codes "path") words (image ∷ [])
   pub layout_is : IsLayout (values_of option.Raw line.pieces) layout
+  pub no_cut : values_of option.Cut line.pieces ≡ []
   pub depth_is : IsNumber 16 (values_of option.Depth line.pieces) s.depth
   pub vmid_is : IsNumber 1 (values_of option.Vmid line.pieces) s.vmid_bytes
   pub cid_is : IsNumber 4 (values_of option.Cid line.pieces) s.cid_bytes
@@ -105,6 +112,7 @@ pub record IsPacketsLine (words : List (List ℕ)) (s : Sizes) (layout : Layout)
   pub line : IsLine (codes "packets") words []
   pub layout_is : IsLayout (values_of option.Raw line.pieces) layout
   pub no_depth : values_of option.Depth line.pieces ≡ []
+  pub no_cut : values_of option.Cut line.pieces ≡ []
   pub depth_is : s.depth ≡ 16
   pub vmid_is : IsNumber 1 (values_of option.Vmid line.pieces) s.vmid_bytes
   pub cid_is : IsNumber 4 (values_of option.Cid line.pieces) s.cid_bytes
@@ -119,3 +127,12 @@ pub record IsRetiredLine (words : List (List ℕ)) (image : List ℕ) : Type 0 w
 pub record IsTraceLine (words : List (List ℕ)) (image : List ℕ) : Type 0 where
   pub line : IsLine (codes "trace") words (image ∷ [])
   pub no_option : (o : CommandOption) → values_of o line.pieces ≡ []
+
+-- `selftest`, with a number in range as its positional, and how many bytes are read
+pub record IsSelftestLine (words : List (List ℕ)) (n : ℕ) (cut : Option ℕ) : Type 0 where
+  pub number : List ℕ
+  pub line : IsLine (codes "selftest") words (number ∷ [])
+  pub number_is : decimal_of number ≡ Some n
+  pub number_within : n ≤ most_number
+  pub cut_is : IsCut (values_of option.Cut line.pieces) cut
+  pub no_other : All (λ (o : CommandOption). values_of o line.pieces ≡ []) (option.Raw ∷ option.Depth ∷ option.Vmid ∷ option.Cid ∷ [])

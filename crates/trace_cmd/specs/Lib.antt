@@ -1,6 +1,8 @@
 pub mod Answers
 pub mod CommandLines
+pub mod Complete
 pub mod Grows
+pub mod ImageLine
 pub mod Listed
 pub mod PacketList
 pub mod Printing
@@ -8,6 +10,7 @@ pub mod Reading
 pub mod Retired
 pub mod Retiring
 pub mod Said
+pub mod Selftest
 pub mod Traced
 pub mod TracedCalls
 pub mod Tracing

@@ -1,8 +1,8 @@
 -- What contracts see of the words' types in the code.
-use Rattle.std.specs.Prelude.{⊤}
+use Rattle.std.specs.Prelude.{⊤, ◌≤◌}
 use Rattle.std.specs.Option.{option_map}
 use Rattle.etm_types.specs.Settings.{AreSettings}
-use Rattle.trace_cmd.specs.Words.{Command, CommandRow, Path, Packets, Retired, Seen, Trace, row}
+use Rattle.trace_cmd.specs.Words.{Command, CommandRow, Path, Packets, Retired, Seen, Selftest, Trace, most_number, row}
 use Rattle.trace_cmd.specs.declared.words.Command.{Command as Told}
 use Rattle.trace_cmd.specs.declared.words.Command.TheVariants as told
 use Rattle.trace_cmd.specs.declared.words.CommandLine.{CommandLine}
@@ -13,16 +13,18 @@ said (told.Path image settings layout) = Path image.now settings layout
 said (told.Packets settings layout) = Packets settings layout
 said (told.Retired image) = Retired image.now
 said (told.Trace image) = Trace image.now
+said (told.Selftest n cut) = Selftest n cut
 
--- its sizes, where it has any, are those of settings
-abbrev pub HasSettings : Told → Type 0
-HasSettings (told.Path image settings layout) = AreSettings settings
-HasSettings (told.Packets settings layout) = AreSettings settings
-HasSettings (told.Retired image) = ⊤
-HasSettings (told.Trace image) = ⊤
+-- its sizes, where it has any, are those of settings, and its number is one that is tried
+abbrev pub IsInRange : Told → Type 0
+IsInRange (told.Path image settings layout) = AreSettings settings
+IsInRange (told.Packets settings layout) = AreSettings settings
+IsInRange (told.Retired image) = ⊤
+IsInRange (told.Trace image) = ⊤
+IsInRange (told.Selftest n cut) = n ≤ most_number
 
 abbrev pub line_of : CommandLine → CommandRow
-line_of line = row line.word.now line.name line.options.now line.has_image
+line_of line = row line.word.now line.name line.options.now line.has_positional
 
 abbrev pub seen_by : ToldSeen → Seen
 seen_by seen = record {
@@ -30,7 +32,8 @@ seen_by seen = record {
   depth = option_map (λ text. text.now) seen.depth;
   vmid = option_map (λ text. text.now) seen.vmid;
   cid = option_map (λ text. text.now) seen.cid;
-  image = option_map (λ text. text.now) seen.image;
+  cut = option_map (λ text. text.now) seen.cut;
+  positional = option_map (λ text. text.now) seen.positional;
   waits = seen.waits;
   ended = seen.ended;
 }

@@ -13,8 +13,8 @@ abbrev pub rule_for : CommandOption → Rule
 rule_for o = record (new_rule (name_of o)) { long = Some (name_of o); action = Some (if takes_value o then Set else SetTrue) }
 
 -- the positional, which is required
-abbrev pub image_rule : Rule
-image_rule = record (new_rule (codes "IMAGE")) { action = Some Set; required = true }
+abbrev pub positional_rule : Rule
+positional_rule = record (new_rule (codes "POSITIONAL")) { action = Some Set; required = true }
 
 -- a command with options
 abbrev pub options_app : Text → List CommandOption → App
@@ -22,7 +22,7 @@ options_app word options = let app = new_app word in record app { top = record a
 
 -- a command of the table, which is a subcommand
 abbrev pub command_app : CommandRow → App
-command_app row = let app = options_app row.word row.options in if row.has_image then with_rule app image_rule else app
+command_app row = let app = options_app row.word row.options in if row.has_positional then with_rule app positional_rule else app
 
 -- there are no words for help and version, and a subcommand is required
 abbrev pub bare : Shape → Shape
@@ -51,7 +51,8 @@ seen_in rows = record {
   depth = first_of (codes "depth") rows;
   vmid = first_of (codes "vmid") rows;
   cid = first_of (codes "cid") rows;
-  image = first_of (codes "IMAGE") rows;
+  cut = first_of (codes "cut") rows;
+  positional = first_of (codes "POSITIONAL") rows;
   waits = None;
   ended = false;
 }

@@ -1,5 +1,5 @@
 -- What the words of the command line mean.
-use Rattle.std.specs.Prelude.{ℕ, ◌==◌, ◌&&◌, ◌||◌, nat_le, Bool, true, false, not, List, [], ◌∷◌, codes, Option, Some, None, is_some}
+use Rattle.std.specs.Prelude.{ℕ, ◌^◌, ◌==◌, ◌&&◌, ◌||◌, nat_le, Bool, true, false, not, List, [], ◌∷◌, codes, Option, Some, None, is_some}
 use Rattle.std.specs.Prelude.{if◌then◌else◌, String, map, string_bytes, find}
 use Rattle.std.specs.List.{before_first, after_first, list_any}
 use Rattle.std.specs.Option.{option_map, option_and_then, option_map_or}
@@ -27,6 +27,8 @@ pub data Command : Type 0 where
   Retired : List ℕ → Command
   -- the trace of each stream of a run file, in frames: the name of the image
   Trace : List ℕ → Command
+  -- both ends tried on the run file of a number: the number, and how many bytes of its frames are read, where not all are
+  Selftest : ℕ → Option ℕ → Command
 
 -- ---- the commands and their options
 
@@ -36,6 +38,7 @@ name_of option.Raw = codes "raw"
 name_of option.Depth = codes "depth"
 name_of option.Vmid = codes "vmid"
 name_of option.Cid = codes "cid"
+name_of option.Cut = codes "cut"
 
 -- an option takes a value, and a flag none
 abbrev pub takes_value : CommandOption → Bool
@@ -43,16 +46,17 @@ takes_value option.Raw = false
 takes_value option.Depth = true
 takes_value option.Vmid = true
 takes_value option.Cid = true
+takes_value option.Cut = true
 
--- a command: its word, its options, and whether it has the positional IMAGE
+-- a command: its word, its options, and whether it has a positional: an IMAGE, or a number
 pub record CommandRow : Type 0 where
   pub word : List ℕ
   pub name : CommandName
   pub options : List CommandOption
-  pub has_image : Bool
+  pub has_positional : Bool
 
 abbrev pub row : List ℕ → CommandName → List CommandOption → Bool → CommandRow
-row word name options has_image = record { word = word; name = name; options = options; has_image = has_image }
+row word name options has_positional = record { word = word; name = name; options = options; has_positional = has_positional }
 
 -- the table of commands; no packet depends on the depth
 abbrev pub commands : List CommandRow
@@ -61,6 +65,7 @@ commands =
     ∷ row (codes "packets") name.Packets (option.Raw ∷ option.Vmid ∷ option.Cid ∷ []) false
     ∷ row (codes "retired") name.Retired [] true
     ∷ row (codes "trace") name.Trace [] true
+    ∷ row (codes "selftest") name.Selftest (option.Cut ∷ []) true
     ∷ []
 
 -- ---- a word
@@ -91,20 +96,22 @@ pub record Seen : Type 0 where
   pub depth : Option (List ℕ)
   pub vmid : Option (List ℕ)
   pub cid : Option (List ℕ)
-  pub image : Option (List ℕ)
+  pub cut : Option (List ℕ)
+  pub positional : Option (List ℕ)
   -- the option that takes the next word
   pub waits : Option CommandOption
   -- whether `--` stood
   pub ended : Bool
 
 abbrev pub nothing_seen : Seen
-nothing_seen = record { raw = false; depth = None; vmid = None; cid = None; image = None; waits = None; ended = false }
+nothing_seen = record { raw = false; depth = None; vmid = None; cid = None; cut = None; positional = None; waits = None; ended = false }
 
 abbrev pub is_seen : CommandOption → Seen → Bool
 is_seen option.Raw seen = seen.raw
 is_seen option.Depth seen = is_some seen.depth
 is_seen option.Vmid seen = is_some seen.vmid
 is_seen option.Cid seen = is_some seen.cid
+is_seen option.Cut seen = is_some seen.cut
 
 -- an option is seen, with its value, of which a flag has none
 abbrev pub with_value : CommandOption → List ℕ → Seen → Seen
@@ -112,10 +119,11 @@ with_value option.Raw value seen = record seen { raw = true; waits = None }
 with_value option.Depth value seen = record seen { depth = Some value; waits = None }
 with_value option.Vmid value seen = record seen { vmid = Some value; waits = None }
 with_value option.Cid value seen = record seen { cid = Some value; waits = None }
+with_value option.Cut value seen = record seen { cut = Some value; waits = None }
 
 -- the word is the positional, which stands once
-abbrev pub with_image : CommandRow → List ℕ → Seen → Option Seen
-with_image row word seen = if row.has_image && not (is_some seen.image) then Some (record seen { image = Some word }) else None
+abbrev pub with_positional : CommandRow → List ℕ → Seen → Option Seen
+with_positional row word seen = if row.has_positional && not (is_some seen.positional) then Some (record seen { positional = Some word }) else None
 
 -- an option stands once: with the value of its own word, or it takes the next word; a flag has no value
 abbrev pub with_option : CommandOption → Option (List ℕ) → Seen → Option Seen
@@ -138,11 +146,11 @@ with_dashed row word seen =
 abbrev pub with_word : CommandRow → List ℕ → Seen → Option Seen
 with_word row word seen =
     if not seen.ended && is_dashed word then (if is_some seen.waits then None else with_dashed row word seen)
-    else option_map_or (λ o. Some (with_value o word seen)) seen.waits (with_image row word seen)
+    else option_map_or (λ o. Some (with_value o word seen)) seen.waits (with_positional row word seen)
 
 -- nothing is missing: no option lacks its value, and the positional is there where the command has one
 abbrev pub is_whole : CommandRow → Seen → Bool
-is_whole row seen = not (is_some seen.waits) && (is_some seen.image || not row.has_image)
+is_whole row seen = not (is_some seen.waits) && (is_some seen.positional || not row.has_positional)
 
 -- what is seen of all the words
 abbrev pub seen_of : CommandRow → Seen → List (List ℕ) → Option Seen
@@ -170,11 +178,32 @@ sizes_in seen =
 abbrev pub layout_in : Seen → Layout
 layout_in seen = if seen.raw then Raw else Frames
 
+-- the number of a text, where it is no more than the most
+abbrev pub number_to : ℕ → List ℕ → Option ℕ
+number_to most text = option_and_then (λ n. if nat_le n most then Some n else None) (decimal_of text)
+
+-- the highest number that is tried
+abbrev pub most_number : ℕ
+most_number = 99999
+
+-- the most bytes that are read of frames
+abbrev pub most_cut : ℕ
+most_cut = 2 ^ 30
+
+-- how many bytes are read, where `--cut` stands: none where that is no such number
+abbrev pub cut_of : Option (List ℕ) → Option (Option ℕ)
+cut_of None = Some None
+cut_of (Some text) = option_map Some (number_to most_cut text)
+
+abbrev pub selftest_in : Seen → Option Command
+selftest_in seen = option_and_then (λ word. option_and_then (λ n. option_map (Selftest n) (cut_of seen.cut)) (number_to most_number word)) seen.positional
+
 abbrev pub command_in : CommandName → Seen → Option Command
-command_in name.Path seen = option_and_then (λ image. option_map (λ sizes. Path image sizes (layout_in seen)) (sizes_in seen)) seen.image
+command_in name.Path seen = option_and_then (λ image. option_map (λ sizes. Path image sizes (layout_in seen)) (sizes_in seen)) seen.positional
 command_in name.Packets seen = option_map (λ sizes. Packets sizes (layout_in seen)) (sizes_in seen)
-command_in name.Retired seen = option_map Retired seen.image
-command_in name.Trace seen = option_map Trace seen.image
+command_in name.Retired seen = option_map Retired seen.positional
+command_in name.Trace seen = option_map Trace seen.positional
+command_in name.Selftest seen = selftest_in seen
 
 -- The first word is a command, and the others are its options and its positional, in any order.
 abbrev pub meaning : List (List ℕ) → Option Command
@@ -188,3 +217,4 @@ image_of (Some (Path image sizes layout)) = Some image
 image_of (Some (Packets sizes layout)) = None
 image_of (Some (Retired image)) = Some image
 image_of (Some (Trace image)) = Some image
+image_of (Some (Selftest n cut)) = None

@@ -9,19 +9,20 @@ ghost use Rattle.trace_cmd.specs.Words.{meaning, texts};
 ghost use Rattle.path_text.specs.Writing.{Writes};
 ghost use Rattle.trace_cmd.specs.Answers.{Answers, AnswersSo, IsImageCall, IsPacketsCall, IsPathUnder, IsRetiredCall};
 ghost use Rattle.trace_cmd.specs.Answers.{IsRunFileCall, IsTraceCall, IsWriteFault, NoReadFailed, ReadsFirst, ReadsImage};
-ghost use Rattle.trace_cmd.specs.Answers.{call, image_line, usage_line};
+ghost use Rattle.trace_cmd.specs.Answers.{IsSelftestCall, call, usage_line};
 ghost use Rattle.trace_cmd.specs.Listed.{Listed};
 ghost use Rattle.trace_cmd.specs.Printing.{left_in, pairs_in};
 
+use crate::image_line::write_image_bad;
 use crate::input::print_input;
 use crate::packet_list::PacketStream;
 use crate::parser::command_of;
 use crate::retired::retire_input;
+use crate::selftest::test_number;
 use crate::status::Status;
 use crate::traced::trace_input;
 use crate::words::{Command, Layout};
 use etm_types::Settings;
-use path_text::Line;
 use program_image::{Image, ImageFault, ImageWhy};
 use std::alloc::Global;
 use stream_decoder::StreamDecoder;
@@ -30,18 +31,6 @@ use trace_io::{Failed, Sink, Source, write_all};
 
 /// The line that is printed where the words have no meaning.
 const USAGE: [u8; 47] = *b"usage: etm path|packets|trace|retired|selftest\n";
-
-/// The line of an image that is bad.
-fn write_image_bad<K: Sink>(line: u64, why: ImageWhy, out: &mut K) -> Result<(), Failed>
-    ensures { Writes (K.state out.old) (K.state out.new) result (image_line line why) }
-{
-    let mut text = Line::new();
-    text.text(b"image line ");
-    text.decimal(line);
-    text.text(b": ");
-    text.text(why.text().as_bytes());
-    text.write(out)
-}
 
 /// Takes the memory for the streams of an input, and prints what is asked of them. Without the memory nothing is read.
 fn print_streams<S: Stream, J: Source, K: Sink>(
@@ -217,6 +206,7 @@ fn answer_words<I: Source, J: Source, K: Sink>(
         ⊎ ReadsFirst (call (texts words.now) (I.state image.old) (I.state image.new) (J.state input.old) (J.state input.new)) }
     ensures words_first { meaning (texts words.now) ≡ None → (image.new ≡ image.old) × (input.new ≡ input.old) }
     ensures image_untouched { IsPacketsCall (texts words.now) → image.new ≡ image.old }
+    ensures both_untouched { IsSelftestCall (texts words.now) → (image.new ≡ image.old) × (input.new ≡ input.old) }
     ensures image_failed { KeepsFaults (I.state image.old) (I.state image.new) ⊎ (input.new ≡ input.old) }
     ensures image_first { (line : ℕ) (why : ImageWhy) → result ≡ Ok (Status.ImageBad line why) → input.new ≡ input.old }
     ensures memory { result ≡ Ok Status.NoMemory → (input.new ≡ input.old) ⊎ IsRunFileCall (texts words.now) }
@@ -243,6 +233,7 @@ fn answer_words<I: Source, J: Source, K: Sink>(
         }
         Command::Retired { .. } => answer_retired(alloc, image, input, out),
         Command::Trace { .. } => answer_trace(alloc, image, input, out),
+        Command::Selftest { number, cut } => test_number(alloc, *number, *cut, out),
     }
 }
 
@@ -250,8 +241,9 @@ fn answer_words<I: Source, J: Source, K: Sink>(
 /// each stream of an input, and `packets [--raw] [--vmid N] [--cid N]` its packets. The input is formatter frames
 /// of up to 111 streams, or with `--raw` one stream that is not framed. `retired IMAGE` reads a run file, and prints the
 /// retired path of each of its streams. `trace IMAGE` reads a run file, and writes the traces of its streams in frames, of
-/// which `path` prints those retired paths. The words behind the command may stand in any order, `--depth=N` is `--depth N`,
-/// and behind `--` each word is an IMAGE. `image` is what the word IMAGE names.
+/// which `path` prints those retired paths. `selftest [--cut K] N` makes image and run file from a number, and prints how many
+/// lines the paths in its frames have, or in the first K bytes of them. The words behind the command may stand in any order,
+/// `--depth=N` is `--depth N`, and behind `--` each word is a positional. `image` is what the word IMAGE names.
 ///
 /// Words are read with memory of their own: where it is wanting, nothing is touched and nothing printed, whatever they mean.
 /// Of paths and packets all memory is taken before the first byte of the input is read. That input is read by pieces of at
@@ -275,6 +267,7 @@ pub fn run<I: Source, J: Source, K: Sink>(
     // or for its packets.
     ensures words_first { meaning (texts words.now) ≡ None → (image.new ≡ image.old) × (input.new ≡ input.old) }
     ensures image_untouched { IsPacketsCall (texts words.now) → image.new ≡ image.old }
+    ensures both_untouched { IsSelftestCall (texts words.now) → (image.new ≡ image.old) × (input.new ≡ input.old) }
     ensures image_first { (line : ℕ) (why : ImageWhy) → result ≡ Status.ImageBad line why → input.new ≡ input.old }
     ensures image_failed { KeepsFaults (I.state image.old) (I.state image.new) ⊎ (input.new ≡ input.old) }
     ensures memory { result ≡ Status.NoMemory → (input.new ≡ input.old) ⊎ IsRunFileCall (texts words.now) }

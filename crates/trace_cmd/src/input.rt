@@ -12,7 +12,7 @@ use crate::status::Status;
 use trace_io::{Failed, Sink, Source};
 
 /// The most bytes of input.
-const MOST_INPUT: usize = 1 << 30;
+pub const MOST_INPUT: usize = 1 << 30;
 
 /// The most bytes that are taken at once.
 const MOST_AT_ONCE: usize = 4096;

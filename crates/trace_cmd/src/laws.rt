@@ -1,15 +1,16 @@
-//! What the definitions of a packet list and of the words' meaning are as a whole.
-ghost use Rattle.std.specs.Prelude.{◌≡◌, ◌<◌, ◌↔◌, ℕ, List, Bool, All, Some};
+//! What the definitions of answers, of a packet list and of the words' meaning are as a whole.
+ghost use Rattle.std.specs.Prelude.{◌≡◌, ◌<◌, ◌↔◌, ℕ, List, Bool, All, Option, Some};
 ghost use Rattle.bench_text.specs.Parts.{BenchParts, IsBench};
 ghost use Rattle.etm_types.specs.Settings.{Sizes, AreSettings};
 ghost use Rattle.program_image.specs.Part.{IsImage};
 ghost use Rattle.program_image.specs.declared.image.Image.{Image};
 ghost use Rattle.trace_cmd.specs.Answers.{Answers, Call};
-ghost use Rattle.trace_cmd.specs.CommandLines.{IsPathLine, IsPacketsLine, IsRetiredLine, IsTraceLine};
+ghost use Rattle.trace_cmd.specs.CommandLines.{IsPathLine, IsPacketsLine, IsRetiredLine, IsSelftestLine, IsTraceLine};
+ghost use Rattle.trace_cmd.specs.Complete.{FaultsAreDecided, NumbersAreDone, PacketsAreDone, PathsAreDone, RunFilesAreDone};
 ghost use Rattle.trace_cmd.specs.PacketList.{PacketEnds, PacketGains};
 ghost use Rattle.trace_cmd.specs.Traced.{AreAccepted, NoEventNoLine, TracesAreShown};
 ghost use Rattle.trace_cmd.specs.TracedCalls.{IsPathOfTrace, PrintsTraces};
-ghost use Rattle.trace_cmd.specs.Words.{Path, Packets, Retired, Trace, meaning};
+ghost use Rattle.trace_cmd.specs.Words.{Path, Packets, Retired, Selftest, Trace, meaning};
 ghost use Rattle.trace_cmd.specs.Woven.{OthersHaveNoByte, WovenAlone, WovenBytes, WovenWhole};
 ghost use Rattle.trace_cmd.specs.declared.status.Status.{Status};
 ghost use Rattle.trace_cmd.specs.declared.words.Layout.{Layout};
@@ -37,6 +38,7 @@ pub fn words_mean_what_they_spell()
         → (meaning words ≡ Some (Packets s layout)) ↔ IsPacketsLine words s layout }
     ensures retired { (words : List (List ℕ)) (image : List ℕ) → (meaning words ≡ Some (Retired image)) ↔ IsRetiredLine words image }
     ensures trace { (words : List (List ℕ)) (image : List ℕ) → (meaning words ≡ Some (Trace image)) ↔ IsTraceLine words image }
+    ensures selftest { (words : List (List ℕ)) (n : ℕ) (cut : Option ℕ) → (meaning words ≡ Some (Selftest n cut)) ↔ IsSelftestLine words n cut }
 {}
 
 /// However streams are woven, each comes out whole and in its own order, where their IDs are apart; and nothing else does.
@@ -59,4 +61,14 @@ pub fn traced_streams_show_their_retired_paths()
 pub fn path_prints_what_was_traced()
     ensures { (c : Call) (old new : IoState) (status : Status) (image : Image) (b : BenchParts) → IsBench b → AreAccepted image b
         → IsPathOfTrace c image b → Answers c old new status → PrintsTraces image b old new status }
+{}
+
+/// Where image and input are good and no call failed, the answer is the text that was asked for, or want of memory; words, image
+/// and input alone decide whether a trace has a fault.
+pub fn good_input_is_answered()
+    ensures run_files { RunFilesAreDone }
+    ensures numbers { NumbersAreDone }
+    ensures paths { PathsAreDone }
+    ensures packets { PacketsAreDone }
+    ensures decided { FaultsAreDecided }
 {}

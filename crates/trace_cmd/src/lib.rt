@@ -6,7 +6,8 @@
 //! with files, and tests call it with memory.
 //!
 //! `retired` reads a run file whole, tests all of it, and then prints its retired paths while its events run again.
-//! `trace` traces all of its streams, and then weaves their traces into frames.
+//! `trace` traces all of its streams, and then weaves their traces into frames. `selftest` does that of a run file of its own, and
+//! counts the lines of the paths in the frames.
 //!
 //! `path` and `packets` have one driver: what is asked for chooses the streams, the layout chooses what parts the input
 //! into them, and the input then goes through that by pieces, each printed and flushed before the next is read.
@@ -15,6 +16,7 @@
 mod bench_input;
 mod bench_line;
 mod command;
+mod image_line;
 mod input;
 mod laws;
 mod packet_list;
@@ -22,6 +24,7 @@ mod parser;
 mod printer;
 mod retired;
 mod retiring;
+mod selftest;
 mod status;
 mod traced;
 mod weaving;
@@ -29,8 +32,9 @@ mod words;
 
 pub use command::run;
 pub use laws::{
-    each_stream_is_woven_whole, packets_have_one_list, path_prints_what_was_traced,
-    traced_streams_show_their_retired_paths, words_mean_what_they_spell,
+    each_stream_is_woven_whole, good_input_is_answered, packets_have_one_list,
+    path_prints_what_was_traced, traced_streams_show_their_retired_paths,
+    words_mean_what_they_spell,
 };
 pub use status::Status;
 pub use words::image_name;

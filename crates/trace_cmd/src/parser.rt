@@ -4,8 +4,8 @@ ghost use Rattle.std.specs.Prelude.{◌≡◌, ◌↔◌, [], false, map, IfOk, 
 ghost use Rattle.std.specs.Option.{option_and_then, option_map};
 ghost use Rattle.clap.specs.Words.{app_of, fault_of, found_of, rows_of, rule_of, subcommand_of, subcommand_rows_of};
 ghost use Rattle.clap.specs.declared.builder.Command.TheViews.{out-Command as fields_of};
-ghost use Rattle.trace_cmd.specs.Said.{HasSettings, line_of, said, seen_by};
-ghost use Rattle.trace_cmd.specs.WordRules.{command_app, command_by, commands_app, etm, image_rule, is_true_text, rule_for};
+ghost use Rattle.trace_cmd.specs.Said.{IsInRange, line_of, said, seen_by};
+ghost use Rattle.trace_cmd.specs.WordRules.{command_app, command_by, commands_app, etm, is_true_text, positional_rule, rule_for};
 ghost use Rattle.trace_cmd.specs.WordRules.{seen_in, top_app};
 ghost use Rattle.trace_cmd.specs.Words.{meaning, texts};
 
@@ -29,11 +29,11 @@ fn option_arg<'a>(alloc: Global, option: CommandOption) -> Arg<'a>
 }
 
 /// The positional.
-fn image_arg<'a>(alloc: Global) -> Arg<'a>
-    ensures rule { rule_of result ≡ image_rule }
+fn positional_arg<'a>(alloc: Global) -> Arg<'a>
+    ensures rule { rule_of result ≡ positional_rule }
     ensures local { result.global ≡ false }
 {
-    Arg::new(alloc, "IMAGE")
+    Arg::new(alloc, "POSITIONAL")
         .required(true)
         .action(ArgAction::Set)
 }
@@ -47,8 +47,8 @@ fn command_for<'a>(alloc: Global, line: &CommandLine) -> Result<clap::Command<'a
     for option in line.options {
         command = command.arg(option_arg(alloc, *option))?;
     }
-    if line.has_image {
-        command = command.arg(image_arg(alloc))?;
+    if line.has_positional {
+        command = command.arg(positional_arg(alloc))?;
     }
     Ok(command)
 }
@@ -120,7 +120,8 @@ fn seen_in<'a>(matches: &ArgMatches<'a>) -> Seen<'a>
         depth: matches.get_str("depth"),
         vmid: matches.get_str("vmid"),
         cid: matches.get_str("cid"),
-        image: matches.get_str("IMAGE"),
+        cut: matches.get_str("cut"),
+        positional: matches.get_str("POSITIONAL"),
         waits: None,
         ended: false,
     }
@@ -129,7 +130,7 @@ fn seen_in<'a>(matches: &ArgMatches<'a>) -> Seen<'a>
 /// The command of matches, where their numbers are in range.
 fn command_in<'a>(matches: &ArgMatches<'a>) -> Option<Command<'a>>
     ensures value { option_map said result ≡ option_and_then command_by (subcommand_rows_of matches.now) }
-    ensures within { IfSome result HasSettings }
+    ensures within { IfSome result IsInRange }
 {
     let (word, found) = matches.subcommand()?;
     let line = line_of(word)?;
@@ -139,7 +140,7 @@ fn command_in<'a>(matches: &ArgMatches<'a>) -> Option<Command<'a>>
 /// The command that the words mean, where they mean one.
 pub fn command_of<'a>(alloc: Global, words: &'a [String]) -> Result<Option<Command<'a>>, AllocError>
     ensures value { IfOk result (λ r. option_map said r ≡ meaning (texts words.entry.now)) }
-    ensures within { IfOk result (λ r. IfSome r HasSettings) }
+    ensures within { IfOk result (λ r. IfSome r IsInRange) }
 {
     let Some(matches) = matches_of(alloc, words)? else {
         return Ok(None);

@@ -117,7 +117,7 @@ fn traced_stream(alloc: Global, image: &Image, bench: &Bench, s: usize) -> Resul
 }
 
 /// The traces of all streams, in the order of their declaration.
-fn traced_streams(alloc: Global, image: &Image, bench: &Bench) -> Result<Vec<Trace>, Untraced>
+pub fn traced_streams(alloc: Global, image: &Image, bench: &Bench) -> Result<Vec<Trace>, Untraced>
     requires { IsBench bench.now }
     ensures traces { IfOk result (λ made. (all_left made.items ≡ traces image.now bench.now)
         × (refusal_among image.now bench.now.settings.depth bench.now.streams ≡ None)) }

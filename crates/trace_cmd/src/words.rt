@@ -2,12 +2,12 @@
 ghost use Rattle.std.specs.Prelude.{◌≡◌, IfSome, find, map};
 ghost use Rattle.std.specs.Option.{option_map};
 ghost use Rattle.std.specs.Str.{bytes_eq};
-ghost use Rattle.trace_cmd.specs.Words.{behind_dash, commands, command_in, image_of, is_dashed, is_seen, is_whole, layout_in};
-ghost use Rattle.trace_cmd.specs.Words.{meaning, name_and_value, name_of, nothing_seen, number_of, seen_of, sizes_in, sizes_of};
-ghost use Rattle.trace_cmd.specs.Words.{takes_value, texts, with_dashed, with_image, with_named, with_option, with_value};
-ghost use Rattle.trace_cmd.specs.Words.{with_word};
+ghost use Rattle.trace_cmd.specs.Words.{behind_dash, commands, command_in, cut_of, image_of, is_dashed, is_seen, is_whole, layout_in};
+ghost use Rattle.trace_cmd.specs.Words.{meaning, name_and_value, name_of, nothing_seen, number_of, number_to, seen_of, selftest_in};
+ghost use Rattle.trace_cmd.specs.Words.{sizes_in, sizes_of, takes_value, texts, with_dashed, with_named, with_option, with_positional};
+ghost use Rattle.trace_cmd.specs.Words.{with_value, with_word};
 ghost use Rattle.etm_types.specs.Settings.{AreSettings};
-ghost use Rattle.trace_cmd.specs.Said.{HasSettings, line_of, said, seen_by};
+ghost use Rattle.trace_cmd.specs.Said.{IsInRange, line_of, said, seen_by};
 
 use etm_types::Settings;
 use program_image::text::decimal;
@@ -20,6 +20,12 @@ const VMID_BYTES: u64 = 1;
 
 /// The size of a context ID in bytes, where no word gives one.
 const CID_BYTES: u64 = 4;
+
+/// The highest number of which both ends are tried.
+const MOST_NUMBER: u32 = 99_999;
+
+/// The most bytes that are read of frames.
+const MOST_CUT: u32 = 1 << 30;
 
 /// How the input is laid out.
 #[derive(Clone, Copy, Debug, PartialEq, Eq)]
@@ -52,6 +58,11 @@ pub enum Command<'a> {
     Trace {
         image: &'a str,
     },
+    /// Both ends, tried on the run file that is made from a number. Of its frames so many bytes are read, or all.
+    Selftest {
+        number: u32,
+        cut: Option<u32>,
+    },
 }
 
 /// The commands.
@@ -61,6 +72,7 @@ pub enum CommandName {
     Packets,
     Retired,
     Trace,
+    Selftest,
 }
 
 /// The options of the commands. `--raw` is a flag, and the others take a value.
@@ -70,6 +82,7 @@ pub enum CommandOption {
     Depth,
     Vmid,
     Cid,
+    Cut,
 }
 
 impl CommandOption {
@@ -82,6 +95,7 @@ impl CommandOption {
             CommandOption::Depth => "depth",
             CommandOption::Vmid => "vmid",
             CommandOption::Cid => "cid",
+            CommandOption::Cut => "cut",
         }
     }
 
@@ -93,18 +107,18 @@ impl CommandOption {
     }
 }
 
-/// A command, with its options, and whether it has the positional IMAGE.
+/// A command, with its options, and whether it has a positional: an IMAGE, or a number.
 #[derive(Clone, Copy, Debug)]
 pub struct CommandLine {
     pub word: &'static str,
     pub name: CommandName,
     pub options: &'static [CommandOption],
-    pub has_image: bool,
+    pub has_positional: bool,
 }
 
 /// The commands: `path [--raw] [--depth N] [--vmid N] [--cid N] IMAGE`, `packets [--raw] [--vmid N] [--cid N]`,
-/// `retired IMAGE` and `trace IMAGE`.
-pub const COMMANDS: [CommandLine; 4] = [
+/// `retired IMAGE`, `trace IMAGE` and `selftest [--cut K] N`.
+pub const COMMANDS: [CommandLine; 5] = [
     CommandLine {
         word: "path",
         name: CommandName::Path,
@@ -114,25 +128,31 @@ pub const COMMANDS: [CommandLine; 4] = [
             CommandOption::Vmid,
             CommandOption::Cid,
         ],
-        has_image: true,
+        has_positional: true,
     },
     CommandLine {
         word: "packets",
         name: CommandName::Packets,
         options: &[CommandOption::Raw, CommandOption::Vmid, CommandOption::Cid],
-        has_image: false,
+        has_positional: false,
     },
     CommandLine {
         word: "retired",
         name: CommandName::Retired,
         options: &[],
-        has_image: true,
+        has_positional: true,
     },
     CommandLine {
         word: "trace",
         name: CommandName::Trace,
         options: &[],
-        has_image: true,
+        has_positional: true,
+    },
+    CommandLine {
+        word: "selftest",
+        name: CommandName::Selftest,
+        options: &[CommandOption::Cut],
+        has_positional: true,
     },
 ];
 
@@ -161,7 +181,8 @@ pub struct Seen<'a> {
     pub depth: Option<&'a str>,
     pub vmid: Option<&'a str>,
     pub cid: Option<&'a str>,
-    pub image: Option<&'a str>,
+    pub cut: Option<&'a str>,
+    pub positional: Option<&'a str>,
     /// The option that takes the next word.
     pub waits: Option<CommandOption>,
     /// Whether `--` stood.
@@ -205,7 +226,8 @@ impl<'a> Seen<'a> {
             depth: None,
             vmid: None,
             cid: None,
-            image: None,
+            cut: None,
+            positional: None,
             waits: None,
             ended: false,
         }
@@ -220,6 +242,7 @@ impl<'a> Seen<'a> {
             CommandOption::Depth => self.depth.is_some(),
             CommandOption::Vmid => self.vmid.is_some(),
             CommandOption::Cid => self.cid.is_some(),
+            CommandOption::Cut => self.cut.is_some(),
         }
     }
 
@@ -233,16 +256,17 @@ impl<'a> Seen<'a> {
             CommandOption::Depth => self.depth = Some(value),
             CommandOption::Vmid => self.vmid = Some(value),
             CommandOption::Cid => self.cid = Some(value),
+            CommandOption::Cut => self.cut = Some(value),
         }
         self
     }
 
     /// The positional, where the command has one and it did not stand.
-    fn with_image(mut self, line: &CommandLine, word: &'a str) -> Option<Self>
-        ensures { option_map seen_by result ≡ with_image (line_of line.now) word.entry.now (seen_by self.entry) }
+    fn with_positional(mut self, line: &CommandLine, word: &'a str) -> Option<Self>
+        ensures { option_map seen_by result ≡ with_positional (line_of line.now) word.entry.now (seen_by self.entry) }
     {
-        if line.has_image && self.image.is_none() {
-            self.image = Some(word);
+        if line.has_positional && self.positional.is_none() {
+            self.positional = Some(word);
             Some(self)
         } else {
             None
@@ -294,7 +318,7 @@ impl<'a> Seen<'a> {
             Some(_) if !self.ended && is_dashed(word) => None,
             None if !self.ended && is_dashed(word) => self.with_dashed(line, word),
             Some(option) => Some(self.with_value(option, word)),
-            None => self.with_image(line, word),
+            None => self.with_positional(line, word),
         }
     }
 
@@ -302,7 +326,7 @@ impl<'a> Seen<'a> {
     fn is_whole(&self, line: &CommandLine) -> bool
         ensures { result ≡ is_whole (line_of line.now) (seen_by self.now) }
     {
-        self.waits.is_none() && (self.image.is_some() || !line.has_image)
+        self.waits.is_none() && (self.positional.is_some() || !line.has_positional)
     }
 
     /// The settings, where the values are numbers in range.
@@ -327,14 +351,34 @@ impl<'a> Seen<'a> {
         }
     }
 
+    /// How many bytes of frames are read, where `--cut` stands. There is no answer where its value is no such number.
+    fn cut(&self) -> Option<Option<u32>>
+        ensures { result ≡ cut_of (seen_by self.now).cut }
+    {
+        match self.cut {
+            Some(text) => number_to(text, MOST_CUT).map(Some),
+            None => Some(None),
+        }
+    }
+
+    /// The command `selftest`.
+    fn selftest(&self) -> Option<Command<'a>>
+        ensures value { option_map said result ≡ selftest_in (seen_by self.now) }
+        ensures within { IfSome result IsInRange }
+    {
+        let number = number_to(self.positional?, MOST_NUMBER)?;
+        let cut = self.cut()?;
+        Some(Command::Selftest { number, cut })
+    }
+
     /// The command of this name.
     pub fn command(&self, name: CommandName) -> Option<Command<'a>>
         ensures value { option_map said result ≡ command_in name (seen_by self.now) }
-        ensures within { IfSome result HasSettings }
+        ensures within { IfSome result IsInRange }
     {
         match name {
             CommandName::Path => {
-                let image = self.image?;
+                let image = self.positional?;
                 let settings = self.settings()?;
                 let layout = self.layout();
                 Some(Command::Path {
@@ -349,13 +393,14 @@ impl<'a> Seen<'a> {
                 Some(Command::Packets { settings, layout })
             }
             CommandName::Retired => {
-                let image = self.image?;
+                let image = self.positional?;
                 Some(Command::Retired { image })
             }
             CommandName::Trace => {
-                let image = self.image?;
+                let image = self.positional?;
                 Some(Command::Trace { image })
             }
+            CommandName::Selftest => self.selftest(),
         }
     }
 }
@@ -375,6 +420,15 @@ fn number_of(value: Option<&str>, default: u64) -> Option<u64>
         Some(text) => decimal(text.as_bytes()),
         None => Some(default),
     }
+}
+
+/// The number of a text, where it is no more than `most`.
+fn number_to(text: &str, most: u32) -> Option<u32>
+    ensures { result ≡ number_to most text.now }
+{
+    let number = decimal(text.as_bytes())?;
+    let number = u32::try_from(number).ok()?;
+    if number <= most { Some(number) } else { None }
 }
 
 /// The settings of these numbers, where they are in range.
@@ -406,7 +460,7 @@ fn seen_of<'a>(line: &CommandLine, words: &'a [String]) -> Option<Seen<'a>>
 /// The command that the words mean, where they mean one. It takes no memory.
 fn read_command(words: &[String]) -> Option<Command<'_>>
     ensures value { option_map said result ≡ meaning (texts words.now) }
-    ensures within { IfSome result HasSettings }
+    ensures within { IfSome result IsInRange }
 {
     let (word, behind) = words.split_first()?;
     let line = line_of(word.as_str())?;
@@ -422,7 +476,7 @@ pub fn image_name(words: &[String]) -> Option<&str>
     match read_command(words) {
         Some(Command::Path { image, .. } | Command::Retired { image } | Command::Trace { image }) =>
             Some(image),
-        Some(Command::Packets { .. }) => None,
+        Some(Command::Packets { .. } | Command::Selftest { .. }) => None,
         None => None,
     }
 }

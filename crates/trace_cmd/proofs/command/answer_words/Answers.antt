@@ -1,11 +1,11 @@
-use Rattle.std.proofs.Common.{Some, inl, inr, refl, sym, ap, ◌∙◌}
+use Rattle.std.proofs.Common.{Option, Some, IfSome, inl, inr, refl, sym, ap, subst, ◌∙◌}
 use Rattle.std.specs.Option.{option_map}
 use Rattle.trace_cmd.specs.Answers.{call}
 use Rattle.trace_cmd.specs.Printing.{PacketsOf}
-use Rattle.trace_cmd.specs.Said.{said}
+use Rattle.trace_cmd.specs.Said.{IsInRange, said}
 use Rattle.trace_cmd.specs.Words.{texts}
 use Rattle.trace_cmd.specs.declared.words.Command.{Command as Told}
-use Rattle.trace_cmd.proofs.AnswerLemmas.{so_by, so_of_usage, so_of_words}
+use Rattle.trace_cmd.proofs.AnswerLemmas.{so_by, so_of_number, so_of_usage, so_of_words}
 use Rattle.trace_cmd.proofs.command.answer_words.Goals as goal
 
 pub returns-in-Path-clause-answer : goal.returns-in-Path-clause-answer
@@ -19,7 +19,7 @@ returns-in-Packets-clause-answer g c =
     let image = g.I.Source.state in let input = g.J.Source.state in let out = g.K.Sink.state in
     let asked = call (texts c.args.words.now) (image c.args.image.now) (image c.args.image.now) (input c.args.input.now) (input c.print_streams.new.input) in
     so_by asked (PacketsOf c.in-Packets.settings c.in-Packets.layout) means (out c.args.out.now) (out c.print_streams.new.out) c.print_streams.result
-    (inr (c.in-Packets.settings, c.in-Packets.layout, means)) c.print_streams.ensures.cause
+    (inr (inl (c.in-Packets.settings, c.in-Packets.layout, means))) c.print_streams.ensures.cause
     (λ is. let kept = c.print_streams.ensures.memory is in (ap input kept.0, ap out kept.1)) c.print_streams.ensures.listed
 
 pub returns-in-Retired-clause-answer : goal.returns-in-Retired-clause-answer
@@ -41,6 +41,18 @@ pub returns-in-Trace-clause-memory : goal.returns-in-Trace-clause-memory
 returns-in-Trace-clause-memory g c is =
     let means = sym c.in-Ok-Some.ensures.value ∙ ap (option_map said) (c.in-Ok-Some.field-0-is ∙ ap (λ (command : Told). Some command) c.in-Trace.is) in
     inr (inr (c.in-Trace.image.now, means))
+
+pub test_number-requires : goal.test_number-requires
+test_number-requires g c =
+    subst IsInRange c.in-Selftest.is (subst (λ (o : Option Told). IfSome o IsInRange) c.in-Ok-Some.field-0-is c.in-Ok-Some.ensures.within)
+
+pub returns-in-Selftest-clause-answer : goal.returns-in-Selftest-clause-answer
+returns-in-Selftest-clause-answer g c =
+    let means = sym c.in-Ok-Some.ensures.value ∙ ap (option_map said) (c.in-Ok-Some.field-0-is ∙ ap (λ (command : Told). Some command) c.in-Selftest.is) in
+    let image = g.I.Source.state in let input = g.J.Source.state in let out = g.K.Sink.state in
+    let asked = call (texts c.args.words.now) (image c.args.image.now) (image c.args.image.now) (input c.args.input.now) (input c.args.input.now) in
+    so_of_number asked c.in-Selftest.number c.in-Selftest.cut means refl (out c.args.out.now) (out c.test_number.new.out) c.test_number.result
+    c.test_number.ensures.answer c.test_number.ensures.cause
 
 pub returns-in-Ok-None-clause-answer : goal.returns-in-Ok-None-clause-answer
 returns-in-Ok-None-clause-answer g c =

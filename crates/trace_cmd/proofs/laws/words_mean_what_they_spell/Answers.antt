@@ -1,4 +1,5 @@
-use Rattle.trace_cmd.proofs.CommandLines.{path_line, packets_line, retired_line, trace_line, path_said, packets_said, retired_said, trace_said}
+use Rattle.trace_cmd.proofs.CommandLines.{path_line, packets_line, retired_line, selftest_line, trace_line}
+use Rattle.trace_cmd.proofs.CommandLines.{path_said, packets_said, retired_said, selftest_said, trace_said}
 use Rattle.trace_cmd.proofs.laws.words_mean_what_they_spell.Goals as goal
 
 pub returns-clause-path : goal.returns-clause-path
@@ -12,3 +13,6 @@ returns-clause-retired c = λ words image. (retired_line words image, retired_sa
 
 pub returns-clause-trace : goal.returns-clause-trace
 returns-clause-trace c = λ words image. (trace_line words image, trace_said words image)
+
+pub returns-clause-selftest : goal.returns-clause-selftest
+returns-clause-selftest c = λ words n cut. (selftest_line words n cut, selftest_said words n cut)
