@@ -2,9 +2,13 @@
 #![tactic(auto)]
 
 #[cfg(test)]
+mod numbers;
+#[cfg(test)]
 mod packets;
 #[cfg(test)]
 mod pieces;
+#[cfg(test)]
+mod refusals;
 #[cfg(test)]
 mod run_files;
 #[cfg(test)]

@@ -1,0 +1,203 @@
+//! What stands where a read, a write or a flush is refused: tables over worked inputs, in which each call fails in turn.
+use crate::tests::words;
+use std::alloc::{AllocError, Global};
+use std::io;
+use std::io::{ErrorKind, Write};
+use std::process::Abort;
+use std::test::Fail;
+use trace_cmd::{Status, run};
+use trace_io::{MemSink, MemSource, NoSource, SafeSource, Sink, Source, StdSink, read_all};
+
+/// NOP at 1000; B.EQ to 100c; NOP; B to 1000.
+const IMAGE: &[u8] = b"@1000\n1f2003d5 40000054 1f2003d5 fdffff17\n";
+
+const PATH: &[&str] = &["path", "--depth", "0", "image"];
+
+/// Two streams: that of ID 01 ends in zeros that are no A-sync, and that of ID 02 has a path, all of which comes with the last frame.
+const FRAMES: &[u8] = &[
+    0x03, 0x00, 0x00, 0x00, 0x00, 0x00, 0x00, 0x00, 0x00, 0x00, 0x00, 0x00, 0x80, 0x01, 0x00, 0x80,
+    0x00, 0x00, 0x00, 0x00, 0x00, 0x00, 0x00, 0x00, 0x00, 0x00, 0x00, 0x00, 0x05, 0x00, 0x00, 0x40,
+    0x00, 0x00, 0x00, 0x00, 0x00, 0x00, 0x00, 0x00, 0x00, 0x00, 0x80, 0x01, 0x00, 0x00, 0x04, 0x40,
+    0x84, 0x00, 0x08, 0x00, 0x00, 0x00, 0x00, 0x00, 0x00, 0x31, 0xf6, 0xf7, 0x01, 0xf6, 0x00, 0x61,
+];
+
+/// The lines of their paths, one by one.
+const LINES: &[&[u8]] = &[
+    b"02 on\n",
+    b"02 ctx el1 ns 0 0\n",
+    b"02 1000\n",
+    b"02 1004\n",
+    b"02 100c\n",
+    b"02 1000\n",
+    b"02 1004\n",
+    b"01 fault 15 broken-sync\n",
+    b"02 end\n",
+];
+
+/// Those that come with the bytes, before the ends.
+const BODY: &[u8] = b"02 on\n02 ctx el1 ns 0 0\n02 1000\n02 1004\n02 100c\n02 1000\n02 1004\n";
+
+/// The branch at 1004 is predicted to be taken, which is taken back.
+const RUN: &[u8] =
+    b"etm 1\ndepth 4\nstream 01\non 1000 el1 ns 0 0\nstep\ntaken\ntaken\nstep\nnot\ncancel 3\nflip\nstep\ntaken\nretire 4\n";
+
+/// The lines of its retired path, one by one.
+const RETIRED: &[&[u8]] = &[
+    b"01 on\n",
+    b"01 ctx el1 ns 0 0\n",
+    b"01 1000\n",
+    b"01 1004\n",
+    b"01 1008\n",
+    b"01 100c\n",
+];
+
+/// The frames of its trace, one by one.
+const TRACED: &[&[u8]] = &[
+    &[
+        0x03, 0x00, 0x00, 0x00, 0x00, 0x00, 0x00, 0x00, 0x00, 0x00, 0x00, 0x00, 0x80, 0x01, 0x00,
+        0x80,
+    ],
+    &[
+        0x00, 0x04, 0x84, 0x00, 0x08, 0x00, 0x00, 0x00, 0x00, 0x00, 0x00, 0x31, 0xda, 0x2d, 0x02,
+        0x02,
+    ],
+];
+
+/// A writer that takes everything, and whose flush fails.
+#[derive(Drop)]
+struct Unflushed;
+
+impl Write for Unflushed {
+    fn write(&mut self, buf: &[u8]) -> io::Result<usize> {
+        Ok(buf.len())
+    }
+
+    fn flush(&mut self) -> io::Result<()> {
+        Err(io::Error::from(ErrorKind::Interrupted))
+    }
+}
+
+/// The answer of a command over the image.
+fn answer<J: Source, K: Sink>(
+    alloc: Global,
+    command: &[&str],
+    input: &mut J,
+    out: &mut K,
+) -> Result<Status, Fail> {
+    let mut image = SafeSource::new(IMAGE.to_vec(alloc)?, 4096);
+    Ok(run(alloc, &words(alloc, command)?, &mut image, input, out))
+}
+
+/// A script by which calls go as these went, and then one fails.
+fn failing_behind(alloc: Global, calls: &[bool]) -> Result<Vec<bool>, AllocError> {
+    let mut script = calls.to_vec(alloc)?;
+    script.push(true)?;
+    Ok(script)
+}
+
+/// Each write of a command fails in turn, and what was written before it stands. Behind the last of these pieces one more is to
+/// fail, which is never made.
+fn each_write_fails(
+    rt: &impl Abort,
+    alloc: Global,
+    command: &[&str],
+    input: &[u8],
+    pieces: &[&[u8]],
+    last: Status,
+) -> Result<(), Fail> {
+    let mut calls: Vec<bool> = Vec::new(alloc);
+    let mut written: Vec<u8> = Vec::new(alloc);
+    for piece in pieces {
+        let mut sink = MemSink::new(alloc, failing_behind(alloc, &calls)?);
+        let mut source = SafeSource::new(input.to_vec(alloc)?, 4096);
+        let status = answer(alloc, command, &mut source, &mut sink)?;
+        assert_eq!(rt; status, Status::WriteFault);
+        assert_eq!(rt; sink.written(), written.as_slice());
+        calls.push(false)?;
+        written.extend_from_slice(piece)?;
+    }
+    let mut sink = MemSink::new(alloc, failing_behind(alloc, &calls)?);
+    let mut source = SafeSource::new(input.to_vec(alloc)?, 4096);
+    assert_eq!(rt; answer(alloc, command, &mut source, &mut sink)?, last);
+    assert_eq!(rt; sink.written(), written.as_slice());
+    Ok(())
+}
+
+#[test]
+fn each_line_of_a_path_is_refused_in_turn(rt: HostRuntime) -> Result<(), Fail> {
+    each_write_fails(&rt, rt.alloc(), PATH, FRAMES, LINES, Status::Faulted)
+}
+
+#[test]
+fn each_line_of_a_retired_path_is_refused_in_turn(rt: HostRuntime) -> Result<(), Fail> {
+    let command = &["retired", "image"];
+    each_write_fails(&rt, rt.alloc(), command, RUN, RETIRED, Status::Done)
+}
+
+#[test]
+fn each_frame_of_a_trace_is_refused_in_turn(rt: HostRuntime) -> Result<(), Fail> {
+    let command = &["trace", "image"];
+    each_write_fails(&rt, rt.alloc(), command, RUN, TRACED, Status::Done)
+}
+
+#[test]
+fn each_read_of_a_byte_is_refused_in_turn(rt: HostRuntime) -> Result<(), Fail> {
+    let alloc = rt.alloc();
+    let mut calls: Vec<bool> = Vec::new(alloc);
+    for _ in FRAMES {
+        let mut sink = MemSink::new(alloc, Vec::new(alloc));
+        let script = failing_behind(alloc, &calls)?;
+        let mut source = MemSource::new(FRAMES.to_vec(alloc)?, 1, script);
+        let status = answer(alloc, PATH, &mut source, &mut sink)?;
+        assert_eq!(rt; status, Status::ReadFault);
+        assert!(rt; sink.written().is_empty());
+        calls.push(false)?;
+    }
+    // all bytes were read, and the read fails that would find their end
+    let mut sink = MemSink::new(alloc, Vec::new(alloc));
+    let script = failing_behind(alloc, &calls)?;
+    let mut source = MemSource::new(FRAMES.to_vec(alloc)?, 1, script);
+    let status = answer(alloc, PATH, &mut source, &mut sink)?;
+    assert_eq!(rt; status, Status::ReadFault);
+    assert_eq!(rt; sink.written(), BODY);
+    Ok(())
+}
+
+#[test]
+fn an_image_that_cannot_be_read_leaves_the_input(rt: HostRuntime) -> Result<(), Fail> {
+    let alloc = rt.alloc();
+    let mut source = SafeSource::new(FRAMES.to_vec(alloc)?, 4096);
+    let mut sink = MemSink::new(alloc, Vec::new(alloc));
+    let status = run(
+        alloc,
+        &words(alloc, PATH)?,
+        &mut NoSource::new(),
+        &mut source,
+        &mut sink,
+    );
+    assert_eq!(rt; status, Status::ReadFault);
+    assert!(rt; sink.written().is_empty());
+    match read_all(alloc, &mut source, 64) {
+        Ok(left) => assert_eq!(rt; left.as_slice(), FRAMES),
+        Err(_) => assert!(rt; false),
+    }
+    Ok(())
+}
+
+#[test]
+fn a_flush_that_is_refused_is_told(rt: HostRuntime) -> Result<(), Fail> {
+    let alloc = rt.alloc();
+    for (command, input) in [
+        (PATH, FRAMES),
+        (&["packets"], FRAMES),
+        (&["retired", "image"], RUN),
+        (&["trace", "image"], RUN),
+        (&["walk"], FRAMES),
+    ] {
+        let mut source = SafeSource::new(input.to_vec(alloc)?, 4096);
+        let mut sink = StdSink::new(Unflushed);
+        let status = answer(alloc, command, &mut source, &mut sink)?;
+        assert_eq!(rt; status, Status::WriteFault);
+    }
+    Ok(())
+}
