@@ -31,7 +31,8 @@ impl Model for Ledger {
 }
 
 impl Ledger {
-    ghost use Rattle.element_queue.specs.Counting.{add, no_counts, sum_of};
+    ghost use Rattle.std.specs.Prelude.{ℕ, ◌+◌};
+    ghost use Rattle.element_queue.specs.Counting.{Balances, add, no_counts, sum_of};
 
     /// Counts nothing yet.
     pub fn new() -> Ledger
@@ -56,7 +57,8 @@ impl Ledger {
 
     /// Adds the counts of another ledger, which ends.
     pub fn absorb(&mut self, other: Ledger)
-        ensures { self.new ≡ sum_of self.old other }
+        ensures value { self.new ≡ sum_of self.old other }
+        ensures balanced { (m n : ℕ) → Balances self.old m → Balances other n → Balances self.new (m + n) }
     {
         let Ledger { counts } = other;
         self.counts.made = self.counts.made.wrapping_add(counts.made);

@@ -146,7 +146,8 @@ impl Queue {
     /// given.
     #[inline(always)]
     pub fn oldest_atom(&self) -> Option<bool>
-        ensures { IfSome result (λ atom. take 1 self.now.held ≡ Seen (bare_atom atom) ∷ []) }
+        ensures value { IfSome result (λ atom. take 1 self.now.held ≡ Seen (bare_atom atom) ∷ []) }
+        ensures some { IsSome result ↔ ((atom : Bool) × (take 1 self.now.held ≡ Seen (bare_atom atom) ∷ [])) }
     {
         if self.unseen > 0 {
             return None;
@@ -337,7 +338,8 @@ fn newest_is_atom(ring: &SpendRing<Uncommitted>) -> bool
 /// The atom of an entry before which nothing was given, where it is one.
 #[inline(always)]
 fn bare_atom(entry: &Entry) -> Option<bool>
-    ensures { IfSome result (λ atom. entry.now ≡ bare_atom atom) }
+    ensures value { IfSome result (λ atom. entry.now ≡ bare_atom atom) }
+    ensures some { (atom : Bool) → entry.now ≡ bare_atom atom → IsSome result }
 {
     match *entry {
         Entry {

@@ -1,5 +1,5 @@
 //! The elements of one packet.
-ghost use Rattle.std.specs.Prelude.{◌≡◌, ◌≤◌, ◌+◌, ◌∷◌, ◌++◌, [], length, replicate, slice_get, All, IfSome, Some};
+ghost use Rattle.std.specs.Prelude.{◌≡◌, ◌≤◌, ◌+◌, ◌∷◌, ◌++◌, ◌↔◌, [], ℕ, length, replicate, slice_get, All, IfSome, IsSome, Some};
 ghost use Rattle.etm_types.specs.declared.element.Elem.TheVariants as elem;
 ghost use Rattle.etm_types.specs.declared.element.P0.TheVariants.{Atom};
 ghost use Rattle.etm_types.specs.Atoms.{atoms_in, most_atoms};
@@ -100,6 +100,7 @@ impl Elems {
     #[inline(always)]
     pub fn commit(&self, i: usize) -> Option<u32>
         ensures value { IfSome result (λ n. slice_get self.now i ≡ Some (elem.Commit n)) }
+        ensures some { IsSome result ↔ ((i ≡ 0) × ((n : ℕ) × (self.now ≡ elem.Commit n ∷ []))) }
     {
         if i != 0 || self.atoms.count != 0 {
             return None;

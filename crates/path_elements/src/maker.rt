@@ -1,5 +1,5 @@
 //! From packets to elements, one packet after the other.
-ghost use Rattle.std.specs.Prelude.{◌≡◌, ◌≤◌, ◌<◌, ◌∷◌, ◌++◌, [], false, true, Some, None, IfOk, IfSome, OnErr, if◌then◌else◌};
+ghost use Rattle.std.specs.Prelude.{◌≡◌, ◌≤◌, ◌<◌, ◌∷◌, ◌++◌, ◌↔◌, [], false, true, Some, None, IfOk, IfSome, IsSome, OnErr, if◌then◌else◌};
 ghost use Rattle.path_elements.specs.Elements.{untold, elements_of, told_after, is_misplaced, may_follow_exception, tells};
 ghost use Rattle.path_elements.specs.Held.{AreElems, CanBeTaken, IsTold, elem_of, numbered};
 ghost use Rattle.etm_types.specs.Atoms.{most_atoms};
@@ -81,6 +81,7 @@ impl ElemMaker {
         requires { run.now.count ≤ most_atoms }
         ensures some { IfSome result (λ elems. (is_misplaced self.now (packet.Atoms run.now) ≡ false)
             × (elems ≡ elements_of self.now (packet.Atoms run.now)) × (told_after self.now (packet.Atoms run.now) ≡ self.now)) }
+        ensures counts { IsSome result ↔ ((self.now.informed ≡ true) × (self.now.awaiting ≡ None)) }
         ensures within { IfSome result (λ elems. AreElems elems) }
     {
         if self.informed && self.awaiting.is_none() {
@@ -96,6 +97,7 @@ impl ElemMaker {
     pub fn commit_of(&self, n: u32) -> Option<Elems>
         ensures some { IfSome result (λ elems. (is_misplaced self.now (packet.Commit n) ≡ false)
             × (elems ≡ elements_of self.now (packet.Commit n)) × (told_after self.now (packet.Commit n) ≡ self.now)) }
+        ensures counts { IsSome result ↔ ((self.now.informed ≡ true) × (self.now.awaiting ≡ None)) }
         ensures within { IfSome result (λ elems. AreElems elems) }
     {
         if self.informed && self.awaiting.is_none() {

@@ -117,6 +117,35 @@ fn a_line_is_written_by_one_call(rt: HostRuntime) -> Result<(), Fail> {
 }
 
 #[test]
+fn lines_of_no_instruction_are_one_write_each(rt: HostRuntime) -> Result<(), Fail> {
+    let alloc = rt.alloc();
+    let id = Id::new(1).ok_or("it is an ID")?;
+    let script = vec![in alloc; false, false, false, false, false, false, true]?;
+    let mut sink = MemSink::new(alloc, script);
+    let walked = Walked {
+        unknown: true,
+        exc: Some(ExcMark {
+            kind: 14,
+            ret: 0x1_0004,
+        }),
+        ..block(0, 0)
+    };
+    let cut = Walked {
+        exc: None,
+        ..walked
+    };
+    assert_eq!(rt; write_walked(id, &walked, &mut None, &mut sink), Ok(()));
+    assert_eq!(rt; write_gap(id, &mut sink), Ok(()));
+    assert_eq!(rt; write_stop(id, &mut sink), Ok(()));
+    assert_eq!(rt; write_frame_cut(15, &mut sink), Ok(()));
+    assert_eq!(rt; write_walked(id, &cut, &mut None, &mut sink), Ok(()));
+    assert_eq!(rt; write_gap(id, &mut sink), Err(Failed));
+    let lines = b"01 ?\n01 exc irq 10004\n01 gap\n01 stop\nframe cut 15\n01 ?\n";
+    assert_eq!(rt; sink.written(), lines.as_slice());
+    Ok(())
+}
+
+#[test]
 fn a_path_ends_where_a_write_fails(rt: HostRuntime) -> Result<(), Fail> {
     let alloc = rt.alloc();
     let id = Id::new(1).ok_or("it is an ID")?;

@@ -1,5 +1,5 @@
 -- The oldest that is due is an atom before which nothing was given, and is walked.
-use Rattle.std.proofs.Common.{◌≡◌, ℕ, ◌<◌, Bool, List, [], ◌∷◌, Option, Some, None, Ok, refl, sym, ap, ◌∙◌, inl, append-nil}
+use Rattle.std.proofs.Common.{◌≡◌, ℕ, ◌<◌, Bool, List, [], ◌∷◌, Option, Some, Ok, refl, sym, ap, ◌∙◌, inl, append-nil}
 use Rattle.element_queue.specs.Counting.{counts_after}
 use Rattle.element_queue.specs.Pending.{committing}
 use Rattle.etm_types.specs.Walked.{items_of}

@@ -1,5 +1,5 @@
 //! One stream, from its bytes to the lines of its path.
-ghost use Rattle.std.specs.Prelude.{◌≡◌, ◌<◌, ◌≤◌, ◌+◌, ◌^◌, ◌==◌, ◌++◌, ◌∷◌, ◌↔◌, [], List, ℕ, None, Ok, Err};
+ghost use Rattle.std.specs.Prelude.{◌≡◌, ◌≢◌, ◌<◌, ◌≤◌, ◌+◌, ◌^◌, ◌==◌, ◌++◌, ◌∷◌, ◌↔◌, [], List, ℕ, None, Ok, Err};
 ghost use Rattle.std.specs.Prelude.{IfOk, IsErr, IsOk, IsTrue, true, false, not, length, if◌then◌else◌};
 ghost use Rattle.element_queue.specs.Counting.{Balances, counts_after, entries, no_counts, tally};
 ghost use Rattle.element_queue.specs.Pending.{losing};
@@ -89,6 +89,9 @@ impl StreamDecoder {
         ensures grows { (bytes : List ℕ) → StandsAt image.now self.old bytes
             → (more : List Item) × Grows image.now self.old.decoding.reader.settings bytes byte self.old.shown more
             × Writes (K.state sink.old) (K.state sink.new) result (lines_of id self.old.shown more) }
+        ensures stopped { self.old.decoding.fault ≢ None
+            → (result ≡ Ok tt) × (sink.new ≡ sink.old)
+            × (self.new ≡ record (self.old) { decoding = record (self.old.decoding) { reader = self.new.decoding.reader } }) }
         ensures cause { HasCause (K.state sink.old) (K.state sink.new) result }
         ensures shows { ShowsAsBefore (K.state sink.old) (K.state sink.new) }
         ensures broken { IsTrue self.new.broken ↔ IsErr result }

@@ -106,6 +106,32 @@ fn atoms_that_are_cancelled_or_lost(rt: HostRuntime) -> Result<(), Fail> {
 }
 
 #[test]
+fn what_a_fault_leaves_is_counted(rt: HostRuntime) -> Result<(), Fail> {
+    let mut sink = MemSink::new(rt.alloc(), Vec::new(rt.alloc()));
+    let walk = decoder_at(rt.alloc(), 0, &[0xf9], &mut sink)?;
+    assert_eq!(rt;
+        sink.written(),
+        b"01 on\n01 ctx el0 s 0 0\n01 1000\n01 1004\n".as_slice()
+    );
+    let (counts, last) = counts_of(walk);
+    assert_eq!(rt;
+        (counts.made, counts.committed, counts.cancelled, counts.lost),
+        (2, 2, 0, 0)
+    );
+    assert_eq!(rt; (last.made, last.committed, last.lost), (2, 2, 0));
+    for bytes in [[0xf7, 0xf7, 0xa0].as_slice(), &[0xf7, 0xf7, 0x2d, 0x03]] {
+        let decoder = decoder_at(rt.alloc(), 4, bytes, &mut sink)?;
+        let (counts, last) = counts_of(decoder);
+        assert_eq!(rt;
+            (counts.made, counts.committed, counts.cancelled, counts.lost),
+            (2, 0, 0, 0)
+        );
+        assert_eq!(rt; (last.made, last.committed, last.lost), (2, 0, 2));
+    }
+    Ok(())
+}
+
+#[test]
 fn a_write_that_fails(rt: HostRuntime) -> Result<(), Fail> {
     let mut fails = Vec::new(rt.alloc());
     fails.push(true)?;

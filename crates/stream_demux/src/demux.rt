@@ -1,6 +1,6 @@
 //! Frames of many sources, taken by pieces.
 ghost use Rattle.std.specs.Prelude.{◌≡◌, ◌<◌, ◌≤◌, ◌+◌, ◌^◌, ◌++◌, ◌∷◌, ◌↔◌, [], ℕ, List, Bool, false, All, not, length, map, IsOk, IsErr, IsTrue, IfOk};
-ghost use Rattle.element_queue.specs.Counting.{no_counts};
+ghost use Rattle.element_queue.specs.Counting.{Balances, no_counts};
 ghost use Rattle.etm_types.specs.Settings.{Sizes};
 ghost use Rattle.formatter_frames.specs.Reader as reader;
 ghost use Rattle.formatter_frames.specs.Unframed.{begun_frame, unframed};
@@ -81,6 +81,7 @@ impl<S: Stream> Demux<S> {
         ensures shows { ShowsAsBefore (K.state sink.old) (K.state sink.new) }
         ensures broken { IsTrue self.new.broken ↔ IsErr result }
         ensures taken { IsOk result → self.new.taken ≡ self.old.taken + length piece.now }
+        ensures between { (self.old.taken ≤ self.new.taken) × (self.new.taken ≤ self.old.taken + length piece.now) }
     {
         for byte in piece {
             self.taken += 1;
@@ -149,6 +150,7 @@ impl<S: Stream> Demux<S> {
     /// Ends it without a line. The ledger has what became of the P0 elements of all streams.
     pub fn abandon(self) -> Ledger
         ensures value { result ≡ total no_counts (map S.counts_left self.streams) }
+        ensures balanced { Balances result 0 }
     {
         let Demux {
             frames: _,

@@ -1,5 +1,6 @@
 //! One stream that is not framed, taken by pieces.
 ghost use Rattle.std.specs.Prelude.{◌≡◌, ◌<◌, ◌≤◌, ◌+◌, ◌^◌, ◌++◌, ◌∷◌, ◌↔◌, [], ℕ, List, Bool, false, not, length, IsOk, IsErr, IsTrue, IfOk};
+ghost use Rattle.element_queue.specs.Counting.{Balances};
 ghost use Rattle.etm_types.specs.Settings.{Sizes};
 ghost use Rattle.path_text.specs.Writing.{Writes};
 ghost use Rattle.stream_demux.specs.Demuxed.{Gains, RawStandsAt, raw_id, raw_pairs};
@@ -57,6 +58,7 @@ impl<S: Stream> RawStream<S> {
         ensures shows { ShowsAsBefore (K.state sink.old) (K.state sink.new) }
         ensures broken { IsTrue (S.broken self.new) ↔ IsErr result }
         ensures taken { IsOk result → S.taken self.new ≡ S.taken self.old + length piece.now }
+        ensures between { (S.taken self.old ≤ S.taken self.new) × (S.taken self.new ≤ S.taken self.old + length piece.now) }
     {
         self.stream.take_run(shared, raw_id(), piece, sink)
     }
@@ -77,6 +79,7 @@ impl<S: Stream> RawStream<S> {
     /// Ends it without a line.
     pub fn abandon(self) -> Ledger
         ensures value { result ≡ S.counts_left self }
+        ensures balanced { Balances result 0 }
     {
         let RawStream { stream } = self;
         stream.abandon()

@@ -1,6 +1,6 @@
 //! The streams of all trace sources, each found by its ID.
 ghost use Rattle.std.specs.Prelude.{◌≡◌, ◌<◌, ◌≤◌, ◌+◌, ◌-◌, ◌^◌, ◌++◌, ◌∷◌, [], ℕ, List, Bool, false, All, not, length, map, IsOk, IfOk};
-ghost use Rattle.element_queue.specs.Counting.{no_counts, sum_of};
+ghost use Rattle.element_queue.specs.Counting.{Balances, no_counts, sum_of};
 ghost use Rattle.etm_types.specs.Settings.{Sizes};
 ghost use Rattle.std.specs.List.{concat, range_with_len};
 ghost use Rattle.path_text.specs.Writing.{Writes};
@@ -124,6 +124,7 @@ impl<S: Stream> Sources<S> {
     /// Ends all streams without a line. The ledger has what became of the P0 elements of all.
     pub fn abandon(self) -> Ledger
         ensures value { result ≡ total no_counts (map S.counts_left self) }
+        ensures balanced { Balances result 0 }
     {
         let Sources { ring } = self;
         abandon_all(ring)
@@ -171,6 +172,7 @@ fn add<S: Stream>(ring: &mut SpendRing<S>, stream: S)
 /// Ends streams without a line, and the ring that held them. Each would have had one, by the bytes that it took.
 fn abandon_all<S: Stream>(mut ring: SpendRing<S>) -> Ledger
     ensures value { result ≡ total no_counts (map S.counts_left ring.items) }
+    ensures balanced { Balances result 0 }
     ensures ends { (shared : S.Shared) (s : Sizes) (pairs : List (ℕ × ℕ)) (id : ℕ) → StandFrom (S.stands shared) S.sizes s id ring.items pairs
         → (lines : List Printed) × (faulty : Bool) × EndsOf (S.listing shared s) pairs (range_with_len id (length ring.items)) lines faulty }
 {

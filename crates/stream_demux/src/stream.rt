@@ -1,6 +1,7 @@
 //! One stream among many, whatever is printed of it.
 ghost use Rattle.std.specs.Prelude.{◌≡◌, ◌<◌, ◌≤◌, ◌+◌, ◌^◌, ◌++◌, ◌∷◌, [], ◌↔◌, length, ℕ, List, Bool, false, not, IsOk, IsErr, IsTrue, IfOk};
 ghost use Rattle.std.specs.List.{concat};
+ghost use Rattle.element_queue.specs.Counting.{Balances};
 ghost use Rattle.element_queue.specs.declared.ledger.Counts.{Counts};
 ghost use Rattle.etm_types.specs.Settings.{Sizes};
 ghost use Rattle.path_text.specs.Writing.{Writes};
@@ -88,6 +89,7 @@ pub trait Stream {
         ensures shows { ShowsAsBefore (K.state sink.old) (K.state sink.new) }
         ensures broken { IsTrue (broken self.new) ↔ IsErr result }
         ensures taken { IsOk result → taken self.new ≡ taken self.old + length run.now }
+        ensures between { (taken self.old ≤ taken self.new) × (taken self.new ≤ taken self.old + length run.now) }
         ensures sizes { sizes self.new ≡ sizes self.old }
     {
         for byte in run {
@@ -114,6 +116,7 @@ pub trait Stream {
     /// Ends it without a line. It would have had one, by the bytes that it took.
     fn abandon(self) -> Ledger
         ensures value { result ≡ counts_left self }
+        ensures balanced { Balances (counts_left self) 0 }
         ensures ends { (shared : Self.Shared) (id : ℕ) (bytes : List ℕ) → stands shared self bytes
             → (lines : List Printed) × (faulty : Bool) × StreamEnds (listing shared (sizes self)) id bytes lines faulty };
 }

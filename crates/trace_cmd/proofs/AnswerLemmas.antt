@@ -1,16 +1,16 @@
 -- Answers of a call from those of its parts, and behind the flush.
-use Rattle.std.proofs.Common.{◌≡◌, ◌⊎◌, ℕ, ◌≤◌, true, false, List, [], None, Option, Result, Ok, Err, refl, sym, subst, inl, inr, arith}
+use Rattle.std.proofs.Common.{◌≡◌, ◌⊎◌, ℕ, ◌≤◌, true, false, List, [], None, Option, Result, Ok, Err, refl, sym, subst, ◌∙◌, inl, inr, arith}
 use Rattle.std.specs.Prelude.{IfOk}
-use Rattle.std.proofs.KnownBytes.{Appends-kept, Appends-nil}
+use Rattle.std.proofs.KnownBytes.{Appends-kept, Appends-nil, Consumes-nil}
 use Rattle.bench_text.specs.declared.fault.BenchWhy.{BenchWhy}
+use Rattle.etm_types.specs.Settings.{Sizes}
 use Rattle.path_text.specs.Writing.{Writes}
-use Rattle.program_image.specs.Answers.{TakesImage, TakesNoImage}
+use Rattle.program_image.specs.Answers.{TakesImage}
 use Rattle.program_image.specs.declared.image.Image.{Image}
 use Rattle.program_image.specs.declared.fault.ImageWhy.{ImageWhy}
-use Rattle.trace_cmd.specs.Answers.{Answers, AnswersSo, Asks, Call, IsBenchBad, IsBenchFault, IsCall, IsImageBad, IsImageCall, IsImageFault}
+use Rattle.trace_cmd.specs.Answers.{Answers, AnswersSo, Asks, Call, IsBenchBad, IsBenchFault, IsCall, IsImageBad, IsImageFault}
 use Rattle.trace_cmd.specs.Answers.{IsNoMemory, IsOwnBenchBad, IsOwnImageBad, IsOwnTooLong, IsRetired, IsRetiredCall, IsRunFileCall, IsSelftestOf}
-use Rattle.trace_cmd.specs.Answers.{IsTested, IsTraceCall, IsTraced, IsUsage, IsWriteFault, usage_line}
-use Rattle.trace_cmd.specs.ImageLine.{image_line}
+use Rattle.trace_cmd.specs.Answers.{IsPacketsUnder, IsPathUnder, IsTested, IsTraceCall, IsTraced, IsUsage, IsWriteFault, usage_line}
 use Rattle.trace_cmd.specs.Retired.{Prints, PrintsFront, RetiresSo, RunsSo}
 use Rattle.trace_cmd.specs.Grows.{Grow, frames_grow, raw_grows}
 use Rattle.trace_cmd.specs.Listed.{Interrupts, Listed}
@@ -23,11 +23,24 @@ use Rattle.trace_cmd.specs.declared.status.Status.TheVariants as status
 use Rattle.trace_cmd.specs.declared.words.Layout.{Layout}
 use Rattle.trace_cmd.specs.declared.words.Layout.TheVariants.{Raw, Frames}
 use Rattle.trace_cmd.proofs.Interrupts.{broken_cut, completed_cut, exceeded_cut}
-use Rattle.trace_io.specs.Bytes.{AppendsAll, KeepsBytes}
+use Rattle.trace_io.specs.Bytes.{AppendsAll, KeepsBytes, TakesAtMost}
 use Rattle.trace_io.specs.Causes.{HasCause, Rose}
 use Rattle.trace_io.specs.State.{IoState}
 use Rattle.trace_io.specs.declared.traits.Failed.{Failed}
 use Rattle.trace_io.proofs.Known.{front_kept, front_of_all}
+
+-- where nothing was read, nothing was taken
+pub none_taken : (s : IoState) (most : ℕ) → TakesAtMost s s most
+none_taken s most = ([], omega arith, Consumes-nil s.bytes)
+
+-- neither paths nor packets are of a run file
+pub path_of_no_run_file : (s : Sizes) (layout : Layout) (words : List (List ℕ)) → IsPathUnder s layout words → IsRunFileCall words → ⊥
+path_of_no_run_file s layout words (image, path) (inl (other, retired)) = let same = sym path ∙ retired in cc
+path_of_no_run_file s layout words (image, path) (inr (other, trace)) = let same = sym path ∙ trace in cc
+
+pub packets_of_no_run_file : (s : Sizes) (layout : Layout) (words : List (List ℕ)) → IsPacketsUnder s layout words → IsRunFileCall words → ⊥
+packets_of_no_run_file s layout words packets (inl (other, retired)) = let same = sym packets ∙ retired in cc
+packets_of_no_run_file s layout words packets (inr (other, trace)) = let same = sym packets ∙ trace in cc
 
 -- ---- what a failed write leaves of each answer
 

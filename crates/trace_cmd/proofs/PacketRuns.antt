@@ -1,5 +1,5 @@
 -- Bytes of a packet list that are taken one after the other, or whole packets at once.
-use Rattle.std.proofs.Common.{◌≡◌, ℕ, ◌+◌, ◌<◌, List, [], ◌∷◌, ◌++◌, length, get_or, Option, Result, Some, None, Ok, Err, refl, sym, ap, subst, ◌∙◌, arith}
+use Rattle.std.proofs.Common.{◌≡◌, ℕ, ◌+◌, ◌<◌, ◌≤◌, List, [], ◌∷◌, ◌++◌, length, get_or, Option, Result, Some, None, Ok, Err, refl, sym, ap, subst, ◌∙◌, arith}
 use Rattle.std.proofs.Common.{append_assoc, append-nil, length-append}
 use Rattle.std.specs.Prelude.{All, IsOk}
 use Rattle.std.specs.List.{concat}
@@ -191,6 +191,15 @@ pub along_taken : (id : ℕ) (old new : Standing) (found next : Option (ℕ × P
     → Along id old new found next a b run rest → new.taken + length rest ≡ old.taken + length run
 along_taken id old new found next a b run rest is = omega (arith, is.came.taken, ap length is.parts, length-append is.front rest)
 
+-- a part of what was left is taken more
+between : (id : ℕ) (old mid new : Standing) (found here : Option (ℕ × PacketFault)) (a b : IoState) (run rest text behind : List ℕ)
+    → Along id old mid found here a b run rest → rest ≡ text ++ behind → new.taken ≡ mid.taken + length text
+    → (old.taken ≤ new.taken) × (new.taken ≤ old.taken + length run)
+between id old mid new found here a b run rest text behind is parts taken =
+    let sum = along_taken id old mid found here a b run rest is in
+    let left : length rest ≡ length text + length behind = ap length parts ∙ length-append text behind in
+    (omega (arith, taken, is.came.taken), omega (arith, taken, sum, left))
+
 -- what a run adds
 adds_so : {T E : Type 0} (id : ℕ) (old new : Standing) (found next : Option (ℕ × PacketFault)) (took others : List ℕ) (more : List (ℕ × Packet))
     (a b : IoState) (result : Result T E) → AreSettings old.settings → Came old new found next took more → Writes a b result (concat (packet_lines id more))
@@ -291,6 +300,9 @@ module _ (id : ℕ) (old : Standing) (found : Option (ℕ × PacketFault)) (a : 
     pub front_reads : IsReading new here
     front_reads = more_reads id old found a run reads mid new here here b c rest front.text behind one is front.parts took
 
+    pub front_between : (old.taken ≤ new.taken) × (new.taken ≤ old.taken + length run)
+    front_between = between id old mid new found here a b run rest front.text behind is front.parts front.takes.taken
+
     -- and its line could not be written
     pub front_fails : {T U E : Type 0} (e d : E) → Writes {T = T} b c (Err e) (packet_line id at packet) → (bytes : List ℕ) → HasRead old found bytes
         → RunAdds {T = U} (packet_lists old.settings) id bytes run a c (Err d)
@@ -312,6 +324,9 @@ module _ (id : ℕ) (old : Standing) (found : Option (ℕ × PacketFault)) (a : 
 
     pub step_reads : IsReading new next
     step_reads = more_reads id old found a run reads mid new here next b c rest (byte ∷ []) later (told step) is parts stepped
+
+    pub step_between : (old.taken ≤ new.taken) × (new.taken ≤ old.taken + length run)
+    step_between = between id old mid new found here a b run rest (byte ∷ []) later is parts taken
 
     -- and it could not be written
     pub step_fails : {T U E : Type 0} (e d : E) → Writes {T = T} b c (Err e) (concat (packet_lines id (told step))) → (bytes : List ℕ)

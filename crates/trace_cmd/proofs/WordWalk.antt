@@ -67,17 +67,17 @@ met_plain row n (a ∷ b ∷ rest) h w (inr p) plain = rw p.1 (simp plain, simp 
 -- ---- a word for the positional
 
 pub positional_next : (row : CommandRow) → row.has_positional ≡ true → arg_by_index (rules row) 1 ≡ Some done_positional
-positional_next row has = at_index row 1 ∙ ap (λ b. arg_by_index (positional_part b) 1) has
+positional_next line has = at_index line 1 ∙ ap (λ b. arg_by_index (positional_part b) 1) has
 
 pub positional_none : (row : CommandRow) → row.has_positional ≡ false → arg_by_index (rules row) 1 ≡ None
-positional_none row none = at_index row 1 ∙ ap (λ b. arg_by_index (positional_part b) 1) none
+positional_none line none = at_index line 1 ∙ ap (λ b. arg_by_index (positional_part b) 1) none
 
 no_second_of : (b : Bool) → arg_by_index (positional_part b) 2 ≡ None
 no_second_of true = refl
 no_second_of false = refl
 
 pub no_second : (row : CommandRow) → arg_by_index (rules row) 2 ≡ None
-no_second row = at_index row 2 ∙ no_second_of row.has_positional
+no_second line = at_index line 2 ∙ no_second_of line.has_positional
 
 and_false : (b : Bool) → (b && false) ≡ false
 and_false true = refl

@@ -1,9 +1,10 @@
 //! The run file that a command reads, and the answer where it is bad.
-ghost use Rattle.std.specs.Prelude.{◌≡◌, ◌⊎◌, ℕ, ◌≤◌, Err, IsErrOf, IfOk};
+ghost use Rattle.std.specs.Prelude.{◌≡◌, ◌⊎◌, ℕ, ◌+◌, ◌≤◌, Err, IsErrOf, IfOk};
 ghost use Rattle.bench_text.specs.Parts.{IsBench};
+ghost use Rattle.bench_text.specs.Refusals.{most_text};
 ghost use Rattle.path_text.specs.Writing.{Writes};
 ghost use Rattle.trace_cmd.specs.Retired.{TakesBench, TakesNoBench, bench_line};
-ghost use Rattle.trace_io.specs.Bytes.{ShowsAsBefore};
+ghost use Rattle.trace_io.specs.Bytes.{ShowsAsBefore, TakesAtMost};
 ghost use Rattle.trace_io.specs.Causes.{KeepsFaults, Rose};
 
 use crate::bench_line::write_bench_bad;
@@ -32,6 +33,7 @@ pub fn read_bench<J: Source>(alloc: Global, input: &mut J) -> Result<Bench, Unre
     ensures parts { IfOk result IsBench }
     ensures bad { (line : ℕ) (why : BenchWhy) → result ≡ Err (Unread.Bad line why)
         → TakesNoBench (J.state input.old) (J.state input.new) line why }
+    ensures taken { TakesAtMost (J.state input.old) (J.state input.new) (most_text + 1) }
     ensures kept { IsErrOf result Unread.ReadFault ⊎ KeepsFaults (J.state input.old) (J.state input.new) }
     ensures failed { IsErrOf result Unread.ReadFault → Rose (J.state input.old) (J.state input.new) }
     ensures shows { ShowsAsBefore (J.state input.old) (J.state input.new) }

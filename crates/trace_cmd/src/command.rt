@@ -1,9 +1,11 @@
 //! The top call: words, image and input, in this order, and what is written.
-ghost use Rattle.std.specs.Prelude.{◌≡◌, ◌⊎◌, ℕ, ◌≤◌, List, None, Ok, Err, IfOk, IsErr, IsTrue};
-ghost use Rattle.trace_io.specs.Bytes.{ShowsAsBefore};
+ghost use Rattle.std.specs.Prelude.{◌≡◌, ◌⊎◌, ℕ, ◌+◌, ◌≤◌, List, None, Ok, Err, IfOk, IsErr, IsTrue};
+ghost use Rattle.bench_text.specs.Refusals.{most_text};
+ghost use Rattle.trace_io.specs.Bytes.{ShowsAsBefore, TakesAtMost};
 ghost use Rattle.trace_io.specs.Causes.{HasCause, KeepsFaults};
 ghost use Rattle.trace_io.specs.State.{IoState};
 ghost use Rattle.program_image.specs.Answers.{TakesImage};
+ghost use Rattle.program_image.specs.ImageText.{most_text as most_image_text};
 ghost use Rattle.program_image.specs.Part.{Part};
 ghost use Rattle.trace_cmd.specs.Words.{meaning, texts};
 ghost use Rattle.path_text.specs.Writing.{Writes};
@@ -74,6 +76,7 @@ fn read_image<I: Source, K: Sink>(
         → Answers (call words (I.state image.old) (I.state image.new) input input) (K.state out.old) (K.state out.new) status }
     ensures failed { IsErr result → (words : List (List ℕ)) (input : IoState) → IsImageCall words
         → IsWriteFault (call words (I.state image.old) (I.state image.new) input input) (K.state out.old) (K.state out.new) }
+    ensures taken { TakesAtMost (I.state image.old) (I.state image.new) (most_image_text + 1) }
     ensures kept { (result ≡ Ok (Err Status.ReadFault)) ⊎ KeepsFaults (I.state image.old) (I.state image.new) }
     ensures shows { ShowsAsBefore (I.state image.old) (I.state image.new) }
     ensures later { (I.state image.old).faults ≤ (I.state image.new).faults }
@@ -103,6 +106,7 @@ fn answer_path<I: Source, J: Source, K: Sink>(
     ensures answer { (words : List (List ℕ)) → IsPathUnder settings.now layout words
         → AnswersSo (call words (I.state image.old) (I.state image.new) (J.state input.old) (J.state input.new))
         (K.state out.old) (K.state out.new) result }
+    ensures image_few { TakesAtMost (I.state image.old) (I.state image.new) (most_image_text + 1) }
     ensures kept { (result ≡ Ok Status.ReadFault)
         ⊎ (KeepsFaults (I.state image.old) (I.state image.new) × KeepsFaults (J.state input.old) (J.state input.new)) }
     ensures order { (input.new ≡ input.old) ⊎ ReadsImage (I.state image.old) (I.state image.new) }
@@ -134,6 +138,8 @@ fn answer_retired<I: Source, J: Source, K: Sink>(
     ensures answer { (words : List (List ℕ)) → IsRetiredCall words
         → AnswersSo (call words (I.state image.old) (I.state image.new) (J.state input.old) (J.state input.new))
         (K.state out.old) (K.state out.new) result }
+    ensures few { TakesAtMost (J.state input.old) (J.state input.new) (most_text + 1) }
+    ensures image_few { TakesAtMost (I.state image.old) (I.state image.new) (most_image_text + 1) }
     ensures kept { (result ≡ Ok Status.ReadFault)
         ⊎ (KeepsFaults (I.state image.old) (I.state image.new) × KeepsFaults (J.state input.old) (J.state input.new)) }
     ensures order { (input.new ≡ input.old) ⊎ ReadsImage (I.state image.old) (I.state image.new) }
@@ -162,6 +168,8 @@ fn answer_trace<I: Source, J: Source, K: Sink>(
     ensures answer { (words : List (List ℕ)) → IsTraceCall words
         → AnswersSo (call words (I.state image.old) (I.state image.new) (J.state input.old) (J.state input.new))
         (K.state out.old) (K.state out.new) result }
+    ensures few { TakesAtMost (J.state input.old) (J.state input.new) (most_text + 1) }
+    ensures image_few { TakesAtMost (I.state image.old) (I.state image.new) (most_image_text + 1) }
     ensures kept { (result ≡ Ok Status.ReadFault)
         ⊎ (KeepsFaults (I.state image.old) (I.state image.new) × KeepsFaults (J.state input.old) (J.state input.new)) }
     ensures order { (input.new ≡ input.old) ⊎ ReadsImage (I.state image.old) (I.state image.new) }
@@ -200,6 +208,8 @@ fn answer_words<I: Source, J: Source, K: Sink>(
 ) -> Result<Status, Failed>
     ensures answer { AnswersSo (call (texts words.now) (I.state image.old) (I.state image.new) (J.state input.old) (J.state input.new))
         (K.state out.old) (K.state out.new) result }
+    ensures few { IsRunFileCall (texts words.now) → TakesAtMost (J.state input.old) (J.state input.new) (most_text + 1) }
+    ensures image_few { TakesAtMost (I.state image.old) (I.state image.new) (most_image_text + 1) }
     ensures kept { (result ≡ Ok Status.ReadFault)
         ⊎ (KeepsFaults (I.state image.old) (I.state image.new) × KeepsFaults (J.state input.old) (J.state input.new)) }
     ensures order { (input.new ≡ input.old)
@@ -273,6 +283,10 @@ pub fn run<I: Source, J: Source, K: Sink>(
     ensures memory { result ≡ Status.NoMemory → (input.new ≡ input.old) ⊎ IsRunFileCall (texts words.now) }
     ensures order { (input.new ≡ input.old)
         ⊎ ReadsFirst (call (texts words.now) (I.state image.old) (I.state image.new) (J.state input.old) (J.state input.new)) }
+
+    // Of a run file and of an image no more is read than tells that it is too long.
+    ensures few { IsRunFileCall (texts words.now) → TakesAtMost (J.state input.old) (J.state input.new) (most_text + 1) }
+    ensures image_few { TakesAtMost (I.state image.old) (I.state image.new) (most_image_text + 1) }
 
     // No call that failed is passed over.
     ensures reads { (result ≡ Status.ReadFault) ⊎ (result ≡ Status.WriteFault)

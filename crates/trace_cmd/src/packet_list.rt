@@ -218,6 +218,7 @@ fn take_bytes<K: Sink>(
     ensures reads { IsReading reader.new fault.new }
     ensures settings { reader.new.settings ≡ reader.old.settings }
     ensures taken { IsOk result → reader.new.taken ≡ reader.old.taken + length run.now }
+    ensures between { (reader.old.taken ≤ reader.new.taken) × (reader.new.taken ≤ reader.old.taken + length run.now) }
     ensures line { line.new ≡ line.old }
     ensures read { IsOk result → (bytes : List ℕ) → HasRead reader.old fault.old bytes → HasRead reader.new fault.new (bytes ++ run.now) }
     ensures gains { (bytes : List ℕ) → HasRead reader.old fault.old bytes

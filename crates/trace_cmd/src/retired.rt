@@ -1,7 +1,7 @@
 //! The command `retired`: a run file is read and tested whole, and then its retired paths are printed.
-ghost use Rattle.std.specs.Prelude.{◌≡◌, ◌⊎◌, ◌≤◌, List, [], None, Some, Ok, Err, IsOk, slice_get};
+ghost use Rattle.std.specs.Prelude.{◌≡◌, ◌⊎◌, ◌+◌, ◌≤◌, List, [], None, Some, Ok, Err, IsOk, slice_get};
 ghost use Rattle.bench_text.specs.Parts.{BenchStream, IsBench, events_of};
-ghost use Rattle.bench_text.specs.Refusals.{refusal_among, stream_refusal};
+ghost use Rattle.bench_text.specs.Refusals.{most_text, refusal_among, stream_refusal};
 ghost use Rattle.etm_types.specs.Settings.{Sizes};
 ghost use Rattle.path_text.specs.Writing.{Writes};
 ghost use Rattle.program_image.specs.Blocks.{HasGap};
@@ -9,7 +9,7 @@ ghost use Rattle.spec_run.specs.Stands.{StandsAt};
 ghost use Rattle.spec_run.specs.declared.event.Event.{Event};
 ghost use Rattle.trace_cmd.specs.Retired.{RetiresSo, retired_text, stream_text};
 ghost use Rattle.trace_cmd.specs.Retiring.{CanGoOn, RefusesLine, events_with, bad_line};
-ghost use Rattle.trace_io.specs.Bytes.{ShowsAsBefore};
+ghost use Rattle.trace_io.specs.Bytes.{ShowsAsBefore, TakesAtMost};
 ghost use Rattle.trace_io.specs.Causes.{HasCause, KeepsFaults};
 
 use crate::bench_input::{Unread, read_bench, refuse};
@@ -120,6 +120,7 @@ pub fn retire_input<J: Source, K: Sink>(
     out: &mut K,
 ) -> Result<Status, Failed>
     ensures answer { RetiresSo image.now (J.state input.old) (J.state input.new) (K.state out.old) (K.state out.new) result }
+    ensures few { TakesAtMost (J.state input.old) (J.state input.new) (most_text + 1) }
     ensures kept { (result ≡ Ok Status.ReadFault) ⊎ KeepsFaults (J.state input.old) (J.state input.new) }
     ensures input_shows { ShowsAsBefore (J.state input.old) (J.state input.new) }
     ensures input_later { (J.state input.old).faults ≤ (J.state input.new).faults }

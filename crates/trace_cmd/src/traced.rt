@@ -1,9 +1,9 @@
 //! The command `trace`: the streams of a run file are traced, one after the other, and then their traces are woven into frames.
 //!
 //! Nothing is written before the last stream is traced, so that a run file that is bad, or want of memory, leaves no frame.
-ghost use Rattle.std.specs.Prelude.{◌≡◌, ◌⊎◌, ℕ, ◌≤◌, List, [], None, Some, Ok, Err, IsOk, IfOk, slice_get};
+ghost use Rattle.std.specs.Prelude.{◌≡◌, ◌⊎◌, ℕ, ◌+◌, ◌≤◌, List, [], None, Some, Ok, Err, IsOk, IfOk, slice_get};
 ghost use Rattle.bench_text.specs.Parts.{BenchStream, IsBench, events_of};
-ghost use Rattle.bench_text.specs.Refusals.{refusal_among, stream_refusal};
+ghost use Rattle.bench_text.specs.Refusals.{most_text, refusal_among, stream_refusal};
 ghost use Rattle.spec_run.specs.RunAfter.{IsEvent};
 ghost use Rattle.spec_run.specs.declared.event.Event.{Event};
 ghost use Rattle.spec_run.specs.declared.run_fault.RunFault.{RunFault as Refusal};
@@ -11,7 +11,7 @@ ghost use Rattle.trace_cmd.specs.Retiring.{RefusesLine, events_with};
 ghost use Rattle.trace_cmd.specs.Traced.{TracesSo, traces};
 ghost use Rattle.trace_cmd.specs.Tracing.{IsTracing, refused_at};
 ghost use Rattle.trace_cmd.specs.Weaving.{all_left};
-ghost use Rattle.trace_io.specs.Bytes.{ShowsAsBefore};
+ghost use Rattle.trace_io.specs.Bytes.{ShowsAsBefore, TakesAtMost};
 ghost use Rattle.trace_io.specs.Causes.{HasCause, KeepsFaults};
 ghost use Rattle.trace_unit.specs.Written.{settled};
 
@@ -148,6 +148,7 @@ pub fn trace_input<J: Source, K: Sink>(
     out: &mut K,
 ) -> Result<Status, Failed>
     ensures answer { TracesSo image.now (J.state input.old) (J.state input.new) (K.state out.old) (K.state out.new) result }
+    ensures few { TakesAtMost (J.state input.old) (J.state input.new) (most_text + 1) }
     ensures kept { (result ≡ Ok Status.ReadFault) ⊎ KeepsFaults (J.state input.old) (J.state input.new) }
     ensures input_shows { ShowsAsBefore (J.state input.old) (J.state input.new) }
     ensures input_later { (J.state input.old).faults ≤ (J.state input.new).faults }

@@ -10,7 +10,7 @@ use crate::faults::counted;
 use crate::{Failed, Sink, Source};
 use std::marker::Model;
 
-///! A source that fails every read, as one that could not be opened. Contracts see it as its count
+/// A source that fails every read, as one that could not be opened. Contracts see it as its count
 /// of faults.
 #[derive(Drop)]
 pub struct NoSource {
@@ -28,7 +28,7 @@ impl Model for NoSource {
 }
 
 impl NoSource {
-    ///! A source that has not failed yet.
+    /// A source that has not failed yet.
     pub fn new() -> Self
         ensures { result ≡ 0 }
     {

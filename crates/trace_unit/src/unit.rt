@@ -1,5 +1,5 @@
 //! A trace unit: the bytes of its trace, event by event.
-ghost use Rattle.std.specs.Prelude.{◌≡◌, ◌↔◌, ◌<◌, ◌≤◌, ◌++◌, ◌∷◌, [], ℕ, List, length, IfOk, IsErr, IsOk, Ok, Err, Some, None};
+ghost use Rattle.std.specs.Prelude.{◌≡◌, ◌↔◌, ◌<◌, ◌≤◌, ◌+◌, ◌++◌, ◌∷◌, [], ℕ, List, length, IfOk, IsErr, IsOk, Ok, Err, Some, None};
 ghost use Rattle.element_queue.specs.Counting.{Balances, no_counts};
 ghost use Rattle.packet_grammar.specs.declared.end.End.TheVariants.{Clean};
 ghost use Rattle.path_elements.specs.Path.{IsPath};
@@ -95,6 +95,7 @@ impl Unit {
         ensures refused { (fault : Refusal) → (result ≡ Err (UnitFault.Run fault))
             ↔ (check image.now self.old.run.depth self.old.run.place event.now ≡ Some fault) }
         ensures accepted { IsOk result → check image.now self.old.run.depth self.old.run.place event.now ≡ None }
+        ensures few { length bytes.new.items ≤ length bytes.old.items + 128 }
         ensures kept { IsErr result → (self.new ≡ self.old) × (bytes.new.items ≡ bytes.old.items) }
         ensures settings { (self.new.settings ≡ self.old.settings) × (self.new.most ≡ self.old.most) }
     {
@@ -127,6 +128,7 @@ impl Unit {
         ensures ledger { (image : Parts) (events : List Events) (x : Execution) → StandsAt image self events
             → run_after image self.settings.depth events ≡ Ok x
             → IfOk result (λ ledger. ledger ≡ counts_lost (unretired x.current) (counts_of image self.settings.depth events)) }
+        ensures few { length bytes.new.items ≤ length bytes.old.items + 128 }
         ensures balanced { IfOk result (λ ledger. Balances ledger 0) }
         ensures kept { IsErr result → bytes.new.items ≡ bytes.old.items }
     {

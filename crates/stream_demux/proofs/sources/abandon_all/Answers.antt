@@ -1,5 +1,6 @@
-use Rattle.std.proofs.Common.{◌≡◌, ◌∷◌, map, sym, ap, subst, ◌∙◌}
-use Rattle.element_queue.specs.Counting.{sum_of}
+use Rattle.std.proofs.Common.{◌≡◌, ◌∷◌, map, refl, sym, ap, subst, ◌∙◌}
+use Rattle.element_queue.specs.Counting.{Balances, sum_of}
+use Rattle.element_queue.specs.declared.ledger.Counts.{Counts}
 use Rattle.stream_demux.specs.Streams.{total}
 use Rattle.stream_demux.proofs.Ending.{Left, all_remain, none_left, none_remain, one_less}
 use Rattle.stream_demux.proofs.sources.abandon_all.Goals as goal
@@ -8,6 +9,7 @@ pub loop-stream-init : goal.loop-stream-init
 loop-stream-init g c =
     record {
       value = ap (λ l. total l (map g.S.Stream.counts_left c.args.ring.items)) c.new-ledger.ensures;
+      balanced = subst (λ (l : Counts). Balances l 0) (sym c.new-ledger.ensures) refl;
       left = λ shared s pairs id stand. all_remain (g.S.Stream.stands shared) g.S.Stream.sizes s (g.S.Stream.listing shared) pairs id c.args.ring.items stand;
     }
 
@@ -16,8 +18,10 @@ loop-stream-preserved g c =
     let f = g.S.Stream.counts_left in let stream = c.in-Some.stream in let rest = c.pop_front.new.self.items in
     let order : c.loop-stream.ring.items ≡ stream ∷ rest = c.in-Some.ensures.order in
     record {
-      value = ap (λ l. total l (map f rest)) (c.absorb.ensures ∙ ap (sum_of c.loop-stream.ledger) c.abandon.ensures.value)
+      value = ap (λ l. total l (map f rest)) (c.absorb.ensures.value ∙ ap (sum_of c.loop-stream.ledger) c.abandon.ensures.value)
           ∙ ap (λ l. total c.loop-stream.ledger (map f l)) (sym order) ∙ c.loop-stream.invariant.value;
+      balanced = c.absorb.ensures.balanced 0 0 c.loop-stream.invariant.balanced
+          (subst (λ (l : Counts). Balances l 0) (sym c.abandon.ensures.value) c.abandon.ensures.balanced);
       left = λ shared s pairs id stand.
           one_less (g.S.Stream.stands shared) g.S.Stream.sizes s (g.S.Stream.listing shared) pairs id c.args.ring.items stream rest
           (subst (Left (g.S.Stream.stands shared) g.S.Stream.sizes s (g.S.Stream.listing shared) pairs id c.args.ring.items) order

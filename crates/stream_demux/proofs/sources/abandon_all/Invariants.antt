@@ -1,5 +1,5 @@
 use Rattle.std.proofs.Common.{◌≡◌, ℕ, List, length, map}
-use Rattle.element_queue.specs.Counting.{no_counts}
+use Rattle.element_queue.specs.Counting.{Balances, no_counts}
 use Rattle.etm_types.specs.Settings.{Sizes}
 use Rattle.stream_demux.specs.Streams.{StandFrom, total}
 use Rattle.stream_demux.proofs.Ending.{Remaining}
@@ -9,6 +9,7 @@ abbrev pub invariant-loop-stream : goal.invariant-loop-stream
 invariant-loop-stream g l =
     record {
       value : total l.ledger (map g.S.Stream.counts_left l.ring.items) ≡ total no_counts (map g.S.Stream.counts_left l.fn.ring.items);
+      balanced : Balances l.ledger 0;
       left : (shared : g.row.S-Shared.Denot) (s : Sizes) (pairs : List (ℕ × ℕ)) (id : ℕ)
           → StandFrom (g.S.Stream.stands shared) g.S.Stream.sizes s id l.fn.ring.items pairs
           → Remaining (g.S.Stream.stands shared) g.S.Stream.sizes s (g.S.Stream.listing shared s) pairs id l.fn.ring.items l.ring.items;

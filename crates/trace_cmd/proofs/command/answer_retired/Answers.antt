@@ -1,7 +1,7 @@
 use Rattle.std.proofs.Common.{Ok, inl, inr, refl, ap, subst}
 use Rattle.stream_demux.proofs.Standing.{by_err}
 use Rattle.trace_cmd.specs.Answers.{AnswersSo, call}
-use Rattle.trace_cmd.proofs.AnswerLemmas.{so_of_retired}
+use Rattle.trace_cmd.proofs.AnswerLemmas.{none_taken, so_of_retired}
 use Rattle.trace_cmd.proofs.command.answer_retired.Goals as goal
 
 pub returns-in_err-image-clause-answer : goal.returns-in_err-image-clause-answer
@@ -24,3 +24,11 @@ pub returns-in-Err-clause-answer : goal.returns-in-Err-clause-answer
 returns-in-Err-clause-answer g c words means =
     let input = g.J.Source.state in
     c.in_ok-image.ensures.answered c.in-Err.status (ap Ok c.in-Err.is) words (input c.args.input.now) (inr (inl means))
+
+-- ---- what was not read was not taken
+
+pub returns-in_err-image-clause-few : goal.returns-in_err-image-clause-few
+returns-in_err-image-clause-few g c = none_taken (g.J.Source.state c.args.input.now) _
+
+pub returns-in-Err-clause-few : goal.returns-in-Err-clause-few
+returns-in-Err-clause-few g c = none_taken (g.J.Source.state c.args.input.now) _

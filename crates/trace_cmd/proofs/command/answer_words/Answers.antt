@@ -5,7 +5,7 @@ use Rattle.trace_cmd.specs.Printing.{PacketsOf}
 use Rattle.trace_cmd.specs.Said.{IsInRange, said}
 use Rattle.trace_cmd.specs.Words.{texts}
 use Rattle.trace_cmd.specs.declared.words.Command.{Command as Told}
-use Rattle.trace_cmd.proofs.AnswerLemmas.{so_by, so_of_number, so_of_usage, so_of_words}
+use Rattle.trace_cmd.proofs.AnswerLemmas.{none_taken, packets_of_no_run_file, path_of_no_run_file, so_by, so_of_number, so_of_usage, so_of_words}
 use Rattle.trace_cmd.proofs.command.answer_words.Goals as goal
 
 pub returns-in-Path-clause-answer : goal.returns-in-Path-clause-answer
@@ -66,3 +66,36 @@ returns-in-Err-clause-answer g c =
     let image = g.I.Source.state in let input = g.J.Source.state in let out = g.K.Sink.state in
     so_of_words (call (texts c.args.words.now) (image c.args.image.now) (image c.args.image.now) (input c.args.input.now) (input c.args.input.now))
     (out c.args.out.now) refl refl
+
+-- ---- how much was taken
+
+pub returns-in-Path-clause-few : goal.returns-in-Path-clause-few
+returns-in-Path-clause-few g c file =
+    let means = sym c.in-Ok-Some.ensures.value ∙ ap (option_map said) (c.in-Ok-Some.field-0-is ∙ ap (λ (command : Told). Some command) c.in-Path.is) in
+    absurd (path_of_no_run_file _ _ (texts c.args.words.now) (c.in-Path.image.now, means) file)
+
+pub returns-in-Packets-clause-few : goal.returns-in-Packets-clause-few
+returns-in-Packets-clause-few g c file =
+    let means = sym c.in-Ok-Some.ensures.value ∙ ap (option_map said) (c.in-Ok-Some.field-0-is ∙ ap (λ (command : Told). Some command) c.in-Packets.is) in
+    absurd (packets_of_no_run_file _ _ (texts c.args.words.now) means file)
+
+pub returns-in-Packets-clause-image_few : goal.returns-in-Packets-clause-image_few
+returns-in-Packets-clause-image_few g c = none_taken (g.I.Source.state c.args.image.now) _
+
+pub returns-in-Selftest-clause-few : goal.returns-in-Selftest-clause-few
+returns-in-Selftest-clause-few g c file = none_taken (g.J.Source.state c.args.input.now) _
+
+pub returns-in-Selftest-clause-image_few : goal.returns-in-Selftest-clause-image_few
+returns-in-Selftest-clause-image_few g c = none_taken (g.I.Source.state c.args.image.now) _
+
+pub returns-in-Ok-None-clause-few : goal.returns-in-Ok-None-clause-few
+returns-in-Ok-None-clause-few g c file = none_taken (g.J.Source.state c.args.input.now) _
+
+pub returns-in-Ok-None-clause-image_few : goal.returns-in-Ok-None-clause-image_few
+returns-in-Ok-None-clause-image_few g c = none_taken (g.I.Source.state c.args.image.now) _
+
+pub returns-in-Err-clause-few : goal.returns-in-Err-clause-few
+returns-in-Err-clause-few g c file = none_taken (g.J.Source.state c.args.input.now) _
+
+pub returns-in-Err-clause-image_few : goal.returns-in-Err-clause-image_few
+returns-in-Err-clause-image_few g c = none_taken (g.I.Source.state c.args.image.now) _

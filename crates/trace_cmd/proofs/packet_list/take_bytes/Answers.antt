@@ -7,8 +7,8 @@ use Rattle.path_text.specs.PacketLines.{packet_line}
 use Rattle.stream_demux.proofs.Standing.{by_err}
 use Rattle.stream_demux.specs.Streams.{RunAdds}
 use Rattle.trace_cmd.proofs.PacketLists.{has_text}
-use Rattle.trace_cmd.proofs.PacketRuns.{Along, along_adds, along_first, along_read, along_reads, front_fails, front_more, front_reads}
-use Rattle.trace_cmd.proofs.PacketRuns.{small_bytes, some_is_not_none, step_fails, step_more, step_reads}
+use Rattle.trace_cmd.proofs.PacketRuns.{Along, along_adds, along_first, along_read, along_reads, front_between, front_fails, front_more, front_reads}
+use Rattle.trace_cmd.proofs.PacketRuns.{small_bytes, some_is_not_none, step_between, step_fails, step_more, step_reads}
 use Rattle.trace_cmd.specs.PacketList.{packet_lines, packet_lists}
 use Rattle.trace_cmd.proofs.packet_list.take_bytes.Goals as goal
 use Rattle.trace_io.specs.declared.traits.Failed.{Failed}
@@ -30,6 +30,17 @@ returns-in_err-behind-clause-reads g c =
       | inl none ↦ absurd cc
       | inr (behind, at, packet, front, writes, rest) ↦
           front_reads c.args.line.now c.args.reader.now c.args.fault.now (g.K.Sink.state c.args.sink.now) run c.requires.reads small c.loop-byte.reader
+          c.take_front.new.reader c.loop-byte.fault (g.K.Sink.state c.loop-byte.sink) (g.K.Sink.state c.take_front.new.sink) c.loop-byte.rest.now
+          c.loop-byte.invariant.along behind at packet front
+    ]
+
+pub returns-in_err-behind-clause-between : goal.returns-in_err-behind-clause-between
+returns-in_err-behind-clause-between g c =
+    let run = c.args.run.now in let small = small_bytes run (λ n. omega (arith, c.type_inv.run n)) in
+    elim c.in_err-behind.ensures.front [
+      | inl none ↦ absurd cc
+      | inr (behind, at, packet, front, writes, rest) ↦
+          front_between c.args.line.now c.args.reader.now c.args.fault.now (g.K.Sink.state c.args.sink.now) run c.requires.reads small c.loop-byte.reader
           c.take_front.new.reader c.loop-byte.fault (g.K.Sink.state c.loop-byte.sink) (g.K.Sink.state c.take_front.new.sink) c.loop-byte.rest.now
           c.loop-byte.invariant.along behind at packet front
     ]
@@ -87,6 +98,16 @@ returns-in_err-write_step-clause-reads g c =
     let state = g.K.Sink.state in let id = c.args.line.now in
     let kept = c.in_ok-behind.ensures.none (ap Ok c.in_default-2.is) in let along = rw (sym kept.0, sym kept.1) at i.along in
     step_reads id c.args.reader.now c.args.fault.now (state c.args.sink.now) run c.requires.reads small c.take_front.new.reader c.take.new.self
+    c.loop-byte.fault (state c.take_front.new.sink) (state c.write_step.new.sink) c.loop-byte.rest.now along c.in-Some.byte.now c.in-Some.later.now
+    c.take.result c.in-Some.ensures.cases.0 (omega (arith)) c.take.ensures.settings c.take.ensures.taken c.take.ensures.stands
+    c.take.ensures.gains c.write_step.new.fault c.write_step.ensures.fault
+
+pub returns-in_err-write_step-clause-between : goal.returns-in_err-write_step-clause-between
+returns-in_err-write_step-clause-between g c =
+    let run = c.args.run.now in let small = small_bytes run (λ n. omega (arith, c.type_inv.run n)) in let i = c.loop-byte.invariant in
+    let state = g.K.Sink.state in let id = c.args.line.now in
+    let kept = c.in_ok-behind.ensures.none (ap Ok c.in_default-2.is) in let along = rw (sym kept.0, sym kept.1) at i.along in
+    step_between id c.args.reader.now c.args.fault.now (state c.args.sink.now) run c.requires.reads small c.take_front.new.reader c.take.new.self
     c.loop-byte.fault (state c.take_front.new.sink) (state c.write_step.new.sink) c.loop-byte.rest.now along c.in-Some.byte.now c.in-Some.later.now
     c.take.result c.in-Some.ensures.cases.0 (omega (arith)) c.take.ensures.settings c.take.ensures.taken c.take.ensures.stands
     c.take.ensures.gains c.write_step.new.fault c.write_step.ensures.fault

@@ -1,4 +1,4 @@
-use Rattle.std.proofs.Common.{◌≡◌, ℕ, ◌-◌, Bool, List, [], ◌∷◌, ◌++◌, length, take}
+use Rattle.std.proofs.Common.{◌≡◌, ℕ, ◌-◌, List, [], ◌∷◌, ◌++◌, length, take}
 use Rattle.std.proofs.Common.{Some, sym, ap, subst, ◌∙◌, arith, slice_get, length-append}
 use Rattle.etm_types.specs.declared.element.Entry.{Entry}
 use Rattle.etm_types.specs.declared.element.P0.TheVariants.{Atom}
@@ -29,4 +29,4 @@ returns-in-Some c =
     (λ atom is.
     subst (λ (v : Queued). committed_by v (Atom c.args.taken) ≡ Seen (bare_atom atom) ∷ []) c.self.view_is
     (leaves ∙ ap (λ (e : Entry). Seen e ∷ []) (sym c.entry.ensures ∙ is)))
-    c.bare_atom.ensures
+    c.bare_atom.ensures.value

@@ -1,4 +1,4 @@
-use Rattle.std.proofs.Common.{refl, sym, ap, ◌∙◌, subst}
+use Rattle.std.proofs.Common.{refl, ap, ◌∙◌, subst}
 use Rattle.packet_grammar.specs.declared.packet.Packet.TheVariants.{Commit}
 use Rattle.packet_reader.specs.Stands.{Standing}
 use Rattle.packet_reader.specs.declared.step.Step.TheVariants.{Whole}

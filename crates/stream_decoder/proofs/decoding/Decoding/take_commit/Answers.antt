@@ -8,15 +8,19 @@ use Rattle.stream_decoder.proofs.decoding.Decoding.take_commit.Goals as goal
 pub invariant_of-self : goal.invariant_of-self
 invariant_of-self c =
     let i = c.self.inside in
-    holds_quiet i.reader i.maker i.todo c.advance.new.self i.waiting c.take_commit.new.self i.walker i.fault (elem.Commit c.in-Some.n) c.in-Some.ensures.0
-    c.in-Some.ensures.1 (c.advance.ensures (elem.Commit c.in-Some.n) c.in-Some.ensures.0 c.in-Some.ensures.1) (c.take_commit.ensures.due c.if-take_commit.true) c.self.invariant (c.take_commit.ensures.commits c.if-take_commit.true)
+    holds_quiet i.reader i.maker i.todo c.advance.new.self i.waiting c.take_commit.new.self i.walker i.fault (elem.Commit c.in-Some.n)
+    c.in-Some.ensures.0 c.in-Some.ensures.1
+    (c.advance.ensures (elem.Commit c.in-Some.n) c.in-Some.ensures.0 c.in-Some.ensures.1) (c.take_commit.ensures.due c.if-take_commit.true)
+    c.self.invariant (c.take_commit.ensures.commits c.if-take_commit.true)
     c.take_commit.ensures.holds
 
 pub returns-in-Some-clause-goes : goal.returns-in-Some-clause-goes
 returns-in-Some-clause-goes c taken image =
     let i = c.self.inside in
-    let goes = goes_quiet i.reader i.maker i.todo c.advance.new.self i.waiting c.take_commit.new.self i.walker i.fault (elem.Commit c.in-Some.n) c.in-Some.ensures.0
-    c.in-Some.ensures.1 (c.advance.ensures (elem.Commit c.in-Some.n) c.in-Some.ensures.0 c.in-Some.ensures.1) (c.take_commit.ensures.due c.if-take_commit.true) c.self.invariant (c.take_commit.ensures.commits c.if-take_commit.true)
+    let goes = goes_quiet i.reader i.maker i.todo c.advance.new.self i.waiting c.take_commit.new.self i.walker i.fault (elem.Commit c.in-Some.n)
+    c.in-Some.ensures.0 c.in-Some.ensures.1
+    (c.advance.ensures (elem.Commit c.in-Some.n) c.in-Some.ensures.0 c.in-Some.ensures.1) (c.take_commit.ensures.due c.if-take_commit.true)
+    c.self.invariant (c.take_commit.ensures.commits c.if-take_commit.true)
     c.take_commit.ensures.holds image in
     subst (λ (d : Decoding). Goes image d [] (decoding_of i.reader i.maker c.advance.new.self c.take_commit.new.self i.walker i.fault)) c.self.view_is goes
 

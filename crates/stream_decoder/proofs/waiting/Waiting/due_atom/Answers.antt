@@ -14,4 +14,4 @@ returns c =
     (λ (atom : Bool) is.
     subst (λ (v : Waiting). (others : List Thing) × (v.due ≡ Seen (bare_atom atom) ∷ others)) c.self.view_is
     (oldest_due s.queue.held s.due (Seen (bare_atom atom)) c.if-self-eq0.false is))
-    c.oldest_atom.ensures
+    c.oldest_atom.ensures.value

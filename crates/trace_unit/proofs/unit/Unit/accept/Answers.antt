@@ -1,4 +1,4 @@
-use Rattle.std.proofs.Common.{◌≡◌, List, ◌++◌, ◌∷◌, [], sym, ap, subst, ◌∙◌, arith, length-append}
+use Rattle.std.proofs.Common.{◌≡◌, List, length, ◌++◌, ◌∷◌, [], sym, ap, subst, ◌∙◌, arith, length-append}
 use Rattle.etm_types.specs.Settings.{AreSettings}
 use Rattle.spec_run.specs.RunAfter.{IsEvent}
 use Rattle.spec_run.specs.declared.event.Event.{Event}
@@ -85,6 +85,12 @@ returns-clause-path c events x st ok is ran =
     let are : AreSettings s = subst (λ (k : Kept). AreSettings k.settings) c.self.view_is c.self.invariant.ready.settings in
     trace_shows c.args.image.now s c.args.self.now.most (events ++ e ∷ []) x is are st.most (events_more s events e st.given c.requires)
     (omega (arith, length-append events (e ∷ []))) ran
+
+pub returns-clause-few : goal.returns-clause-few
+returns-clause-few c =
+    let few = (follows_here (goal.at.returns-clause-few c).In_ok-done).few in
+    let wrote = bytes_all c.self.inside.follower.teller (orders_done c.in_ok-done.done c.apply.new.self.place c.self.inside.follower) in
+    omega (arith, few, ap length c.follow.ensures.bytes, length-append c.reserve.new.self.items wrote, ap length c.reserve.ensures.items)
 
 pub returns-clause-settings : goal.returns-clause-settings
 returns-clause-settings c =

@@ -1,4 +1,4 @@
-use Rattle.std.proofs.Common.{◌≡◌, ◌++◌, refl, sym, ap, subst, ◌∙◌, arith}
+use Rattle.std.proofs.Common.{◌≡◌, ◌++◌, refl, sym, ap, subst, ◌∙◌, arith, length, length-append}
 use Rattle.etm_types.specs.Settings.{AreSettings}
 use Rattle.packet_grammar.specs.declared.end.End.TheVariants.{Clean}
 use Rattle.path_elements.specs.Path.{IsPath}
@@ -45,3 +45,9 @@ returns-in-Ok-clause-path c image events x st is some ran was ok =
 pub returns-in-Ok-clause-ledger : goal.returns-in-Ok-clause-ledger
 returns-in-Ok-clause-ledger c image events x st ran =
     c.close.ensures.value ∙ lost_of image c.self.inside.run c.self.inside.follower c.args.self events x c.self.invariant c.self.view_is st ran
+
+pub returns-in-Ok-clause-few : goal.returns-in-Ok-clause-few
+returns-in-Ok-clause-few c =
+    let few = settle_few _ c.self.inside.follower.teller c.self.invariant.ready in
+    let wrote = bytes_of c.self.inside.follower.teller Settle in
+    omega (arith, few, ap length c.settle.ensures.bytes, length-append c.reserve.new.self.items wrote, ap length c.reserve.ensures.items)
