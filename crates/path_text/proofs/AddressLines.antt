@@ -1,9 +1,12 @@
 -- The line of an instruction, when it moves to another address.
-use Rattle.std.proofs.Common.{◌≡◌, ℕ, ◌+◌, ◌<◌, ◌≤◌, List, [], ◌∷◌, ◌++◌, length, take, drop, set, refl, sym, ap, ◌∙◌, arith, append_assoc}
+use Rattle.std.proofs.Common.{◌≡◌, ℕ, ◌+◌, ◌-◌, ◌/◌, ◌<◌, ◌≤◌, List, [], ◌∷◌, ◌++◌, length, take, drop, set, refl, sym, ap, ◌∙◌, arith, append_assoc}
+use Rattle.std.specs.Prelude.{map}
+use Rattle.std.specs.Int.Digits.{digits_of}
 use Rattle.std.proofs.lemmas.List.{length-append, length-take-le, length-drop, take-append-drop, take-take, take_at, take_more_set}
 use Rattle.std.proofs.Math.Seq.{drop-append_seam}
-use Rattle.path_text.specs.Lines.{hex, line_start, address_line}
+use Rattle.path_text.specs.Lines.{digit, hex, last_four_hex, line_start, address_line}
 use Rattle.path_text.proofs.DigitLemmas.{before_last}
+use Rattle.path_text.proofs.HexLemmas.{hex_four}
 
 -- the bytes of the line: its start, and then the digits, where they end at `end`
 pub front_there : (id address n : ℕ) (bytes : List ℕ) → 3 ≤ n → take n bytes ≡ address_line id address → take 3 bytes ≡ line_start id
@@ -48,13 +51,28 @@ from_end id address end bytes place is =
     let len : end ≡ length front = omega (arith, place, length-append (line_start id) (hex address)) in
     ap (drop end) whole ∙ ap (λ k. drop k (front ++ (10 ∷ rest))) len ∙ drop-append_seam front (10 ∷ rest)
 
--- as many other digits, before the LF that is there
-pub line_changed : (id old new end : ℕ) (bytes : List ℕ) → end ≡ 3 + length (hex old) → length (hex new) ≡ length (hex old)
-    → take (end + 1) bytes ≡ address_line id old → take (end + 1) (take 3 bytes ++ (hex new ++ drop end bytes)) ≡ address_line id new
-line_changed id old new end bytes place many is =
-    ap (λ t. take (end + 1) (t ++ (hex new ++ drop end bytes))) (front_there id old (end + 1) bytes (omega (arith, place)) is)
-    ∙ ap (λ t. take (end + 1) (line_start id ++ (hex new ++ t))) (from_end id old end bytes place is)
-    ∙ cut_line id new end (drop (end + 1) bytes) (omega (arith, place, many))
+-- other last four digits, before the LF that is there
+pub line_changed : (id old new end : ℕ) (bytes : List ℕ) → 4096 ≤ old → 4096 ≤ new → old / 65536 ≡ new / 65536 → end ≡ 3 + length (hex old)
+    → take (end + 1) bytes ≡ address_line id old → take (end + 1) (take (end - 4) bytes ++ (last_four_hex new ++ drop end bytes)) ≡ address_line id new
+line_changed id old new end bytes some_old some_new same place is =
+    let start = line_start id in let upper = map digit (digits_of 16 (old / 65536)) in let rest = drop (end + 1) bytes in
+    let all_old : hex old ≡ upper ++ last_four_hex old = hex_four old some_old in
+    let all_new : hex new ≡ upper ++ last_four_hex new =
+    hex_four new some_new ∙ ap (λ k. map digit (digits_of 16 k) ++ last_four_hex new) (sym same) in
+    let many_old : length (hex old) ≡ length upper + 4 = ap length all_old ∙ length-append upper (last_four_hex old) in
+    let many_new : length (hex new) ≡ length upper + 4 = ap length all_new ∙ length-append upper (last_four_hex new) in
+    let front : take (end - 4) bytes ≡ start ++ upper =
+    sym (take-take (end - 4) end bytes (omega arith))
+    ∙ ap (take (end - 4)) (digits_there id old end bytes place is)
+    ∙ ap (λ t. take (end - 4) (t ++ hex old)) (front_there id old (end + 1) bytes (omega (arith, place)) is)
+    ∙ ap (λ t. take (end - 4) (start ++ t)) all_old ∙ ap (take (end - 4)) (sym (append_assoc start upper (last_four_hex old)))
+    ∙ take_at (start ++ upper) (last_four_hex old) (end - 4) (omega (arith, place, many_old, length-append start upper)) in
+    ap (λ t. take (end + 1) (t ++ (last_four_hex new ++ drop end bytes))) front
+    ∙ ap (λ t. take (end + 1) ((start ++ upper) ++ (last_four_hex new ++ t))) (from_end id old end bytes place is)
+    ∙ ap (take (end + 1)) (append_assoc start upper (last_four_hex new ++ (10 ∷ rest)))
+    ∙ ap (λ t. take (end + 1) (start ++ t)) (sym (append_assoc upper (last_four_hex new) (10 ∷ rest)))
+    ∙ ap (λ t. take (end + 1) (start ++ (t ++ (10 ∷ rest)))) (sym all_new)
+    ∙ cut_line id new end rest (omega (arith, place, many_old, many_new))
 
 -- any other digits, and then LF
 pub line_made : (id new end : ℕ) (bytes : List ℕ) → take 3 bytes ≡ line_start id → end ≡ 3 + length (hex new) → end < length bytes

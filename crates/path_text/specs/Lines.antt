@@ -14,6 +14,10 @@ in_base base n = if n == 0 then 48 ∷ [] else map digit (digits_of base n)
 abbrev pub hex : ℕ → List ℕ
 hex n = in_base 16 n
 
+-- its last four digits, where it has as many
+abbrev pub last_four_hex : ℕ → List ℕ
+last_four_hex n = digit (n / 4096 % 16) ∷ digit (n / 256 % 16) ∷ digit (n / 16 % 16) ∷ digit (n % 16) ∷ []
+
 abbrev pub decimal : ℕ → List ℕ
 decimal n = in_base 10 n
 

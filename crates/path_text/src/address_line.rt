@@ -1,12 +1,12 @@
 //! The line of an instruction, which moves from address to address.
 //!
-//! The addresses of a block go up by 4, and a loop comes back to the same block, so that most often one or two digits change
-//! from a line to the next. The bytes of the line are kept, and only the digits that change are put.
-ghost use Rattle.std.specs.Prelude.{◌≡◌, ◌+◌, ◌≤◌, length};
+//! The addresses of a block go up by 4, and a loop comes back to the same block, so that most often no digit but the last four
+//! changes from a line to the next. The bytes of the line are kept, and then only these four are put.
+ghost use Rattle.std.specs.Prelude.{◌≡◌, ◌+◌, ◌≤◌, ◌/◌, ◌↔◌, IsTrue, length};
 ghost use Rattle.path_text.specs.Lines.{hex};
 ghost use Rattle.path_text.specs.Writing.{Writes};
 
-use crate::digits::{change_hex, digit, hex_count, put_hex};
+use crate::digits::{digit, hex_count, put_hex, put_last_four_hex};
 use etm_types::Id;
 use std::marker::Model;
 use trace_io::{Failed, Sink, write_all};
@@ -69,16 +69,16 @@ impl AddressLine {
         self.id
     }
 
-    /// Moves to an address: only the digits that change are put, where there are as many as before.
+    /// Moves to an address: only the last four digits are put, where the others stay.
     #[inline(always)]
     pub fn move_to(&mut self, address: u64)
         ensures id { self.new.id ≡ self.old.id }
         ensures address { self.new.address ≡ address }
     {
-        let end = ADDRESS + hex_count(address);
-        if self.len == end + 1 {
-            change_hex(self.address, address, &mut self.bytes, end);
+        if differs_in_last_four(self.address, address) {
+            put_last_four_hex(address, &mut self.bytes, self.len - 1);
         } else {
+            let end = ADDRESS + hex_count(address);
             put_hex(address, &mut self.bytes, end);
             self.bytes[end] = b'\n';
             self.len = end + 1;
@@ -93,4 +93,12 @@ impl AddressLine {
     {
         write_all(sink, &self.bytes[..self.len])
     }
+}
+
+/// Whether two numbers have at least four hex digits, and the same ones but for the last four.
+#[inline(always)]
+fn differs_in_last_four(a: u64, b: u64) -> bool
+    ensures { IsTrue result ↔ ((4096 ≤ a) × (4096 ≤ b) × (a / 65536 ≡ b / 65536)) }
+{
+    a / 65536 == b / 65536 && a >= 4096 && b >= 4096
 }

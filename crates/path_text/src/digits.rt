@@ -2,7 +2,7 @@
 //!
 //! How many digits a number has is found first, so that they need no place of their own. The last one is put first.
 ghost use Rattle.std.specs.Prelude.{◌≡◌, ◌+◌, ◌-◌, ◌/◌, ◌%◌, ◌∷◌, ◌++◌, ◌<◌, ◌≤◌, [], length, take, drop};
-ghost use Rattle.path_text.specs.Lines.{digit, hex, decimal};
+ghost use Rattle.path_text.specs.Lines.{digit, hex, decimal, last_four_hex};
 
 /// The digits of the bases up to 16.
 static DIGITS: [u8; 16] = *b"0123456789abcdef";
@@ -13,6 +13,24 @@ static PAIRS: [u8; 200] = *b"0001020304050607080910111213141516171819\
 4041424344454647484950515253545556575859\
 6061626364656667686970717273747576777879\
 8081828384858687888990919293949596979899";
+
+/// The bytes, two hex digits each.
+static HEX_PAIRS: [u8; 512] = *b"000102030405060708090a0b0c0d0e0f\
+101112131415161718191a1b1c1d1e1f\
+202122232425262728292a2b2c2d2e2f\
+303132333435363738393a3b3c3d3e3f\
+404142434445464748494a4b4c4d4e4f\
+505152535455565758595a5b5c5d5e5f\
+606162636465666768696a6b6c6d6e6f\
+707172737475767778797a7b7c7d7e7f\
+808182838485868788898a8b8c8d8e8f\
+909192939495969798999a9b9c9d9e9f\
+a0a1a2a3a4a5a6a7a8a9aaabacadaeaf\
+b0b1b2b3b4b5b6b7b8b9babbbcbdbebf\
+c0c1c2c3c4c5c6c7c8c9cacbcccdcecf\
+d0d1d2d3d4d5d6d7d8d9dadbdcdddedf\
+e0e1e2e3e4e5e6e7e8e9eaebecedeeef\
+f0f1f2f3f4f5f6f7f8f9fafbfcfdfeff";
 
 /// A digit of a base up to 16.
 #[inline(always)]
@@ -142,14 +160,24 @@ pub fn put_decimal(n: u64, text: &mut [u8], end: usize)
     put_short(rest as u8, text, at);
 }
 
+/// The two hex digits of a byte.
+#[inline(always)]
+fn hex_pair(n: u8) -> [u8; 2]
+    ensures { result ≡ digit (n / 16) ∷ digit (n % 16) ∷ [] }
+{
+    let at = 2 * n as usize;
+    [HEX_PAIRS[at], HEX_PAIRS[at + 1]]
+}
+
 /// Puts the two hex digits of a byte.
 #[inline(always)]
 fn put_byte(n: u8, text: &mut [u8], at: usize)
     requires { at + 2 ≤ length text.old }
     ensures { text.new ≡ take at text.old ++ (digit (n / 16) ∷ digit (n % 16) ∷ drop (at + 2) text.old) }
 {
-    text[at] = digit(n / 16);
-    text[at + 1] = digit(n % 16);
+    let [tens, ones] = hex_pair(n);
+    text[at] = tens;
+    text[at + 1] = ones;
 }
 
 /// Puts the hex digits of a number below 256 where they end at `end`.
@@ -183,23 +211,13 @@ pub fn put_hex(n: u64, text: &mut [u8], end: usize)
     put_short_hex(rest as u8, text, at);
 }
 
-/// Makes the hex digits of `old`, which end at `end`, those of `new`, which are as many. Only the last of them are
-/// put, up to the first digit from where on both are the same.
+/// Puts the last four hex digits of a number where they end at `end`.
 #[inline(always)]
-pub fn change_hex(old: u64, new: u64, text: &mut [u8], end: usize)
-    requires many { length (hex new) ≡ length (hex old) }
-    requires room { length (hex old) ≤ end }
+pub fn put_last_four_hex(n: u64, text: &mut [u8], end: usize)
+    requires room { 4 ≤ end }
     requires within { end ≤ length text.old }
-    requires there { take end text.old ≡ take (end - length (hex old)) text.old ++ hex old }
-    ensures { text.new ≡ take (end - length (hex new)) text.old ++ (hex new ++ drop end text.old) }
+    ensures { text.new ≡ take (end - 4) text.old ++ (last_four_hex n ++ drop end text.old) }
 {
-    let mut at = end - 1;
-    text[at] = digit((new % 16) as u8);
-    let (mut left, mut rest) = (old / 16, new / 16);
-    while rest != left {
-        at -= 1;
-        text[at] = digit((rest % 16) as u8);
-        left /= 16;
-        rest /= 16;
-    }
+    put_byte((n / 256 % 256) as u8, text, end - 4);
+    put_byte((n % 256) as u8, text, end - 2);
 }
