@@ -1,13 +1,16 @@
 -- Run files that were worked out by hand, each beside what a wrong definition would say.
-use Rattle.std.proofs.Common.{◌≡◌, ◌∷◌, ◌∙◌, ◌+◌, ℕ, false, true, List, [], Option, Some, None, Result, Ok, Err, ap, eq-eqb, nat_eq, refl, sym, true≢false}
+use Rattle.std.proofs.Common.{◌≡◌, ◌∷◌, ◌++◌, ◌∙◌, ◌+◌, ℕ, Bool, false, true, List, [], Option, Some, None, Result, Ok, Err, ap, eq-eqb}
+use Rattle.std.proofs.Common.{nat_eq, refl, sym, true≢false}
 use Rattle.std.specs.Prelude.{⊤, codes}
 use Rattle.std.specs.Str.{is_utf8}
 use Rattle.hex.specs.Hex.{decode_pairs}
 use Rattle.program_image.specs.Line.{decimal_of, words_in}
+use Rattle.etm_types.specs.declared.context.Ctx.{Ctx}
+use Rattle.spec_run.specs.declared.event.Event.{Event}
 use Rattle.spec_run.specs.declared.event.Event.TheVariants as event
 use Rattle.bench_text.specs.BenchText.{Draft, add_any, add_lines, finished, then_lines}
 use Rattle.bench_text.specs.EventLines.{short_number_of, two_digits_of}
-use Rattle.bench_text.specs.Parts.{BenchParts, events_of}
+use Rattle.bench_text.specs.Parts.{BenchParts, BenchStream, events_of}
 use Rattle.bench_text.specs.WhyNumbers.{why_number}
 use Rattle.bench_text.specs.declared.fault.BenchWhy.{BenchWhy}
 use Rattle.bench_text.specs.declared.fault.BenchWhy.TheVariants.{Header, Syntax, IdRange, DuplicateId, Range}
@@ -210,6 +213,33 @@ no_kind = refl
 context_does_not_fit : said (stream_01 (codes "context el0 ns 100 0" ∷ [])) ≡ Err (3, Range)
 unfolding decode_pairs
 context_does_not_fit = refl
+
+-- ---- each event by its words
+
+abbrev events_in : List BenchStream → List Event
+events_in [] = []
+events_in (s ∷ streams) = events_of s.lines ++ events_in streams
+
+-- none where a line is bad
+abbrev events_said : Result BenchParts (ℕ × BenchWhy) → List Event
+events_said (Ok b) = events_in b.streams
+events_said (Err fault) = []
+
+abbrev core : ℕ → Bool → ℕ → ℕ → Ctx
+core el ns vmid cid = record { el = el; ns = ns; vmid = vmid; cid = cid }
+
+abbrev event_lines : List (List ℕ)
+event_lines =
+    codes "on 1000 el0 s 1 2" ∷ codes "step" ∷ codes "step 2" ∷ codes "taken" ∷ codes "not" ∷ codes "to fffffffffffffffc"
+    ∷ codes "eret 80 el2 ns ff 0" ∷ codes "exc 3 200 el3 ns 0 0" ∷ codes "context el1 s 0 ffffffff" ∷ codes "retire 3" ∷ codes "cancel 2"
+    ∷ codes "flip" ∷ codes "sync" ∷ codes "overflow" ∷ codes "off" ∷ []
+
+each_event : events_said (said (stream_01 event_lines)) ≡
+    event.On 0x1000 (core 0 false 1 2) ∷ event.Step ∷ event.Step ∷ event.Step ∷ event.Taken ∷ event.NotTaken ∷ event.To 0xfffffffffffffffc
+    ∷ event.Eret 0x80 (core 2 true 255 0) ∷ event.Exc 3 0x200 (core 3 true 0 0) ∷ event.Context (core 1 false 0 0xffffffff) ∷ event.Retire 3
+    ∷ event.Cancel 2 ∷ event.Flip ∷ event.Sync ∷ event.Overflow ∷ event.Off ∷ []
+unfolding decode_pairs
+each_event = refl
 
 -- ---- a whole run file
 

@@ -12,3 +12,4 @@ pub mod Printing
 pub mod Quiet
 pub mod Standing
 pub mod Growing
+pub mod Examples

@@ -1,5 +1,5 @@
 -- The bytes that are written for runs over small images, as they were worked out apart from these definitions, beside what a wrong rule would write.
-use Rattle.std.proofs.Common.{◌≡◌, ℕ, false, List, [], ◌∷◌, ◌++◌, replicate, refl}
+use Rattle.std.proofs.Common.{◌≡◌, ℕ, true, false, List, [], ◌∷◌, ◌++◌, replicate, refl}
 use Rattle.std.specs.Prelude.{All, ◌<◌, ◌≤◌}
 use Rattle.std.proofs.lemmas.List.Elements.{All-cons, All-from_recursion, All-nil}
 use Rattle.etm_types.specs.Settings.{AreSettings, FitsSettings}
@@ -110,6 +110,26 @@ flip_few_are_written : settled branches (sizes 4) 15 flip_few ≡ flip_few_bytes
 unfolding class_of atom_formats byte_of
 flip_few_are_written = refl
 
+-- five are to be cancelled, which are the most that a Cancel Format 3 packet has room for
+abbrev flip_five : List Event
+flip_five =
+    event.On 0x1000 user ∷ event.Step ∷ event.Taken ∷ event.Taken ∷ event.Step ∷ event.Taken ∷ event.Taken ∷ event.Step ∷ event.Taken
+    ∷ event.Taken ∷ event.Sync ∷ event.Cancel 7 ∷ event.Flip ∷ event.Step ∷ event.Taken ∷ event.Retire 4 ∷ []
+
+abbrev flip_five_bytes : List ℕ → List ℕ
+flip_five_bytes flip =
+    async ++ 0x01 ∷ 0x01 ∷ 0x00 ∷ 0x04 ∷ 0x85 ∷ 0x00 ∷ 0x08 ∷ 0x00 ∷ 0x00 ∷ 0x00 ∷ 0x00 ∷ 0x00 ∷ 0x00 ∷ 0x10 ∷ 0xc2
+    ∷ (async ++ 0x01 ∷ 0x05 ∷ 0x00 ∷ 0x06 ∷ 0x85 ∷ 0x00 ∷ 0x08 ∷ 0x00 ∷ 0x00 ∷ 0x00 ∷ 0x00 ∷ 0x00 ∷ 0x00 ∷ 0x10
+    ∷ (flip ++ 0xf7 ∷ 0x2d ∷ 0x02 ∷ []))
+
+flip_five_are_written : settled branches (sizes 8) 15 flip_five ≡ flip_five_bytes (0x3e ∷ [])
+unfolding class_of atom_formats byte_of
+flip_five_are_written = refl
+
+not_in_format_1 : settled branches (sizes 8) 15 flip_five ≡ flip_five_bytes (0x2f ∷ 0x05 ∷ []) → ⊥
+unfolding class_of atom_formats byte_of
+not_in_format_1 e = other_text (settled branches (sizes 8) 15 flip_five) (flip_five_bytes (0x2f ∷ 0x05 ∷ [])) refl e
+
 -- six are to be cancelled: a Cancel Format 1 packet with a mispredict
 abbrev flip_many : List Event
 flip_many =
@@ -135,6 +155,44 @@ not_in_format_3 e = other_text (settled branches (sizes 8) 15 flip_many) (flip_m
 not_without_a_mispredict : settled branches (sizes 8) 15 flip_many ≡ flip_many_bytes (0x2e ∷ 0x06 ∷ []) → ⊥
 unfolding class_of atom_formats byte_of
 not_without_a_mispredict e = other_text (settled branches (sizes 8) 15 flip_many) (flip_many_bytes (0x2e ∷ 0x06 ∷ [])) refl e
+
+-- ---- a context that is told once more, behind a cancel of the block that it was told for
+
+-- from 0x4000: NOP, ISB, NOP, B to itself
+abbrev barrier : List Part
+barrier =
+    record {
+      start = 0x4000;
+      bytes = 0x1f ∷ 0x20 ∷ 0x03 ∷ 0xd5 ∷ 0xdf ∷ 0x3f ∷ 0x03 ∷ 0xd5 ∷ 0x1f ∷ 0x20 ∷ 0x03 ∷ 0xd5 ∷ 0x00 ∷ 0x00 ∷ 0x00 ∷ 0x14 ∷ [];
+    }
+    ∷ []
+
+abbrev others : Ctx
+others = record { el = 0; ns = true; vmid = 0; cid = 0 }
+
+abbrev told_again : List Event
+told_again =
+    event.On 0x4000 user ∷ event.Step ∷ event.Step ∷ event.Context others ∷ event.Step ∷ event.Taken ∷ event.Cancel 3 ∷ event.Step
+    ∷ event.Context others ∷ event.Step ∷ event.Taken ∷ event.Retire 4 ∷ []
+
+abbrev told_again_bytes : List ℕ → List ℕ
+told_again_bytes context =
+    async ++ 0x01 ∷ 0x01 ∷ 0x00 ∷ 0x04 ∷ 0x85 ∷ 0x00 ∷ 0x20 ∷ 0x00 ∷ 0x00 ∷ 0x00 ∷ 0x00 ∷ 0x00 ∷ 0x00 ∷ 0x10 ∷ 0xf7 ∷ 0x81 ∷ 0x30 ∷ 0x2e ∷ 0x01
+    ∷ 0xf7 ∷ (context ++ 0xf7 ∷ 0x2d ∷ 0x02 ∷ [])
+
+-- a Context packet of the header alone
+told_again_is_written : settled barrier (sizes 4) 15 told_again ≡ told_again_bytes (0x80 ∷ [])
+unfolding class_of atom_formats byte_of
+told_again_is_written = refl
+
+not_with_an_info_byte : settled barrier (sizes 4) 15 told_again ≡ told_again_bytes (0x81 ∷ 0x30 ∷ []) → ⊥
+unfolding class_of atom_formats byte_of
+not_with_an_info_byte e = other_text (settled barrier (sizes 4) 15 told_again) (told_again_bytes (0x81 ∷ 0x30 ∷ [])) refl e
+
+-- nor is it left out
+not_without_a_context : settled barrier (sizes 4) 15 told_again ≡ told_again_bytes [] → ⊥
+unfolding class_of atom_formats byte_of
+not_without_a_context e = other_text (settled barrier (sizes 4) 15 told_again) (told_again_bytes []) refl e
 
 -- ---- contexts with both numbers, exceptions, an overflow
 
