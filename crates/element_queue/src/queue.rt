@@ -111,6 +111,9 @@ impl Queue {
         ensures queued { IsQueued self.new }
         ensures counted { AreCounts self.old.counts }
     {
+        if self.depth == 0 {
+            return Some(Committed::Seen(self.pass(p0)));
+        }
         let full = self.held() == self.depth;
         let entry = Uncommitted::new(Entry { pre: self.pre, p0 }, &mut self.ledger);
         self.pre = Pre::nothing_told();
@@ -122,6 +125,19 @@ impl Queue {
             return Some(Committed::Unseen);
         }
         None
+    }
+
+    /// One more P0 element at depth 0. It is committed at once.
+    #[inline(always)]
+    fn pass(&mut self, p0: P0) -> Entry
+        requires { self.old.depth ≡ 0 }
+        ensures takes { Takes self.old (elem.P0 p0) (committing (Seen result ∷ [])) self.new }
+        ensures queued { IsQueued self.new }
+        ensures counted { AreCounts self.old.counts }
+    {
+        let entry = Uncommitted::new(Entry { pre: self.pre, p0 }, &mut self.ledger);
+        self.pre = Pre::nothing_told();
+        entry.commit(&mut self.ledger)
     }
 
     /// Which atom one atom more commits: the oldest that is held, or that one itself where the depth is 0. `None` where it

@@ -158,3 +158,20 @@ module _ (image : Image) (id : ℕ) (d e : Decoding) (shown now : Option Ctx) (o
         writes = writes_all old mid tt (lines_of id shown p.items) p.wrote;
         ends = λ ok. (whole, p.context);
       }
+
+  -- the rest is written, or a front of it
+  pub prints_behind : (d' : Decoding) (shown' : Option Ctx) (r : Result (Unit {0}) Failed) → Prints image id e now d' shown' mid new r
+      → Prints image id d shown d' shown' old new r
+  prints_behind d' shown' r q =
+      record {
+        items = p.items ++ q.items;
+        outcome = q.outcome;
+        took = placed d.at (p.goes).took ++ q.took;
+        yields = (p.goes).leads q.items q.outcome q.took q.yields;
+        writes = then_writes old mid new r (lines_of id shown p.items) (lines_of id now q.items) (lines_of id shown (p.items ++ q.items))
+            (lines_on q.items) p.wrote q.writes;
+        ends = λ ok. (
+          goes_to_end image d e d' p.items q.items p.goes (q.ends ok).0,
+          (q.ends ok).1 ∙ ap (λ (c : Option Ctx). shown_after_all c q.items) p.context ∙ sym (shown_after_all-append shown p.items q.items),
+        );
+      }

@@ -200,7 +200,7 @@ fn turn_to(line: &mut AddressLine, id: Id)
     }
 }
 
-/// Writes what all that is left to do shows.
+/// Writes what all that is left to do shows. Most often all of it goes the short way.
 fn write_rest<K: Sink>(
     decoding: &mut Decoding,
     shown: &mut Option<Ctx>,
@@ -223,6 +223,32 @@ fn write_rest<K: Sink>(
         has_gap(image);
         return Err(failed);
     }
+    if decoding.is_at_rest() {
+        return Ok(());
+    }
+    write_left(decoding, shown, line, image, sink)
+}
+
+/// Writes what is left where the short way ends: one found thing after the other.
+#[inline(never)]
+fn write_left<K: Sink>(
+    decoding: &mut Decoding,
+    shown: &mut Option<Ctx>,
+    line: &mut AddressLine,
+    image: &Image,
+    sink: &mut K,
+) -> Result<(), Failed>
+    requires holds { IsDecoding decoding.old }
+    ensures prints { decoding.old.fault ≡ None
+        → Prints image.now line.old.id decoding.old shown.old decoding.new shown.new (K.state sink.old) (K.state sink.new) result }
+    ensures stopped { AtRest decoding.old → (result ≡ Ok tt) × (decoding.new ≡ decoding.old) × (shown.new ≡ shown.old) × (sink.new ≡ sink.old) }
+    ensures rest { IsOk result → AtRest decoding.new }
+    ensures cause { HasCause (K.state sink.old) (K.state sink.new) result }
+    ensures shows { ShowsAsBefore (K.state sink.old) (K.state sink.new) }
+    ensures reader { decoding.new.reader ≡ decoding.old.reader }
+    ensures id { line.new.id ≡ line.old.id }
+    ensures holds { IsDecoding decoding.new }
+{
     while let Some(found) = decoding.next(image) {
         match write_on(decoding, &found, shown, line, image, sink) {
             Ok(()) => {}

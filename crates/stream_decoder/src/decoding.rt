@@ -329,7 +329,7 @@ impl Decoding {
 
     /// Whether nothing is left to do.
     #[inline(always)]
-    fn is_at_rest(&self) -> bool
+    pub fn is_at_rest(&self) -> bool
         ensures rest { IsTrue result ↔ AtRest self.now }
         ensures left { result ≡ false → 0 < left self.now }
         ensures whole { result ≡ false → self.now.fault ≡ None }

@@ -31,6 +31,19 @@ front_more a c xs ys p =
       appended = p.appended;
     }
 
+-- the first write took so many bytes, and of the others a front was appended
+pub shorter_after : (a b c : IoState) (bytes : List ℕ) (n : ℕ) → AppendsAll a b (take n bytes)
+    → AppendsShorter b c (take (length bytes - n) (drop n bytes)) → AppendsShorter a c bytes
+shorter_after a b c bytes n p q =
+    record {
+      front = take n bytes ++ q.front;
+      rest = q.rest;
+      whole = sym (take-append-drop n bytes) ∙ ap (λ l. take n bytes ++ l) (sym (take_rest bytes n) ∙ q.whole)
+          ∙ sym (append_assoc (take n bytes) q.front q.rest);
+      appended = Appends-trans a.bytes b.bytes c.bytes (take n bytes) q.front p q.appended;
+      shorter = q.shorter;
+    }
+
 pub front_of_shorter : (a c : IoState) (xs : List ℕ) → AppendsShorter a c xs → AppendsFront a c xs
 front_of_shorter a c xs p = record { front = p.front; rest = p.rest; whole = p.whole; appended = p.appended }
 

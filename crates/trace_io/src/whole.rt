@@ -9,7 +9,29 @@ use thiserror::Error;
 
 /// Writes all of `bytes`, in as many writes as the sink wants. Where it fails, the sink has taken a
 /// front of `bytes` that is shorter. No write is made of an empty `bytes`.
+#[inline(always)]
 pub fn write_all<K: Sink>(sink: &mut K, bytes: &[u8]) -> Result<(), Failed>
+    ensures ok { OnOk result (AppendsAll (K.state sink.old) (K.state sink.new) bytes.now) }
+    ensures failed { OnErr result
+        (AppendsShorter (K.state sink.old) (K.state sink.new) bytes.now) }
+    ensures empty { bytes.now ≡ [] → sink.new ≡ sink.old }
+    ensures shows { ShowsAsBefore (K.state sink.old) (K.state sink.new) }
+    ensures cause { HasCause (K.state sink.old) (K.state sink.new) result }
+{
+    if bytes.is_empty() {
+        return Ok(());
+    }
+    let count = sink.write(bytes)?;
+    if count == bytes.len() {
+        return Ok(());
+    }
+    write_rest(sink, &bytes[count..])
+}
+
+/// Writes what the first write left.
+#[cold]
+#[inline(never)]
+fn write_rest<K: Sink>(sink: &mut K, bytes: &[u8]) -> Result<(), Failed>
     ensures ok { OnOk result (AppendsAll (K.state sink.old) (K.state sink.new) bytes.now) }
     ensures failed { OnErr result
         (AppendsShorter (K.state sink.old) (K.state sink.new) bytes.now) }

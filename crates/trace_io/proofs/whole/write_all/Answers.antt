@@ -1,15 +1,6 @@
-use Rattle.std.proofs.Common.{◌∙◌, ap, length, arith}
-use Rattle.trace_io.proofs.Known.{taken_more}
+use Rattle.std.proofs.lemmas.Result.{on_err_weaker}
+use Rattle.trace_io.proofs.Known.{shorter_after}
 use Rattle.trace_io.proofs.whole.write_all.Goals as goal
 
-pub loop-done-preserved : goal.loop-done-preserved
-loop-done-preserved g c =
-    let e = c.in_ok-done.ensures in
-    let i = c.loop-done.invariant in
-    record {
-      within = omega (arith, e.bound);
-      front = taken_more _ _ _ _ _ _ i.front e.bytes;
-      shows = e.shows ∙ i.shows;
-      kept = e.cause.kept ∙ i.kept;
-      untouched = λ none. absurd (omega (arith, c.loop-done-test.true, ap length none));
-    }
+pub returns-clause-failed : goal.returns-clause-failed
+returns-clause-failed g c = on_err_weaker c.write_rest.result (shorter_after _ _ _ _ _ c.in_ok-count.ensures.bytes) c.write_rest.ensures.failed

@@ -2,7 +2,7 @@ use Rattle.std.proofs.Common.{◌≡◌}
 use Rattle.stream_decoder.specs.Decoding.{AtRest, IsDecoding}
 use Rattle.stream_decoder.specs.Yields.{left}
 use Rattle.stream_decoder.proofs.Printing.{Printed}
-use Rattle.stream_decoder.proofs.decoder.write_rest.Given as goal
+use Rattle.stream_decoder.proofs.decoder.write_left.Given as goal
 
 abbrev pub decreases-loop-found : goal.decreases-loop-found
 decreases-loop-found g l = left l.decoding
