@@ -22,6 +22,3 @@ pub use bench::Bench;
 pub use fault::{BenchFault, BenchWhy};
 pub use laws::{repeated_lines_are_written_out, streams_are_run_in_order, texts_say_run_files};
 pub use line::{BenchLine, Weave};
-
-#[cfg(test)]
-mod tests;

@@ -18,6 +18,3 @@ pub use laws::{done_stays_done, elements_are_resolved_one_by_one, no_more_than_t
 pub use ledger::{Counts, Ledger};
 pub use queue::{Committed, PreElem, Queue};
 pub use uncommitted::Uncommitted;
-
-#[cfg(test)]
-mod tests;

@@ -24,6 +24,3 @@ pub use front::Address;
 pub use laws::{each_byte_has_its_answer, each_spelling_is_told, the_answers_are_the_parse};
 pub use reader::PacketReader;
 pub use step::Step;
-
-#[cfg(test)]
-mod tests;

@@ -25,6 +25,3 @@ pub use line::Line;
 pub use packet_grammar::End;
 pub use packet_line::{PacketLine, write_packet_line};
 pub use path_lines::{write_gap, write_stop, write_walked, write_walked_on};
-
-#[cfg(test)]
-mod tests;

@@ -15,6 +15,3 @@ mod walker;
 pub use laws::{an_entry_has_one_walk, joined_things_have_joined_walks, things_have_one_walk};
 pub use pc::Pc;
 pub use walker::Walker;
-
-#[cfg(test)]
-mod tests;

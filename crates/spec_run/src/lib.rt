@@ -30,8 +30,3 @@ pub use retired_path::RetiredPath;
 pub use run::Run;
 pub use run_fault::RunFault;
 pub use step::{RunStep, StepKind};
-
-#[cfg(test)]
-mod path_tests;
-#[cfg(test)]
-mod tests;

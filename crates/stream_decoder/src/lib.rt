@@ -17,6 +17,3 @@ mod todo;
 mod waiting;
 
 pub use decoder::StreamDecoder;
-
-#[cfg(test)]
-mod tests;

@@ -1,8 +1,8 @@
 //! The retired path, step by step: what it gives on runs worked out by hand.
 ghost use Rattle.std.specs.Prelude.{◌≡◌, false};
 
-use crate::{RetiredPath, RunStep, StepKind};
 use etm_types::{Ctx, ExcMark, Walked};
+use spec_run::{RetiredPath, RunStep, StepKind};
 
 const PROGRAM: Ctx = Ctx {
     el: 0,

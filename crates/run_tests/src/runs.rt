@@ -1,7 +1,7 @@
 //! Runs over small images: what each event answers, and where the run stands behind it.
-use crate::{Done, Event, Run, RunFault, RunStep, StepKind};
 use etm_types::{Ctx, Settings};
 use program_image::{Image, ImageFault};
+use spec_run::{Done, Event, Run, RunFault, RunStep, StepKind};
 use std::alloc::Global;
 use std::test::*;
 use trace_io::SafeSource;

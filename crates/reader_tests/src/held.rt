@@ -1,5 +1,5 @@
-//! Each public call once: that it can succeed, and what it gives on lists of elements worked out by hand.
-use super::*;
+//! The queue of held elements: each public call once, that it can succeed, and what it gives on lists of elements worked out by hand.
+use element_queue::*;
 use etm_types::{Ctx, Entry, P0, Pre, QueueFault};
 use std::test::Fail;
 

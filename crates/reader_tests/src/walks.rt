@@ -2,8 +2,8 @@
 ghost use Rattle.std.specs.Prelude.{IsTrue};
 ghost use Rattle.path_walker.specs.Walk.{ReturnIsAligned, ToldIsAligned};
 
-use crate::Walker;
 use etm_types::{Ctx, Entry, ExcMark, P0, Pre, WalkFault, Walked};
+use path_walker::Walker;
 use program_image::{Image, ImageFault};
 use std::alloc::Global;
 use std::process::Abort;

@@ -1,7 +1,7 @@
-//! Each call once, and the bytes at which readers go wrong.
-use super::*;
+//! The packet reader: each call once, and the bytes at which readers go wrong.
 use etm_types::{AddrForm, AtomRun, CtxBits, Settings};
 use packet_grammar::{Packet, PacketFault};
+use packet_reader::*;
 
 /// The answer to the last of the bytes behind an A-sync, in a reader of a VMID of one byte and a context
 /// ID of four.

@@ -1,10 +1,10 @@
-//! Each public call once, on streams whose lines and counts were worked out by the rules.
-use super::*;
+//! The decoder of a stream: each public call once, on streams whose lines and counts were worked out by the rules.
 use element_queue::Counts;
 use etm_types::{Id, Settings};
 use program_image::Image;
 use std::alloc::Global;
 use std::test::Fail;
+use stream_decoder::*;
 use trace_io::{MemSink, SafeSource};
 
 /// A NOP, a conditional branch to 100c, a NOP, and a branch to 1000.

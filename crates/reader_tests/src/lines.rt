@@ -1,10 +1,10 @@
-//! Each public call once, with the largest numbers, and that a line is one write. Which text a value has is shown by
-//! `proofs/Examples.antt` and the files beside it.
+//! Lines: each public call once, with the largest numbers, and that a line is one write. Which text a value has is shown by
+//! `proofs/Examples.antt` of `path_text` and the files beside it.
 ghost use Rattle.path_text.specs.PacketLines.{HasText};
 
-use super::*;
 use etm_types::{AddrForm, AtomRun, Ctx, CtxBits, ExcMark, Id, WalkFault, Walked};
 use packet_grammar::{Fault, Packet};
+use path_text::*;
 use std::test::Fail;
 use trace_io::{Failed, MemSink};
 

@@ -2,7 +2,7 @@
 ghost use Rattle.std.specs.Prelude.{◌≤◌, length};
 ghost use Rattle.bench_text.specs.Refusals.{most_text};
 
-use crate::{Bench, BenchFault, BenchLine, BenchWhy, Weave};
+use bench_text::{Bench, BenchFault, BenchLine, BenchWhy, Weave};
 use etm_types::{Ctx, Id};
 use spec_run::{Event, RunFault};
 use std::alloc::Global;

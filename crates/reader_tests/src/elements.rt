@@ -2,9 +2,9 @@
 ghost use Rattle.std.specs.Prelude.{◌≤◌};
 ghost use Rattle.path_elements.specs.Held.{CanBeTaken};
 
-use super::*;
 use etm_types::{AddrForm, AtomRun, Ctx, CtxBits, Elem, FewAtoms, P0};
 use packet_grammar::Packet;
+use path_elements::*;
 use std::process::Abort;
 use std::test::Fail;
 
