@@ -1,6 +1,6 @@
 -- What is held, as the code has it: so many things that were not seen, and the entries behind them.
-use Rattle.std.proofs.Common.{Option, Some, None, Bool}
-use Rattle.std.specs.Prelude.{IfSome}
+use Rattle.std.proofs.Common.{Option, Some, None}
+use Rattle.std.specs.Prelude.{IfSome, IsSome}
 use Rattle.std.proofs.Common.{◌≡◌, ℕ, zero, suc, ◌+◌, ◌≤◌, ◌<◌, true, false, List, [], ◌∷◌, ◌++◌, length, map, replicate, All, refl, ap, arith, length-append}
 use Rattle.std.proofs.lemmas.List.{length-map, length-replicate}
 use Rattle.std.proofs.lemmas.List.Elements.{All-append, All-map, All-replicate}
@@ -45,9 +45,17 @@ queued unseen depth seen pre counts few balanced =
 pub none_held : (unseen : ℕ) (seen : List Entry) → things unseen seen ≡ [] → unseen + length seen ≡ 0
 none_held unseen seen e = omega (arith, length-things unseen seen, ap length e)
 
-pub if_some : (r : Option Bool) (P Q : Bool → Type 0) → ((b : Bool) → P b → Q b) → IfSome r P → IfSome r Q
+pub if_some : {X : Type 0} (r : Option X) (P Q : X → Type 0) → ((x : X) → P x → Q x) → IfSome r P → IfSome r Q
 if_some None P Q f p = p
-if_some (Some b) P Q f p = f b p
+if_some (Some x) P Q f p = f x p
+
+-- an answer that is none tells nothing
+pub which : {X : Type 0} (r : Option X) (P : X → Type 0) → IfSome r P → IsSome r → (x : X) × P x
+which None P told some = absurd cc
+which (Some x) P told some = (x, told)
+
+pub entry_is : (x y : Entry) (held : List Thing) → held ≡ Seen x ∷ [] → held ≡ Seen y ∷ [] → x ≡ y
+entry_is x y held one other = cc
 
 -- a ring that gives nothing is empty
 pub none_left : {X : Type 0} (xs : List X) → (0 < length xs → false ≡ true) → xs ≡ []

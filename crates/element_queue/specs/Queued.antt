@@ -10,6 +10,7 @@ use Rattle.etm_types.specs.declared.element.Thing.{Thing}
 use Rattle.etm_types.specs.declared.element.Thing.TheVariants.{Seen, Unseen}
 use Rattle.etm_types.specs.declared.queue_fault.QueueFault.{QueueFault}
 use Rattle.element_queue.specs.declared.ledger.Counts.{Counts}
+use Rattle.element_queue.specs.declared.queue.AtomEntry.{AtomEntry}
 use Rattle.element_queue.specs.declared.queue.Committed.{Committed}
 use Rattle.element_queue.specs.declared.queue.Committed.TheVariants as committed
 use Rattle.element_queue.specs.declared.queue.PreElem.{PreElem}
@@ -61,9 +62,9 @@ noted pre (pre_elem.Addr addr) = record pre { addr = Some addr }
 abbrev pub committed_by : Queued → P0 → List Thing
 committed_by q p0 = let all = q.held ++ Seen (record { pre = q.pre; p0 = p0 }) ∷ [] in take (length all - q.depth) all
 
--- an atom before which nothing was given
-abbrev pub bare_atom : Bool → Entry
-bare_atom taken = record { pre = nothing_told; p0 = Atom taken }
+-- an atom before which nothing was given but, where there is one, an address
+abbrev pub entry_of : AtomEntry → Entry
+entry_of atom = record { pre = record nothing_told { addr = atom.addr }; p0 = Atom atom.taken }
 
 -- what is committed, as a thing
 abbrev pub thing_of : Committed → Thing

@@ -16,5 +16,5 @@ mod uncommitted;
 
 pub use laws::{done_stays_done, elements_are_resolved_one_by_one, no_more_than_the_depth_is_held};
 pub use ledger::{Counts, Ledger};
-pub use queue::{Committed, PreElem, Queue};
+pub use queue::{AtomEntry, Committed, PreElem, Queue};
 pub use uncommitted::Uncommitted;

@@ -1,5 +1,5 @@
 //! The queue of P0 elements that are not committed.
-ghost use Rattle.std.specs.Prelude.{◌≡◌, ◌≤◌, ◌<◌, ◌-◌, ◌↔◌, [], length, take, drop, map, replicate, Bool, Ok, Err};
+ghost use Rattle.std.specs.Prelude.{◌≡◌, ◌≤◌, ◌<◌, ◌-◌, ◌↔◌, [], length, take, drop, map, replicate, Ok, Err};
 ghost use Rattle.std.specs.Prelude.{IfOk, IfSome, IsOk, IsErr, IsSome, IsTrue, ◌∷◌};
 ghost use Rattle.etm_types.specs.Pre.{trace_missing};
 ghost use Rattle.etm_types.specs.declared.element.Elem.TheVariants as elem;
@@ -8,7 +8,8 @@ ghost use Rattle.etm_types.specs.declared.element.Thing.TheVariants.{Seen, Unsee
 ghost use Rattle.etm_types.specs.declared.queue_fault.QueueFault.{QueueFault};
 ghost use Rattle.element_queue.specs.Counting.{AreCounts, Balances, counts_after, no_counts};
 ghost use Rattle.element_queue.specs.Pending.{cancelling, committing, flip_newest, losing, nothing_gone};
-ghost use Rattle.element_queue.specs.Queued.{IsQueued, Refuses, Takes, bare_atom, committed_by, noted, things_of};
+ghost use Rattle.element_queue.specs.Queued.{IsQueued, Refuses, Takes, committed_by, entry_of, noted, things_of};
+ghost use Rattle.element_queue.specs.declared.queue.AtomEntry.{AtomEntry};
 
 use crate::ledger::{Counts, Ledger};
 use crate::uncommitted::Uncommitted;
@@ -37,6 +38,15 @@ pub enum Committed {
     Seen(Entry),
     /// One from before the trace that was found, of which nothing else is known.
     Unseen,
+}
+
+/// What most entries are: an atom before which nothing was given but, where there is one, an address.
+#[derive(Clone, Copy, Debug, PartialEq, Eq)]
+pub struct AtomEntry {
+    /// The address of the next instruction, where one was given.
+    pub addr: Option<u64>,
+    /// Whether it is an E atom.
+    pub taken: bool,
 }
 
 /// The P0 elements that are not committed, oldest first, at most so many as the maximum speculation depth,
@@ -140,36 +150,37 @@ impl Queue {
         entry.commit(&mut self.ledger)
     }
 
-    /// Which atom one atom more commits: the oldest that is held, or that one itself where the depth is 0. `None` where it
-    /// commits nothing, and where it commits anything but an atom before which nothing was given.
+    /// Which entry one atom more commits: the oldest that is held, or that atom itself where the depth is 0. `None` where it
+    /// commits nothing, and where it commits anything but an atom before which nothing but an address was given.
     #[inline(always)]
-    pub fn next_committed(&self, taken: bool) -> Option<bool>
-        ensures { IfSome result (λ atom. committed_by self.now (Atom taken) ≡ Seen (bare_atom atom) ∷ []) }
+    pub fn next_committed(&self, taken: bool) -> Option<AtomEntry>
+        ensures value { IfSome result (λ atom. committed_by self.now (Atom taken) ≡ Seen (entry_of atom) ∷ []) }
+        ensures some { IsSome result ↔ ((atom : AtomEntry) × (committed_by self.now (Atom taken) ≡ Seen (entry_of atom) ∷ [])) }
     {
         if self.unseen > 0 || self.ring.len() as u32 != self.depth {
             return None;
         }
         match self.ring.get(0) {
-            Some(oldest) => bare_atom(oldest.entry()),
-            None => bare_atom(&Entry {
+            Some(oldest) => atom_entry(oldest.entry()),
+            None => atom_entry(&Entry {
                 pre: self.pre,
                 p0: P0::Atom(taken),
             }),
         }
     }
 
-    /// Which atom the oldest is. `None` where nothing is held, and where it is anything but an atom before which nothing was
-    /// given.
+    /// Which entry the oldest is. `None` where nothing is held, and where it is anything but an atom before which nothing but
+    /// an address was given.
     #[inline(always)]
-    pub fn oldest_atom(&self) -> Option<bool>
-        ensures value { IfSome result (λ atom. take 1 self.now.held ≡ Seen (bare_atom atom) ∷ []) }
-        ensures some { IsSome result ↔ ((atom : Bool) × (take 1 self.now.held ≡ Seen (bare_atom atom) ∷ [])) }
+    pub fn oldest_atom(&self) -> Option<AtomEntry>
+        ensures value { IfSome result (λ atom. take 1 self.now.held ≡ Seen (entry_of atom) ∷ []) }
+        ensures some { IsSome result ↔ ((atom : AtomEntry) × (take 1 self.now.held ≡ Seen (entry_of atom) ∷ [])) }
     {
         if self.unseen > 0 {
             return None;
         }
         let oldest = self.ring.get(0)?;
-        bare_atom(oldest.entry())
+        atom_entry(oldest.entry())
     }
 
     /// Whether one more may be held, so that it commits nothing.
@@ -351,11 +362,11 @@ fn newest_is_atom(ring: &SpendRing<Uncommitted>) -> bool
     }
 }
 
-/// The atom of an entry before which nothing was given, where it is one.
+/// An entry as an atom before which nothing but an address was given, where it is one.
 #[inline(always)]
-fn bare_atom(entry: &Entry) -> Option<bool>
-    ensures value { IfSome result (λ atom. entry.now ≡ bare_atom atom) }
-    ensures some { (atom : Bool) → entry.now ≡ bare_atom atom → IsSome result }
+fn atom_entry(entry: &Entry) -> Option<AtomEntry>
+    ensures value { IfSome result (λ atom. entry.now ≡ entry_of atom) }
+    ensures some { (atom : AtomEntry) → entry.now ≡ entry_of atom → IsSome result }
 {
     match *entry {
         Entry {
@@ -364,10 +375,10 @@ fn bare_atom(entry: &Entry) -> Option<bool>
                 on: false,
                 lost: false,
                 ctx: None,
-                addr: None,
+                addr,
             },
             p0: P0::Atom(taken),
-        } => Some(taken),
+        } => Some(AtomEntry { addr, taken }),
         _ => None,
     }
 }

@@ -9,7 +9,12 @@ use Rattle.etm_types.specs.declared.element.Elem.TheVariants as elem
 use Rattle.etm_types.specs.declared.element.P0.TheVariants as p0
 use Rattle.etm_types.specs.Atoms.{low_bits}
 use Rattle.path_elements.specs.Elements.{atoms}
-use Rattle.path_elements.specs.Held.{IsElem}
+use Rattle.path_elements.specs.Held.{IsElem, elem_of, rest_in}
+use Rattle.path_elements.specs.declared.elems.Kind.{Kind}
+use Rattle.path_elements.specs.declared.elems.Kind.TheVariants as kind
+use Rattle.path_elements.specs.declared.elems.Rest.{Rest}
+use Rattle.path_elements.specs.declared.elems.Rest.TheVariants as rest
+use Rattle.path_elements.specs.declared.elems.Values.{Values}
 
 pub count_all : (n bits : ℕ) (rest : List Elem) → length (atoms (low_bits n bits) ++ rest) ≡ n + length rest
 count_all zero bits rest = omega arith
@@ -37,3 +42,24 @@ after_atoms (suc n) bits (suc i) rest past =
 pub atoms_are_elements : (taken : List Bool) → All IsElem (atoms taken)
 atoms_are_elements [] = All-nil IsElem
 atoms_are_elements (t ∷ taken) = All-cons IsElem (elem.P0 (p0.Atom t)) (atoms taken) tt (atoms_are_elements taken)
+
+-- no kind is that of an atom, so none stands behind the atoms
+no_atom : (values : Values) (k : Kind) (taken : Bool) → elem_of values k ≡ elem.P0 (p0.Atom taken) → ⊥
+no_atom values kind.Info taken is = cc
+no_atom values kind.On taken is = cc
+no_atom values kind.Ctx taken is = cc
+no_atom values kind.Addr taken is = cc
+no_atom values kind.Exc taken is = cc
+no_atom values kind.Commit taken is = cc
+no_atom values kind.Cancel taken is = cc
+no_atom values kind.Flip taken is = cc
+no_atom values kind.Overflow taken is = cc
+no_atom values kind.Discard taken is = cc
+
+pub no_atom_behind : (r : Rest) (values : Values) (i : ℕ) (taken : Bool) → slice_get (rest_in r values) i ≡ Some (elem.P0 (p0.Atom taken)) → ⊥
+no_atom_behind rest.Nothing values i taken is = cc
+no_atom_behind (rest.One k) values zero taken is = no_atom values k taken cc
+no_atom_behind (rest.One k) values (suc i) taken is = cc
+no_atom_behind (rest.Two j k) values zero taken is = no_atom values j taken cc
+no_atom_behind (rest.Two j k) values (suc zero) taken is = no_atom values k taken cc
+no_atom_behind (rest.Two j k) values (suc (suc i)) taken is = cc

@@ -1,5 +1,5 @@
 //! The elements of one packet.
-ghost use Rattle.std.specs.Prelude.{◌≡◌, ◌≤◌, ◌+◌, ◌∷◌, ◌++◌, ◌↔◌, [], ℕ, length, replicate, slice_get, All, IfSome, IsSome, Some};
+ghost use Rattle.std.specs.Prelude.{◌≡◌, ◌≤◌, ◌+◌, ◌∷◌, ◌++◌, ◌↔◌, [], ℕ, Bool, length, replicate, slice_get, All, IfSome, IsSome, Some};
 ghost use Rattle.etm_types.specs.declared.element.Elem.TheVariants as elem;
 ghost use Rattle.etm_types.specs.declared.element.P0.TheVariants.{Atom};
 ghost use Rattle.etm_types.specs.Atoms.{atoms_in, most_atoms};
@@ -88,6 +88,7 @@ impl Elems {
     #[inline(always)]
     pub fn atom(&self, i: usize) -> Option<bool>
         ensures value { IfSome result (λ taken. slice_get self.now i ≡ Some (elem.P0 (Atom taken))) }
+        ensures some { IsSome result ↔ ((taken : Bool) × (slice_get self.now i ≡ Some (elem.P0 (Atom taken)))) }
     {
         if i < usize::from(self.atoms.count) {
             Some((self.atoms.bits >> i) % 2 == 1)
@@ -107,6 +108,21 @@ impl Elems {
         }
         match self.rest {
             Rest::One(Kind::Commit) => Some(self.values.number),
+            _ => None,
+        }
+    }
+
+    /// The address at `i`, counted from 0, where one stands there alone.
+    #[inline(always)]
+    pub fn address(&self, i: usize) -> Option<u64>
+        ensures value { IfSome result (λ addr. slice_get self.now i ≡ Some (elem.Addr addr)) }
+        ensures some { IsSome result ↔ ((i ≡ 0) × ((addr : ℕ) × (self.now ≡ elem.Addr addr ∷ []))) }
+    {
+        if i != 0 || self.atoms.count != 0 {
+            return None;
+        }
+        match self.rest {
+            Rest::One(Kind::Addr) => Some(self.values.addr),
             _ => None,
         }
     }

@@ -14,6 +14,8 @@ use Rattle.etm_types.specs.declared.walked.Walked.{Walked}
 use Rattle.etm_types.specs.declared.walked.ExcMark.{ExcMark}
 use Rattle.etm_types.specs.declared.walk_fault.WalkFault.{WalkFault}
 use Rattle.etm_types.specs.declared.walk_fault.WalkFault.TheVariants as fault
+use Rattle.etm_types.specs.declared.context.Ctx.{Ctx}
+use Rattle.path_walker.specs.declared.stretch.Stretch.{Stretch}
 use Rattle.path_walker.specs.declared.pc.Pc.{Pc}
 use Rattle.path_walker.specs.declared.pc.Pc.TheVariants.{Awaited, Lost}
 use Rattle.path_walker.specs.State.{State, IsAligned}
@@ -77,9 +79,13 @@ abbrev pub mark_of : P0 → Option ExcMark
 mark_of (Atom taken) = None
 mark_of (Exc kind ret) = Some (record { kind = kind; ret = ret })
 
--- an atom before which nothing was given
-abbrev pub bare_atom : Bool → Entry
-bare_atom taken = record { pre = nothing_told; p0 = Atom taken }
+-- an atom before which nothing was given but, where there is one, an address
+abbrev pub atom_at : Option ℕ → Bool → Entry
+atom_at addr taken = record { pre = record nothing_told { addr = addr }; p0 = Atom taken }
+
+-- the instructions of an atom that shows nothing else, in a context
+abbrev pub walked_in : Ctx → Stretch → Walked
+walked_in ctx stretch = record { on = false; unknown = false; ctx = ctx; start = stretch.start; count = stretch.count; exc = None }
 
 -- the entry is walked
 pub record Shows (image : Image) (s : State) (entry : Entry) (walked : Walked) (after : State) : Type 0 where
@@ -97,6 +103,10 @@ abbrev pub Stops : Image → State → Entry → WalkFault → Type 0
 Stops image s entry f =
     (mismatch_of (pc_before s entry.pre) entry.pre.addr ≡ Some f)
     ⊎ ((mismatch_of (pc_before s entry.pre) entry.pre.addr ≡ None) × Halts image (start_of s entry.pre).at entry.p0 f)
+
+-- no stretch of instructions is the entry's: the address at which it begins is not known, or the entry stops
+abbrev pub HasNoStretch : Image → State → Entry → Type 0
+HasNoStretch image s entry = ((start_of s entry.pre).at ≡ None) ⊎ ((f : WalkFault) × Stops image s entry f)
 
 -- the walk of an entry: it shows something and goes on from a state, or it stops with a fault
 abbrev pub IsWalk : Image → State → Entry → Result (Walked × State) WalkFault → Type 0

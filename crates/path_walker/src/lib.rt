@@ -10,8 +10,10 @@ mod laws;
 mod leg;
 mod pc;
 mod start;
+mod stretch;
 mod walker;
 
 pub use laws::{an_entry_has_one_walk, joined_things_have_joined_walks, things_have_one_walk};
 pub use pc::Pc;
+pub use stretch::Stretch;
 pub use walker::Walker;

@@ -40,6 +40,7 @@ impl StackUse {
     }
 
     /// Does that with a stack.
+    #[inline(always)]
     pub fn apply(self, stack: &mut ReturnStack)
         ensures addresses { stack.new.addresses ≡ used self stack.old.addresses }
         ensures depth { stack.new.depth ≡ stack.old.depth }
@@ -55,6 +56,7 @@ impl StackUse {
 }
 
 /// Where an entry begins for which an address was given.
+#[inline(always)]
 pub fn at_given(pc: Pc, given: u64, flush: bool) -> Result<Start, WalkFault>
     ensures at { IfOk result (λ start. start.at ≡ Some given) }
     ensures stack { IfOk result (λ start. Leaves start.stack (emptied flush)) }
@@ -71,6 +73,7 @@ pub fn at_given(pc: Pc, given: u64, flush: bool) -> Result<Start, WalkFault>
 }
 
 /// Where an entry begins for which no address was given.
+#[inline(always)]
 pub fn at_known(pc: Pc, stack: &ReturnStack, flush: bool) -> Start
     ensures { StartsAs result stack.now.addresses (untold pc (emptied flush stack.now.addresses)) }
 {
@@ -88,6 +91,7 @@ pub fn at_known(pc: Pc, stack: &ReturnStack, flush: bool) -> Start
 }
 
 /// Where an entry begins whose address may be the newest return address.
+#[inline(always)]
 fn at_newest(stack: &ReturnStack) -> Start
     ensures { StartsAs result stack.now.addresses (untold (Awaited true) stack.now.addresses) }
 {

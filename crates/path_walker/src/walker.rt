@@ -1,10 +1,11 @@
 //! The walk of one entry after the other.
-ghost use Rattle.std.specs.Prelude.{◌≡◌, IfOk, IfSome, IsOk, IsErr, None, true};
+ghost use Rattle.std.specs.Prelude.{◌≡◌, IfOk, IfSome, IsOk, IsErr, IsSome, Some, None};
 ghost use Rattle.etm_types.specs.declared.walk_fault.WalkFault.{WalkFault};
 
 use crate::leg::{Leg, leg_of, leg_of_atom};
 use crate::pc::Pc;
 use crate::start::{StackUse, Start, at_given, at_known};
+use crate::stretch::Stretch;
 use etm_types::{Ctx, Entry, ExcMark, P0, Pre, WalkFault, Walked};
 use program_image::Image;
 use return_stack::{MOST_ADDRESSES, ReturnStack};
@@ -34,10 +35,9 @@ impl Model for Walker {
 
 impl Walker {
     ghost use Rattle.path_walker.specs.State.{IsState, IsPc, first_state};
-    ghost use Rattle.path_walker.specs.Start.{StartsAs, context_of, mismatch_of, pc_before, start_of, used};
-    ghost use Rattle.path_walker.specs.declared.pc.Pc.TheVariants.{Known};
+    ghost use Rattle.path_walker.specs.Start.{StartsAs, context_of, mismatch_of, pc_before, start_by, start_of, used};
     ghost use Rattle.path_walker.specs.Steps.{linked};
-    ghost use Rattle.path_walker.specs.Walk.{HasAlignedAddresses, Shows, Stops, ToldIsAligned, bare_atom, mark_of};
+    ghost use Rattle.path_walker.specs.Walk.{HasAlignedAddresses, HasNoStretch, Shows, Stops, ToldIsAligned, atom_at, mark_of, walked_in};
 
     /// A walk that begins at no known address. This is the one call that takes memory, and the error
     /// means want of it.
@@ -63,68 +63,11 @@ impl Walker {
         ensures unchanged { IsErr result → self.new ≡ self.old }
         ensures state { IsState self.new }
     {
-        match (self.pc, entry.p0) {
-            (Pc::Known(pc), P0::Atom(taken)) if nothing_given(&entry.pre) => {
-                self.walk_atom(image, pc, taken)
-            }
-            _ => self.walk_any(image, entry),
-        }
-    }
-
-    /// Walks an atom before which nothing was given, where the address is known and there is no fault. Else it answers `None`
-    /// and nothing changes: [`walk`](Walker::walk) walks it, or says why that can't be.
-    ///
-    /// Most entries are such, and an [`Entry`] has room for every one.
-    #[inline(always)]
-    pub fn walk_bare(&mut self, image: &Image, taken: bool) -> Option<Walked>
-        ensures shows { IfSome result (λ walked. Shows image.now self.old (bare_atom taken) walked self.new) }
-        ensures unchanged { result ≡ None → self.new ≡ self.old }
-        ensures state { IsState self.new }
-    {
-        let Pc::Known(pc) = self.pc else {
-            return None;
-        };
-        match self.walk_atom(image, pc, taken) {
-            Ok(walked) => Some(walked),
-            Err(_) => None,
-        }
-    }
-
-    /// Walks an atom before which nothing was given, from a known address.
-    #[inline(always)]
-    fn walk_atom(&mut self, image: &Image, pc: u64, taken: bool) -> Result<Walked, WalkFault>
-        requires { self.old.pc ≡ Known pc }
-        ensures shows { IfOk result (λ walked. Shows image.now self.old (bare_atom taken) walked self.new) }
-        ensures stops { (fault : WalkFault) → result ≡ Err fault → Stops image.now self.old (bare_atom taken) fault }
-        ensures unchanged { IsErr result → self.new ≡ self.old }
-        ensures state { IsState self.new }
-    {
-        let ctx = self.ctx;
-        let leg = leg_of_atom(image, pc, taken)?;
-        self.go_on(StackUse::Keep, &leg, ctx);
-        Ok(Walked {
-            on: false,
-            unknown: false,
-            ctx,
-            start: pc,
-            count: leg.count,
-            exc: None,
-        })
-    }
-
-    /// Walks any entry. Most are atoms before which nothing was given, and [`Walker::walk`] answers those
-    /// without it.
-    fn walk_any(&mut self, image: &Image, entry: &Entry) -> Result<Walked, WalkFault>
-        requires { HasAlignedAddresses entry.now }
-        ensures shows { IfOk result (λ walked. Shows image.now self.old entry.now walked self.new) }
-        ensures stops { (fault : WalkFault) → result ≡ Err fault → Stops image.now self.old entry.now fault }
-        ensures unchanged { IsErr result → self.new ≡ self.old }
-        ensures state { IsState self.new }
-    {
         let start = self.start(&entry.pre)?;
         let leg = leg_of(image, start.at, entry.p0)?;
         let ctx = entry.pre.ctx.unwrap_or(self.ctx);
-        self.go_on(start.stack, &leg, ctx);
+        self.go_on(start.stack, &leg);
+        self.ctx = ctx;
         Ok(Walked {
             on: entry.pre.on,
             unknown: start.at.is_none(),
@@ -133,6 +76,41 @@ impl Walker {
             count: leg.count,
             exc: mark_of(entry.p0),
         })
+    }
+
+    /// Walks an atom before which nothing was given but, where there is one, an address. It does so where its own address is
+    /// known and there is no fault. Else it answers `None` and nothing changes: [`walk`](Walker::walk) walks it, or says why
+    /// that can't be.
+    ///
+    /// Most entries are such. An [`Entry`] has room for every one, and a [`Walked`] for all that one can show. The address is a
+    /// multiple of 4.
+    #[inline(always)]
+    pub fn walk_atom(&mut self, image: &Image, addr: Option<u64>, taken: bool) -> Option<Stretch>
+        requires { ToldIsAligned addr }
+        ensures shows { IfSome result (λ stretch. Shows image.now self.old (atom_at addr taken) (walked_in self.old.ctx stretch) self.new) }
+        ensures none { result ≡ None → HasNoStretch image.now self.old (atom_at addr taken) }
+        ensures unchanged { result ≡ None → self.new ≡ self.old }
+        ensures context { self.new.ctx ≡ self.old.ctx }
+        ensures state { IsState self.new }
+    {
+        let Start { at, stack } = self.atom_start(addr)?;
+        let start = at?;
+        let Ok(leg) = leg_of_atom(image, start, taken) else {
+            return None;
+        };
+        self.go_on(stack, &leg);
+        Some(Stretch {
+            start,
+            count: leg.count,
+        })
+    }
+
+    /// The context of the instructions that are walked next, where none is given.
+    #[inline(always)]
+    pub fn context(&self) -> Ctx
+        ensures { result ≡ self.now.ctx }
+    {
+        self.ctx
     }
 
     /// Where an entry begins.
@@ -154,39 +132,41 @@ impl Walker {
         }
     }
 
-    /// Goes on after a leg.
+    /// Where an entry begins before which nothing was given but, where there is one, an address. `None` where another address
+    /// is known.
     #[inline(always)]
-    fn go_on(&mut self, stack: StackUse, leg: &Leg, ctx: Ctx)
+    fn atom_start(&self, addr: Option<u64>) -> Option<Start>
+        requires { ToldIsAligned addr }
+        ensures begins { IfSome result (λ start. StartsAs start self.now.stack (start_by addr self.now.pc self.now.stack)) }
+        ensures agrees { IsSome result → mismatch_of self.now.pc addr ≡ None }
+        ensures differs { result ≡ None → (fault : WalkFault) × (mismatch_of self.now.pc addr ≡ Some fault) }
+        ensures aligned { IfSome result (λ start. ToldIsAligned start.at) }
+        ensures state { IsState self.now }
+    {
+        match addr {
+            None => Some(at_known(self.pc, &self.stack, false)),
+            Some(given) => match at_given(self.pc, given, false) {
+                Ok(start) => Some(start),
+                Err(_) => None,
+            },
+        }
+    }
+
+    /// Goes on after a leg, in the same context.
+    #[inline(always)]
+    fn go_on(&mut self, stack: StackUse, leg: &Leg)
         requires next { IsPc leg.now.next }
         requires link { ToldIsAligned leg.now.link }
-        ensures value { self.new ≡ record { pc = leg.now.next; stack = linked leg.now.link (used stack self.old.stack); ctx = ctx } }
+        ensures value { self.new ≡ record (self.old) { pc = leg.now.next; stack = linked leg.now.link (used stack self.old.stack) } }
         ensures state { IsState self.new }
     {
         stack.apply(&mut self.stack);
         leg.push_link(&mut self.stack);
         self.pc = leg.next;
-        self.ctx = ctx;
     }
 }
 
 ghost use Rattle.path_walker.specs.Walk.{mark_of};
-ghost use Rattle.etm_types.specs.Pre.{nothing_told};
-
-/// Whether nothing was given.
-fn nothing_given(pre: &Pre) -> bool
-    ensures { result ≡ true → pre.now ≡ nothing_told }
-{
-    matches!(
-        *pre,
-        Pre {
-            flush: false,
-            on: false,
-            lost: false,
-            ctx: None,
-            addr: None,
-        }
-    )
-}
 
 /// The exception of a P0 element, where it is one.
 fn mark_of(p0: P0) -> Option<ExcMark>

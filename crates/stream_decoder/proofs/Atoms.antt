@@ -1,11 +1,13 @@
--- An atom is taken that commits one before which nothing was given, and that one is walked.
-use Rattle.std.proofs.Common.{◌≡◌, ◌≢◌, ℕ, ◌<◌, Bool, List, [], ◌∷◌, Option, Some, None, Ok, refl, sym, ap, subst, ◌∙◌, inl, append-nil}
+-- An atom is taken that commits an entry, and that one is walked.
+use Rattle.std.proofs.Common.{◌≡◌, ◌≢◌, ℕ, ◌-◌, ◌<◌, Bool, List, [], ◌∷◌, ◌++◌, All, length, Option, Some, None, Ok, refl, sym, ap, subst, ◌∙◌, inl, append-nil}
 use Rattle.std.specs.Prelude.{IfSome}
+use Rattle.std.proofs.lemmas.List.Elements.{All-append, All-cons, All-head, All-nil, All-take}
 use Rattle.element_queue.specs.Pending.{Taken, committing}
 use Rattle.element_queue.specs.Queued.{Queued, Takes}
 use Rattle.etm_types.specs.Walked.{items_of}
 use Rattle.etm_types.specs.declared.element.Elem.{Elem}
 use Rattle.etm_types.specs.declared.element.Elem.TheVariants as elem
+use Rattle.etm_types.specs.declared.element.Entry.{Entry}
 use Rattle.etm_types.specs.declared.element.P0.{P0}
 use Rattle.etm_types.specs.declared.element.P0.TheVariants.{Atom}
 use Rattle.etm_types.specs.declared.element.Thing.{Thing}
@@ -15,8 +17,8 @@ use Rattle.packet_grammar.specs.declared.stream_fault.Fault.{Fault}
 use Rattle.packet_reader.specs.Stands.{Standing}
 use Rattle.path_elements.specs.Elements.{Told}
 use Rattle.path_walker.specs.State.{State, IsState}
-use Rattle.path_walker.specs.Things.{Walks}
-use Rattle.path_walker.specs.Walk.{Shows, bare_atom}
+use Rattle.path_walker.specs.Things.{IsAlignedThing, Walks}
+use Rattle.path_walker.specs.Walk.{Shows, ToldIsAligned}
 use Rattle.program_image.specs.declared.image.Image.{Image}
 use Rattle.stream_decoder.proofs.Taking.{fewer_taken, holds_taken, leaves_taken}
 use Rattle.stream_decoder.proofs.Yielding.{goes_by_leaving}
@@ -44,9 +46,21 @@ pub whole_by : (f : Option (ℕ × Fault)) → (f ≢ None → ⊥) → f ≡ No
 whole_by None still = refl
 whole_by (Some stop) still = absurd (still (λ e. cc))
 
-module _ (r : Standing) (t : Told) (l l' : Left) (w w' : Waiting) (s s' : State) (f : Option (ℕ × Fault)) (taken atom : Bool) (others : List Elem)
+-- what an atom commits has the address of an instruction
+pub told_aligned : (r : Standing) (t : Told) (l : Left) (w : Waiting) (s : State) (f : Option (ℕ × Fault)) (taken : Bool) (entry : Entry) → w.due ≡ []
+    → committed_by w (Atom taken) ≡ Seen entry ∷ [] → IsDecoding (decoding_of r t l w s f) → ToldIsAligned entry.pre.addr
+told_aligned r t l w s f taken entry none gives is =
+    let newest : Thing = Seen (record { pre = (w.pending).pre; p0 = Atom taken }) in
+    let all : List Thing = (w.pending).held ++ newest ∷ [] in
+    let held : All IsAlignedThing (w.pending).held = subst (λ (d : List Thing). All IsAlignedThing (d ++ (w.pending).held)) none is.things in
+    let last : All IsAlignedThing (newest ∷ []) = All-cons IsAlignedThing newest [] (is.address, tt) (All-nil IsAlignedThing) in
+    let every : All IsAlignedThing all = All-append IsAlignedThing (w.pending).held (newest ∷ []) held last in
+    let given : All IsAlignedThing (Seen entry ∷ []) = subst (All IsAlignedThing) gives (All-take IsAlignedThing (length all - w.depth) all every) in
+    (All-head IsAlignedThing (Seen entry) [] given).0
+
+module _ (r : Standing) (t : Told) (l l' : Left) (w w' : Waiting) (s s' : State) (f : Option (ℕ × Fault)) (taken : Bool) (entry : Entry) (others : List Elem)
     (first : l.elements ≡ elem.P0 (Atom taken) ∷ others) (left_is : l' ≡ record l { elements = others }) (none : w.due ≡ [])
-    (gives : committed_by w (Atom taken) ≡ Seen (bare_atom atom) ∷ [])
+    (gives : committed_by w (Atom taken) ≡ Seen entry ∷ [])
     (is : (w.depth ≡ (r.settings).depth) × IsDecoding (decoding_of r t l w s f))
     (c : Commits w (elem.P0 (Atom taken)) w' (committed_by w (Atom taken))) (waits : IsWaiting w') where
   abbrev before : Decoding
@@ -61,22 +75,22 @@ module _ (r : Standing) (t : Told) (l l' : Left) (w w' : Waiting) (s s' : State)
   whole : f ≡ None
   whole = whole_by f (λ met. not_at_rest (is.1.stopped met))
 
-  commits : Commits w (elem.P0 (Atom taken)) w' (Seen (bare_atom atom) ∷ [])
+  commits : Commits w (elem.P0 (Atom taken)) w' (Seen entry ∷ [])
   commits = subst (λ (things : List Thing). Commits w (elem.P0 (Atom taken)) w' things) gives c
 
   pub fewer_by_atom : left after < left before
-  fewer_by_atom = fewer_taken r t l l' w w' s f (elem.P0 (Atom taken)) others (Some (Seen (bare_atom atom))) first left_is none is whole commits waits
+  fewer_by_atom = fewer_taken r t l l' w w' s f (elem.P0 (Atom taken)) others (Some (Seen entry)) first left_is none is whole commits waits
 
-  pub goes_by_atom : (image : Image) (walked : Walked) → Shows image s (bare_atom atom) walked s' → Goes image before (items_of walked) after
+  pub goes_by_atom : (image : Image) (walked : Walked) → Shows image s entry walked s' → Goes image before (items_of walked) after
   goes_by_atom image walked shows =
-      let walks : Walks image s (Seen (bare_atom atom) ∷ []) (items_of walked) (Ok s') =
+      let walks : Walks image s (Seen entry ∷ []) (items_of walked) (Ok s') =
       inl (items_of walked, [], s', (walked, shows, refl), (refl, refl), sym (append-nil (items_of walked))) in
-      let leaves = leaves_taken r t l l' w w' s f (elem.P0 (Atom taken)) others (Some (Seen (bare_atom atom))) first left_is none is whole commits waits in
-      goes_by_leaving image before (decoding_of r t l' w' s f) after (Some (Seen (bare_atom atom))) (items_of walked) leaves walks refl
+      let leaves = leaves_taken r t l l' w w' s f (elem.P0 (Atom taken)) others (Some (Seen entry)) first left_is none is whole commits waits in
+      goes_by_leaving image before (decoding_of r t l' w' s f) after (Some (Seen entry)) (items_of walked) leaves walks refl
 
   pub holds_by_atom : IsState s' → (w'.depth ≡ (r.settings).depth) × IsDecoding after
   holds_by_atom state =
-      let held = holds_taken r t l l' w w' s f (elem.P0 (Atom taken)) others (Some (Seen (bare_atom atom))) first left_is none is whole commits waits in
+      let held = holds_taken r t l l' w w' s f (elem.P0 (Atom taken)) others (Some (Seen entry)) first left_is none is whole commits waits in
       let d = held.1 in (
         held.0,
         record {

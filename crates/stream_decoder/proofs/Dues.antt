@@ -1,8 +1,10 @@
--- The oldest that is due is an atom before which nothing was given, and is walked.
-use Rattle.std.proofs.Common.{◌≡◌, ℕ, ◌<◌, Bool, List, [], ◌∷◌, Option, Some, Ok, refl, sym, ap, ◌∙◌, inl, append-nil}
+-- The oldest that is due is an entry, and is walked.
+use Rattle.std.proofs.Common.{◌≡◌, ℕ, ◌<◌, List, [], ◌∷◌, ◌++◌, All, Option, Some, Ok, refl, sym, ap, subst, ◌∙◌, inl, append-nil}
+use Rattle.std.proofs.lemmas.List.Elements.{All-head}
 use Rattle.element_queue.specs.Counting.{counts_after}
 use Rattle.element_queue.specs.Pending.{committing}
 use Rattle.etm_types.specs.Walked.{items_of}
+use Rattle.etm_types.specs.declared.element.Entry.{Entry}
 use Rattle.etm_types.specs.declared.element.Thing.{Thing}
 use Rattle.etm_types.specs.declared.element.Thing.TheVariants.{Seen}
 use Rattle.etm_types.specs.declared.walked.Walked.{Walked}
@@ -10,8 +12,8 @@ use Rattle.packet_grammar.specs.declared.stream_fault.Fault.{Fault}
 use Rattle.packet_reader.specs.Stands.{Standing}
 use Rattle.path_elements.specs.Elements.{Told}
 use Rattle.path_walker.specs.State.{State, IsState}
-use Rattle.path_walker.specs.Things.{Walks}
-use Rattle.path_walker.specs.Walk.{Shows, bare_atom}
+use Rattle.path_walker.specs.Things.{IsAlignedThing, Walks}
+use Rattle.path_walker.specs.Walk.{Shows, ToldIsAligned}
 use Rattle.program_image.specs.declared.image.Image.{Image}
 use Rattle.stream_decoder.proofs.Taking.{fewer_due, holds_due, leaves_due}
 use Rattle.stream_decoder.proofs.Yielding.{goes_by_leaving}
@@ -20,12 +22,19 @@ use Rattle.stream_decoder.specs.Left.{Left}
 use Rattle.stream_decoder.specs.Waiting.{IsWaiting, Waiting}
 use Rattle.stream_decoder.specs.Yields.{Goes, left}
 
-module _ (r : Standing) (t : Told) (l : Left) (w w' : Waiting) (s s' : State) (f : Option (ℕ × Fault)) (atom : Bool) (others : List Thing)
-    (first : w.due ≡ Seen (bare_atom atom) ∷ others)
-    (given : w' ≡ record w { due = others; counts = counts_after w.counts 0 (committing (Seen (bare_atom atom) ∷ [])) })
+-- its address is that of an instruction
+pub due_told_aligned : (d : Decoding) (entry : Entry) (others : List Thing) → d.due ≡ Seen entry ∷ others → IsDecoding d → ToldIsAligned entry.pre.addr
+due_told_aligned d entry others first is =
+    let all : All IsAlignedThing (Seen entry ∷ (others ++ (d.pending).held)) =
+    subst (λ (x : List Thing). All IsAlignedThing (x ++ (d.pending).held)) first is.things in
+    (All-head IsAlignedThing (Seen entry) (others ++ (d.pending).held) all).0
+
+module _ (r : Standing) (t : Told) (l : Left) (w w' : Waiting) (s s' : State) (f : Option (ℕ × Fault)) (entry : Entry) (others : List Thing)
+    (first : w.due ≡ Seen entry ∷ others)
+    (given : w' ≡ record w { due = others; counts = counts_after w.counts 0 (committing (Seen entry ∷ [])) })
     (is : (w.depth ≡ (r.settings).depth) × IsDecoding (decoding_of r t l w s f)) (waits : IsWaiting w') where
   abbrev thing : Thing
-  thing = Seen (bare_atom atom)
+  thing = Seen entry
 
   abbrev before : Decoding
   before = decoding_of r t l w s f
@@ -48,7 +57,7 @@ module _ (r : Standing) (t : Told) (l : Left) (w w' : Waiting) (s s' : State) (f
   pub fewer_by_due : left after < left before
   fewer_by_due = fewer_due r t l w w' s f thing order drops
 
-  pub goes_by_due : (image : Image) (walked : Walked) → Shows image s (bare_atom atom) walked s' → Goes image before (items_of walked) after
+  pub goes_by_due : (image : Image) (walked : Walked) → Shows image s entry walked s' → Goes image before (items_of walked) after
   goes_by_due image walked shows =
       let walks : Walks image s (thing ∷ []) (items_of walked) (Ok s') =
       inl (items_of walked, [], s', (walked, shows, refl), (refl, refl), sym (append-nil (items_of walked))) in

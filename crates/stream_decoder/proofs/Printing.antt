@@ -145,6 +145,13 @@ module _ (image : Image) (id : ℕ) (d e : Decoding) (shown now : Option Ctx) (o
           ends = λ ok. absurd cc;
         }
 
+  -- what was found behind it is written
+  pub printed_more : (next : Decoding) (shown' : Option Ctx) (more : List Item) → Goes image e more next
+      → Writes {T = Unit {0}} {E = Failed} mid new (Ok tt) (lines_of id now more) → shown' ≡ shown_after_all now more
+      → Printed image id d shown next shown' old new
+  printed_more next shown' more goes writes is =
+      printed_on more next goes shown' is (wrote_by mid new tt (lines_of id now more) writes)
+
   -- all of it is written
   pub prints_all : (d' : Decoding) → Ends image e [] d' → Prints image id d shown d' now old mid (Ok tt)
   prints_all d' ends =

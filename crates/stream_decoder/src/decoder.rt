@@ -200,7 +200,8 @@ fn turn_to(line: &mut AddressLine, id: Id)
     }
 }
 
-/// Writes what all that is left to do shows. Most often all of it goes the short way.
+/// Writes what all that is left to do shows. Many bytes leave nothing to do.
+#[inline(always)]
 fn write_rest<K: Sink>(
     decoding: &mut Decoding,
     shown: &mut Option<Ctx>,
@@ -219,19 +220,15 @@ fn write_rest<K: Sink>(
     ensures id { line.new.id ≡ line.old.id }
     ensures holds { IsDecoding decoding.new }
 {
-    if let Err(failed) = write_atoms(decoding, shown, line, image, sink) {
-        has_gap(image);
-        return Err(failed);
-    }
     if decoding.is_at_rest() {
         return Ok(());
     }
-    write_left(decoding, shown, line, image, sink)
+    write_some(decoding, shown, line, image, sink)
 }
 
-/// Writes what is left where the short way ends: one found thing after the other.
-#[inline(never)]
-fn write_left<K: Sink>(
+/// Writes what all that is left to do shows, where some is left: as much as goes the short way; where that ends, one thing that
+/// was found the long way; and so on. Most often all of it goes the short way.
+fn write_some<K: Sink>(
     decoding: &mut Decoding,
     shown: &mut Option<Ctx>,
     line: &mut AddressLine,
@@ -249,8 +246,24 @@ fn write_left<K: Sink>(
     ensures id { line.new.id ≡ line.old.id }
     ensures holds { IsDecoding decoding.new }
 {
-    while let Some(found) = decoding.next(image) {
-        match write_on(decoding, &found, shown, line, image, sink) {
+    loop {
+        match write_atoms(decoding, shown, line, image, sink) {
+            Ok(()) => {}
+            Err(failed) => {
+                has_gap(image);
+                return Err(failed);
+            }
+        }
+        if decoding.is_at_rest() {
+            return Ok(());
+        }
+        if decoding.take_quiet() {
+            continue;
+        }
+        let Some(found) = decoding.next(image) else {
+            return Ok(());
+        };
+        match write_found(line, &found, shown, sink) {
             Ok(()) => {}
             Err(failed) => {
                 has_gap(image);
@@ -258,38 +271,10 @@ fn write_left<K: Sink>(
             }
         }
     }
-    Ok(())
-}
-
-/// Writes what was found, and then what follows it, as long as that goes the short way.
-#[inline(never)]
-fn write_on<K: Sink>(
-    decoding: &mut Decoding,
-    found: &Found,
-    shown: &mut Option<Ctx>,
-    line: &mut AddressLine,
-    image: &Image,
-    sink: &mut K,
-) -> Result<(), Failed>
-    requires holds { IsDecoding decoding.old }
-    ensures prints { (items : List Item) × Goes image.now decoding.old items decoding.new
-        × Writes (K.state sink.old) (K.state sink.new) result (lines_of line.old.id shown.old (items_of_found found.now ++ items))
-        × IfOk result (λ done. shown.new ≡ shown_after_all shown.old (items_of_found found.now ++ items)) }
-    ensures fewer { left decoding.new ≤ left decoding.old }
-    ensures cause { HasCause (K.state sink.old) (K.state sink.new) result }
-    ensures shows { ShowsAsBefore (K.state sink.old) (K.state sink.new) }
-    ensures reader { decoding.new.reader ≡ decoding.old.reader }
-    ensures id { line.new.id ≡ line.old.id }
-    ensures holds { IsDecoding decoding.new }
-{
-    match write_found(line, found, shown, sink) {
-        Ok(()) => write_atoms(decoding, shown, line, image, sink),
-        Err(failed) => Err(failed),
-    }
 }
 
 /// Writes what goes the short way: what is due, and what the next elements show, as long as these are atoms before which nothing
-/// was given.
+/// but an address was given.
 #[inline(always)]
 fn write_atoms<K: Sink>(
     decoding: &mut Decoding,
@@ -310,8 +295,8 @@ fn write_atoms<K: Sink>(
     ensures id { line.new.id ≡ line.old.id }
     ensures holds { IsDecoding decoding.new }
 {
-    decoding.take_quiet();
-    while let Some(walked) = decoding.next_atom(image) {
+    while let Some(stretch) = decoding.next_atom(image) {
+        let walked = stretch.in_context(decoding.context());
         match write_walked_on(line, &walked, shown, sink) {
             Ok(()) => {}
             Err(failed) => return Err(failed),

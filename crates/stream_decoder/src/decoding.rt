@@ -13,6 +13,7 @@ ghost use Rattle.packet_reader.specs.Answered.{fault_of};
 ghost use Rattle.packet_reader.specs.Stands as stands;
 ghost use Rattle.path_elements.specs.Held.{CanBeTaken};
 ghost use Rattle.path_walker.specs.Things.{IsAlignedThing, Walks};
+ghost use Rattle.path_walker.specs.Walk.{walked_in};
 ghost use Rattle.program_image.specs.declared.image.Image.{Image};
 ghost use Rattle.stream_decoder.specs.Decoding.{AtRest, Begins, IsDecoding};
 ghost use Rattle.stream_decoder.specs.Stands.{end_at};
@@ -22,11 +23,11 @@ use crate::found::Found;
 use crate::todo::Todo;
 use crate::waiting::Waiting;
 use element_queue::{Counts, Ledger};
-use etm_types::{AtomRun, QueueFault, Settings, Thing, Walked};
+use etm_types::{AtomRun, Ctx, QueueFault, Settings, Thing};
 use packet_grammar::{End, Fault, Packet};
 use packet_reader::{PacketReader, Step};
 use path_elements::{Awaited, ElemMaker};
-use path_walker::Walker;
+use path_walker::{Stretch, Walker};
 use program_image::Image;
 use std::alloc::{AllocError, Global};
 use std::marker::Model;
@@ -196,18 +197,49 @@ impl Decoding {
         self.next_any(image)
     }
 
-    /// Takes the next elements that show nothing by themselves: atoms for which there is room, and then a commit. What it
-    /// commits is due.
+    /// Takes the next elements that show nothing by themselves: atoms for which there is room, and then a commit, or an
+    /// address. What a commit commits is due. Says whether there was one.
     #[inline(always)]
-    pub fn take_quiet(&mut self)
+    pub fn take_quiet(&mut self) -> bool
         ensures goes { (image : Image) → Goes image self.old [] self.new }
-        ensures fewer { left self.new ≤ left self.old }
-        ensures stopped { AtRest self.old → self.new ≡ self.old }
+        ensures fewer { IsTrue result → left self.new < left self.old }
+        ensures unchanged { result ≡ false → self.new ≡ self.old }
+        ensures stopped { AtRest self.old → result ≡ false }
         ensures reader { self.new.reader ≡ self.old.reader }
         ensures holds { IsDecoding self.new }
     {
-        while self.hold_atom() {}
-        self.take_commit();
+        let held = self.hold_atoms();
+        self.take_commit_or_address() || held
+    }
+
+    /// Takes the next elements as long as they are atoms for which there is room. Says whether there was one.
+    #[inline(always)]
+    fn hold_atoms(&mut self) -> bool
+        ensures goes { (image : Image) → Goes image self.old [] self.new }
+        ensures fewer { IsTrue result → left self.new < left self.old }
+        ensures unchanged { result ≡ false → self.new ≡ self.old }
+        ensures stopped { AtRest self.old → result ≡ false }
+        ensures reader { self.new.reader ≡ self.old.reader }
+        ensures holds { IsDecoding self.new }
+    {
+        let mut some = false;
+        while self.hold_atom() {
+            some = true;
+        }
+        some
+    }
+
+    /// Takes the next element where it is a commit or an address that shows nothing by itself. Else nothing changes.
+    #[inline(always)]
+    fn take_commit_or_address(&mut self) -> bool
+        ensures goes { IsTrue result → (image : Image) → Goes image self.old [] self.new }
+        ensures fewer { IsTrue result → left self.new < left self.old }
+        ensures unchanged { result ≡ false → self.new ≡ self.old }
+        ensures stopped { AtRest self.old → result ≡ false }
+        ensures reader { self.new.reader ≡ self.old.reader }
+        ensures holds { IsDecoding self.new }
+    {
+        self.take_commit() || self.take_address()
     }
 
     /// Takes the next element where it is an atom for which there is room. Else nothing changes.
@@ -249,15 +281,34 @@ impl Decoding {
         }
     }
 
-    /// Walks the oldest that is due; or, where nothing is due, takes the next element where it is an atom, and walks what it
-    /// commits. It does so where that is an atom before which nothing was given. Else, and where the walk has a fault, nothing
-    /// changes: [`next`](Decoding::next) goes on from there.
-    ///
-    /// Most elements are such, and what is found of them stays where it is used.
+    /// Takes the next element where it is an address that a packet gives alone, and nothing is due. Else nothing changes.
     #[inline(always)]
-    pub fn next_atom(&mut self, image: &Image) -> Option<Walked>
-        ensures goes { IfSome result (λ walked. Goes image.now self.old (items_of walked) self.new) }
-        ensures fewer { IfSome result (λ walked. left self.new < left self.old) }
+    fn take_address(&mut self) -> bool
+        ensures goes { IsTrue result → (image : Image) → Goes image self.old [] self.new }
+        ensures fewer { IsTrue result → left self.new < left self.old }
+        ensures unchanged { result ≡ false → self.new ≡ self.old }
+        ensures stopped { AtRest self.old → result ≡ false }
+        ensures reader { self.new.reader ≡ self.old.reader }
+        ensures holds { IsDecoding self.new }
+    {
+        match self.todo.first_address() {
+            Some(addr) if self.waiting.take_address(addr) => {
+                self.todo.advance();
+                true
+            }
+            _ => false,
+        }
+    }
+
+    /// Walks the oldest that is due; or, where nothing is due, takes the next element where it is an atom, and walks what it
+    /// commits. It does so where that is an atom before which nothing but an address was given, and its own address is known. Else,
+    /// and where the walk has a fault, nothing changes: [`next`](Decoding::next) goes on from there.
+    ///
+    /// Most elements are such, and what they show is small.
+    #[inline(always)]
+    pub fn next_atom(&mut self, image: &Image) -> Option<Stretch>
+        ensures goes { IfSome result (λ stretch. Goes image.now self.old (items_of (walked_in self.new.walk.ctx stretch)) self.new) }
+        ensures fewer { IfSome result (λ stretch. left self.new < left self.old) }
         ensures none { result ≡ None → self.new ≡ self.old }
         ensures stopped { AtRest self.old → result ≡ None }
         ensures reader { self.new.reader ≡ self.old.reader }
@@ -269,27 +320,28 @@ impl Decoding {
         self.walk_taken(image)
     }
 
-    /// Walks the oldest that is due, where it is an atom before which nothing was given.
+    /// Walks the oldest that is due, where it is an atom before which nothing but an address was given.
     #[inline(always)]
-    fn walk_due(&mut self, image: &Image) -> Option<Walked>
-        ensures goes { IfSome result (λ walked. Goes image.now self.old (items_of walked) self.new) }
-        ensures fewer { IfSome result (λ walked. left self.new < left self.old) }
+    fn walk_due(&mut self, image: &Image) -> Option<Stretch>
+        ensures goes { IfSome result (λ stretch. Goes image.now self.old (items_of (walked_in self.new.walk.ctx stretch)) self.new) }
+        ensures fewer { IfSome result (λ stretch. left self.new < left self.old) }
         ensures none { result ≡ None → self.new ≡ self.old }
         ensures stopped { AtRest self.old → result ≡ None }
         ensures reader { self.new.reader ≡ self.old.reader }
         ensures holds { IsDecoding self.new }
     {
         let atom = self.waiting.due_atom()?;
-        let walked = self.walker.walk_bare(image, atom)?;
+        let stretch = self.walker.walk_atom(image, atom.addr, atom.taken)?;
         self.waiting.drop_due();
-        Some(walked)
+        Some(stretch)
     }
 
-    /// Takes the next element where it is an atom and commits one before which nothing was given, and walks that one.
+    /// Takes the next element where it is an atom and commits one before which nothing but an address was given, and walks that
+    /// one.
     #[inline(always)]
-    fn walk_taken(&mut self, image: &Image) -> Option<Walked>
-        ensures goes { IfSome result (λ walked. Goes image.now self.old (items_of walked) self.new) }
-        ensures fewer { IfSome result (λ walked. left self.new < left self.old) }
+    fn walk_taken(&mut self, image: &Image) -> Option<Stretch>
+        ensures goes { IfSome result (λ stretch. Goes image.now self.old (items_of (walked_in self.new.walk.ctx stretch)) self.new) }
+        ensures fewer { IfSome result (λ stretch. left self.new < left self.old) }
         ensures none { result ≡ None → self.new ≡ self.old }
         ensures stopped { AtRest self.old → result ≡ None }
         ensures reader { self.new.reader ≡ self.old.reader }
@@ -297,10 +349,20 @@ impl Decoding {
     {
         let taken = self.todo.first_atom()?;
         let committed = self.waiting.next_committed(taken)?;
-        let walked = self.walker.walk_bare(image, committed)?;
+        let stretch = self
+            .walker
+            .walk_atom(image, committed.addr, committed.taken)?;
         self.waiting.take_atom(taken);
         self.todo.advance();
-        Some(walked)
+        Some(stretch)
+    }
+
+    /// The context of what the walk shows next, where none is given.
+    #[inline(always)]
+    pub fn context(&self) -> Ctx
+        ensures { result ≡ self.now.walk.ctx }
+    {
+        self.walker.context()
     }
 
     /// What is shown next, whatever it is.

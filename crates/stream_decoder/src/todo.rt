@@ -86,6 +86,14 @@ impl Todo {
         self.elems.commit(self.next)
     }
 
+    /// Which address the next one is, where it is an address and the one element of its packet.
+    #[inline(always)]
+    pub fn first_address(&self) -> Option<u64>
+        ensures { IfSome result (λ addr. (others : List Elem) × (self.now.elements ≡ elem.Addr addr ∷ others)) }
+    {
+        self.elems.address(self.next)
+    }
+
     /// The next one is taken.
     #[inline(always)]
     pub fn advance(&mut self)

@@ -3,7 +3,7 @@
 ghost use Rattle.std.specs.Prelude.{◌≡◌, ◌∷◌, ◌++◌, [], List, IsTrue, IfOk, IfSome, IsErr, None, Err, false, option_to_list, length, ◌<◌};
 ghost use Rattle.element_queue.specs.Counting.{Balances, counts_after, no_counts};
 ghost use Rattle.element_queue.specs.Pending.{committing, losing, taken};
-ghost use Rattle.element_queue.specs.Queued.{bare_atom, things_of};
+ghost use Rattle.element_queue.specs.Queued.{entry_of, things_of};
 ghost use Rattle.element_queue.specs.Resolved.{at_first};
 ghost use Rattle.etm_types.specs.declared.element.Elem.TheVariants as elem;
 ghost use Rattle.etm_types.specs.declared.element.P0.TheVariants.{Atom};
@@ -13,7 +13,7 @@ ghost use Rattle.etm_types.specs.declared.element.Thing.{Thing};
 ghost use Rattle.etm_types.specs.declared.queue_fault.QueueFault.{QueueFault};
 ghost use Rattle.stream_decoder.specs.Waiting.{Commits, IsWaiting, committed_by};
 
-use element_queue::{Committed, Counts, Ledger, PreElem, Queue};
+use element_queue::{AtomEntry, Committed, Counts, Ledger, PreElem, Queue};
 use etm_types::{Elem, P0, QueueFault, Thing};
 use std::alloc::{AllocError, Global};
 use std::marker::Model;
@@ -89,10 +89,10 @@ impl Waiting {
         Ok(None)
     }
 
-    /// Which atom one atom more commits, where it is one before which nothing was given, and nothing is due.
+    /// Which entry one atom more commits, where it is an atom before which nothing but an address was given, and nothing is due.
     #[inline(always)]
-    pub fn next_committed(&self, taken: bool) -> Option<bool>
-        ensures { IfSome result (λ atom. (self.now.due ≡ []) × (committed_by self.now (Atom taken) ≡ Seen (bare_atom atom) ∷ [])) }
+    pub fn next_committed(&self, taken: bool) -> Option<AtomEntry>
+        ensures { IfSome result (λ atom. (self.now.due ≡ []) × (committed_by self.now (Atom taken) ≡ Seen (entry_of atom) ∷ [])) }
     {
         if self.due > 0 {
             return None;
@@ -138,6 +138,21 @@ impl Waiting {
         }
     }
 
+    /// Takes an address where nothing is due. Else nothing changes.
+    #[inline(always)]
+    pub fn take_address(&mut self, addr: u64) -> bool
+        ensures due { IsTrue result → self.old.due ≡ [] }
+        ensures commits { IsTrue result → Commits self.old (elem.Addr addr) self.new [] }
+        ensures unchanged { result ≡ false → self.new ≡ self.old }
+        ensures holds { IsWaiting self.new }
+    {
+        if self.due > 0 {
+            return false;
+        }
+        self.queue.note(PreElem::Addr(addr));
+        true
+    }
+
     /// A trace info. The first one announces P0 elements from before it that are not committed.
     fn inform(&mut self, spec: u32) -> Result<Option<Thing>, QueueFault>
         requires begins { self.old.pending.informed ≡ false → self.old.pending.held ≡ [] }
@@ -164,10 +179,10 @@ impl Waiting {
         self.due > 0
     }
 
-    /// Which atom the oldest is that is due, where it is one before which nothing was given.
+    /// Which entry the oldest is that is due, where it is an atom before which nothing but an address was given.
     #[inline(always)]
-    pub fn due_atom(&self) -> Option<bool>
-        ensures { IfSome result (λ atom. (others : List Thing) × (self.now.due ≡ Seen (bare_atom atom) ∷ others)) }
+    pub fn due_atom(&self) -> Option<AtomEntry>
+        ensures { IfSome result (λ atom. (others : List Thing) × (self.now.due ≡ Seen (entry_of atom) ∷ others)) }
     {
         if self.due == 0 {
             return None;

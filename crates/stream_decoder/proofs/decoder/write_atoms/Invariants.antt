@@ -4,11 +4,11 @@ use Rattle.stream_decoder.specs.Yields.{left}
 use Rattle.stream_decoder.proofs.Printing.{Printed}
 use Rattle.stream_decoder.proofs.decoder.write_atoms.Given as goal
 
-abbrev pub decreases-loop-walked : goal.decreases-loop-walked
-decreases-loop-walked g l = left l.decoding
+abbrev pub decreases-loop-stretch : goal.decreases-loop-stretch
+decreases-loop-stretch g l = left l.decoding
 
-abbrev pub invariant-loop-walked : goal.invariant-loop-walked
-invariant-loop-walked g l =
+abbrev pub invariant-loop-stretch : goal.invariant-loop-stretch
+invariant-loop-stretch g l =
     let state = g.K.Sink.state in
     record {
       printed : Printed l.image l.fn.line.id l.fn.decoding l.fn.shown l.decoding l.shown (state l.fn.sink) (state l.sink);

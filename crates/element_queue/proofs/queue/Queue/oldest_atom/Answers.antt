@@ -1,11 +1,10 @@
-use Rattle.std.proofs.Common.{◌≡◌, ℕ, Bool, List, [], ◌∷◌, Option, take}
-use Rattle.std.proofs.Common.{Some, None, sym, ap, subst, ◌∙◌, arith, slice_get}
-use Rattle.std.specs.Prelude.{IfSome, IsSome}
+use Rattle.std.proofs.Common.{◌≡◌, ℕ, List, [], ◌∷◌, take}
+use Rattle.std.proofs.Common.{Some, sym, ap, subst, ◌∙◌, arith, slice_get}
 use Rattle.etm_types.specs.declared.element.Entry.{Entry}
-use Rattle.etm_types.specs.declared.element.Thing.{Thing}
 use Rattle.etm_types.specs.declared.element.Thing.TheVariants.{Seen}
-use Rattle.element_queue.specs.Queued.{Queued, bare_atom}
-use Rattle.element_queue.proofs.Held.{if_some, things}
+use Rattle.element_queue.specs.declared.queue.AtomEntry.{AtomEntry}
+use Rattle.element_queue.specs.Queued.{Queued, entry_of}
+use Rattle.element_queue.proofs.Held.{entry_is, if_some, things, which}
 use Rattle.element_queue.proofs.queue.Queue.oldest_atom.Goals as goal
 
 oldest_held : (unseen : ℕ) (xs : List Entry) (x : Entry) → unseen ≡ 0 → slice_get xs 0 ≡ Some x → take 1 (things unseen xs) ≡ Seen x ∷ []
@@ -17,19 +16,11 @@ returns-clause-value c =
     let q = c.self.inside in
     let none : q.unseen ≡ 0 = omega (arith, c.if-self-gt0.false) in
     let oldest = oldest_held q.unseen q.ring.items c.in_ok-oldest.oldest.now none (sym c.in_ok-oldest.ensures.value) in
-    if_some c.bare_atom.result _ _
-    (λ (atom : Bool) is.
-    subst (λ (v : Queued). take 1 v.held ≡ Seen (bare_atom atom) ∷ []) c.self.view_is
+    if_some c.atom_entry.result _ _
+    (λ (atom : AtomEntry) is.
+    subst (λ (v : Queued). take 1 v.held ≡ Seen (entry_of atom) ∷ []) c.self.view_is
     (oldest ∙ ap (λ (e : Entry). Seen e ∷ []) (sym c.entry.ensures ∙ is)))
-    c.bare_atom.ensures.value
-
--- an answer that is none tells no atom
-which : (r : Option Bool) (P : Bool → Type 0) → IfSome r P → IsSome r → (atom : Bool) × P atom
-which None P told some = absurd cc
-which (Some atom) P told some = (atom, told)
-
-entry_is : (x y : Entry) (held : List Thing) → held ≡ Seen x ∷ [] → held ≡ Seen y ∷ [] → x ≡ y
-entry_is x y held one other = cc
+    c.atom_entry.ensures.value
 
 pub returns-clause-some : goal.returns-clause-some
 returns-clause-some c =
@@ -37,8 +28,8 @@ returns-clause-some c =
     let none : q.unseen ≡ 0 = omega (arith, c.if-self-gt0.false) in
     let oldest = oldest_held q.unseen q.ring.items c.in_ok-oldest.oldest.now none (sym c.in_ok-oldest.ensures.value) in
     let held = subst (λ (v : Queued). take 1 v.held ≡ Seen c.in_ok-oldest.oldest.now ∷ []) c.self.view_is oldest in
-    let as_held : (atom : Bool) → c.entry.result.now ≡ bare_atom atom → take 1 c.args.self.now.held ≡ Seen (bare_atom atom) ∷ [] =
+    let as_held : (atom : AtomEntry) → c.entry.result.now ≡ entry_of atom → take 1 c.args.self.now.held ≡ Seen (entry_of atom) ∷ [] =
     (λ atom is. held ∙ ap (λ (e : Entry). Seen e ∷ []) (sym c.entry.ensures ∙ is)) in (
-      λ some. let told = which c.bare_atom.result _ c.bare_atom.ensures.value some in (told.0, as_held told.0 told.1),
-      λ told. c.bare_atom.ensures.some told.0 (c.entry.ensures ∙ entry_is _ _ (take 1 c.args.self.now.held) held told.1),
+      λ some. let told = which c.atom_entry.result _ c.atom_entry.ensures.value some in (told.0, as_held told.0 told.1),
+      λ told. c.atom_entry.ensures.some told.0 (c.entry.ensures ∙ entry_is _ _ (take 1 c.args.self.now.held) held told.1),
     )

@@ -6,7 +6,7 @@ use Rattle.path_walker.proofs.walker.Walker.go_on.Goals as goal
 pub invariant_of-self : goal.invariant_of-self
 invariant_of-self c =
     let leg = c.args.leg.now in let inside = c.self.inside in (
-      state_by inside.pc inside.stack.addresses inside.ctx c.args.stack leg.link leg.next c.args.ctx c.push_link.new.stack.addresses c.self.invariant.0
+      state_by inside.pc inside.stack.addresses inside.ctx c.args.stack leg.link leg.next inside.ctx c.push_link.new.stack.addresses c.self.invariant.0
           c.requires.link c.requires.next
           (c.push_link.ensures.addresses ∙ ap (linked leg.link) c.apply.ensures.addresses),
       c.push_link.ensures.depth ∙ c.apply.ensures.depth ∙ c.self.invariant.1,
@@ -15,6 +15,6 @@ invariant_of-self c =
 pub returns-clause-state : goal.returns-clause-state
 returns-clause-state c =
     let leg = c.args.leg.now in let inside = c.self.inside in
-    state_by inside.pc inside.stack.addresses inside.ctx c.args.stack leg.link leg.next c.args.ctx c.push_link.new.stack.addresses c.self.invariant.0
+    state_by inside.pc inside.stack.addresses inside.ctx c.args.stack leg.link leg.next inside.ctx c.push_link.new.stack.addresses c.self.invariant.0
     c.requires.link c.requires.next
     (c.push_link.ensures.addresses ∙ ap (linked leg.link) c.apply.ensures.addresses)

@@ -1,7 +1,8 @@
-use Rattle.std.proofs.Common.{◌≡◌, ◌∷◌, Bool, List, subst}
+use Rattle.std.proofs.Common.{◌≡◌, ◌∷◌, List, subst}
 use Rattle.etm_types.specs.declared.element.Thing.{Thing}
 use Rattle.etm_types.specs.declared.element.Thing.TheVariants.{Seen}
-use Rattle.element_queue.specs.Queued.{bare_atom}
+use Rattle.element_queue.specs.declared.queue.AtomEntry.{AtomEntry}
+use Rattle.element_queue.specs.Queued.{entry_of}
 use Rattle.stream_decoder.specs.Waiting.{Waiting}
 use Rattle.stream_decoder.proofs.Atoms.{if_some}
 use Rattle.stream_decoder.proofs.Waits.{oldest_due}
@@ -11,7 +12,7 @@ pub returns : goal.returns
 returns c =
     let s = c.self.inside in
     if_some c.oldest_atom.result _ _
-    (λ (atom : Bool) is.
-    subst (λ (v : Waiting). (others : List Thing) × (v.due ≡ Seen (bare_atom atom) ∷ others)) c.self.view_is
-    (oldest_due s.queue.held s.due (Seen (bare_atom atom)) c.if-self-eq0.false is))
+    (λ (atom : AtomEntry) is.
+    subst (λ (v : Waiting). (others : List Thing) × (v.due ≡ Seen (entry_of atom) ∷ others)) c.self.view_is
+    (oldest_due s.queue.held s.due (Seen (entry_of atom)) c.if-self-eq0.false is))
     c.oldest_atom.ensures.value

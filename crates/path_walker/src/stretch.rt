@@ -1,0 +1,31 @@
+//! What most atoms show.
+ghost use Rattle.std.specs.Prelude.{◌≡◌};
+ghost use Rattle.path_walker.specs.Walk.{walked_in};
+
+use etm_types::{Ctx, Walked};
+
+/// The instructions of an atom that shows nothing else. Their context is that of the walk.
+#[derive(Clone, Copy, Debug, PartialEq, Eq)]
+pub struct Stretch {
+    /// The address of the first instruction.
+    pub start: u64,
+    /// How many instructions there are, each 4 bytes after the one before, modulo 2^64.
+    pub count: u64,
+}
+
+impl Stretch {
+    /// The same, as what a walk shows in a context.
+    #[inline(always)]
+    pub fn in_context(self, ctx: Ctx) -> Walked
+        ensures { result ≡ walked_in ctx self }
+    {
+        Walked {
+            on: false,
+            unknown: false,
+            ctx,
+            start: self.start,
+            count: self.count,
+            exc: None,
+        }
+    }
+}
