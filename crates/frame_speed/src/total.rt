@@ -1,8 +1,10 @@
 //! A count and a digest of what came, and the sink that adds up what is written to it.
-ghost use Rattle.std.specs.Prelude.{true};
+ghost use Rattle.std.specs.Prelude.{◌≡◌, ◌+◌, ◌%◌, ◌^◌, length, true};
+ghost use Rattle.frame_speed.specs.Sum.{digest_with, nothing};
 ghost use Rattle.trace_io.specs.Memory.{hidden_state};
 
 use formatter_frames::FrameBytes;
+use std::marker::Model;
 use trace_io::{Failed, Sink};
 
 #[derive(Drop)]
@@ -11,34 +13,57 @@ pub struct Total {
     digest: u64,
 }
 
+impl Model for Total {
+    ghost use Rattle.frame_speed.specs.Sum.{Sum};
+
+    ghost Value = { Sum };
+
+    ghost view = { λ total. record { count = total.count; digest = total.digest } };
+}
+
 impl Total {
-    pub fn new() -> Self {
+    /// Nothing came yet.
+    pub fn new() -> Self
+        ensures { result ≡ nothing }
+    {
         Total {
             count: 0,
             digest: 0,
         }
     }
 
-    pub fn count(&self) -> u64 {
+    /// How many came.
+    pub fn count(&self) -> u64
+        ensures { result ≡ self.now.count }
+    {
         self.count
     }
 
-    pub fn digest(&self) -> u64 {
+    /// Their digest.
+    pub fn digest(&self) -> u64
+        ensures { result ≡ self.now.digest }
+    {
         self.digest
     }
 
-    fn add(&mut self, byte: u8) {
+    /// One byte more in the digest.
+    fn add(&mut self, byte: u8)
+        ensures { self.new ≡ record (self.old) { digest = digest_with self.old.digest byte } }
+    {
         self.digest = self.digest.wrapping_mul(31).wrapping_add(u64::from(byte));
     }
 
-    pub fn add_pairs(&mut self, bytes: &FrameBytes) {
+    /// The data bytes of a frame, each behind its ID.
+    pub fn add_pairs(&mut self, bytes: &FrameBytes)
+        ensures count { self.new.count ≡ (self.old.count + length bytes.now) % 2 ^ 64 }
+    {
         for i in 0..bytes.len() {
             if let Some((id, byte)) = bytes.get(i) {
                 self.add(id);
                 self.add(byte);
-                self.count = self.count.wrapping_add(1);
             }
         }
+        self.count = self.count.wrapping_add(bytes.len() as u64);
     }
 }
 

@@ -1,5 +1,9 @@
 //! The events of the loop.
-ghost use Rattle.std.specs.Prelude.{◌≡◌};
+ghost use Rattle.std.specs.Prelude.{◌≡◌, ◌++◌, ◌∷◌, [], List, IfOk, IsOk, if◌then◌else◌, replicate};
+ghost use Rattle.etm_types.specs.Context.{initial_context};
+ghost use Rattle.spec_run.specs.declared.event.Event.{Event as Events};
+ghost use Rattle.spec_run.specs.declared.event.Event.TheVariants.{On, Retire};
+ghost use Rattle.trace_unit.specs.Kept.{StandsAt};
 ghost use Rattle.spec_run.specs.RunAfter.{IsEvent};
 
 use etm_types::Ctx;
@@ -16,7 +20,10 @@ const LOOP: u64 = 0x1000;
 const BEHIND_CALL: u64 = 0x1010;
 
 /// Tracing begins at the loop.
-pub fn begin(unit: &mut Unit, image: &Image, bytes: &mut Vec<u8>) -> Result<(), UnitFault> {
+pub fn begin(unit: &mut Unit, image: &Image, bytes: &mut Vec<u8>) -> Result<(), UnitFault>
+    ensures stands { (events : List Events) → StandsAt image.now unit.old events → IsOk result
+        → StandsAt image.now unit.new (events ++ On 4096 initial_context ∷ []) }
+{
     let on = Event::On {
         addr: LOOP,
         ctx: Ctx::initial(),
@@ -30,7 +37,9 @@ pub fn run_round(
     image: &Image,
     wrong: bool,
     bytes: &mut Vec<u8>,
-) -> Result<u64, UnitFault> {
+) -> Result<u64, UnitFault>
+    ensures events { IfOk result (λ events. events ≡ (if wrong then 18 else 15)) }
+{
     repeat(unit, image, &Event::Step, 3, bytes)?;
     repeat(unit, image, &Event::Taken, 1, bytes)?;
     repeat(unit, image, &Event::Step, 5, bytes)?;
@@ -49,7 +58,10 @@ pub fn run_round(
 }
 
 /// The instructions of the oldest round are retired.
-pub fn retire_round(unit: &mut Unit, image: &Image, bytes: &mut Vec<u8>) -> Result<(), UnitFault> {
+pub fn retire_round(unit: &mut Unit, image: &Image, bytes: &mut Vec<u8>) -> Result<(), UnitFault>
+    ensures stands { (events : List Events) → StandsAt image.now unit.old events → IsOk result
+        → StandsAt image.now unit.new (events ++ Retire 15 ∷ []) }
+{
     repeat(unit, image, &Event::Retire(ROUND), 1, bytes)
 }
 
@@ -62,9 +74,11 @@ fn repeat(
     bytes: &mut Vec<u8>,
 ) -> Result<(), UnitFault>
     requires { IsEvent unit.old.settings event.now }
-    ensures { unit.new.settings ≡ unit.old.settings }
+    ensures settings { unit.new.settings ≡ unit.old.settings }
+    ensures stands { (events : List Events) → StandsAt image.now unit.old events → IsOk result
+        → StandsAt image.now unit.new (events ++ replicate times event.now) }
 {
-    for _ in 0..times {
+    for _done in 0..times {
         unit.accept(image, event, bytes)?;
     }
     Ok(())
