@@ -14,7 +14,7 @@ use Rattle.etm_types.specs.declared.element.Thing.TheVariants.{Seen, Unseen, Gap
 use Rattle.etm_types.specs.declared.queue_fault.QueueFault.{QueueFault}
 use Rattle.etm_types.specs.declared.queue_fault.QueueFault.TheVariants.{CommitOverrun, CancelOverrun, NoAtomToFlip, SpecTooDeep}
 use Rattle.element_queue.specs.declared.ledger.Counts.{Counts}
-use Rattle.element_queue.specs.Counting.{no_counts, tally}
+use Rattle.element_queue.specs.Counting.{no_counts, p0s, tally}
 use Rattle.element_queue.specs.Pending.{Pending, Taken, taken, nothing_gone, committing, cancelling}
 use Rattle.element_queue.specs.Resolved.{Resolved, at_first, unresolved, resolve_all}
 
@@ -314,6 +314,12 @@ a_count = refl
 -- one that was not seen is committed, and in no count
 pub unseen_ones_are_not_counted : tally 2 at_first no_counts elements ≡ record { made = 8; committed = 4; cancelled = 2; lost = 1 } → ⊥
 unseen_ones_are_not_counted = λ e. let a = ap (λ (c : Counts). c.committed) e in cc
+
+pub p0s_of_a_list : p0s elements ≡ 8
+p0s_of_a_list = refl
+
+pub exceptions_are_p0_elements : p0s elements ≡ 7 → ⊥
+exceptions_are_p0_elements = λ e. cc
 
 -- up to the first fault
 pub a_fault : resolve_all 2 unresolved (elem.Info 1 ∷ elem.P0 (Atom true) ∷ elem.Commit 3 ∷ elem.P0 (Atom true) ∷ []) ≡ Err (CommitOverrun 3 2)

@@ -28,6 +28,12 @@ abbrev pub made_by : Elem → ℕ
 made_by (elem.P0 p0) = 1
 made_by e = 0
 
+-- how many of the elements are P0 elements
+abbrev pub p0s : List Elem → ℕ
+p0s [] = 0
+p0s (elem.P0 p0 ∷ elements) = suc (p0s elements)
+p0s (e ∷ elements) = p0s elements
+
 abbrev pub add : ℕ → ℕ → ℕ
 add count n = (count + n) % 2 ^ 64
 

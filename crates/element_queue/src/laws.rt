@@ -1,8 +1,9 @@
-//! What the rules make of joined lists of elements.
-ghost use Rattle.std.specs.Prelude.{◌≡◌, ◌≤◌, ◌++◌, ℕ, true, List, length, Ok};
+//! What the rules make of lists of elements.
+ghost use Rattle.std.specs.Prelude.{◌≡◌, ◌≤◌, ◌%◌, ◌^◌, ◌++◌, ℕ, true, List, [], ◌∷◌, length, Ok};
 ghost use Rattle.etm_types.specs.declared.element.Elem.{Elem};
 ghost use Rattle.etm_types.specs.declared.element.Thing.{Thing};
-ghost use Rattle.element_queue.specs.Resolved.{Resolved, resolve_all, then_resolve};
+ghost use Rattle.element_queue.specs.Counting.{entries, no_counts, p0s, tally};
+ghost use Rattle.element_queue.specs.Resolved.{Resolved, at_first, resolve_all, then_resolve, unresolved};
 
 /// Elements are resolved one by one: those of a joined list are those of the second from what the first left, up
 /// to the first fault.
@@ -22,4 +23,16 @@ pub fn no_more_than_the_depth_is_held()
     ensures { (depth : ℕ) (r after : Resolved) (elements : List Elem)
         → r.pending.informed ≡ true → length r.pending.held ≤ depth
         → resolve_all depth r elements ≡ Ok after → length after.pending.held ≤ depth }
+{}
+
+/// A tally counts what the elements do, each count modulo 2^64. As many P0 elements are made as stand among the
+/// elements that were taken, of which the last may have a fault. As many are committed as stand among what is
+/// committed for good, but for those that were not seen.
+pub fn a_tally_counts_what_is_resolved()
+    ensures made { (depth : ℕ) (r : Resolved) (front : List Elem) (last : Elem)
+        → resolve_all depth unresolved front ≡ Ok r
+        → (tally depth at_first no_counts (front ++ last ∷ [])).made ≡ p0s (front ++ last ∷ []) % 2 ^ 64 }
+    ensures committed { (depth : ℕ) (r : Resolved) (elements : List Elem)
+        → resolve_all depth unresolved elements ≡ Ok r
+        → (tally depth at_first no_counts elements).committed ≡ entries r.done % 2 ^ 64 }
 {}

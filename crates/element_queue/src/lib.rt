@@ -6,7 +6,7 @@
 //!
 //! The layer above uses the contracts of [`Queue`]: each call is one case of the rules in
 //! `specs/Pending.antt`. What the rules make of a list of elements is in `specs/Resolved.antt`, and the
-//! contracts of the laws say how that goes on from list to list.
+//! contracts of the laws say how that goes on from list to list, and how it is counted.
 #![tactic(auto)]
 
 mod laws;
@@ -14,7 +14,10 @@ mod ledger;
 mod queue;
 mod uncommitted;
 
-pub use laws::{done_stays_done, elements_are_resolved_one_by_one, no_more_than_the_depth_is_held};
+pub use laws::{
+    a_tally_counts_what_is_resolved, done_stays_done, elements_are_resolved_one_by_one,
+    no_more_than_the_depth_is_held,
+};
 pub use ledger::{Counts, Ledger};
 pub use queue::{AtomEntry, Committed, PreElem, Queue};
 pub use uncommitted::Uncommitted;
