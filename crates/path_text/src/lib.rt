@@ -5,7 +5,9 @@
 //! `specs/` gives for its value, or a front of it where a write fails. The contract of
 //! [`lines_stand_one_by_one`] says how the lines of the items of a path are put together.
 //!
-//! [`Line`] is public because `trace_cmd` writes lines of its own with it for now.
+//! The texts are this project's own (`docs/FORMATS.md`, "Lines"); the names of exceptions are of Arm IHI 0064, exception types.
+//!
+//! [`Line`] is public because `trace_cmd` writes with it the lines of a bad image, of a bad run file and of a number.
 #![tactic(auto)]
 
 mod address_line;
