@@ -14,6 +14,12 @@ none_left [] (suc n) e = refl
 none_left (x ∷ xs) zero e = absurd cc
 none_left (x ∷ xs) (suc n) e = none_left xs n e
 
+pub here_first : {X : Type 0} (xs : List X) (n : ℕ) (x : X) (others : List X) → drop n xs ≡ x ∷ others → slice_get xs n ≡ Some x
+here_first [] zero x others e = absurd cc
+here_first [] (suc n) x others e = absurd cc
+here_first (y ∷ xs) zero x others e = let same : y ≡ x = cc in ap Some same
+here_first (y ∷ xs) (suc n) x others e = here_first xs n x others e
+
 -- there is one more
 pub some_left : {X : Type 0} (xs : List X) (n : ℕ) (x : X) (others : List X) → drop n xs ≡ x ∷ others → n < length xs
 some_left xs n x others e = omega (arith, length-drop n xs, ap length e)

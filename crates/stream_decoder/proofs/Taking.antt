@@ -5,7 +5,7 @@ use Rattle.std.specs.Prelude.{All, if◌then◌else◌, option_to_list, nat_le}
 use Rattle.std.proofs.Math.Nat.{suc-mul}
 use Rattle.std.proofs.lemmas.List.{drop_at, length-append, take_at}
 use Rattle.std.proofs.lemmas.List.Elements.{All-append, All-cons, All-drop, All-nil, All-head, All-tail, All-take}
-use Rattle.element_queue.specs.Counting.{add, counts_after, entries, tally, tally_step}
+use Rattle.element_queue.specs.Counting.{AreCounts, add, counts_after, entries, tally, tally_step}
 use Rattle.element_queue.specs.Pending.{Pending, Taken, committing, flip_newest, flips, informs, taken}
 use Rattle.element_queue.specs.declared.ledger.Counts.{Counts}
 use Rattle.etm_types.specs.declared.element.Elem.{Elem}
@@ -23,7 +23,7 @@ use Rattle.path_walker.specs.Things.{IsAlignedThing}
 use Rattle.path_walker.specs.Walk.{ToldIsAligned}
 use Rattle.stream_decoder.specs.Decoding.{Decoding, IsDecoding, IsInfo, counted, decoding_of, depth_of}
 use Rattle.stream_decoder.specs.Left.{Left}
-use Rattle.stream_decoder.specs.Waiting.{AreInRange, Commits, IsWaiting, Waiting}
+use Rattle.stream_decoder.specs.Waiting.{Commits, IsWaiting, Waiting}
 use Rattle.stream_decoder.specs.Yields.{Leaves, left}
 
 -- ---- a trace info was taken
@@ -86,7 +86,7 @@ module _ (r : Standing) (t : Told) (l : Left) (w w' : Waiting) (s : State) (f : 
   abbrev next : Decoding
   next = decoding_of r t l w' s f
 
-  due_counts : AreInRange w.counts → counted next ≡ counted here
+  due_counts : AreCounts w.counts → counted next ≡ counted here
   due_counts range k =
       record {
         made = (ap (λ (c : Counts). c.made) (ap (λ (x : Waiting). x.counts) others) ∙ same_count w.counts.made range.made) k;
@@ -97,7 +97,7 @@ module _ (r : Standing) (t : Told) (l : Left) (w w' : Waiting) (s : State) (f : 
         lost = (ap (λ (c : Counts). c.lost) (ap (λ (x : Waiting). x.counts) others) ∙ same_count w.counts.lost range.lost) k;
       }
 
-  pub leaves_due : AreInRange w.counts → Leaves here next (Some thing)
+  pub leaves_due : AreCounts w.counts → Leaves here next (Some thing)
   leaves_due range =
       record {
         took = [];

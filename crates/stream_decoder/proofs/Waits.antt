@@ -5,7 +5,7 @@ use Rattle.std.proofs.Math.Nat.{mod-lt}
 use Rattle.std.proofs.lemmas.Bool.{le-leb}
 use Rattle.std.proofs.lemmas.List.{drop_more, length-drop, length-take-le}
 use Rattle.std.proofs.lemmas.Option.{get_or_from_slice_get, slice_get_within}
-use Rattle.element_queue.specs.Counting.{add, counts_after, entries, made_by}
+use Rattle.element_queue.specs.Counting.{AreCounts, add, counts_after, entries, made_by}
 use Rattle.element_queue.specs.Pending.{Gone, committing, losing, nothing_gone, taken}
 use Rattle.element_queue.specs.Queued.{Queued, Refuses, Takes, noted, pending_of}
 use Rattle.element_queue.specs.declared.ledger.Counts.{Counts}
@@ -18,7 +18,7 @@ use Rattle.etm_types.specs.declared.element.P0.{P0}
 use Rattle.etm_types.specs.declared.element.Thing.{Thing}
 use Rattle.etm_types.specs.declared.element.Thing.TheVariants.{Gap, Seen, Stop, Unseen}
 use Rattle.etm_types.specs.declared.queue_fault.QueueFault.{QueueFault}
-use Rattle.stream_decoder.specs.Waiting.{AreInRange, Commits, Waiting, committed_by, counted_with, waiting_of}
+use Rattle.stream_decoder.specs.Waiting.{Commits, Waiting, committed_by, counted_with, waiting_of}
 
 -- ---- lists
 
@@ -57,7 +57,7 @@ drop_one_less xs (suc n) some = let less : suc n - 1 ≡ n = omega arith in rw l
 same_count : (n : ℕ) → n < 2 ^ 64 → n ≡ add n 0
 same_count n small = omega arith
 
-pub same_counts : (c : Counts) → AreInRange c → c ≡ counts_after c 0 nothing_gone
+pub same_counts : (c : Counts) → AreCounts c → c ≡ counts_after c 0 nothing_gone
 same_counts c are k =
     record {
       made = same_count c.made are.made k;
@@ -66,7 +66,7 @@ same_counts c are k =
       lost = same_count c.lost are.lost k;
     }
 
-pub in_range : (c : Counts) (made : ℕ) (gone : Gone) → AreInRange (counts_after c made gone)
+pub in_range : (c : Counts) (made : ℕ) (gone : Gone) → AreCounts (counts_after c made gone)
 in_range c made gone =
     record {
       made = mod-lt (c.made + made) (omega arith);
@@ -75,13 +75,13 @@ in_range c made gone =
       lost = mod-lt (c.lost + entries gone.lost) (omega arith);
     }
 
-pub in_range_by : (q q' : Queued) (e : Elem) (gone : Gone) → Takes q e gone q' → AreInRange q'.counts
-in_range_by q q' e gone takes = subst AreInRange (sym takes.counts) (in_range q.counts (made_by e) gone)
+pub in_range_by : (q q' : Queued) (e : Elem) (gone : Gone) → Takes q e gone q' → AreCounts q'.counts
+in_range_by q q' e gone takes = subst AreCounts (sym takes.counts) (in_range q.counts (made_by e) gone)
 
-counted_none : (c : Counts) → AreInRange c → c ≡ counted_with c []
+counted_none : (c : Counts) → AreCounts c → c ≡ counted_with c []
 counted_none c are = ap (λ n. record c { committed = n }) (same_count c.committed are.committed)
 
-counted_due : (c : Counts) (due : List Thing) → AreInRange c → counted_with c due ≡ counts_after c 0 (committing due)
+counted_due : (c : Counts) (due : List Thing) → AreCounts c → counted_with c due ≡ counts_after c 0 (committing due)
 counted_due c due are k =
     record {
       made = same_count c.made are.made k;
@@ -93,7 +93,7 @@ counted_due c due are k =
 -- ---- elements
 
 -- an element that the queue takes
-pub commits_by : (q q' : Queued) (informed : Bool) (e : Elem) (gone : Gone) (things : List Thing) → AreInRange q.counts
+pub commits_by : (q q' : Queued) (informed : Bool) (e : Elem) (gone : Gone) (things : List Thing) → AreCounts q.counts
     → Takes q e gone q' → gone.committed ≡ things → Commits (waiting_of q informed 0) e (waiting_of q' informed 0) things
 commits_by q q' informed e gone things are takes is =
     record {
@@ -106,13 +106,13 @@ commits_by q q' informed e gone things are takes is =
     }
 
 -- an element that gives something to the next
-pub takes_on : (q : Queued) → AreInRange q.counts → Takes q elem.On nothing_gone (record q { pre = noted q.pre pre_elem.On })
+pub takes_on : (q : Queued) → AreCounts q.counts → Takes q elem.On nothing_gone (record q { pre = noted q.pre pre_elem.On })
 takes_on q are = record { rule = λ informed. refl; counts = same_counts q.counts are; depth = refl }
 
-pub takes_ctx : (q : Queued) (ctx : Ctx) → AreInRange q.counts → Takes q (elem.Ctx ctx) nothing_gone (record q { pre = noted q.pre (pre_elem.Ctx ctx) })
+pub takes_ctx : (q : Queued) (ctx : Ctx) → AreCounts q.counts → Takes q (elem.Ctx ctx) nothing_gone (record q { pre = noted q.pre (pre_elem.Ctx ctx) })
 takes_ctx q ctx are = record { rule = λ informed. refl; counts = same_counts q.counts are; depth = refl }
 
-pub takes_addr : (q : Queued) (addr : ℕ) → AreInRange q.counts
+pub takes_addr : (q : Queued) (addr : ℕ) → AreCounts q.counts
     → Takes q (elem.Addr addr) nothing_gone (record q { pre = noted q.pre (pre_elem.Addr addr) })
 takes_addr q addr are = record { rule = λ informed. refl; counts = same_counts q.counts are; depth = refl }
 
@@ -125,7 +125,7 @@ pub takes_discard : (q : Queued) → Takes q elem.Discard (record { committed = 
 takes_discard q = record { rule = λ informed. refl; counts = refl; depth = refl }
 
 -- what a commit commits is due
-pub commits_due : (q : Queued) (informed : Bool) (n : ℕ) → AreInRange q.counts → n ≤ length q.held
+pub commits_due : (q : Queued) (informed : Bool) (n : ℕ) → AreCounts q.counts → n ≤ length q.held
     → Commits (waiting_of q informed 0) (elem.Commit n) (waiting_of q informed n) []
 commits_due q informed n are within =
     record {
@@ -138,7 +138,7 @@ commits_due q informed n are within =
     }
 
 -- a trace info that is not the first
-pub informs_again : (q : Queued) (spec : ℕ) → AreInRange q.counts
+pub informs_again : (q : Queued) (spec : ℕ) → AreCounts q.counts
     → Commits (waiting_of q true 0) (elem.Info spec) (waiting_of (record q { pre = noted q.pre pre_elem.Info }) true 0) []
 informs_again q spec are =
     record {
@@ -150,7 +150,7 @@ informs_again q spec are =
     }
 
 -- the first
-pub informs_first : (q : Queued) (spec : ℕ) → AreInRange q.counts → q.held ≡ [] → spec ≤ q.depth
+pub informs_first : (q : Queued) (spec : ℕ) → AreCounts q.counts → q.held ≡ [] → spec ≤ q.depth
     → Commits (waiting_of q false 0) (elem.Info spec)
     (waiting_of (record q { held = replicate spec Unseen; pre = noted q.pre pre_elem.Info }) true 0) []
 informs_first q spec are none within =
@@ -162,12 +162,12 @@ informs_first q spec are none within =
       depth = refl;
     }
 
-pub informs_again_if : (q : Queued) (informed : Bool) (spec : ℕ) → AreInRange q.counts → informed ≡ true
+pub informs_again_if : (q : Queued) (informed : Bool) (spec : ℕ) → AreCounts q.counts → informed ≡ true
     → Commits (waiting_of q informed 0) (elem.Info spec) (waiting_of (record q { pre = noted q.pre pre_elem.Info }) informed 0) []
 informs_again_if q true spec are e = informs_again q spec are
 informs_again_if q false spec are e = absurd cc
 
-pub informs_first_if : (q : Queued) (informed : Bool) (spec : ℕ) → AreInRange q.counts → informed ≡ false → q.held ≡ [] → spec ≤ q.depth
+pub informs_first_if : (q : Queued) (informed : Bool) (spec : ℕ) → AreCounts q.counts → informed ≡ false → q.held ≡ [] → spec ≤ q.depth
     → Commits (waiting_of q informed 0) (elem.Info spec)
     (waiting_of (record q { held = replicate spec Unseen; pre = noted q.pre pre_elem.Info }) true 0) []
 informs_first_if q false spec are e none within = informs_first q spec are none within
@@ -214,9 +214,24 @@ gives_oldest q q' informed n w xs things is some queue same =
 pub oldest_due : (xs : List Thing) (n : ℕ) (x : Thing) → (n ≡ 0 → ⊥) → take 1 xs ≡ x ∷ [] → (others : List Thing) × (take n xs ≡ x ∷ others)
 oldest_due xs n x some first = (take (n - 1) (drop 1 xs), take_one_less xs n some ∙ ap (λ (l : List Thing). l ++ take (n - 1) (drop 1 xs)) first)
 
+-- the oldest of some that are due is the oldest of all
+pub oldest_of : (xs : List Thing) (n : ℕ) (x : Thing) (others : List Thing) → take n xs ≡ x ∷ others → take 1 xs ≡ x ∷ []
+oldest_of [] zero x others e = absurd cc
+oldest_of [] (suc n) x others e = absurd cc
+oldest_of (y ∷ xs) zero x others e = absurd cc
+oldest_of (y ∷ xs) (suc n) x others e = let same : y ≡ x = cc in ap (λ (t : Thing). t ∷ []) same
+
 -- where there is room, one more commits nothing
 pub room_for : (w : Waiting) (p0 : P0) → length w.pending.held < w.depth → committed_by w p0 ≡ []
 room_for w p0 room =
     let new : Thing = Seen (record { pre = w.pending.pre; p0 = p0 }) in
     let none : length (w.pending.held ++ new ∷ []) - w.depth ≡ 0 = omega (arith, length-append w.pending.held (new ∷ []), room) in
     rw none refl
+
+-- where one more commits nothing, there is room
+pub is_room : (w : Waiting) (p0 : P0) → committed_by w p0 ≡ [] → length w.pending.held < w.depth
+is_room w p0 none =
+    let new : Thing = Seen (record { pre = w.pending.pre; p0 = p0 }) in
+    let all : List Thing = w.pending.held ++ new ∷ [] in
+    let nothing : length all - w.depth ≡ 0 = none_to all (length all - w.depth) (omega arith) none in
+    omega (arith, length-append w.pending.held (new ∷ []), nothing)

@@ -1,7 +1,7 @@
 -- What contracts see of the decoding of one stream.
 use Rattle.std.specs.Prelude.{◌≡◌, ◌≢◌, ◌⊎◌, ℕ, ◌<◌, ◌≤◌, Bool, false, All, List, [], ◌∷◌, ◌++◌, length}
 use Rattle.std.specs.Prelude.{Option, None}
-use Rattle.element_queue.specs.Counting.{Balances, entries, no_counts}
+use Rattle.element_queue.specs.Counting.{AreCounts, Balances, entries, no_counts}
 use Rattle.element_queue.specs.Pending.{Pending}
 use Rattle.element_queue.specs.Resolved.{at_first}
 use Rattle.element_queue.specs.declared.ledger.Counts.{Counts}
@@ -19,7 +19,7 @@ use Rattle.path_walker.specs.State.{State, IsState, first_state}
 use Rattle.path_walker.specs.Things.{IsAlignedThing}
 use Rattle.path_walker.specs.Walk.{ToldIsAligned}
 use Rattle.stream_decoder.specs.Left.{Left}
-use Rattle.stream_decoder.specs.Waiting.{AreInRange, Waiting, counted_with}
+use Rattle.stream_decoder.specs.Waiting.{Waiting, counted_with}
 
 -- what is kept of a stream
 pub record Decoding : Type 0 where
@@ -89,7 +89,7 @@ pub record IsDecoding (d : Decoding) : Type 0 where
   pub reads : IsReading d.reader
   pub few : length (d.due ++ (d.pending).held) ≤ depth_of d
   pub balanced : Balances d.counts (entries (d.due ++ (d.pending).held))
-  pub range : AreInRange d.counts
+  pub range : AreCounts d.counts
   pub things : All IsAlignedThing (d.due ++ (d.pending).held)
   pub address : ToldIsAligned (((d.pending).pre).addr)
   pub elements : All IsElem d.todo

@@ -1,6 +1,6 @@
 -- What contracts see of the P0 elements that wait: those that may still be taken back, and those that are due.
 use Rattle.std.specs.Prelude.{◌≡◌, ◌≤◌, ◌<◌, ◌^◌, ◌-◌, ℕ, Bool, List, [], ◌∷◌, ◌++◌, length, take, drop, Ok}
-use Rattle.element_queue.specs.Counting.{Balances, add, counts_after, entries, made_by}
+use Rattle.element_queue.specs.Counting.{AreCounts, Balances, add, counts_after, entries, made_by}
 use Rattle.element_queue.specs.Pending.{Gone, Pending, taken}
 use Rattle.element_queue.specs.Queued.{Queued}
 use Rattle.element_queue.specs.declared.ledger.Counts.{Counts}
@@ -36,18 +36,11 @@ committed_by w p0 =
 abbrev pub counted_with : Counts → List Thing → Counts
 counted_with c due = record c { committed = add c.committed (entries due) }
 
--- each count is one modulo 2^64
-pub record AreInRange (c : Counts) : Type 0 where
-  pub made : c.made < 2 ^ 64
-  pub committed : c.committed < 2 ^ 64
-  pub cancelled : c.cancelled < 2 ^ 64
-  pub lost : c.lost < 2 ^ 64
-
 -- what holds at any time
 pub record IsWaiting (w : Waiting) : Type 0 where
   pub few : length (w.due ++ (w.pending).held) ≤ w.depth
   pub balanced : Balances w.counts (entries (w.due ++ (w.pending).held))
-  pub range : AreInRange w.counts
+  pub range : AreCounts w.counts
 
 -- an element is taken; these of the things that it commits are given out, and the others are due
 pub record Commits (w : Waiting) (e : Elem) (w' : Waiting) (things : List Thing) : Type 0 where

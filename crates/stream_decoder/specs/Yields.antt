@@ -61,7 +61,7 @@ Opens d (Whole at packet) d' = OpensPacket d at packet d'
 Opens d (Bad at f) d' = d' ≡ record d { reader = d'.reader; fault = Some (at, fault.Packet f) }
 Opens d step d' = d' ≡ record d { reader = d'.reader }
 
--- whatever it answers: the same, where a fault was met or not: behind a fault nothing is taken
+-- the same, where no fault was met; behind a fault only the reader goes on
 abbrev pub OpensBehind : Option (ℕ × Fault) → Decoding → Step → Decoding → Type 0
 OpensBehind None d step d' = Opens d step d'
 OpensBehind (Some f) d step d' = d' ≡ record d { reader = d'.reader }

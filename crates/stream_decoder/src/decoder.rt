@@ -98,6 +98,7 @@ impl StreamDecoder {
         ensures taken { self.new.decoding.reader.taken ≡ self.old.decoding.reader.taken + 1 }
         ensures settings { self.new.decoding.reader.settings ≡ self.old.decoding.reader.settings }
         ensures balanced { Balances self.new.decoding.counts (entries (self.new.decoding.due ++ self.new.decoding.pending.held)) }
+        ensures most { length (self.new.decoding.due ++ self.new.decoding.pending.held) ≤ self.new.decoding.reader.settings.depth }
     {
         turn_to(&mut self.line, id);
         self.decoding.begin(byte);
@@ -132,7 +133,8 @@ impl StreamDecoder {
     }
 
     /// What became of the P0 elements. All that the path took were made. As long as it met no fault of the walk,
-    /// those that its elements committed, cancelled and lost are counted as such.
+    /// those that its elements committed, cancelled and lost are counted as such. Never more are held than the maximum
+    /// speculation depth, whatever the bytes.
     pub fn ledger(&self) -> Counts
         ensures value { result ≡ self.now.decoding.counts }
         ensures made { (image : Image) (bytes : List ℕ) (items : List Item) (last : End) (took : List (ℕ × Elem)) → StandsAt image self.now bytes
@@ -142,6 +144,7 @@ impl StreamDecoder {
             → IsPathTaking image self.now.decoding.reader.settings bytes items last took → shows_walk_fault last ≡ false
             → result ≡ tally self.now.decoding.reader.settings.depth at_first no_counts (unplaced took) }
         ensures balanced { Balances result (entries (self.now.decoding.due ++ self.now.decoding.pending.held)) }
+        ensures most { length (self.now.decoding.due ++ self.now.decoding.pending.held) ≤ self.now.decoding.reader.settings.depth }
     {
         self.decoding.ledger()
     }
@@ -228,6 +231,7 @@ fn write_rest<K: Sink>(
 
 /// Writes what all that is left to do shows, where some is left: as much as goes the short way; where that ends, one thing that
 /// was found the long way; and so on. Most often all of it goes the short way.
+#[inline(always)]
 fn write_some<K: Sink>(
     decoding: &mut Decoding,
     shown: &mut Option<Ctx>,
@@ -246,14 +250,9 @@ fn write_some<K: Sink>(
     ensures id { line.new.id ≡ line.old.id }
     ensures holds { IsDecoding decoding.new }
 {
+    has_gap(image);
     loop {
-        match write_atoms(decoding, shown, line, image, sink) {
-            Ok(()) => {}
-            Err(failed) => {
-                has_gap(image);
-                return Err(failed);
-            }
-        }
+        write_atoms(decoding, shown, line, image, sink)?;
         if decoding.is_at_rest() {
             return Ok(());
         }
@@ -263,13 +262,7 @@ fn write_some<K: Sink>(
         let Some(found) = decoding.next(image) else {
             return Ok(());
         };
-        match write_found(line, &found, shown, sink) {
-            Ok(()) => {}
-            Err(failed) => {
-                has_gap(image);
-                return Err(failed);
-            }
-        }
+        write_found(line, &found, shown, sink)?;
     }
 }
 
@@ -312,8 +305,8 @@ fn is_fault(end: &End) -> bool
     matches!(end, End::Fault { .. })
 }
 
-/// An image has an address without a word, so that there is a path over it for any bytes. Only the contract is asked for, and
-/// only where a write failed.
+/// An image has an address without a word, so that there is a path over it for any bytes. Only the contract is asked for.
+#[inline(always)]
 fn has_gap(image: &Image)
     ensures { HasGap image.now }
 {

@@ -357,7 +357,7 @@ impl Decoding {
         Some(stretch)
     }
 
-    /// The context of what the walk shows next, where none is given.
+    /// The context of the walk: that of the stretch that [`next_atom`](Decoding::next_atom) gave last.
     #[inline(always)]
     pub fn context(&self) -> Ctx
         ensures { result ≡ self.now.walk.ctx }
@@ -449,7 +449,7 @@ impl Decoding {
         ensures holds { IsDecoding self.new }
     {
         let Some(elem) = self.todo.first() else {
-            return Ok(None);
+            unreachable!()
         };
         match self.waiting.take(&elem) {
             Ok(thing) => {

@@ -1,5 +1,5 @@
 //! The elements of a packet that are still to be taken.
-ghost use Rattle.std.specs.Prelude.{◌≡◌, ◌∷◌, [], ◌↔◌, IfSome, IsTrue, List, Some, None};
+ghost use Rattle.std.specs.Prelude.{◌≡◌, ◌∷◌, [], ◌↔◌, Bool, IfSome, IsSome, IsTrue, List, Some, None};
 ghost use Rattle.etm_types.specs.declared.element.Elem.TheVariants as elem;
 ghost use Rattle.etm_types.specs.declared.element.P0.TheVariants.{Atom};
 
@@ -73,7 +73,8 @@ impl Todo {
     /// The next one, where it is an atom of a run of atoms.
     #[inline(always)]
     pub fn first_atom(&self) -> Option<bool>
-        ensures { IfSome result (λ taken. (others : List Elem) × (self.now.elements ≡ elem.P0 (Atom taken) ∷ others)) }
+        ensures value { IfSome result (λ taken. (others : List Elem) × (self.now.elements ≡ elem.P0 (Atom taken) ∷ others)) }
+        ensures some { IsSome result ↔ ((taken : Bool) × (others : List Elem) × (self.now.elements ≡ elem.P0 (Atom taken) ∷ others)) }
     {
         self.elems.atom(self.next)
     }

@@ -1,6 +1,6 @@
 //! The P0 elements that wait: those that may still be taken back, and those that an element committed and that
 //! are still to be walked.
-ghost use Rattle.std.specs.Prelude.{◌≡◌, ◌∷◌, ◌++◌, [], List, IsTrue, IfOk, IfSome, IsErr, None, Err, false, option_to_list, length, ◌<◌};
+ghost use Rattle.std.specs.Prelude.{◌≡◌, ◌∷◌, ◌++◌, [], List, IsTrue, IfOk, IfSome, IsSome, IsErr, ◌↔◌, None, Err, false, option_to_list, length, ◌<◌};
 ghost use Rattle.element_queue.specs.Counting.{Balances, counts_after, no_counts};
 ghost use Rattle.element_queue.specs.Pending.{committing, losing, taken};
 ghost use Rattle.element_queue.specs.Queued.{entry_of, things_of};
@@ -33,14 +33,15 @@ pub struct Waiting {
 
 impl Model for Waiting {
     ghost use Rattle.std.specs.Prelude.{◌≤◌, length};
+    ghost use Rattle.element_queue.specs.Counting.{AreCounts};
     ghost use Rattle.element_queue.specs.Queued.{IsQueued};
-    ghost use Rattle.stream_decoder.specs.Waiting.{AreInRange, Waiting, waiting_of};
+    ghost use Rattle.stream_decoder.specs.Waiting.{Waiting, waiting_of};
 
     ghost Value = { Waiting };
 
     ghost view = { λ w. waiting_of w.queue w.informed w.due };
 
-    ghost invariant = { λ w. (w.due ≤ length w.queue.held) × IsQueued w.queue × AreInRange w.queue.counts };
+    ghost invariant = { λ w. (w.due ≤ length w.queue.held) × IsQueued w.queue × AreCounts w.queue.counts };
 }
 
 impl Waiting {
@@ -92,7 +93,8 @@ impl Waiting {
     /// Which entry one atom more commits, where it is an atom before which nothing but an address was given, and nothing is due.
     #[inline(always)]
     pub fn next_committed(&self, taken: bool) -> Option<AtomEntry>
-        ensures { IfSome result (λ atom. (self.now.due ≡ []) × (committed_by self.now (Atom taken) ≡ Seen (entry_of atom) ∷ [])) }
+        ensures value { IfSome result (λ atom. (self.now.due ≡ []) × (committed_by self.now (Atom taken) ≡ Seen (entry_of atom) ∷ [])) }
+        ensures some { IsSome result ↔ ((self.now.due ≡ []) × (atom : AtomEntry) × (committed_by self.now (Atom taken) ≡ Seen (entry_of atom) ∷ [])) }
     {
         if self.due > 0 {
             return None;
@@ -113,7 +115,7 @@ impl Waiting {
     /// Whether one P0 element more commits nothing: nothing is due, and there is room for it.
     #[inline(always)]
     pub fn has_room(&self) -> bool
-        ensures { IsTrue result → (self.now.due ≡ []) × ((p0 : P0) → committed_by self.now p0 ≡ []) }
+        ensures { IsTrue result ↔ ((self.now.due ≡ []) × ((p0 : P0) → committed_by self.now p0 ≡ [])) }
     {
         self.due == 0 && self.queue.has_room()
     }
@@ -182,7 +184,8 @@ impl Waiting {
     /// Which entry the oldest is that is due, where it is an atom before which nothing but an address was given.
     #[inline(always)]
     pub fn due_atom(&self) -> Option<AtomEntry>
-        ensures { IfSome result (λ atom. (others : List Thing) × (self.now.due ≡ Seen (entry_of atom) ∷ others)) }
+        ensures value { IfSome result (λ atom. (others : List Thing) × (self.now.due ≡ Seen (entry_of atom) ∷ others)) }
+        ensures some { IsSome result ↔ ((atom : AtomEntry) × (others : List Thing) × (self.now.due ≡ Seen (entry_of atom) ∷ others)) }
     {
         if self.due == 0 {
             return None;

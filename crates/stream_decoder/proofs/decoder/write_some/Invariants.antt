@@ -4,11 +4,11 @@ use Rattle.stream_decoder.specs.Yields.{left}
 use Rattle.stream_decoder.proofs.Printing.{Printed}
 use Rattle.stream_decoder.proofs.decoder.write_some.Given as goal
 
-abbrev pub decreases-loop-failed : goal.decreases-loop-failed
-decreases-loop-failed g l = left l.decoding
+abbrev pub decreases-loop-decoding : goal.decreases-loop-decoding
+decreases-loop-decoding g l = left l.decoding
 
-abbrev pub invariant-loop-failed : goal.invariant-loop-failed
-invariant-loop-failed g l =
+abbrev pub invariant-loop-decoding : goal.invariant-loop-decoding
+invariant-loop-decoding g l =
     let state = g.K.Sink.state in
     record {
       printed : Printed l.image l.fn.line.id l.fn.decoding l.fn.shown l.decoding l.shown (state l.fn.sink) (state l.sink);

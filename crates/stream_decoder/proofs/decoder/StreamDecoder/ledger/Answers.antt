@@ -1,4 +1,4 @@
-use Rattle.std.proofs.Common.{◌∙◌, ap, subst}
+use Rattle.std.proofs.Common.{◌≤◌, ◌++◌, length, ◌∙◌, ap, subst}
 use Rattle.element_queue.specs.declared.ledger.Counts.{Counts}
 use Rattle.etm_types.specs.Settings.{AreSettings}
 use Rattle.stream_decoder.specs.Decoding.{Decoder, Decoding}
@@ -19,3 +19,7 @@ returns-clause-counts c image bytes items last took stands path free =
     let same = ap (λ (d : Decoder). d.decoding) c.self.view_is in
     let are = subst (λ (d : Decoding). AreSettings d.reader.settings) same c.self.invariant.0.reads.settings in
     c.ledger.ensures.value ∙ ap (λ (d : Decoding). d.counts) same ∙ counts_of image now bytes stands.items stands.came are items last took path free
+
+pub returns-clause-most : goal.returns-clause-most
+returns-clause-most c =
+    subst (λ (d : Decoder). length (d.decoding.due ++ d.decoding.pending.held) ≤ d.decoding.reader.settings.depth) c.self.view_is c.self.invariant.0.few

@@ -124,6 +124,12 @@ returns-in-Ok-clause-balanced g c = c.write_rest.ensures.holds.balanced
 pub returns-in-Err-clause-balanced : goal.returns-in-Err-clause-balanced
 returns-in-Err-clause-balanced g c = c.write_rest.ensures.holds.balanced
 
+pub returns-in-Ok-clause-most : goal.returns-in-Ok-clause-most
+returns-in-Ok-clause-most g c = c.write_rest.ensures.holds.few
+
+pub returns-in-Err-clause-most : goal.returns-in-Err-clause-most
+returns-in-Err-clause-most g c = c.write_rest.ensures.holds.few
+
 pub returns-in-Err-clause-stands : goal.returns-in-Err-clause-stands
 returns-in-Err-clause-stands g c ok = absurd cc
 

@@ -10,18 +10,18 @@ use Rattle.stream_decoder.proofs.decoding.Decoding.walk_due.Goals as goal
 
 pub walk_atom-requires : goal.walk_atom-requires
 walk_atom-requires c =
-    let i = c.self.inside in let due = c.in_ok-atom.ensures in
+    let i = c.self.inside in let due = c.in_ok-atom.ensures.value in
     due_told_aligned (decoding_of i.reader i.maker i.todo i.waiting i.walker i.fault) (entry_of c.in_ok-atom.atom) due.0 due.1 c.self.invariant.1
 
 pub invariant_of-self-2 : goal.invariant_of-self-2
 invariant_of-self-2 c =
-    let i = c.self.inside in let due = c.in_ok-atom.ensures in
+    let i = c.self.inside in let due = c.in_ok-atom.ensures.value in
     holds_by_due i.reader i.maker i.todo i.waiting c.drop_due.new.self i.walker c.walk_atom.new.self i.fault (entry_of c.in_ok-atom.atom) due.0 due.1
     (c.drop_due.ensures.others _ due.0 due.1) c.self.invariant c.drop_due.ensures.holds c.in_ok-stretch.ensures.state
 
 pub returns-clause-goes : goal.returns-clause-goes
 returns-clause-goes c =
-    let i = c.self.inside in let due = c.in_ok-atom.ensures in
+    let i = c.self.inside in let due = c.in_ok-atom.ensures.value in
     let goes = goes_by_due i.reader i.maker i.todo i.waiting c.drop_due.new.self i.walker c.walk_atom.new.self i.fault (entry_of c.in_ok-atom.atom) due.0 due.1
     (c.drop_due.ensures.others _ due.0 due.1) c.self.invariant c.drop_due.ensures.holds c.args.image.now (walked_in i.walker.ctx c.in_ok-stretch.stretch)
     c.in_ok-stretch.ensures.shows in

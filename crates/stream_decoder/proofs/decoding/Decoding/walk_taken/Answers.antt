@@ -14,25 +14,25 @@ pub walk_atom-requires : goal.walk_atom-requires
 walk_atom-requires c =
     let i = c.self.inside in
     told_aligned i.reader i.maker i.todo i.waiting i.walker i.fault c.in_ok-taken.taken (entry_of c.in_ok-committed.committed)
-    c.in_ok-committed.ensures.0 c.in_ok-committed.ensures.1
+    c.in_ok-committed.ensures.value.0 c.in_ok-committed.ensures.value.1
     c.self.invariant.1
 
 pub invariant_of-self-2 : goal.invariant_of-self-2
 invariant_of-self-2 c =
     let i = c.self.inside in
     holds_by_atom i.reader i.maker i.todo c.advance.new.self i.waiting c.take_atom.new.self i.walker
-    c.walk_atom.new.self i.fault c.in_ok-taken.taken (entry_of c.in_ok-committed.committed) c.in_ok-taken.ensures.0 c.in_ok-taken.ensures.1
-    (c.advance.ensures (elem.P0 (Atom c.in_ok-taken.taken)) c.in_ok-taken.ensures.0 c.in_ok-taken.ensures.1)
-    c.in_ok-committed.ensures.0 c.in_ok-committed.ensures.1 c.self.invariant c.take_atom.ensures.commits c.take_atom.ensures.holds
+    c.walk_atom.new.self i.fault c.in_ok-taken.taken (entry_of c.in_ok-committed.committed) c.in_ok-taken.ensures.value.0 c.in_ok-taken.ensures.value.1
+    (c.advance.ensures (elem.P0 (Atom c.in_ok-taken.taken)) c.in_ok-taken.ensures.value.0 c.in_ok-taken.ensures.value.1)
+    c.in_ok-committed.ensures.value.0 c.in_ok-committed.ensures.value.1 c.self.invariant c.take_atom.ensures.commits c.take_atom.ensures.holds
     c.in_ok-stretch.ensures.state
 
 pub returns-clause-goes : goal.returns-clause-goes
 returns-clause-goes c =
     let i = c.self.inside in
     let goes = goes_by_atom i.reader i.maker i.todo c.advance.new.self i.waiting c.take_atom.new.self i.walker
-    c.walk_atom.new.self i.fault c.in_ok-taken.taken (entry_of c.in_ok-committed.committed) c.in_ok-taken.ensures.0 c.in_ok-taken.ensures.1
-    (c.advance.ensures (elem.P0 (Atom c.in_ok-taken.taken)) c.in_ok-taken.ensures.0 c.in_ok-taken.ensures.1)
-    c.in_ok-committed.ensures.0 c.in_ok-committed.ensures.1 c.self.invariant c.take_atom.ensures.commits c.take_atom.ensures.holds
+    c.walk_atom.new.self i.fault c.in_ok-taken.taken (entry_of c.in_ok-committed.committed) c.in_ok-taken.ensures.value.0 c.in_ok-taken.ensures.value.1
+    (c.advance.ensures (elem.P0 (Atom c.in_ok-taken.taken)) c.in_ok-taken.ensures.value.0 c.in_ok-taken.ensures.value.1)
+    c.in_ok-committed.ensures.value.0 c.in_ok-committed.ensures.value.1 c.self.invariant c.take_atom.ensures.commits c.take_atom.ensures.holds
     c.args.image.now (walked_in i.walker.ctx c.in_ok-stretch.stretch)
     c.in_ok-stretch.ensures.shows in
     let before = decoding_of i.reader i.maker i.todo i.waiting i.walker i.fault in
