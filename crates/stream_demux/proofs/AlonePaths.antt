@@ -22,7 +22,7 @@ use Rattle.path_text.proofs.LineLists.{line_list-append, list_each}
 use Rattle.program_image.specs.declared.image.Image.{Image}
 use Rattle.stream_demux.specs.Laws.{EachIsALine, PathIsAlone, PathPrinted, StreamLines, lines_with}
 use Rattle.stream_demux.specs.Paths.{paths}
-use Rattle.stream_demux.specs.Texts.{BodyFrom, EndsOf, GainsIf, Printed, StreamBody, StreamEnds, cut_lines, is_source, lines_under, of, sources}
+use Rattle.stream_demux.specs.Texts.{BodyFrom, EndsOf, GainsIf, IsText, Listing, Printed, StreamBody, StreamEnds, cut_lines, is_source, lines_under, of, sources}
 use Rattle.stream_demux.proofs.Alone.{source_is_alone}
 use Rattle.stream_demux.proofs.PathTexts.{one_path}
 
@@ -102,27 +102,30 @@ IsPrintedLine l = IsLine l.line
 under_are : (id : ℕ) (lines : List (List ℕ)) → All IsLine lines → All IsPrintedLine (lines_under id lines)
 under_are id lines are = All-map IsPrintedLine (λ (line : List ℕ). record { id = Some id; line = line }) lines are
 
-module _ (image : Image) (s : Sizes) where
-  gains_are : (source : Bool) (before : List (ℕ × ℕ)) (pair : ℕ × ℕ) (lines : List (List ℕ)) → GainsIf source (paths image s) before pair lines
-      → All IsLine lines
-  gains_are true before pair lines (shown, more, grows, is) = subst (λ (l : List (List ℕ)). All IsLine l) (sym is) (list_each pair.0 shown more)
+-- what a stream prints has lines alone
+pub record PrintsLines (g : Listing) : Type 0 where
+  pub gained : (id : ℕ) (bytes : List ℕ) (byte : ℕ) (lines : List (List ℕ)) → g.gains id bytes byte lines → All IsLine lines
+  pub ended : (id : ℕ) (bytes line : List ℕ) (faulty : Bool) → g.ends id bytes line faulty → IsLine line
+
+module _ (g : Listing) (prints : PrintsLines g) where
+  gains_are : (source : Bool) (before : List (ℕ × ℕ)) (pair : ℕ × ℕ) (lines : List (List ℕ)) → GainsIf source g before pair lines → All IsLine lines
+  gains_are true before pair lines gains = prints.gained pair.0 (of pair.0 before) pair.1 lines gains
   gains_are false before pair lines none = subst (λ (l : List (List ℕ)). All IsLine l) (sym none) (All-nil IsLine)
 
-  body_is : (before pairs : List (ℕ × ℕ)) (lines : List Printed) → BodyFrom (paths image s) before pairs lines → All IsPrintedLine lines
+  body_is : (before pairs : List (ℕ × ℕ)) (lines : List Printed) → BodyFrom g before pairs lines → All IsPrintedLine lines
   body_is before [] lines none = subst (λ (l : List Printed). All IsPrintedLine l) (sym none) (All-nil IsPrintedLine)
   body_is before (pair ∷ pairs) lines (first, rest, gains, later, is) =
       subst (λ (l : List Printed). All IsPrintedLine l) (sym is)
       (All-append IsPrintedLine (lines_under pair.0 first) rest (under_are pair.0 first (gains_are (is_source pair.0) before pair first gains))
       (body_is (before ++ pair ∷ []) pairs rest later))
 
-  end_lines : (id : ℕ) (bytes : List ℕ) (lines : List Printed) (faulty : Bool) → StreamEnds (paths image s) id bytes lines faulty → All IsPrintedLine lines
+  end_lines : (id : ℕ) (bytes : List ℕ) (lines : List Printed) (faulty : Bool) → StreamEnds g id bytes lines faulty → All IsPrintedLine lines
   end_lines id [] lines faulty (none, whole) = subst (λ (l : List Printed). All IsPrintedLine l) (sym none) (All-nil IsPrintedLine)
-  end_lines id (b ∷ bytes) lines faulty (line, (items, last, path, line_is, fault_is), is) =
-      let one = subst IsLine (sym line_is) (end_is id last) in
+  end_lines id (b ∷ bytes) lines faulty (line, ends, is) =
+      let one = prints.ended id (b ∷ bytes) line faulty ends in
       subst (λ (l : List Printed). All IsPrintedLine l) (sym is) (under_are id (line ∷ []) (All-cons IsLine line [] one (All-nil IsLine)))
 
-  ends_are : (pairs : List (ℕ × ℕ)) (ids : List ℕ) (lines : List Printed) (faulty : Bool) → EndsOf (paths image s) pairs ids lines faulty
-      → All IsPrintedLine lines
+  ends_are : (pairs : List (ℕ × ℕ)) (ids : List ℕ) (lines : List Printed) (faulty : Bool) → EndsOf g pairs ids lines faulty → All IsPrintedLine lines
   ends_are pairs [] lines faulty (none, whole) = subst (λ (l : List Printed). All IsPrintedLine l) (sym none) (All-nil IsPrintedLine)
   ends_are pairs (id ∷ ids) lines faulty (first, rest, f, o, here, later, is, fault) =
       subst (λ (l : List Printed). All IsPrintedLine l) (sym is)
@@ -132,11 +135,22 @@ cut_or_not : (left : ℕ) (whole : Bool) → All IsPrintedLine (if whole then []
 cut_or_not left true = All-nil IsPrintedLine
 cut_or_not left false = All-cons IsPrintedLine (record { id = None; line = frame_cut_line left }) [] (cut_is left) (All-nil IsPrintedLine)
 
-pub each_is_a_line : EachIsALine
-each_is_a_line image s pairs left lines faulty is =
+pub each_is : (g : Listing) → PrintsLines g → (pairs : List (ℕ × ℕ)) (left : ℕ) (lines : List Printed) (faulty : Bool) → IsText g pairs left lines faulty
+    → All IsPrintedLine lines
+each_is g prints pairs left lines faulty is =
     let last = is.ended in
-    let ending = All-append IsPrintedLine last.ends (cut_lines left) (ends_are image s pairs sources last.ends last.some_fault last.ended)
+    let ending = All-append IsPrintedLine last.ends (cut_lines left) (ends_are g prints pairs sources last.ends last.some_fault last.ended)
     (cut_or_not left (left == 0)) in
     subst (λ (l : List Printed). All IsPrintedLine l) (sym is.all)
-    (All-append IsPrintedLine is.body is.ending (body_is image s [] pairs is.body is.gained)
+    (All-append IsPrintedLine is.body is.ending (body_is g prints [] pairs is.body is.gained)
     (subst (λ (l : List Printed). All IsPrintedLine l) (sym last.all) ending))
+
+paths_print_lines : (image : Image) (s : Sizes) → PrintsLines (paths image s)
+paths_print_lines image s =
+    record {
+      gained = λ id bytes byte lines (shown, more, grows, is). subst (λ (l : List (List ℕ)). All IsLine l) (sym is) (list_each id shown more);
+      ended = λ id bytes line faulty (items, last, path, line_is, fault_is). subst IsLine (sym line_is) (end_is id last);
+    }
+
+pub each_is_a_line : EachIsALine
+each_is_a_line image s = each_is (paths image s) (paths_print_lines image s)

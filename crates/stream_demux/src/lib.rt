@@ -2,7 +2,7 @@
 //! architecture, IHI 0029, the trace formatter), or one stream that is not framed.
 //!
 //! A [`Stream`] is one stream, whatever is printed of it: the lines that it gains by a byte, and how it ends.
-//! A stream decoder, which prints a path, is one. [`Sources`] has a stream for each source and finds it by its
+//! A stream decoder, which prints a path, is one. `Sources` has a stream for each source and finds it by its
 //! ID, in one step a byte. What is printed of bytes with their IDs is defined once, for any stream: the lines
 //! that the bytes add, in order, then those of the ends, by ID, and last that of a frame that is cut.
 //!
@@ -29,5 +29,4 @@ pub use laws::{
     a_body_grows, a_stream_is_alone, a_text_is_one, bytes_are_parted, paths_have_one_text,
 };
 pub use raw::RawStream;
-pub use sources::Sources;
 pub use stream::Stream;
