@@ -23,14 +23,14 @@ use Rattle.trace_unit.proofs.BytesFew.{order_size, orders_size}
 use Rattle.trace_unit.proofs.Elements.{elements_dropped, elements_joined, elements_kept, elements_many, elements_turned, ends_in_atom, p0s_parts, turned_many}
 use Rattle.trace_unit.proofs.Ordered.{AllowsAll, unretired_all}
 use Rattle.trace_unit.specs.Agreeing.{elements_of}
-use Rattle.trace_unit.specs.Followed.{CanFollow, element_of, followed, orders_done, step_orders, sync_orders}
+use Rattle.trace_unit.specs.Followed.{CanFollow, element_of, followed, orders_done}
 use Rattle.trace_unit.specs.Followed.{windowed_cancelled, windowed_lost, windowed_retired, with_places}
 use Rattle.trace_unit.specs.Kept.{counts_by, counts_lost, counts_made}
 use Rattle.trace_unit.specs.Ordered.{Allows, told_all, unretired_by}
-use Rattle.trace_unit.specs.Orders.{Order, missing, orders_on, p0_order, same_context}
+use Rattle.trace_unit.specs.Orders.{Order, missing, orders_on, p0_order, same_context, step_orders, sync_orders}
 use Rattle.trace_unit.specs.Places.{Places, Saved, back_by, placed_behind, placed_on, placed_synced, saves, without_stack}
 use Rattle.trace_unit.specs.Whole.{at_once}
-use Rattle.trace_unit.specs.WindowKept.{WindowKept, passed, turn_newest_p0}
+use Rattle.trace_unit.specs.WindowKept.{WindowKept, pushed, turn_newest_p0}
 use Rattle.trace_unit.specs.declared.follower.Follower.{Follower}
 
 abbrev pub place_by : Option Running → Option At
@@ -55,7 +55,7 @@ Suits depth current e = ⊥
 -- ---- the window
 
 abbrev pub windowed_on : Option Running → WindowKept → Effect → WindowKept
-windowed_on (Some r) w (effect.Ran s ctx) = if is_p0 s then passed w w.room (element_of s.kind s.addr) else w
+windowed_on (Some r) w (effect.Ran s ctx) = if is_p0 s then pushed w w.room (element_of s.kind s.addr) else w
 windowed_on (Some r) w (effect.Retired n) = windowed_retired w (p0s (take n r.held))
 windowed_on (Some r) w (effect.Cancelled n) = windowed_cancelled w (p0s (newest n r.held))
 windowed_on (Some r) w effect.Flipped = record w { p0s = turn_newest_p0 w.p0s }
@@ -63,17 +63,17 @@ windowed_on (Some r) w effect.Overflowed = windowed_lost w
 windowed_on (Some r) w effect.Stopped = windowed_lost w
 windowed_on current w e = w
 
-passed_room : (w : WindowKept) (room : ℕ) (x : P0) → (passed w room x).room ≡ w.room
-passed_room w zero x = refl
-passed_room w (suc room) x = refl
+pushed_room : (w : WindowKept) (room : ℕ) (x : P0) → (pushed w room x).room ≡ w.room
+pushed_room w zero x = refl
+pushed_room w (suc room) x = refl
 
 pub window_room : (current : Option Running) (w : WindowKept) (e : Effect) → (windowed_on current w e).room ≡ w.room
 window_room None w e = refl
 window_room (Some r) w (effect.Began addr ctx) = refl
 window_room (Some r) w (effect.Ran s ctx) = by (is_p0 s)
   where
-    by : (b : Bool) → let v : WindowKept = if b then passed w w.room (element_of s.kind s.addr) else w in v.room ≡ w.room
-    by true = passed_room w w.room (element_of s.kind s.addr)
+    by : (b : Bool) → let v : WindowKept = if b then pushed w w.room (element_of s.kind s.addr) else w in v.room ≡ w.room
+    by true = pushed_room w w.room (element_of s.kind s.addr)
     by false = refl
 window_room (Some r) w (effect.Contexted ctx) = refl
 window_room (Some r) w (effect.Retired n) = refl
@@ -84,7 +84,7 @@ window_room (Some r) w effect.Overflowed = refl
 window_room (Some r) w effect.Stopped = refl
 
 ran_elements : (depth : ℕ) (q : At) (s : RunStep) (ctx : Ctx) (w : WindowKept) (b : Bool) → is_p0 s ≡ b → w.p0s ≡ elements_of q.held
-    → let v : WindowKept = if b then passed w depth (element_of s.kind s.addr) else w in v.p0s ≡ elements_of (place_ran depth q s ctx).held
+    → let v : WindowKept = if b then pushed w depth (element_of s.kind s.addr) else w in v.p0s ≡ elements_of (place_ran depth q s ctx).held
 ran_elements zero q s ctx w true e same = same
 ran_elements zero q s ctx w false e same = same
 ran_elements (suc depth) q s ctx w true e same =
@@ -100,7 +100,7 @@ pub window_elements : (image : Image) (depth : ℕ) (current : Option Running) (
     → w.p0s ≡ elements_of (held_by current) → (windowed_on current w e).p0s ≡ elements_of (held_at (place_after image depth (place_by current) e))
 window_elements image depth None w (effect.Began addr ctx) suits room same = same
 window_elements image depth (Some r) w (effect.Ran s ctx) suits room same =
-    ap (λ n. let v : WindowKept = if is_p0 s then passed w n (element_of s.kind s.addr) else w in v.p0s) room
+    ap (λ n. let v : WindowKept = if is_p0 s then pushed w n (element_of s.kind s.addr) else w in v.p0s) room
     ∙ ran_elements depth (place_of r) s ctx w (is_p0 s) refl same
 window_elements image depth (Some r) w (effect.Contexted ctx) suits room same = same
 window_elements image depth (Some r) w (effect.Retired n) suits room same = ap (drop (p0s (take n r.held))) same ∙ sym (elements_dropped n r.held)
@@ -115,7 +115,7 @@ window_elements image depth current w e suits room same = absurd suits
 -- ---- places
 
 passed_many : (room : ℕ) (w : WindowKept) (x : P0) (p : Places) (s : RunStep) → length p.saved ≡ length w.p0s
-    → length (saves room p s) ≡ length (passed w room x).p0s
+    → length (saves room p s) ≡ length (pushed w room x).p0s
 passed_many zero w x p s e = e
 passed_many (suc room) w x p s e =
     let v : Saved = record { stack = p.stack; context = s.ctx; start = p.start } in
@@ -132,10 +132,10 @@ saved_many image depth most None p w (effect.Began addr ctx) suits room e many =
 saved_many image depth most (Some r) p w (effect.Ran s ctx) suits room e many = by (is_p0 s)
   where
     by : (b : Bool) → let q : Places = if b then placed_behind depth most p s else p in
-        let v : WindowKept = if b then passed w w.room (element_of s.kind s.addr) else w in length q.saved ≡ length v.p0s
+        let v : WindowKept = if b then pushed w w.room (element_of s.kind s.addr) else w in length q.saved ≡ length v.p0s
     by true =
         passed_many depth w (element_of s.kind s.addr) p s e
-        ∙ ap (λ n. length (passed w n (element_of s.kind s.addr)).p0s) (sym room)
+        ∙ ap (λ n. length (pushed w n (element_of s.kind s.addr)).p0s) (sym room)
     by false = e
 saved_many image depth most (Some r) p w (effect.Contexted ctx) suits room e many = e
 saved_many image depth most (Some r) p w (effect.Retired n) suits room e many =
@@ -152,12 +152,12 @@ saved_many image depth most current p w e suits room same many = absurd suits
 -- ---- counts
 
 ran_counts : (depth : ℕ) (r : Running) (s : RunStep) (ctx : Ctx) (w : WindowKept) → w.room ≡ depth
-    → let v : WindowKept = if is_p0 s then passed w w.room (element_of s.kind s.addr) else w in
+    → let v : WindowKept = if is_p0 s then pushed w w.room (element_of s.kind s.addr) else w in
     v.counts ≡ counts_by depth (Some r) w.counts (effect.Ran s ctx)
 ran_counts depth r s ctx w room =
-    ap (λ n. let v : WindowKept = if is_p0 s then passed w n (element_of s.kind s.addr) else w in v.counts) room ∙ by depth (is_p0 s)
+    ap (λ n. let v : WindowKept = if is_p0 s then pushed w n (element_of s.kind s.addr) else w in v.counts) room ∙ by depth (is_p0 s)
   where
-    by : (depth : ℕ) (b : Bool) → let v : WindowKept = if b then passed w depth (element_of s.kind s.addr) else w in
+    by : (depth : ℕ) (b : Bool) → let v : WindowKept = if b then pushed w depth (element_of s.kind s.addr) else w in
         v.counts ≡ (if b then counts_made depth w.counts else w.counts)
     by zero true = refl
     by (suc depth) true = refl
@@ -231,9 +231,9 @@ orders_allowed image depth (Some r) p effect.Overflowed n suits le e = (tt, tt)
 orders_allowed image depth (Some r) p effect.Stopped n suits le e = (tt, tt)
 orders_allowed image depth current p e n suits le same = absurd suits
 
-passed_one : (room : ℕ) (w : WindowKept) (x : P0) → length w.p0s + 1 - at_once room ≡ length (passed w room x).p0s
-passed_one zero w x = omega arith
-passed_one (suc room) w x = omega (arith, length-append w.p0s (x ∷ []))
+pushed_one : (room : ℕ) (w : WindowKept) (x : P0) → length w.p0s + 1 - at_once room ≡ length (pushed w room x).p0s
+pushed_one zero w x = omega arith
+pushed_one (suc room) w x = omega (arith, length-append w.p0s (x ∷ []))
 
 pub orders_behind : (image : Image) (depth : ℕ) (current : Option Running) (p : Places) (w : WindowKept) (e : Effect) → Suits depth current e
     → w.room ≡ depth → length w.p0s ≡ p0s (held_by current)
@@ -242,8 +242,8 @@ orders_behind image depth None p w (effect.Began addr ctx) suits room e = refl
 orders_behind image depth (Some r) p w (effect.Ran s ctx) suits room e = elim (bools (is_p0 s)) [
   | inl some ↦
       let one = p0_is_one depth (length w.p0s) s.kind s.addr in
-      simp some ((step_lacks depth (length w.p0s) p s).behind ∙ one.behind ∙ passed_one depth w (element_of s.kind s.addr)
-      ∙ ap (λ n. length (passed w n (element_of s.kind s.addr)).p0s) (sym room))
+      simp some ((step_lacks depth (length w.p0s) p s).behind ∙ one.behind ∙ pushed_one depth w (element_of s.kind s.addr)
+      ∙ ap (λ n. length (pushed w n (element_of s.kind s.addr)).p0s) (sym room))
   | inr none ↦ simp none refl
 ]
 orders_behind image depth (Some r) p w (effect.Contexted ctx) suits room e = refl
@@ -276,7 +276,7 @@ synced_with f n ctx = record f {
 -- as the event's effect says
 abbrev pub followed_on : Image → Option Running → Follower → Effect → Follower
 followed_on image current f e = record {
-  places = with_places f.places (placed_on image f.places.room f.places.most current f.places.places e);
+  places = with_places f.places (placed_on image f.places.room f.places.stack_depth current f.places.places e);
   window = windowed_on current f.window e;
   teller = told_all f.teller (orders_on current f.places.places e);
 }

@@ -13,13 +13,13 @@ use Rattle.atom_formats.specs.Front.{SpellsFront}
 use Rattle.atom_formats.proofs.Rows.{one_byte_a_run, runs_are_short}
 use Rattle.atom_formats.proofs.Table.{every_row}
 use Rattle.packet_grammar.specs.declared.packet.Packet.TheVariants as packet
-use Rattle.packet_writer.specs.Atoms.{byte_in as written_byte}
+use Rattle.packet_writer.specs.Atoms.{byte_in as written_byte, same_atoms}
 use Rattle.packet_writer.specs.Fitting.{HasSpelling}
 use Rattle.packet_writer.specs.Spelling.{spelling}
 use Rattle.packet_writer.proofs.Having.{spelled_where_fits}
 use Rattle.packet_writer.proofs.Spelled.{byte_told}
 use Rattle.trace_unit.specs.Packets.{bits_of, front_packet, packed, packed_within, run_of}
-use Rattle.trace_unit.specs.Packing.{byte_in, byte_of, longest, longest_within, same_atoms}
+use Rattle.trace_unit.specs.Packing.{byte_in, byte_of, longest, longest_within}
 
 -- ---- the atoms of a run
 

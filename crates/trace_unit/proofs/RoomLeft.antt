@@ -1,12 +1,13 @@
 -- Room for bytes that are written in parts.
-use Rattle.std.proofs.Common.{◌≡◌, ℕ, List, ◌++◌, length, ap, arith, length-append}
+use Rattle.std.proofs.Common.{◌≡◌, ℕ, List, ◌++◌, length, ap, arith, length-append, vec_capacity}
+use Rattle.std.specs.Prelude.{Vec}
 use Rattle.trace_unit.specs.Room.{HasRoom}
 
-pub room_first : (len capacity : ℕ) (xs ys : List ℕ) → HasRoom len capacity (xs ++ ys) → HasRoom len capacity xs
-room_first len capacity xs ys room = omega (arith, room, length-append xs ys)
+pub room_first : {A : Type 0} (bytes : Vec ℕ A) (xs ys : List ℕ) → HasRoom bytes (xs ++ ys) → HasRoom bytes xs
+room_first bytes xs ys room = omega (arith, room, length-append xs ys)
 
 -- the first part was written
-pub room_left : (len more capacity same : ℕ) (items written xs ys : List ℕ) → len ≡ length items → more ≡ length written → written ≡ items ++ xs
-    → same ≡ capacity → HasRoom len capacity (xs ++ ys) → HasRoom more same ys
-room_left len more capacity same items written xs ys a b e c room =
-    omega (arith, room, length-append xs ys, length-append items xs, ap length e, a, b, c)
+pub room_left : {A : Type 0} (old new : Vec ℕ A) (xs ys : List ℕ) → new.items ≡ old.items ++ xs → vec_capacity new ≡ vec_capacity old
+    → HasRoom old (xs ++ ys) → HasRoom new ys
+room_left old new xs ys e c room =
+    omega (arith, room, length-append xs ys, length-append old.items xs, ap length e, old.ok.0, new.ok.0, c)

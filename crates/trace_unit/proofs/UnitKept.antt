@@ -24,9 +24,9 @@ use Rattle.trace_unit.proofs.EventSuits.{is_there, suits_so}
 use Rattle.trace_unit.proofs.Ordered.{can_tell, told_all_is}
 use Rattle.trace_unit.specs.Agreeing.{Agree, running_by}
 use Rattle.trace_unit.specs.Fitting.{FitsPlaces, FitsRun}
-use Rattle.trace_unit.specs.Followed.{CanFollow, followed, orders_done, step_orders, stepped}
+use Rattle.trace_unit.specs.Followed.{CanFollow, followed, orders_done, stepped}
 use Rattle.trace_unit.specs.Ordered.{CanTellAll, IsReady, bytes_all, bytes_of, told_all}
-use Rattle.trace_unit.specs.Orders.{Order, Settle, orders_on}
+use Rattle.trace_unit.specs.Orders.{Order, Settle, orders_on, step_orders}
 use Rattle.trace_unit.specs.Packets.{shared_all}
 use Rattle.trace_unit.specs.Places.{placed_on}
 use Rattle.trace_unit.specs.Whole.{waits_all}
@@ -101,7 +101,7 @@ follows_by image current f e acc =
     let many : length f.window.p0s ≡ p0s (held_by current) = ap length agree.elements ∙ elements_many (held_by current) in
     let n = length f.window.p0s in
     let ready : IsReady n t = subst (λ n. IsReady n t) (sym many) agree.ready in
-    let fit = event_fits image s.depth f.places.most s x p e acc.given acc.passes (fits_back s current agree.fits) agree.starts in
+    let fit = event_fits image s.depth f.places.stack_depth s x p e acc.given acc.passes (fits_back s current agree.fits) agree.starts in
     let orders = orders_on current p does in
     let allowed = orders_allowed image s.depth current p does n suits ready.few many in
     let told = can_tell t orders n ready allowed fit.0 in
@@ -115,12 +115,12 @@ follows_by image current f e acc =
       places_room = agree.places_room;
       window_room = window_room current f.window does ∙ agree.window_room;
       elements = elements;
-      saved = ap (λ room. length (placed_on image room f.places.most current p does).saved) agree.places_room
-          ∙ saved_many image s.depth f.places.most current p f.window does suits agree.window_room (agree.saved ∙ sym many) many ∙ left;
+      saved = ap (λ room. length (placed_on image room f.places.stack_depth current p does).saved) agree.places_room
+          ∙ saved_many image s.depth f.places.stack_depth current p f.window does suits agree.window_room (agree.saved ∙ sym many) many ∙ left;
       ready = subst (λ (t : Teller). IsReady (p0s steps) t) (told_all_is t orders)
           (subst (λ n. IsReady n (told_all t orders)) (orders_behind image s.depth current p f.window does suits agree.window_room many ∙ left) told.1);
       fits = subst (λ place. FitsRun s (running_by place)) there (fits_there s (after_event image s.depth x e).current fit.1);
-      starts = subst (λ room. FitsPlaces (placed_on image room f.places.most current p does)) (sym agree.places_room) fit.2;
+      starts = subst (λ room. FitsPlaces (placed_on image room f.places.stack_depth current p does)) (sym agree.places_room) fit.2;
     } in
     record {
       can = follow_can image s.depth current f does suits agree.places_room agree.window_room agree.saved agree.elements
@@ -153,12 +153,12 @@ told_settings t orders = ap (λ (t : Teller). t.settings) (told_all_is t orders)
 
 -- the settings, and how many return addresses are kept at most
 pub followed_keeps : (did : Done) (place : Option Place) (f : Follower) → ((followed did place f).teller.settings ≡ f.teller.settings)
-    × ((followed did place f).places.most ≡ f.places.most)
+    × ((followed did place f).places.stack_depth ≡ f.places.stack_depth)
 followed_keeps done.Began None f = (refl, refl)
 followed_keeps done.Began (Some q) f = (refl, refl)
 followed_keeps (done.Ran s) place f = by (is_p0 s)
   where
-    by : (b : Bool) → let g : Follower = if b then stepped f s else f in (g.teller.settings ≡ f.teller.settings) × (g.places.most ≡ f.places.most)
+    by : (b : Bool) → let g : Follower = if b then stepped f s else f in (g.teller.settings ≡ f.teller.settings) × (g.places.stack_depth ≡ f.places.stack_depth)
     by true = (told_settings f.teller (step_orders f.places.places s), refl)
     by false = (refl, refl)
 followed_keeps done.Contexted place f = (refl, refl)

@@ -55,7 +55,7 @@ counts_grow image depth events x e ran = counts_joined image depth at_first no_c
 -- the unit stands behind it, and these bytes are written for it, where this was done and the run is there then
 pub record Grows (image : Image) (f : Follower) (events : List Event) (e : Event) (now : RunKept) (did : Done) (place : Option Place) : Type 0 where
   pub stands : StandsAt image (kept_of now (followed did place f)) (events ++ e ∷ [])
-  pub wrote : written image f.teller.settings f.places.most (events ++ e ∷ []) ≡ written image f.teller.settings f.places.most events
+  pub wrote : written image f.teller.settings f.places.stack_depth (events ++ e ∷ []) ≡ written image f.teller.settings f.places.stack_depth events
       ++ bytes_all f.teller (orders_done did place f)
 
 grows_by : (image : Image) (x : Execution) (f : Follower) (events : List Event) (e : Event) (now : RunKept)
@@ -66,7 +66,7 @@ grows_by : (image : Image) (x : Execution) (f : Follower) (events : List Event) 
 grows_by image x f events e now acc ran st stands =
     let t = f.teller in
     let s = t.settings in
-    let most = f.places.most in
+    let most = f.places.stack_depth in
     let does = effect_of image (place_in x) e in
     let p = f.places.places in
     let ordered : Places → List Order = λ p. orders_on x.current p does in
@@ -152,7 +152,7 @@ lost_of image run f k events x agree same =
 
 -- what is settled is what is pending
 pub settles : (image : Image) (run : RunKept) (f : Follower) (k : Kept) (events : List Event) → kept_of run f ≡ k → StandsAt image k events
-    → bytes_of f.teller Settle ≡ pending image k.settings k.most events
+    → bytes_of f.teller Settle ≡ pending image k.settings k.stack_depth events
 settles image run f k events same =
-    subst (λ (k : Kept). StandsAt image k events → bytes_of f.teller Settle ≡ pending image k.settings k.most events) same
+    subst (λ (k : Kept). StandsAt image k events → bytes_of f.teller Settle ≡ pending image k.settings k.stack_depth events) same
     (λ st. ap (λ (u : Waiting). spelled f.teller.settings (settle_packets f.teller.settings.depth u)) st.waiting)

@@ -11,10 +11,10 @@ use Rattle.atom_formats.specs.Front.{SpellsFront}
 use Rattle.atom_formats.proofs.Rows.{one_byte_a_run, runs_are_short}
 use Rattle.atom_formats.proofs.Table.{every_row}
 use Rattle.packet_writer.proofs.Spelled.{byte_told}
-use Rattle.packet_writer.specs.Atoms.{byte_in as written_byte}
+use Rattle.packet_writer.specs.Atoms.{byte_in as written_byte, same_atoms}
 use Rattle.packet_writer.specs.Spelling.{spelling}
 use Rattle.trace_unit.specs.Packets.{bits_of, front_packet, run_of}
-use Rattle.trace_unit.specs.Packing.{byte_in, byte_of, longest, longest_within, same_atoms}
+use Rattle.trace_unit.specs.Packing.{byte_in, byte_of, longest, longest_within}
 
 -- ---- the byte that tells some atoms
 

@@ -55,7 +55,7 @@ pub record Agree (run : RunKept) (f : Follower) : Type 0 where
 abbrev pub kept_of : RunKept → Follower → Kept
 kept_of run f = record {
   settings = f.teller.settings;
-  most = f.places.most;
+  stack_depth = f.places.stack_depth;
   run = run;
   places = f.places.places;
   waiting = f.teller.waiting;

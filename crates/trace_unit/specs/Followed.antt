@@ -1,5 +1,5 @@
 -- What a unit makes of what its run did: the orders that it tells, and what it keeps behind them of places and P0 elements.
-use Rattle.std.specs.Prelude.{◌≡◌, ℕ, ◌^◌, ◌<◌, ◌≤◌, Bool, true, false, if◌then◌else◌, List, [], ◌∷◌, ◌++◌, length, drop, Option, Some, None, IsSome, ⊤}
+use Rattle.std.specs.Prelude.{◌≡◌, ℕ, ◌^◌, ◌<◌, ◌≤◌, Bool, true, if◌then◌else◌, List, [], ◌∷◌, ◌++◌, length, drop, Option, Some, None, IsSome, ⊤}
 use Rattle.element_queue.specs.Counting.{add, no_counts}
 use Rattle.etm_types.specs.Settings.{Sizes}
 use Rattle.etm_types.specs.declared.context.Ctx.{Ctx}
@@ -14,12 +14,12 @@ use Rattle.spec_run.specs.declared.step.RunStep.{RunStep}
 use Rattle.spec_run.specs.declared.step.StepKind.{StepKind}
 use Rattle.spec_run.specs.declared.step.StepKind.TheVariants.{Cond, Exc}
 use Rattle.trace_unit.specs.Ordered.{told_all, told_by}
-use Rattle.trace_unit.specs.Orders.{Cancel, Close, Flip, On, Order, Retire, Settle, Start, Sync, Tell, before, p0_order}
+use Rattle.trace_unit.specs.Orders.{Cancel, Close, Flip, Order, Retire, begin_orders, step_orders, sync_orders}
 use Rattle.trace_unit.specs.Packets.{nothing_shared}
-use Rattle.trace_unit.specs.Places.{Places, no_places, placed_back, placed_behind, placed_synced}
+use Rattle.trace_unit.specs.Places.{Places, no_places, placed_back, placed_begun, placed_behind, placed_closed, placed_flipped, placed_synced}
 use Rattle.trace_unit.specs.PlacesKept.{PlacesKept}
 use Rattle.trace_unit.specs.Whole.{nothing_waits}
-use Rattle.trace_unit.specs.WindowKept.{WindowKept, passed, turn_newest_p0}
+use Rattle.trace_unit.specs.WindowKept.{WindowKept, pushed, turn_newest_p0}
 use Rattle.trace_unit.specs.declared.follower.Follower.{Follower}
 
 -- the P0 element of a P0 step
@@ -28,33 +28,7 @@ element_of (Exc kind) addr = p0.Exc kind addr
 element_of (Cond taken) addr = p0.Atom taken
 element_of kind addr = p0.Atom true
 
--- ---- the orders
-
--- tracing begins at an address, in a context
-abbrev pub begin_orders : ℕ → Ctx → List Order
-begin_orders addr ctx = Tell (Sync 0) ∷ Tell On ∷ Tell (Start addr ctx) ∷ []
-
--- a P0 step: what the reader lacks, and its P0 element
-abbrev pub step_orders : Places → RunStep → List Order
-step_orders p s = before p s.ctx ++ p0_order s.kind s.addr ∷ []
-
--- synchronisation, where so many P0 steps are not retired, and the begun block starts at an address
-abbrev pub sync_orders : ℕ → ℕ → Ctx → List Order
-sync_orders n addr ctx = Settle ∷ Tell (Sync n) ∷ Tell (Start addr ctx) ∷ []
-
 -- ---- what is kept
-
--- behind its begin
-abbrev pub placed_begun : ℕ → Ctx → Places
-placed_begun addr ctx = record { stack = []; saved = []; needs = false; start = addr; reader_context = ctx }
-
--- where the newest step goes the other way, to an address
-abbrev pub placed_flipped : Places → ℕ → Places
-placed_flipped p pc = record p { needs = false; start = pc }
-
--- what is held is lost
-abbrev pub placed_closed : Places → Places
-placed_closed p = record p { saved = [] }
 
 -- so many of the oldest are retired, or of the newest taken back; or all are lost
 abbrev pub windowed_retired : WindowKept → ℕ → WindowKept
@@ -74,7 +48,7 @@ with_places k p = record k { places = p }
 -- behind no event, with a return stack of so many addresses
 abbrev pub first_follower : Sizes → ℕ → Follower
 first_follower s most = record {
-  places = record { places = no_places; most = most; room = s.depth };
+  places = record { places = no_places; stack_depth = most; room = s.depth };
   window = record { p0s = []; room = s.depth; counts = no_counts };
   teller = record { settings = s; waiting = nothing_waits; shared = nothing_shared };
 }
@@ -86,8 +60,8 @@ begun f addr ctx = record f { places = with_places f.places (placed_begun addr c
 -- a P0 step was executed
 abbrev pub stepped : Follower → RunStep → Follower
 stepped f s = record {
-  places = with_places f.places (placed_behind f.places.room f.places.most f.places.places s);
-  window = passed f.window f.window.room (element_of s.kind s.addr);
+  places = with_places f.places (placed_behind f.places.room f.places.stack_depth f.places.places s);
+  window = pushed f.window f.window.room (element_of s.kind s.addr);
   teller = told_all f.teller (step_orders f.places.places s);
 }
 

@@ -51,7 +51,7 @@ counts_of image depth events = counts_from image depth at_first no_counts events
 -- the packets so far; and what became of the P0 steps.
 pub record Kept : Type 0 where
   pub settings : Sizes
-  pub most : ℕ
+  pub stack_depth : ℕ
   pub run : RunKept
   pub places : Places
   pub waiting : Waiting
@@ -61,9 +61,9 @@ pub record Kept : Type 0 where
 -- the unit stands behind these events, which are all accepted
 pub record StandsAt (image : Image) (kept : Kept) (events : List Event) : Type 0 where
   pub given : AreEvents kept.settings events
-  pub most : kept.most ≤ most_addresses
+  pub most : kept.stack_depth ≤ most_addresses
   pub run : RunStandsAt image kept.settings kept.run events
-  pub places : kept.places ≡ places_from image kept.settings.depth kept.most at_first no_places events
-  pub waiting : kept.waiting ≡ waits_all kept.settings.depth nothing_waits (orders image kept.settings kept.most events)
-  pub shared : kept.shared ≡ shared_all nothing_shared (orders image kept.settings kept.most events)
+  pub places : kept.places ≡ places_from image kept.settings.depth kept.stack_depth at_first no_places events
+  pub waiting : kept.waiting ≡ waits_all kept.settings.depth nothing_waits (orders image kept.settings kept.stack_depth events)
+  pub shared : kept.shared ≡ shared_all nothing_shared (orders image kept.settings kept.stack_depth events)
   pub counts : kept.counts ≡ counts_of image kept.settings.depth events

@@ -11,6 +11,7 @@ use Rattle.spec_run.specs.Steps.{is_p0, newest, p0s}
 use Rattle.spec_run.specs.declared.effect.Effect.{Effect}
 use Rattle.spec_run.specs.declared.effect.Effect.TheVariants as effect
 use Rattle.spec_run.specs.declared.event.Event.{Event}
+use Rattle.spec_run.specs.declared.step.RunStep.{RunStep}
 use Rattle.spec_run.specs.declared.step.StepKind.{StepKind}
 use Rattle.spec_run.specs.declared.step.StepKind.TheVariants.{Cond, Exc}
 use Rattle.trace_unit.specs.Places.{Places, no_places, placed}
@@ -64,14 +65,26 @@ p0_order kind addr = Branch true
 
 -- ---- an event
 
+-- tracing begins at an address, in a context
+abbrev pub begin_orders : ℕ → Ctx → List Order
+begin_orders addr ctx = Tell (Sync 0) ∷ Tell On ∷ Tell (Start addr ctx) ∷ []
+
+-- a P0 step: what the reader lacks, and its P0 element
+abbrev pub step_orders : Places → RunStep → List Order
+step_orders p s = before p s.ctx ++ p0_order s.kind s.addr ∷ []
+
+-- synchronisation, where so many P0 steps are not retired, and the begun block starts at an address
+abbrev pub sync_orders : ℕ → ℕ → Ctx → List Order
+sync_orders n addr ctx = Settle ∷ Tell (Sync n) ∷ Tell (Start addr ctx) ∷ []
+
 -- at depth 0 a step is retired as it is executed, and no order tells so
 abbrev pub orders_on : Option Running → Places → Effect → List Order
-orders_on None p (effect.Began addr ctx) = Tell (Sync 0) ∷ Tell On ∷ Tell (Start addr ctx) ∷ []
-orders_on (Some r) p (effect.Ran s ctx) = if is_p0 s then before p s.ctx ++ p0_order s.kind s.addr ∷ [] else []
+orders_on None p (effect.Began addr ctx) = begin_orders addr ctx
+orders_on (Some r) p (effect.Ran s ctx) = if is_p0 s then step_orders p s else []
 orders_on (Some r) p (effect.Retired n) = Retire (p0s (take n r.held)) ∷ []
 orders_on (Some r) p (effect.Cancelled n) = Cancel (p0s (newest n r.held)) ∷ []
 orders_on (Some r) p effect.Flipped = Flip ∷ []
-orders_on (Some r) p effect.Synced = Settle ∷ Tell (Sync (p0s r.held)) ∷ Tell (Start p.start r.ctx) ∷ []
+orders_on (Some r) p effect.Synced = sync_orders (p0s r.held) p.start r.ctx
 orders_on (Some r) p effect.Overflowed = Close ByOverflow ∷ []
 orders_on (Some r) p effect.Stopped = Close ByOff ∷ []
 orders_on current p e = []

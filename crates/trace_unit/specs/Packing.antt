@@ -1,12 +1,7 @@
 -- The longest front of atoms that one packet tells (Arm IHI 0064, "Atom Format 1 packet" to "Atom Format 6 packet").
-use Rattle.std.specs.Prelude.{ℕ, zero, suc, ◌+◌, ◌&&◌, nat_le, Bool, true, false, if◌then◌else◌, List, [], ◌∷◌, length, take, Option, Some, None, is_some}
+use Rattle.std.specs.Prelude.{ℕ, zero, suc, ◌+◌, ◌&&◌, nat_le, Bool, if◌then◌else◌, List, [], ◌∷◌, length, take, Option, Some, None, is_some}
 use Rattle.atom_formats.specs.Formats.{atom_formats}
-
-abbrev pub same_atoms : List Bool → List Bool → Bool
-same_atoms [] [] = true
-same_atoms (true ∷ xs) (true ∷ ys) = same_atoms xs ys
-same_atoms (false ∷ xs) (false ∷ ys) = same_atoms xs ys
-same_atoms xs ys = false
+use Rattle.packet_writer.specs.Atoms.{same_atoms}
 
 abbrev pub byte_in : List (ℕ × List Bool) → List Bool → Option ℕ
 byte_in [] atoms = None

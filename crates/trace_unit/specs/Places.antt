@@ -74,6 +74,10 @@ placed_behind depth most p s =
 
 -- ---- other events
 
+-- tracing begins at an address, in a context
+abbrev pub placed_begun : ℕ → Ctx → Places
+placed_begun addr ctx = record { stack = []; saved = []; needs = false; start = addr; reader_context = ctx }
+
 -- back to before the oldest of the P0 steps that are taken back, where there is one
 abbrev pub back_by : Places → List Saved → Places
 back_by p [] = p
@@ -82,6 +86,10 @@ back_by p (v ∷ vs) = record p { stack = v.stack; needs = false; start = v.star
 abbrev pub placed_back : Places → ℕ → Places
 placed_back p n = record (back_by p (newest n p.saved)) { saved = kept n p.saved }
 
+-- the newest step goes the other way, to an address
+abbrev pub placed_flipped : Places → ℕ → Places
+placed_flipped p pc = record p { needs = false; start = pc }
+
 -- a reader empties its return stack at a trace info, and is told the address and the context
 abbrev pub without_stack : Saved → Saved
 without_stack v = record v { stack = [] }
@@ -89,17 +97,21 @@ without_stack v = record v { stack = [] }
 abbrev pub placed_synced : Places → Ctx → Places
 placed_synced p ctx = record p { stack = []; saved = map without_stack p.saved; needs = false; reader_context = ctx }
 
+-- tracing ends: what is held is lost
+abbrev pub placed_closed : Places → Places
+placed_closed p = record p { saved = [] }
+
 -- ---- what an event changes
 
 abbrev pub placed_on : Image → ℕ → ℕ → Option Running → Places → Effect → Places
-placed_on image depth most None p (effect.Began addr ctx) = record { stack = []; saved = []; needs = false; start = addr; reader_context = ctx }
+placed_on image depth most None p (effect.Began addr ctx) = placed_begun addr ctx
 placed_on image depth most (Some r) p (effect.Ran s ctx) = if is_p0 s then placed_behind depth most p s else p
 placed_on image depth most (Some r) p (effect.Retired n) = record p { saved = drop (p0s (take n r.held)) p.saved }
 placed_on image depth most (Some r) p (effect.Cancelled n) = placed_back p (p0s (newest n r.held))
-placed_on image depth most (Some r) p effect.Flipped = record p { needs = false; start = (flips image r).pc }
+placed_on image depth most (Some r) p effect.Flipped = placed_flipped p (flips image r).pc
 placed_on image depth most (Some r) p effect.Synced = placed_synced p r.ctx
-placed_on image depth most (Some r) p effect.Overflowed = record p { saved = [] }
-placed_on image depth most (Some r) p effect.Stopped = record p { saved = [] }
+placed_on image depth most (Some r) p effect.Overflowed = placed_closed p
+placed_on image depth most (Some r) p effect.Stopped = placed_closed p
 placed_on image depth most current p e = p
 
 abbrev pub placed : Image → ℕ → ℕ → Execution → Places → Effect → Places

@@ -4,5 +4,5 @@ use Rattle.trace_unit.specs.Places.{Places}
 
 pub record PlacesKept : Type 0 where
   pub places : Places
-  pub most : ℕ
+  pub stack_depth : ℕ
   pub room : ℕ

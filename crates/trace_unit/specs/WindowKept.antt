@@ -12,9 +12,9 @@ pub record WindowKept : Type 0 where
   pub counts : Counts
 
 -- at depth 0, where there is no room, a P0 element is committed as it is made
-abbrev pub passed : WindowKept → ℕ → P0 → WindowKept
-passed w zero p0 = record w { counts = record (w.counts) { made = add w.counts.made 1; committed = add w.counts.committed 1 } }
-passed w (suc room) p0 = record w { p0s = w.p0s ++ p0 ∷ []; counts = record (w.counts) { made = add w.counts.made 1 } }
+abbrev pub pushed : WindowKept → ℕ → P0 → WindowKept
+pushed w zero p0 = record w { counts = record (w.counts) { made = add w.counts.made 1; committed = add w.counts.committed 1 } }
+pushed w (suc room) p0 = record w { p0s = w.p0s ++ p0 ∷ []; counts = record (w.counts) { made = add w.counts.made 1 } }
 
 -- the newest atom is the other one
 abbrev pub turn_p0 : P0 → P0

@@ -1,4 +1,4 @@
-//! The atoms that are not written yet.
+//! The atoms that are not written yet, as many as one packet has at most (Arm IHI 0064, "Atom Format 6 packet").
 ghost use Rattle.std.specs.Prelude.{◌≡◌, ◌<◌, ◌≤◌, ◌∷◌, ◌++◌, [], length, take, drop};
 ghost use Rattle.trace_unit.specs.Whole.{turn_last};
 

@@ -1,6 +1,7 @@
-//! What a unit does of each thing that its run did: it tells it, and keeps what it may have to go back to.
+//! What a unit does of each thing that its run did: it tells it, and keeps what it may have to go back to (Arm IHI 0064,
+//! "Speculation").
 ghost use Rattle.std.specs.Prelude.{◌≡◌, ◌<◌, ◌≤◌, ◌^◌, ◌∷◌, ◌++◌, [], Bool, List, length, IfOk, IsSome, Some};
-ghost use Rattle.std.specs.Prelude.{vec_capacity, vec_len};
+ghost use Rattle.std.specs.Prelude.{vec_capacity};
 ghost use Rattle.element_queue.specs.Counting.{Balances};
 ghost use Rattle.etm_types.specs.Settings.{AreSettings};
 ghost use Rattle.etm_types.specs.declared.element.P0.{P0 as Element};
@@ -8,11 +9,11 @@ ghost use Rattle.etm_types.specs.declared.element.P0.TheVariants.{Atom};
 ghost use Rattle.return_stack.specs.Stack.{most_addresses};
 ghost use Rattle.spec_run.specs.Checks.{Place};
 ghost use Rattle.spec_run.specs.Runs.{ByOff, ByOverflow};
-ghost use Rattle.trace_unit.specs.Followed.{CanFollow, HasRoomFor, begin_orders, begun, cancelled, closed, element_of};
-ghost use Rattle.trace_unit.specs.Followed.{first_follower, flipped, followed, orders_done, retired, step_orders, stepped};
-ghost use Rattle.trace_unit.specs.Followed.{sync_orders, synced, windowed_lost};
+ghost use Rattle.trace_unit.specs.Followed.{CanFollow, HasRoomFor, begun, cancelled, closed, element_of, first_follower};
+ghost use Rattle.trace_unit.specs.Followed.{flipped, followed, orders_done, retired, stepped, synced, windowed_lost};
 ghost use Rattle.trace_unit.specs.Ordered.{CanTell, CanTellAll, bytes_all, bytes_of, told_all, told_by};
-ghost use Rattle.trace_unit.specs.Orders.{Cancel, Close, Flip, Retire, before, p0_order};
+ghost use Rattle.trace_unit.specs.Orders.{Cancel, Close, Flip, Retire, before, begin_orders, p0_order, step_orders};
+ghost use Rattle.trace_unit.specs.Orders.{sync_orders};
 ghost use Rattle.trace_unit.specs.Room.{HasRoom};
 
 use crate::places::Places;
@@ -55,8 +56,7 @@ impl Follower {
     pub fn follow(&mut self, done: &Done, run: &Run, bytes: &mut Vec<u8>)
         requires can { CanFollow done.now run.now.place self.old }
         requires tells { CanTellAll self.old.teller (orders_done done.now run.now.place self.old) }
-        requires room { HasRoom (vec_len bytes.old) (vec_capacity bytes.old)
-            (bytes_all self.old.teller (orders_done done.now run.now.place self.old)) }
+        requires room { HasRoom bytes.old (bytes_all self.old.teller (orders_done done.now run.now.place self.old)) }
         ensures follower { self.new ≡ followed done.now run.now.place self.old }
         ensures bytes { bytes.new.items
             ≡ bytes.old.items ++ bytes_all self.old.teller (orders_done done.now run.now.place self.old) }
@@ -103,7 +103,7 @@ impl Follower {
     /// Tracing begins.
     fn begin(&mut self, addr: u64, ctx: Ctx, bytes: &mut Vec<u8>)
         requires tells { CanTellAll self.old.teller (begin_orders addr ctx) }
-        requires room { HasRoom (vec_len bytes.old) (vec_capacity bytes.old) (bytes_all self.old.teller (begin_orders addr ctx)) }
+        requires room { HasRoom bytes.old (bytes_all self.old.teller (begin_orders addr ctx)) }
         ensures follower { self.new ≡ begun self.old addr ctx }
         ensures bytes { bytes.new.items ≡ bytes.old.items ++ bytes_all self.old.teller (begin_orders addr ctx) }
     {
@@ -118,23 +118,21 @@ impl Follower {
         requires places { HasRoomFor self.old.places.room self.old.places.places.saved }
         requires window { HasRoomFor self.old.window.room self.old.window.p0s }
         requires tells { CanTellAll self.old.teller (step_orders self.old.places.places step.now) }
-        requires room { HasRoom (vec_len bytes.old) (vec_capacity bytes.old)
-            (bytes_all self.old.teller (step_orders self.old.places.places step.now)) }
+        requires room { HasRoom bytes.old (bytes_all self.old.teller (step_orders self.old.places.places step.now)) }
         ensures follower { self.new ≡ stepped self.old step.now }
         ensures bytes { bytes.new.items
             ≡ bytes.old.items ++ bytes_all self.old.teller (step_orders self.old.places.places step.now) }
     {
         self.tell_missing(step.ctx, bytes);
         self.tell_step(step, bytes);
-        self.places.pass(step);
-        self.window.pass(element_of(step));
+        self.places.push(step);
+        self.window.push(element_of(step));
     }
 
     /// Tells what the reader lacks of the address and the context of the block.
     fn tell_missing(&mut self, ctx: Ctx, bytes: &mut Vec<u8>)
         requires tells { CanTellAll self.old.teller (before self.old.places.places ctx) }
-        requires room { HasRoom (vec_len bytes.old) (vec_capacity bytes.old)
-            (bytes_all self.old.teller (before self.old.places.places ctx)) }
+        requires room { HasRoom bytes.old (bytes_all self.old.teller (before self.old.places.places ctx)) }
         ensures follower { self.new
             ≡ record (self.old) { teller = told_all self.old.teller (before self.old.places.places ctx) } }
         ensures bytes { bytes.new.items ≡ bytes.old.items ++ bytes_all self.old.teller (before self.old.places.places ctx) }
@@ -152,8 +150,7 @@ impl Follower {
     /// Tells a P0 step.
     fn tell_step(&mut self, step: &RunStep, bytes: &mut Vec<u8>)
         requires can { CanTell self.old.teller (p0_order step.now.kind step.now.addr) }
-        requires room { HasRoom (vec_len bytes.old) (vec_capacity bytes.old)
-            (bytes_of self.old.teller (p0_order step.now.kind step.now.addr)) }
+        requires room { HasRoom bytes.old (bytes_of self.old.teller (p0_order step.now.kind step.now.addr)) }
         ensures follower { self.new
             ≡ record (self.old) { teller = told_by self.old.teller (p0_order step.now.kind step.now.addr) } }
         ensures bytes { bytes.new.items ≡ bytes.old.items ++ bytes_of self.old.teller (p0_order step.now.kind step.now.addr) }
@@ -192,7 +189,7 @@ impl Follower {
     fn flip(&mut self, pc: u64, bytes: &mut Vec<u8>)
         requires newest { (p0s : List Element) × (taken : Bool) × (self.old.window.p0s ≡ p0s ++ Atom taken ∷ []) }
         requires can { CanTell self.old.teller Flip }
-        requires room { HasRoom (vec_len bytes.old) (vec_capacity bytes.old) (bytes_of self.old.teller Flip) }
+        requires room { HasRoom bytes.old (bytes_of self.old.teller Flip) }
         ensures follower { self.new ≡ flipped self.old pc }
         ensures bytes { bytes.new.items ≡ bytes.old.items ++ bytes_of self.old.teller Flip }
     {
@@ -205,7 +202,7 @@ impl Follower {
     fn sync(&mut self, ctx: Ctx, bytes: &mut Vec<u8>)
         requires few { length self.old.window.p0s < 2 ^ 32 }
         requires tells { CanTellAll self.old.teller (sync_orders (length self.old.window.p0s) self.old.places.places.start ctx) }
-        requires room { HasRoom (vec_len bytes.old) (vec_capacity bytes.old)
+        requires room { HasRoom bytes.old
             (bytes_all self.old.teller (sync_orders (length self.old.window.p0s) self.old.places.places.start ctx)) }
         ensures follower { self.new ≡ synced self.old ctx }
         ensures bytes { bytes.new.items ≡ bytes.old.items
@@ -221,7 +218,7 @@ impl Follower {
     /// Tracing ends, by an overflow.
     fn overflow(&mut self, bytes: &mut Vec<u8>)
         requires can { CanTell self.old.teller (Close ByOverflow) }
-        requires room { HasRoom (vec_len bytes.old) (vec_capacity bytes.old) (bytes_of self.old.teller (Close ByOverflow)) }
+        requires room { HasRoom bytes.old (bytes_of self.old.teller (Close ByOverflow)) }
         ensures follower { self.new ≡ closed self.old ByOverflow }
         ensures bytes { bytes.new.items ≡ bytes.old.items ++ bytes_of self.old.teller (Close ByOverflow) }
     {
@@ -233,7 +230,7 @@ impl Follower {
     /// Tracing ends.
     fn stop(&mut self, bytes: &mut Vec<u8>)
         requires can { CanTell self.old.teller (Close ByOff) }
-        requires room { HasRoom (vec_len bytes.old) (vec_capacity bytes.old) (bytes_of self.old.teller (Close ByOff)) }
+        requires room { HasRoom bytes.old (bytes_of self.old.teller (Close ByOff)) }
         ensures follower { self.new ≡ closed self.old ByOff }
         ensures bytes { bytes.new.items ≡ bytes.old.items ++ bytes_of self.old.teller (Close ByOff) }
     {

@@ -1,4 +1,5 @@
-//! A trace unit: it follows a run event by event, and writes a trace from which a reader comes to the run's retired path.
+//! A trace unit of ETMv4 (Arm IHI 0064, "Speculation", "Return stack", "Descriptions of Trace Packets"): it follows a run event by
+//! event, and writes a trace from which a reader comes to the run's retired path.
 //!
 //! What a unit has to tell is a list of *orders*; each of them tells a reader some elements. They are told at once, one order
 //! after the other, or in the whole form, where atoms are held, and cancels and commits are put off. The packets of

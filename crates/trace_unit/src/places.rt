@@ -1,8 +1,11 @@
-//! The places of a run, as far as its trace unit knows them.
-ghost use Rattle.std.specs.Prelude.{◌≡◌, ◌<◌, ◌≤◌, [], length, drop, false, IfOk};
+//! The places of a run, as far as its trace unit knows them, with the return addresses that a reader has too (Arm IHI 0064,
+//! "Return stack").
+ghost use Rattle.std.specs.Prelude.{◌≡◌, ◌<◌, ◌≤◌, length, drop, IfOk};
 ghost use Rattle.return_stack.specs.Stack.{most_addresses};
-ghost use Rattle.trace_unit.specs.Places.{left_by, no_places, placed_back, placed_behind, placed_synced, saves};
+ghost use Rattle.trace_unit.specs.Places.{left_by, no_places, placed_back, placed_begun, placed_behind, placed_closed};
+ghost use Rattle.trace_unit.specs.Places.{placed_flipped, placed_synced, saves};
 
+use a64_branches::INSTRUCTION_BYTES;
 use circular_buffer::HeapCircularBuffer;
 use etm_types::Ctx;
 use return_stack::{ReturnStack, SavedStack};
@@ -59,7 +62,7 @@ impl Model for Places {
         start = p.start;
         reader_context = p.reader_context;
       };
-      most = p.stack.depth;
+      stack_depth = p.stack.depth;
       room = p.saved.capacity;
     } };
 
@@ -71,7 +74,7 @@ impl Places {
     /// This is the one call that takes memory, and the error means want of it.
     pub fn new(alloc: Global, room: usize, stack_depth: usize) -> Result<Places, AllocError>
         requires { stack_depth ≤ most_addresses }
-        ensures { IfOk result (λ p. p ≡ record { places = no_places; most = stack_depth; room = room }) }
+        ensures { IfOk result (λ p. p ≡ record { places = no_places; stack_depth = stack_depth; room = room }) }
     {
         Ok(Places {
             stack: ReturnStack::new(alloc, stack_depth)?,
@@ -103,19 +106,9 @@ impl Places {
         self.reader_context
     }
 
-    /// How many P0 steps are held.
-    pub fn held(&self) -> usize
-        ensures held { result ≡ length self.now.places.saved }
-        ensures few { result ≤ self.now.room }
-    {
-        self.saved.len()
-    }
-
     /// Tracing begins at an address.
     pub fn begin(&mut self, addr: u64, ctx: Ctx)
-        ensures { self.new ≡ record (self.old) {
-          places = record { stack = []; saved = []; needs = false; start = addr; reader_context = ctx };
-        } }
+        ensures { self.new ≡ record (self.old) { places = placed_begun addr ctx } }
     {
         self.stack.clear();
         self.saved.clear();
@@ -125,13 +118,13 @@ impl Places {
     }
 
     /// A P0 step was executed. At depth 0, where there is no room, it is retired at once.
-    pub fn pass(&mut self, step: &RunStep)
+    pub fn push(&mut self, step: &RunStep)
         requires { 0 < self.old.room → length self.old.places.saved < self.old.room }
-        ensures { self.new ≡ record (self.old) { places = placed_behind self.old.room self.old.most self.old.places step.now } }
+        ensures { self.new ≡ record (self.old) { places = placed_behind self.old.room self.old.stack_depth self.old.places step.now } }
     {
         self.save(step);
         if step.link {
-            self.stack.push(step.addr.wrapping_add(4));
+            self.stack.push(step.addr.wrapping_add(INSTRUCTION_BYTES));
         }
         self.needs = self.leave(step);
         self.start = step.next;
@@ -197,7 +190,7 @@ impl Places {
 
     /// The newest step goes the other way, to this address.
     pub fn flip(&mut self, pc: u64)
-        ensures { self.new ≡ record (self.old) { places = record (self.old.places) { needs = false; start = pc } } }
+        ensures { self.new ≡ record (self.old) { places = placed_flipped self.old.places pc } }
     {
         self.needs = false;
         self.start = pc;
@@ -220,7 +213,7 @@ impl Places {
 
     /// Tracing ends: what is held is lost.
     pub fn close(&mut self)
-        ensures { self.new ≡ record (self.old) { places = record (self.old.places) { saved = [] } } }
+        ensures { self.new ≡ record (self.old) { places = placed_closed self.old.places } }
     {
         self.saved.clear();
     }

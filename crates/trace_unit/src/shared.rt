@@ -1,5 +1,6 @@
-//! What both ends have of earlier packets, and the packets that are told against it.
-ghost use Rattle.std.specs.Prelude.{◌≡◌, ◌<◌, ◌%◌, ◌++◌, All, vec_capacity, vec_len};
+//! What both ends have of earlier packets, and the packets that are told against it (Arm IHI 0064, "Address and Context
+//! packets").
+ghost use Rattle.std.specs.Prelude.{◌≡◌, ◌<◌, ◌%◌, ◌++◌, All, vec_capacity};
 ghost use Rattle.packet_writer.specs.Fitting.{HasSpelling};
 ghost use Rattle.packet_writer.specs.Spelling.{spelling};
 ghost use Rattle.trace_unit.specs.Orders.{Address, Context, Place, Start, Sync};
@@ -44,8 +45,7 @@ impl Shared {
 
     /// Synchronisation, with a trace info that announces so many P0 elements.
     pub fn sync(&mut self, announced: u32, settings: &Settings, bytes: &mut Vec<u8>)
-        requires room { HasRoom (vec_len bytes.old) (vec_capacity bytes.old)
-            (spelled settings.now (notice_packets self.old (Sync announced))) }
+        requires room { HasRoom bytes.old (spelled settings.now (notice_packets self.old (Sync announced))) }
         ensures shared { self.new ≡ shared_by self.old (Sync announced) }
         ensures bytes { bytes.new.items ≡ bytes.old.items ++ spelled settings.now (notice_packets self.old (Sync announced)) }
         ensures capacity { vec_capacity bytes.new ≡ vec_capacity bytes.old }
@@ -67,8 +67,7 @@ impl Shared {
     /// The address and the context of the begun block, in full.
     pub fn start(&mut self, addr: u64, ctx: Ctx, settings: &Settings, bytes: &mut Vec<u8>)
         requires spelled { All (HasSpelling settings.now) (notice_packets self.old (Start addr ctx)) }
-        requires room { HasRoom (vec_len bytes.old) (vec_capacity bytes.old)
-            (spelled settings.now (notice_packets self.old (Start addr ctx))) }
+        requires room { HasRoom bytes.old (spelled settings.now (notice_packets self.old (Start addr ctx))) }
         ensures shared { self.new ≡ shared_by self.old (Start addr ctx) }
         ensures bytes { bytes.new.items ≡ bytes.old.items ++ spelled settings.now (notice_packets self.old (Start addr ctx)) }
         ensures capacity { vec_capacity bytes.new ≡ vec_capacity bytes.old }
@@ -79,8 +78,7 @@ impl Shared {
     /// The address and the context of a block before its P0 step.
     pub fn place(&mut self, addr: u64, ctx: Ctx, settings: &Settings, bytes: &mut Vec<u8>)
         requires spelled { All (HasSpelling settings.now) (notice_packets self.old (Place addr ctx)) }
-        requires room { HasRoom (vec_len bytes.old) (vec_capacity bytes.old)
-            (spelled settings.now (notice_packets self.old (Place addr ctx))) }
+        requires room { HasRoom bytes.old (spelled settings.now (notice_packets self.old (Place addr ctx))) }
         ensures shared { self.new ≡ shared_by self.old (Place addr ctx) }
         ensures bytes { bytes.new.items ≡ bytes.old.items ++ spelled settings.now (notice_packets self.old (Place addr ctx)) }
         ensures capacity { vec_capacity bytes.new ≡ vec_capacity bytes.old }
@@ -103,8 +101,7 @@ impl Shared {
     /// An address alone, in the form that is chosen for it.
     pub fn address(&mut self, addr: u64, settings: &Settings, bytes: &mut Vec<u8>)
         requires whole { addr % 4 ≡ 0 }
-        requires room { HasRoom (vec_len bytes.old) (vec_capacity bytes.old)
-            (spelled settings.now (notice_packets self.old (Address addr))) }
+        requires room { HasRoom bytes.old (spelled settings.now (notice_packets self.old (Address addr))) }
         ensures shared { self.new ≡ shared_by self.old (Address addr) }
         ensures bytes { bytes.new.items ≡ bytes.old.items ++ spelled settings.now (notice_packets self.old (Address addr)) }
         ensures capacity { vec_capacity bytes.new ≡ vec_capacity bytes.old }
@@ -117,8 +114,7 @@ impl Shared {
     /// A context alone.
     pub fn context(&mut self, ctx: Ctx, settings: &Settings, bytes: &mut Vec<u8>)
         requires spelled { All (HasSpelling settings.now) (notice_packets self.old (Context ctx)) }
-        requires room { HasRoom (vec_len bytes.old) (vec_capacity bytes.old)
-            (spelled settings.now (notice_packets self.old (Context ctx))) }
+        requires room { HasRoom bytes.old (spelled settings.now (notice_packets self.old (Context ctx))) }
         ensures shared { self.new ≡ shared_by self.old (Context ctx) }
         ensures bytes { bytes.new.items ≡ bytes.old.items ++ spelled settings.now (notice_packets self.old (Context ctx)) }
         ensures capacity { vec_capacity bytes.new ≡ vec_capacity bytes.old }
@@ -142,8 +138,7 @@ impl Shared {
     pub fn exception(&mut self, kind: u8, ret: u64, settings: &Settings, bytes: &mut Vec<u8>)
         requires kind { kind < 32 }
         requires whole { ret % 4 ≡ 0 }
-        requires room { HasRoom (vec_len bytes.old) (vec_capacity bytes.old)
-            (spelled settings.now (exception_packets self.old kind ret)) }
+        requires room { HasRoom bytes.old (spelled settings.now (exception_packets self.old kind ret)) }
         ensures shared { self.new ≡ with_address self.old ret }
         ensures bytes { bytes.new.items ≡ bytes.old.items ++ spelled settings.now (exception_packets self.old kind ret) }
         ensures capacity { vec_capacity bytes.new ≡ vec_capacity bytes.old }
@@ -162,8 +157,7 @@ impl Shared {
         bytes: &mut Vec<u8>,
     )
         requires spelled { HasSpelling settings.now (with_context self.old form ctx) }
-        requires room { HasRoom (vec_len bytes.old) (vec_capacity bytes.old)
-            (spelling settings.now (with_context self.old form ctx)) }
+        requires room { HasRoom bytes.old (spelling settings.now (with_context self.old form ctx)) }
         ensures shared { self.new ≡ record (with_address self.old addr) { context = ctx } }
         ensures bytes { bytes.new.items ≡ bytes.old.items ++ spelling settings.now (with_context self.old form ctx) }
         ensures capacity { vec_capacity bytes.new ≡ vec_capacity bytes.old }

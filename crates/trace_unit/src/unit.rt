@@ -66,7 +66,7 @@ impl Unit {
     pub fn new(alloc: Global, settings: &Settings, stack_depth: usize) -> Result<Unit, AllocError>
         requires { stack_depth ≤ most_addresses }
         ensures stands { IfOk result (λ unit. (image : Parts) → StandsAt image unit []) }
-        ensures settings { IfOk result (λ unit. (unit.settings ≡ settings.now) × (unit.most ≡ stack_depth)) }
+        ensures settings { IfOk result (λ unit. (unit.settings ≡ settings.now) × (unit.stack_depth ≡ stack_depth)) }
         ensures none { IfOk result (λ unit. unit.counts ≡ no_counts) }
     {
         let run = Run::new(alloc, settings)?;
@@ -86,18 +86,18 @@ impl Unit {
             → StandsAt image.now self.new (events ++ event.now ∷ []) }
         ensures written { (events : List Events) → StandsAt image.now self.old events → IsOk result
             → (more : List ℕ) × (bytes.new.items ≡ bytes.old.items ++ more)
-            × (written image.now self.old.settings self.old.most (events ++ event.now ∷ [])
-            ≡ written image.now self.old.settings self.old.most events ++ more) }
+            × (written image.now self.old.settings self.old.stack_depth (events ++ event.now ∷ [])
+            ≡ written image.now self.old.settings self.old.stack_depth events ++ more) }
         ensures path { (events : List Events) (x : Execution) → StandsAt image.now self.old events → IsOk result
             → IsImage image.now → run_after image.now self.old.settings.depth (events ++ event.now ∷ []) ≡ Ok x
             → IsPath image.now self.old.settings
-            (settled image.now self.old.settings self.old.most (events ++ event.now ∷ [])) (retired_of x) Clean }
+            (settled image.now self.old.settings self.old.stack_depth (events ++ event.now ∷ [])) (retired_of x) Clean }
         ensures refused { (fault : Refusal) → (result ≡ Err (UnitFault.Run fault))
             ↔ (check image.now self.old.run.depth self.old.run.place event.now ≡ Some fault) }
         ensures accepted { IsOk result → check image.now self.old.run.depth self.old.run.place event.now ≡ None }
         ensures few { length bytes.new.items ≤ length bytes.old.items + 128 }
         ensures kept { IsErr result → (self.new ≡ self.old) × (bytes.new.items ≡ bytes.old.items) }
-        ensures settings { (self.new.settings ≡ self.old.settings) × (self.new.most ≡ self.old.most) }
+        ensures settings { (self.new.settings ≡ self.old.settings) × (self.new.stack_depth ≡ self.old.stack_depth) }
     {
         self.run.check(image, event).map_err(UnitFault::Run)?;
         bytes.reserve(ROOM).map_err(|_| UnitFault::Memory)?;
@@ -120,10 +120,10 @@ impl Unit {
     pub fn end(self, bytes: &mut Vec<u8>) -> Result<Ledger, AllocError>
         ensures written { (image : Parts) (events : List Events) → StandsAt image self events → IsOk result
             → (more : List ℕ) × (bytes.new.items ≡ bytes.old.items ++ more)
-            × (settled image self.settings self.most events ≡ written image self.settings self.most events ++ more) }
+            × (settled image self.settings self.stack_depth events ≡ written image self.settings self.stack_depth events ++ more) }
         ensures path { (image : Parts) (events : List Events) (x : Execution) → StandsAt image self events → IsImage image
             → 0 < length events → run_after image self.settings.depth events ≡ Ok x
-            → bytes.old.items ≡ written image self.settings self.most events → IsOk result
+            → bytes.old.items ≡ written image self.settings self.stack_depth events → IsOk result
             → IsPath image self.settings bytes.new.items (retired_of x) Clean }
         ensures ledger { (image : Parts) (events : List Events) (x : Execution) → StandsAt image self events
             → run_after image self.settings.depth events ≡ Ok x

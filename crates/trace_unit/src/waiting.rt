@@ -1,4 +1,5 @@
-//! What a unit puts off: atoms, cancels and commits.
+//! What a unit puts off: atoms (Arm IHI 0064, "Atom Format 1 packet" to "Atom Format 6 packet"), and cancels and commits
+//! ("Speculation").
 ghost use Rattle.std.specs.Prelude.{◌≡◌, ◌+◌, ◌<◌, ◌≤◌, ◌^◌, ◌∷◌, ◌++◌, [], ℕ, length, take, true, vec_capacity, vec_len};
 ghost use Rattle.trace_unit.specs.Orders.{Branch, Cancel, Retire};
 ghost use Rattle.trace_unit.specs.Packets.{cancel_packets, commit_packets, flip_packet, flip_packets};
@@ -50,7 +51,7 @@ impl Waiting {
     /// Writes all but what is to be committed.
     pub fn write_out(&mut self, settings: &Settings, bytes: &mut Vec<u8>)
         requires affords { Affords settings.now.depth self.old }
-        requires room { HasRoom (vec_len bytes.old) (vec_capacity bytes.old) (spelled settings.now (out_packets self.old)) }
+        requires room { HasRoom bytes.old (spelled settings.now (out_packets self.old)) }
         ensures waiting { self.new ≡ out settings.now.depth self.old }
         ensures bytes { bytes.new.items ≡ bytes.old.items ++ spelled settings.now (out_packets self.old) }
         ensures capacity { vec_capacity bytes.new ≡ vec_capacity bytes.old }
@@ -65,8 +66,7 @@ impl Waiting {
     pub fn settle(&mut self, settings: &Settings, bytes: &mut Vec<u8>)
         requires affords { Affords settings.now.depth self.old }
         requires commits { self.old.commits + self.old.cancels ≤ self.old.held + length self.old.atoms }
-        requires room { HasRoom (vec_len bytes.old) (vec_capacity bytes.old)
-            (spelled settings.now (settle_packets settings.now.depth self.old)) }
+        requires room { HasRoom bytes.old (spelled settings.now (settle_packets settings.now.depth self.old)) }
         ensures waiting { self.new ≡ settled (out settings.now.depth self.old) }
         ensures bytes { bytes.new.items ≡ bytes.old.items ++ spelled settings.now (settle_packets settings.now.depth self.old) }
         ensures capacity { vec_capacity bytes.new ≡ vec_capacity bytes.old }
@@ -81,7 +81,7 @@ impl Waiting {
         requires commits { self.old.commits + 1 < 2 ^ 32 }
         requires affords { Affords settings.now.depth (with_atom settings.now.depth self.old taken) }
         requires room { let next = with_atom settings.now.depth self.old taken in
-            HasRoom (vec_len bytes.old) (vec_capacity bytes.old) (spelled settings.now (spilled_packets (is_full next) next)) }
+            HasRoom bytes.old (spelled settings.now (spilled_packets (is_full next) next)) }
         ensures waiting { self.new ≡ waits settings.now.depth self.old (Branch taken) }
         ensures bytes { let next = with_atom settings.now.depth self.old taken in
             bytes.new.items ≡ bytes.old.items ++ spelled settings.now (spilled_packets (is_full next) next) }
@@ -126,8 +126,7 @@ impl Waiting {
     /// The newest atom is the other one. One that was written is told so, behind all that is to be cancelled.
     pub fn flip(&mut self, settings: &Settings, bytes: &mut Vec<u8>)
         requires cancels { self.old.cancels ≤ self.old.held }
-        requires room { HasRoom (vec_len bytes.old) (vec_capacity bytes.old)
-            (spelled settings.now (flip_packets self.old self.old.atoms)) }
+        requires room { HasRoom bytes.old (spelled settings.now (flip_packets self.old self.old.atoms)) }
         ensures waiting { self.new ≡ flipped self.old self.old.atoms }
         ensures bytes { bytes.new.items ≡ bytes.old.items ++ spelled settings.now (flip_packets self.old self.old.atoms) }
         ensures capacity { vec_capacity bytes.new ≡ vec_capacity bytes.old }
@@ -151,8 +150,7 @@ impl Waiting {
     /// Writes what is to be cancelled.
     fn cancel_out(&mut self, settings: &Settings, bytes: &mut Vec<u8>)
         requires cancels { self.old.cancels ≤ self.old.held }
-        requires room { HasRoom (vec_len bytes.old) (vec_capacity bytes.old)
-            (spelled settings.now (cancel_packets self.old.cancels)) }
+        requires room { HasRoom bytes.old (spelled settings.now (cancel_packets self.old.cancels)) }
         ensures waiting { self.new ≡ cancelled_out self.old }
         ensures bytes { bytes.new.items ≡ bytes.old.items ++ spelled settings.now (cancel_packets self.old.cancels) }
         ensures capacity { vec_capacity bytes.new ≡ vec_capacity bytes.old }
@@ -174,8 +172,7 @@ impl Waiting {
     /// Writes what is to be committed.
     fn commit_out(&mut self, settings: &Settings, bytes: &mut Vec<u8>)
         requires commits { self.old.commits ≤ self.old.held }
-        requires room { HasRoom (vec_len bytes.old) (vec_capacity bytes.old)
-            (spelled settings.now (commit_packets self.old.commits)) }
+        requires room { HasRoom bytes.old (spelled settings.now (commit_packets self.old.commits)) }
         ensures waiting { self.new ≡ settled self.old }
         ensures bytes { bytes.new.items ≡ bytes.old.items ++ spelled settings.now (commit_packets self.old.commits) }
         ensures capacity { vec_capacity bytes.new ≡ vec_capacity bytes.old }
@@ -191,8 +188,7 @@ impl Waiting {
     fn spill(&mut self, settings: &Settings, bytes: &mut Vec<u8>)
         requires some { 0 < length self.old.atoms }
         requires affords { Affords settings.now.depth self.old }
-        requires room { HasRoom (vec_len bytes.old) (vec_capacity bytes.old)
-            (spelled settings.now (spilled_packets true self.old)) }
+        requires room { HasRoom bytes.old (spelled settings.now (spilled_packets true self.old)) }
         ensures waiting { self.new ≡ spilled true settings.now.depth self.old }
         ensures bytes { bytes.new.items ≡ bytes.old.items ++ spelled settings.now (spilled_packets true self.old) }
         ensures capacity { vec_capacity bytes.new ≡ vec_capacity bytes.old }

@@ -1,10 +1,10 @@
-//! The P0 elements that are not retired, each of which ends as committed, cancelled or lost.
+//! The P0 elements that are not retired, each of which ends as committed, cancelled or lost (Arm IHI 0064, "Speculation").
 ghost use Rattle.std.specs.Prelude.{◌≡◌, ◌<◌, ◌≤◌, ◌++◌, ◌∷◌, [], length, drop, Bool, List, IfOk};
 ghost use Rattle.element_queue.specs.Counting.{AreCounts, Balances, add, no_counts};
 ghost use Rattle.etm_types.specs.declared.element.P0.{P0 as Element};
 ghost use Rattle.etm_types.specs.declared.element.P0.TheVariants.{Atom};
 ghost use Rattle.spec_run.specs.Steps.{kept};
-ghost use Rattle.trace_unit.specs.WindowKept.{passed, turn_newest_p0};
+ghost use Rattle.trace_unit.specs.WindowKept.{pushed, turn_newest_p0};
 
 use element_queue::{Counts, Ledger, Uncommitted};
 use etm_types::{Entry, P0, Pre};
@@ -52,9 +52,9 @@ impl Window {
     }
 
     /// One P0 element more. Where there is no room for any, it is committed at once.
-    pub fn pass(&mut self, p0: P0)
+    pub fn push(&mut self, p0: P0)
         requires { 0 < self.old.room → length self.old.p0s < self.old.room }
-        ensures { self.new ≡ passed self.old self.old.room p0 }
+        ensures { self.new ≡ pushed self.old self.old.room p0 }
     {
         let entry = Entry {
             pre: Pre::nothing_told(),

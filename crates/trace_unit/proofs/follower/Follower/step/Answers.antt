@@ -1,4 +1,4 @@
-use Rattle.std.proofs.Common.{◌≡◌, ◌∷◌, ◌++◌, [], ap, sym, subst, ◌∙◌, append_assoc, append-nil, vec_capacity, vec_len}
+use Rattle.std.proofs.Common.{◌≡◌, ◌∷◌, ◌++◌, [], ap, sym, subst, ◌∙◌, append_assoc, append-nil}
 use Rattle.trace_unit.proofs.Ordered.{bytes_joined, can_tell_both, told_joined}
 use Rattle.trace_unit.proofs.RoomLeft.{room_first, room_left}
 use Rattle.trace_unit.specs.Followed.{stepped, with_places}
@@ -7,7 +7,7 @@ use Rattle.trace_unit.specs.Orders.{before, p0_order}
 use Rattle.trace_unit.specs.Places.{placed_behind}
 use Rattle.trace_unit.specs.PlacesKept.{PlacesKept}
 use Rattle.trace_unit.specs.Room.{HasRoom}
-use Rattle.trace_unit.specs.WindowKept.{WindowKept, passed}
+use Rattle.trace_unit.specs.WindowKept.{WindowKept, pushed}
 use Rattle.trace_unit.specs.declared.follower.Follower.{Follower}
 use Rattle.trace_unit.specs.declared.teller.Teller.{Teller}
 use Rattle.trace_unit.proofs.follower.Follower.step.Goals as goal
@@ -34,12 +34,11 @@ tell_step-requires-clause-room c =
     let s = c.args.step.now in
     let order = p0_order s.kind s.addr in
     let lacks = before c.args.self.now.places.places s.ctx in
-    let room = subst (HasRoom (vec_len old) (vec_capacity old)) (bytes_joined t lacks (order ∷ [])) c.requires.room in
+    let room = subst (HasRoom old) (bytes_joined t lacks (order ∷ [])) c.requires.room in
     let told = missing_told (goal.at.tell_step-requires-clause-room c).After-tell_missing in
-    subst (λ (t : Teller). HasRoom (vec_len new) (vec_capacity new) (bytes_of t order)) (sym told)
-    (room_first (vec_len new) (vec_capacity new) (bytes_of (told_all t lacks) order) []
-    (room_left (vec_len old) (vec_len new) (vec_capacity old) (vec_capacity new) old.items new.items (bytes_all t lacks) _ old.ok.0 new.ok.0
-    c.tell_missing.ensures.bytes c.tell_missing.ensures.capacity room))
+    subst (λ (t : Teller). HasRoom new (bytes_of t order)) (sym told)
+    (room_first new (bytes_of (told_all t lacks) order) []
+    (room_left old new (bytes_all t lacks) _ c.tell_missing.ensures.bytes c.tell_missing.ensures.capacity room))
 
 pub returns-clause-follower : goal.returns-clause-follower
 returns-clause-follower c =
@@ -49,14 +48,14 @@ returns-clause-follower c =
     let lacks = before f.places.places s.ctx in
     let told : c.tell_step.new.self ≡ record f { teller = told_by (told_all f.teller lacks) order } =
     c.tell_step.ensures.follower ∙ ap (λ (g : Follower). record g { teller = told_by g.teller order }) c.tell_missing.ensures.follower in
-    let places : c.pass.new.self ≡ (stepped f s).places =
-    c.pass.ensures ∙ ap (λ (g : Follower). with_places g.places (placed_behind g.places.room g.places.most g.places.places s)) told in
-    let window : c.pass-2.new.self ≡ (stepped f s).window =
-    c.pass-2.ensures ∙ ap (λ (g : Follower). passed g.window g.window.room c.element_of.result) told
-    ∙ ap (passed f.window f.window.room) c.element_of.ensures in
+    let places : c.push.new.self ≡ (stepped f s).places =
+    c.push.ensures ∙ ap (λ (g : Follower). with_places g.places (placed_behind g.places.room g.places.stack_depth g.places.places s)) told in
+    let window : c.push-2.new.self ≡ (stepped f s).window =
+    c.push-2.ensures ∙ ap (λ (g : Follower). pushed g.window g.window.room c.element_of.result) told
+    ∙ ap (pushed f.window f.window.room) c.element_of.ensures in
     let teller : c.tell_step.new.self.teller ≡ (stepped f s).teller =
     ap (λ (g : Follower). g.teller) told ∙ sym (told_joined f.teller lacks (order ∷ [])) in
-    ap (λ (k : PlacesKept). record { places = k; window = c.pass-2.new.self; teller = c.tell_step.new.self.teller }) places
+    ap (λ (k : PlacesKept). record { places = k; window = c.push-2.new.self; teller = c.tell_step.new.self.teller }) places
     ∙ ap (λ (w : WindowKept). record { places = (stepped f s).places; window = w; teller = c.tell_step.new.self.teller }) window
     ∙ ap (λ (t : Teller). record { places = (stepped f s).places; window = (stepped f s).window; teller = t }) teller
 

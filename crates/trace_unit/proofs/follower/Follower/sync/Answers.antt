@@ -1,4 +1,4 @@
-use Rattle.std.proofs.Common.{◌++◌, [], length, vec_capacity, vec_len}
+use Rattle.std.proofs.Common.{◌++◌, [], length}
 use Rattle.trace_unit.proofs.RoomLeft.{room_first, room_left}
 use Rattle.trace_unit.specs.Ordered.{bytes_of, told_by}
 use Rattle.trace_unit.specs.Orders.{Settle, Start, Sync, Tell}
@@ -10,19 +10,17 @@ use Rattle.trace_unit.proofs.follower.Follower.sync.Goals.{After-held-announced}
 behind_settle : (c : After-held-announced)
     → let n = length c.args.self.now.window.p0s in
     let settled = told_by c.args.self.now.teller Settle in
-    HasRoom (vec_len c.settle.new.bytes) (vec_capacity c.settle.new.bytes) (bytes_of settled (Tell (Sync n))
+    HasRoom c.settle.new.bytes (bytes_of settled (Tell (Sync n))
     ++ (bytes_of (told_by settled (Tell (Sync n))) (Tell (Start c.args.self.now.places.places.start c.args.ctx)) ++ []))
 behind_settle c =
     let old = c.args.bytes.now in
     let new = c.settle.new.bytes in
-    room_left (vec_len old) (vec_len new) (vec_capacity old) (vec_capacity new) old.items new.items (bytes_of c.args.self.now.teller Settle) _
-    old.ok.0 new.ok.0 c.settle.ensures.bytes c.settle.ensures.capacity c.requires.room
+    room_left old new (bytes_of c.args.self.now.teller Settle) _ c.settle.ensures.bytes c.settle.ensures.capacity c.requires.room
 
 pub sync-requires-clause-room : goal.sync-requires-clause-room
 sync-requires-clause-room c =
-    let new = c.settle.new.bytes in
     rw (c.settle.ensures.teller, c.held-announced.ensures.held)
-    (room_first (vec_len new) (vec_capacity new) _ _ (behind_settle (goal.at.sync-requires-clause-room c).After-held-announced))
+    (room_first c.settle.new.bytes _ _ (behind_settle (goal.at.sync-requires-clause-room c).After-held-announced))
 
 pub start-requires-2-clause-room : goal.start-requires-2-clause-room
 start-requires-2-clause-room c =
@@ -30,6 +28,5 @@ start-requires-2-clause-room c =
     let new = c.sync.new.bytes in
     let written = rw (c.settle.ensures.teller, c.held-announced.ensures.held) at c.sync.ensures.bytes in
     rw (c.sync.ensures.teller, c.settle.ensures.teller, c.start.ensures)
-    (room_first (vec_len new) (vec_capacity new) _ []
-    (room_left (vec_len old) (vec_len new) (vec_capacity old) (vec_capacity new) old.items new.items _ _
-    old.ok.0 new.ok.0 written c.sync.ensures.capacity (behind_settle (goal.at.start-requires-2-clause-room c).After-held-announced)))
+    (room_first new _ []
+    (room_left old new _ _ written c.sync.ensures.capacity (behind_settle (goal.at.start-requires-2-clause-room c).After-held-announced)))

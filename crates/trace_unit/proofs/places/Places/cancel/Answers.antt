@@ -23,13 +23,13 @@ returns c =
               start = (ap (λ v. v.start) old) j;
               reader_context = (ap (λ v. v.context) old) j;
             }) k;
-            most = w.restore.ensures.depth k;
+            stack_depth = w.restore.ensures.depth k;
             room = p.saved.capacity;
           })
       | in_default w ↦
           rw (c.truncate_back.ensures, w.self-inside-is, ← c.self.view_is) (λ k. record {
             places = stays was _ n i from (sym w.in_default.ensures) refl k;
-            most = p.stack.depth;
+            stack_depth = p.stack.depth;
             room = p.saved.capacity;
           })
     ]

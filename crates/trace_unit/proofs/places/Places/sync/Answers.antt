@@ -40,6 +40,6 @@ returns c =
     let saved = kept.saved ∙ all_emptied was c.loop-index.index (omega arith) in
     rw (← c.self.view_is) (λ k. record {
       places = record { stack = kept.stack k; saved = saved k; needs = false; start = kept.start k; reader_context = c.args.ctx };
-      most = (kept.depth ∙ c.clear.ensures.depth) k;
+      stack_depth = (kept.depth ∙ c.clear.ensures.depth) k;
       room = kept.capacity k;
     })

@@ -75,7 +75,7 @@ returns-clause-written c events st ok =
     let all = events ++ c.args.event.now ∷ [] in (
       more,
       c.follow.ensures.bytes ∙ ap (λ l. l ++ more) c.reserve.ensures.items,
-      subst (λ (k : Kept). written image k.settings k.most all ≡ written image k.settings k.most events ++ more) c.self.view_is g.wrote,
+      subst (λ (k : Kept). written image k.settings k.stack_depth all ≡ written image k.settings k.stack_depth events ++ more) c.self.view_is g.wrote,
     )
 
 pub returns-clause-path : goal.returns-clause-path
@@ -83,7 +83,7 @@ returns-clause-path c events x st ok is ran =
     let s = c.args.self.now.settings in
     let e = c.args.event.now in
     let are : AreSettings s = subst (λ (k : Kept). AreSettings k.settings) c.self.view_is c.self.invariant.ready.settings in
-    trace_shows c.args.image.now s c.args.self.now.most (events ++ e ∷ []) x is are st.most (events_more s events e st.given c.requires)
+    trace_shows c.args.image.now s c.args.self.now.stack_depth (events ++ e ∷ []) x is are st.most (events_more s events e st.given c.requires)
     (omega (arith, length-append events (e ∷ []))) ran
 
 pub returns-clause-few : goal.returns-clause-few
@@ -96,5 +96,5 @@ pub returns-clause-settings : goal.returns-clause-settings
 returns-clause-settings c =
     let keeps = followed_keeps c.in_ok-done.done c.apply.new.self.place c.self.inside.follower in (
       ap (λ (f : Follower). f.teller.settings) c.follow.ensures.follower ∙ keeps.0 ∙ ap (λ (k : Kept). k.settings) c.self.view_is,
-      ap (λ (f : Follower). f.places.most) c.follow.ensures.follower ∙ keeps.1 ∙ ap (λ (k : Kept). k.most) c.self.view_is,
+      ap (λ (f : Follower). f.places.stack_depth) c.follow.ensures.follower ∙ keeps.1 ∙ ap (λ (k : Kept). k.stack_depth) c.self.view_is,
     )

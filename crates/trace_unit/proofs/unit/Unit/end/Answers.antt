@@ -21,7 +21,7 @@ settle-requires-clause-room c =
 pub returns-in-Ok-clause-written : goal.returns-in-Ok-clause-written
 returns-in-Ok-clause-written c image events st ok =
     let s = c.args.self.settings in
-    let last = pending image s c.args.self.most events in
+    let last = pending image s c.args.self.stack_depth events in
     let f = c.self.inside.follower in (
       last,
       c.settle.ensures.bytes
@@ -33,7 +33,7 @@ returns-in-Ok-clause-written c image events st ok =
 pub returns-in-Ok-clause-path : goal.returns-in-Ok-clause-path
 returns-in-Ok-clause-path c image events x st is some ran was ok =
     let s = c.args.self.settings in
-    let most = c.args.self.most in
+    let most = c.args.self.stack_depth in
     let f = c.self.inside.follower in
     let are : AreSettings s = subst (λ (k : Kept). AreSettings k.settings) c.self.view_is c.self.invariant.ready.settings in
     let all : c.settle.new.bytes.items ≡ settled image s most events =

@@ -1,4 +1,4 @@
-use Rattle.std.proofs.Common.{◌++◌, length, sym, ap, subst, ◌∙◌, vec_capacity, vec_len}
+use Rattle.std.proofs.Common.{◌++◌, length, sym, ap, subst, ◌∙◌}
 use Rattle.trace_unit.proofs.WaitingOut.{spills, spills_packets}
 use Rattle.trace_unit.specs.Room.{HasRoom}
 use Rattle.trace_unit.specs.Whole.{Waiting, with_atom}
@@ -14,8 +14,7 @@ spill-requires-clause-room c =
     let same = c.retire_at_once.ensures ∙ ap (λ l. record pushed { atoms = l }) c.push.ensures
     ∙ ap (λ (w : Waiting). with_atom depth w c.args.taken) c.self.view_is in
     let size = c.len.ensures.value ∙ ap (λ (w : Waiting). length w.atoms) c.self-2.view_is in
-    let bytes = c.args.bytes.now in
-    subst (λ packets. HasRoom (vec_len bytes) (vec_capacity bytes) (spelled c.args.settings.now packets))
+    subst (λ packets. HasRoom c.args.bytes.now (spelled c.args.settings.now packets))
     (sym (spills_packets c.len.result (with_atom depth c.args.self.now c.args.taken) c.retire_at_once.new.self same size c.if-len-eq-MOST_HELD.true))
     c.requires.room
 

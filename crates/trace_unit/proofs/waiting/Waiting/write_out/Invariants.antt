@@ -1,4 +1,4 @@
-use Rattle.std.proofs.Common.{◌≡◌, ◌++◌, length, vec_capacity, vec_len}
+use Rattle.std.proofs.Common.{◌≡◌, ◌++◌, length, vec_capacity}
 use Rattle.trace_unit.specs.Packets.{out_packets, packed}
 use Rattle.trace_unit.specs.Room.{Affords, HasRoom}
 use Rattle.trace_unit.specs.Whole.{out}
@@ -12,7 +12,7 @@ invariant-loop-self l =
       waiting : out l.settings.depth l.self ≡ out l.settings.depth l.fn.self;
       none : l.self.cancels ≡ 0;
       affords : Affords l.settings.depth l.self;
-      room : HasRoom (vec_len l.bytes) (vec_capacity l.bytes) (spelled l.settings (packed l.self.atoms));
+      room : HasRoom l.bytes (spelled l.settings (packed l.self.atoms));
       bytes : l.bytes.items ++ spelled l.settings (packed l.self.atoms) ≡ l.fn.bytes.items ++ spelled l.settings (out_packets l.fn.self);
       capacity : vec_capacity l.bytes ≡ vec_capacity l.fn.bytes;
     }
