@@ -1,7 +1,7 @@
 -- The parts of a text that has no fault are those of a run file.
 use Rattle.std.proofs.Common.{◌≡◌, ◌∷◌, ◌++◌, ◌∙◌, ◌<◌, ◌≤◌, ◌&&◌, ◌||◌, ◌==◌, ◌+◌, ℕ, Bool, true, false, not, List, [], Option, Some, None, Result, Ok, Err}
 use Rattle.std.proofs.Common.{arith, rules, refl, ap, sym, subst, if◌then◌else◌}
-use Rattle.std.specs.Prelude.{All, nat_le, ⊤}
+use Rattle.std.specs.Prelude.{All, is_none, nat_le, ⊤}
 use Rattle.std.specs.List.{list_all}
 use Rattle.std.specs.Option.{option_and_then, unwrap_or}
 use Rattle.std.specs.Prelude.{IsTrue, codes, slice_index}
@@ -13,7 +13,7 @@ use Rattle.std.proofs.lemmas.List.Elements.{All-append, All-cons, All-head, All-
 use Rattle.etm_types.specs.Settings.{AreSettings, is_cid_size, is_vmid_size}
 use Rattle.program_image.specs.Line.{words_in}
 use Rattle.bench_text.specs.BenchText.{Draft, add_any, add_behind, add_event, add_kind, add_line, add_lines, add_stream, add_weaves, before_streams, declare}
-use Rattle.bench_text.specs.BenchText.{finished, in_stream, is_empty, is_none, is_source, is_version, kind_of, no_lines, parsed, parts_of, set, setting_of}
+use Rattle.bench_text.specs.BenchText.{finished, in_stream, is_empty, is_source, is_version, kind_of, no_lines, parsed, parts_of, set, setting_of}
 use Rattle.bench_text.specs.BenchText.{sizes_of, then_lines, weave, weaves_of, where_allowed, with_line}
 use Rattle.bench_text.specs.EventLines.{event_of, need, only_number, only_word, two_digits_of}
 use Rattle.bench_text.specs.Parts.{AreApart, BenchParts, BenchStream, IsBench, IsBenchLine, IsBenchStream, IsWeave, has_stream}

@@ -1,5 +1,5 @@
 -- The text of a run file: a header, settings, streams with their events, and weaves.
-use Rattle.std.specs.Prelude.{ℕ, ◌+◌, ◌==◌, ◌&&◌, nat_le, Bool, true, false, not, codes, List, [], ◌∷◌, ◌++◌, Option, Some, None}
+use Rattle.std.specs.Prelude.{ℕ, ◌+◌, ◌==◌, ◌&&◌, nat_le, Bool, true, false, not, codes, List, [], ◌∷◌, ◌++◌, Option, Some, None, is_none}
 use Rattle.std.specs.Prelude.{Result, Ok, Err, slice_index, if◌then◌else◌}
 use Rattle.std.specs.List.{list_all}
 use Rattle.std.specs.Option.{option_and_then, option_map, unwrap_or}
@@ -49,10 +49,6 @@ where_allowed true result = result
 where_allowed false result = Err Syntax
 
 -- ---- settings, each at most once
-
-abbrev pub is_none : {X : Type 0} → Option X → Bool
-is_none None = true
-is_none (Some x) = false
 
 -- a number in range alone
 abbrev pub setting_of : (ℕ → Bool) → List (List ℕ) → Result ℕ BenchWhy

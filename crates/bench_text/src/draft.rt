@@ -24,11 +24,13 @@ use std::marker::Model;
 /// A line that is of no form, or out of its place.
 const SYNTAX: LineFault = LineFault::Bad(BenchWhy::Syntax);
 
-/// The sizes of the trace units where no line gives them.
+/// The maximum speculation depth where no line gives it.
 const DEPTH: u32 = 16;
 
+/// How many bytes a VMID has where no line gives it.
 const VMID_BYTES: u8 = 1;
 
+/// How many bytes a context ID has where no line gives it.
 const CID_BYTES: u8 = 4;
 
 /// The depth of return stacks where no line gives it.

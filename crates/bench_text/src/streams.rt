@@ -1,6 +1,6 @@
 //! The event lines of each stream, in the order in which the streams were declared.
 ghost use Rattle.std.specs.Prelude.{◌≡◌, ◌++◌, ◌∷◌, [], false, OnOk};
-ghost use Rattle.bench_text.specs.BenchText.{with_line};
+ghost use Rattle.bench_text.specs.BenchText.{is_empty, with_line};
 ghost use Rattle.bench_text.specs.Kept.{streams_in};
 ghost use Rattle.bench_text.specs.Parts.{has_stream};
 
@@ -34,10 +34,11 @@ pub fn push_line(
     streams: &mut IndexMap<u8, Vec<BenchLine>>,
     line: BenchLine,
 ) -> Result<(), AllocError>
+    requires { is_empty (streams_in streams.old.entries) ≡ false }
     ensures { OnOk result (streams_in streams.new.entries ≡ with_line line (streams_in streams.old.entries)) }
 {
     let Some(lines) = streams.last_mut() else {
-        return Ok(());
+        unreachable!()
     };
     lines.push(line)?;
     Ok(())

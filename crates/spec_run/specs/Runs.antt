@@ -54,7 +54,7 @@ retires r n = record r { retired = r.retired ++ take n r.held; held = drop n r.h
 abbrev pub cancels : Running → ℕ → Running
 cancels r n = record r { held = kept n r.held; pc = pc_at r.pc (newest n r.held); ctx = ctx_at r.ctx (newest n r.held) }
 
--- where a branch with a condition goes if it does not go the way that it went
+-- where a conditional branch goes if it does not go the way that it went
 abbrev pub other_next : Option Class → Bool → ℕ → ℕ
 other_next (Some (class.Cond offset)) false addr = target addr offset
 other_next class taken addr = behind addr 1

@@ -20,7 +20,7 @@ isb_behind before (s ∷ steps) = isb_behind (is_isb s.kind) steps
 abbrev pub ends_in_isb : List RunStep → Bool
 ends_in_isb steps = isb_behind false steps
 
--- whether the newest step is a branch with a condition
+-- whether the newest step is a conditional branch
 abbrev pub ends_in_cond : List RunStep → Bool
 ends_in_cond [] = false
 ends_in_cond (s ∷ []) = is_cond s.kind

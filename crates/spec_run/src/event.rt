@@ -10,9 +10,9 @@ pub enum Event {
     On { addr: u64, ctx: Ctx },
     /// The instruction at the pc is executed: a plain one, or an ISB.
     Step,
-    /// The branch at the pc is taken: one to a fixed target, or one with a condition.
+    /// The branch at the pc is taken: one to a fixed target, or a conditional one.
     Taken,
-    /// The branch with a condition at the pc is not taken.
+    /// The conditional branch at the pc is not taken.
     NotTaken,
     /// The indirect branch at the pc goes to an address.
     To { addr: u64 },
@@ -27,7 +27,7 @@ pub enum Event {
     Retire(u32),
     /// So many of the newest steps that are not retired are taken back.
     Cancel(u32),
-    /// The newest step, a branch with a condition that is not retired, goes the other way.
+    /// The newest step, a conditional branch that is not retired, goes the other way.
     Flip,
     /// Synchronisation is asked for.
     Sync,

@@ -1,6 +1,8 @@
 //! Runs: what a core does, event by event, speculation and its taking-back included, and the path that is left once all is
 //! retired.
 //!
+//! The P0 steps are the P0 elements of ETMv4 (Arm IHI 0064); which word is which kind of branch, the Arm ARM says (Arm DDI 0487).
+//!
 //! A run stands over the image of the program. Each event either has its case in the table of `docs/FORMATS.md`, "Runs", or is
 //! refused, and a refused event changes nothing. The steps that a retire came to are retired; what a cancel or the end of
 //! tracing took away was never executed.

@@ -114,7 +114,7 @@ impl Run {
         self.held.len() as u32
     }
 
-    /// The step before which so many older ones are not retired.
+    /// The `k`-th step that is not retired; 0 is the oldest.
     pub fn step_at(&self, k: u32) -> Option<RunStep>
         ensures { result ≡ slice_get (held_at self.now.place) k }
     {
@@ -267,7 +267,7 @@ impl Run {
         Ok(Effect::Flipped)
     }
 
-    /// Whether the newest of the held steps is a branch with a condition.
+    /// Whether the newest of the held steps is a conditional branch.
     fn ends_in_cond(&self) -> bool
         ensures { result ≡ ends_in_cond (held_at self.now.place) }
     {
@@ -436,7 +436,7 @@ impl Run {
     }
 }
 
-/// A branch with a condition that goes the other way; any other step as it is.
+/// A conditional branch that goes the other way; any other step as it is.
 fn turned(image: &Image, step: RunStep) -> RunStep
     ensures { result ≡ turned image.now step }
 {
@@ -450,7 +450,7 @@ fn turned(image: &Image, step: RunStep) -> RunStep
     }
 }
 
-/// Where a branch with a condition goes, if it does not go the way that it went.
+/// Where a conditional branch goes, if it does not go the way that it went.
 fn other_next(image: &Image, taken: bool, addr: u64) -> u64
     ensures { result ≡ other_next (class_at image.now addr) taken addr }
 {

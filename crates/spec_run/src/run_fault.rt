@@ -34,8 +34,8 @@ pub enum RunFault {
     /// The same.
     #[error("{asked} steps to cancel of {held}")]
     CancelTooMany { asked: u32, held: u32 },
-    /// The newest step is retired, or no branch with a condition, or there is none.
-    #[error("no branch with a condition to flip")]
+    /// The newest step is retired, or no conditional branch, or there is none.
+    #[error("no conditional branch to flip")]
     NoBranchToFlip,
     /// The newest step is no ISB, or there is none.
     #[error("the context changes behind an ISB alone")]

@@ -13,7 +13,7 @@ pub enum StepKind {
     Isb,
     /// A branch to a fixed target.
     Jump,
-    /// A branch with a condition.
+    /// A conditional branch.
     Cond { taken: bool },
     /// An indirect branch, with a link where it is a call.
     Ind { link: bool },
@@ -38,7 +38,7 @@ impl StepKind {
         matches!(self, StepKind::Isb)
     }
 
-    /// Whether it is a branch with a condition.
+    /// Whether it is a conditional branch.
     pub fn is_cond(&self) -> bool
         ensures { result ≡ is_cond self.now }
     {
