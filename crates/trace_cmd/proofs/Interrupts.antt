@@ -71,7 +71,7 @@ module _ (carried : List ℕ → List (ℕ × ℕ)) (left : List ℕ → ℕ) (g
         few = omega (arith, few);
         shown = shown;
         printed = printed;
-        late = inr (read.1, (lines, faulty, is, front));
+        late = inr (read.1, few, (lines, faulty, is, front));
         early = (early.0, subst (λ b. BodyFrom g [] (carried (take (length b - most_at_once) b)) early.0) same early.1, early.2);
       }
 

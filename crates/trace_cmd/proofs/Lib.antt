@@ -4,6 +4,7 @@ pub mod Complete
 pub mod Interrupts
 pub mod PacketLists
 pub mod PacketRuns
+pub mod PacketTexts
 pub mod Pieces
 pub mod Refused
 pub mod RetiredEvents

@@ -57,14 +57,14 @@ same_written image s s' most most' events same also =
     ap (λ (t : Sizes). written image t most' events) same ∙ ap (λ (m : ℕ). written image s m events) also
 
 pub one_traced : (image : Image) (unit unit' : Kept) (bytes bytes' : List ℕ) (events : List Event) (e : Event) → IsTracing image unit bytes events
-    → StandsAt image unit' (events ++ e ∷ []) → unit'.settings ≡ unit.settings → unit'.most ≡ unit.most
+    → StandsAt image unit' (events ++ e ∷ []) → unit'.settings ≡ unit.settings → unit'.stack_depth ≡ unit.stack_depth
     → (more : List ℕ) × (bytes' ≡ bytes ++ more)
-    × (written image unit.settings unit.most (events ++ e ∷ []) ≡ written image unit.settings unit.most events ++ more)
+    × (written image unit.settings unit.stack_depth (events ++ e ∷ []) ≡ written image unit.settings unit.stack_depth events ++ more)
     → IsTracing image unit' bytes' (events ++ e ∷ [])
 one_traced image unit unit' bytes bytes' events e t stands settings most (more, grew, wrote) = record {
   stands = stands;
   wrote = grew ∙ ap (λ (l : List ℕ). l ++ more) t.wrote ∙ sym wrote
-      ∙ sym (same_written image unit.settings unit'.settings unit.most unit'.most (events ++ e ∷ []) settings most);
+      ∙ sym (same_written image unit.settings unit'.settings unit.stack_depth unit'.stack_depth (events ++ e ∷ []) settings most);
 }
 
 pub line_refused : (image : Image) (unit : Kept) (s : Sizes) (events : List Event) (line : BenchLine) (k : ℕ) (fault : RunFault) → k < line.times

@@ -1,4 +1,4 @@
--- What more bytes carry comes behind what was carried.
+-- What more bytes carry comes behind what was carried. The two proofs stand here since an `impl` names them.
 use Rattle.std.proofs.Common.{◌≡◌, ℕ, List, [], ◌++◌, refl}
 use Rattle.std.proofs.lemmas.List.{map-append}
 use Rattle.formatter_frames.proofs.Going.{more_pairs}

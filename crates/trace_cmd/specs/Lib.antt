@@ -4,6 +4,7 @@ pub mod Complete
 pub mod Grows
 pub mod ImageLine
 pub mod Listed
+pub mod PacketLaws
 pub mod PacketList
 pub mod Printing
 pub mod Reading

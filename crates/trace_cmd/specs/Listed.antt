@@ -53,7 +53,7 @@ module _ (carried : List ℕ → List (ℕ × ℕ)) (left : List ℕ → ℕ) (g
     pub printed : PrintsBody carried g bytes out out'
 
   -- What is printed where a write fails: no more than the lines that come with some of the pairs, or than the whole text of an
-  -- input that was read to its end; and no less than the lines that come with all bytes but the last 4096.
+  -- input that was read to its end and is not too long; and no less than the lines that come with all bytes but the last 4096.
   pub record Interrupts (input input' out out' : IoState) : Type 0 where
     pub bytes : List ℕ
     pub took : Takes input input' bytes
@@ -62,7 +62,7 @@ module _ (carried : List ℕ → List (ℕ × ℕ)) (left : List ℕ → ℕ) (g
     pub printed : AppendsAll out out' shown
     pub late : ((pairs : List (ℕ × ℕ)) × (lines : List Printed) × BeginsWith pairs (carried (take most_input bytes)) × BodyFrom g [] pairs lines
         × BeginsWith shown (text_of lines))
-        ⊎ (IsAtEnd input'.bytes × ((lines : List Printed) × (faulty : Bool) × IsText g (carried bytes) (left bytes) lines faulty
+        ⊎ (IsAtEnd input'.bytes × (length bytes ≤ most_input) × ((lines : List Printed) × (faulty : Bool) × IsText g (carried bytes) (left bytes) lines faulty
         × BeginsWith shown (text_of lines)))
     pub early : (lines : List Printed) × BodyFrom g [] (carried (take (length bytes - most_at_once) bytes)) lines × BeginsWith (text_of lines) shown
 

@@ -11,7 +11,7 @@ use Rattle.trace_unit.specs.Written.{written}
 -- the unit stands behind these events, and these bytes are what it wrote of them
 pub record IsTracing (image : Image) (unit : Kept) (bytes : List ℕ) (events : List Event) : Type 0 where
   pub stands : StandsAt image unit events
-  pub wrote : bytes ≡ written image unit.settings unit.most events
+  pub wrote : bytes ≡ written image unit.settings unit.stack_depth events
 
 -- the event of this line is refused
 abbrev pub refused_at : ℕ → RunFault → Option (ℕ × BenchWhy)

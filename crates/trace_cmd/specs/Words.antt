@@ -17,7 +17,7 @@ use Rattle.trace_cmd.specs.declared.words.Layout.TheVariants.{Raw, Frames}
 abbrev pub texts : {Z : Type 0} → List (String Z) → List (List ℕ)
 texts words = map (λ word. string_bytes word) words
 
--- a command that is there today, with what its words say
+-- a command, with what its words say
 pub data Command : Type 0 where
   -- the path of each stream: the name of the image, the trace unit's sizes, and how the input is laid out
   Path : List ℕ → Sizes → Layout → Command

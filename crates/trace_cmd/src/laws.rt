@@ -2,11 +2,14 @@
 ghost use Rattle.std.specs.Prelude.{◌≡◌, ◌<◌, ◌↔◌, ℕ, List, Bool, All, Option, Some};
 ghost use Rattle.bench_text.specs.Parts.{BenchParts, IsBench};
 ghost use Rattle.etm_types.specs.Settings.{Sizes, AreSettings};
+ghost use Rattle.formatter_frames.specs.Unframed.{unframed};
 ghost use Rattle.program_image.specs.Part.{IsImage};
 ghost use Rattle.program_image.specs.declared.image.Image.{Image};
+ghost use Rattle.stream_demux.specs.Demuxed.{raw_pairs};
 ghost use Rattle.trace_cmd.specs.Answers.{Answers, Call};
 ghost use Rattle.trace_cmd.specs.CommandLines.{IsPathLine, IsPacketsLine, IsRetiredLine, IsSelftestLine, IsTraceLine};
 ghost use Rattle.trace_cmd.specs.Complete.{FaultsAreDecided, NumbersAreDone, PacketsAreDone, PathsAreDone, RunFilesAreDone};
+ghost use Rattle.trace_cmd.specs.PacketLaws.{EachPacketIsALine, FrontsOfPacketsBegin, OneTextOfPackets, PacketsAreAlone, SomeTextOfPackets};
 ghost use Rattle.trace_cmd.specs.PacketList.{PacketEnds, PacketGains};
 ghost use Rattle.trace_cmd.specs.Traced.{AreAccepted, NoEventNoLine, TracesAreShown};
 ghost use Rattle.trace_cmd.specs.TracedCalls.{IsPathOfTrace, PrintsTraces};
@@ -27,6 +30,18 @@ pub fn packets_have_one_list()
         → (lines : List (List ℕ)) × PacketGains s id bytes byte lines }
     ensures some_end { (s : Sizes) → AreSettings s → (id : ℕ) (bytes : List ℕ) → All (λ b. b < 256) bytes
         → (line : List ℕ) × (faulty : Bool) × PacketEnds s id bytes line faulty }
+{}
+
+/// So the packets of streams have one text and no other, and before the ends it begins with that of a front of the input. The
+/// lines of a source are those of the packets of its own bytes, whatever other streams hold, and each line has one LF, which
+/// ends it.
+pub fn packets_have_one_text()
+    ensures one { OneTextOfPackets }
+    ensures some { SomeTextOfPackets }
+    ensures framed { FrontsOfPacketsBegin unframed }
+    ensures raw { FrontsOfPacketsBegin raw_pairs }
+    ensures alone { PacketsAreAlone }
+    ensures lines { EachPacketIsALine }
 {}
 
 /// Words mean a command exactly where they are a line of it: pieces in any order, which are its options with their numbers,

@@ -33,7 +33,7 @@ mod words;
 pub use command::run;
 pub use laws::{
     each_stream_is_woven_whole, good_input_is_answered, packets_have_one_list,
-    path_prints_what_was_traced, traced_streams_show_their_retired_paths,
+    packets_have_one_text, path_prints_what_was_traced, traced_streams_show_their_retired_paths,
     words_mean_what_they_spell,
 };
 pub use status::Status;

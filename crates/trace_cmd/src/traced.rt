@@ -46,7 +46,7 @@ fn trace_line(
         → IsTracing image.now unit.new bytes.new.items (events_with events line.now.times line.now.event) }
     ensures refused { (events : List Event) → IsTracing image.now unit.old bytes.old.items events
         → (fault : Refusal) → result ≡ Err (UnitFault.Run fault) → RefusesLine image.now unit.old.settings events line.now fault }
-    ensures settings { (unit.new.settings ≡ unit.old.settings) × (unit.new.most ≡ unit.old.most) }
+    ensures settings { (unit.new.settings ≡ unit.old.settings) × (unit.new.stack_depth ≡ unit.old.stack_depth) }
 {
     for _ in 0..line.times {
         unit.accept(image, &line.event, bytes)?;
@@ -72,7 +72,7 @@ fn trace_lines(
         → IsTracing image.now unit.old bytes.old.items []
         → (line : ℕ) (fault : Refusal) → result ≡ Err (Untraced.Refused line fault)
         → stream_refusal image.now bench.now.settings.depth stream ≡ refused_at line fault }
-    ensures settings { (unit.new.settings ≡ unit.old.settings) × (unit.new.most ≡ unit.old.most) }
+    ensures settings { (unit.new.settings ≡ unit.old.settings) × (unit.new.stack_depth ≡ unit.old.stack_depth) }
 {
     let mut k = 0;
     while let Some(line) = bench.line_at(s, k) {

@@ -7,7 +7,7 @@ use Rattle.trace_cmd.proofs.traced.trace_lines.Given as goal
 
 abbrev pub invariant-loop-line : goal.invariant-loop-line
 invariant-loop-line l = record {
-  settings : (l.unit.settings ≡ l.fn.unit.settings) × (l.unit.most ≡ l.fn.unit.most);
+  settings : (l.unit.settings ≡ l.fn.unit.settings) × (l.unit.stack_depth ≡ l.fn.unit.stack_depth);
   so_far : (stream : BenchStream) → slice_get l.bench.streams l.s ≡ Some stream → IsTracing l.image l.fn.unit l.fn.bytes.items []
       → IsTracing l.image l.unit l.bytes.items (events_of (take l.k stream.lines));
 }
