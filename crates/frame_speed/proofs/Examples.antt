@@ -1,7 +1,7 @@
 -- Worked examples: Knuth's sequence from 1 on, and a digest, worked out by hand.
-use Rattle.std.proofs.Common.{◌≡◌, refl, arith}
+use Rattle.std.proofs.Common.{◌≡◌, ◌∷◌, [], refl, arith}
 use Rattle.frame_speed.specs.Numbers.{byte_of, next_number}
-use Rattle.frame_speed.specs.Sum.{digest_with, nothing}
+use Rattle.frame_speed.specs.Sum.{digest_of_pairs, digest_with, nothing}
 
 first_number : next_number 1 ≡ 7806831264735756412
 first_number = refl
@@ -19,3 +19,7 @@ two_bytes = refl
 -- near miss: the first byte weighs more
 in_their_order : digest_with (digest_with nothing.digest 7) 5 ≡ 162 → ⊥
 in_their_order is = omega (arith, is)
+
+-- a byte behind its ID
+one_pair : digest_of_pairs nothing.digest ((5, 7) ∷ []) ≡ 162
+one_pair = refl

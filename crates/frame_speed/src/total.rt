@@ -1,12 +1,13 @@
 //! A count and a digest of what came, and the sink that adds up what is written to it.
 ghost use Rattle.std.specs.Prelude.{◌≡◌, ◌+◌, ◌%◌, ◌^◌, length, true};
-ghost use Rattle.frame_speed.specs.Sum.{digest_with, nothing};
+ghost use Rattle.frame_speed.specs.Sum.{digest_of_pairs, digest_with, nothing};
 ghost use Rattle.trace_io.specs.Memory.{hidden_state};
 
 use formatter_frames::FrameBytes;
 use std::marker::Model;
 use trace_io::{Failed, Sink};
 
+/// How many data bytes came, or bytes of frames, and the digest of all that came. Contracts see both numbers.
 #[derive(Drop)]
 pub struct Total {
     count: u64,
@@ -55,7 +56,10 @@ impl Total {
 
     /// The data bytes of a frame, each behind its ID.
     pub fn add_pairs(&mut self, bytes: &FrameBytes)
-        ensures count { self.new.count ≡ (self.old.count + length bytes.now) % 2 ^ 64 }
+        ensures { self.new ≡ record {
+          count = (self.old.count + length bytes.now) % 2 ^ 64;
+          digest = digest_of_pairs self.old.digest bytes.now;
+        } }
     {
         for i in 0..bytes.len() {
             if let Some((id, byte)) = bytes.get(i) {

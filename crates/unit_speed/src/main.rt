@@ -10,7 +10,7 @@ mod rounds;
 use etm_types::Settings;
 use program_image::Image;
 use program_image::text::{decimal, next_word};
-use rounds::{begin, retire_round, run_round};
+use rounds::{P0_STEPS, ROUND, begin, retire_round, run_round};
 use std::alloc::Global;
 use trace_io::{SafeSource, StdSource, read_all};
 use trace_unit::{Unit, UnitFault};
@@ -25,6 +25,9 @@ const PROGRAM: &[u8] = b"@1000
 /// The longest input.
 const LIMIT: usize = 64;
 
+/// The most addresses on the return stack.
+const STACK: usize = 15;
+
 fn main(rt: HostRuntime) -> Result<(), anyhow::Error> {
     let alloc = rt.alloc();
     let input = read_all(alloc, &mut StdSource::new(rt.stdin()), LIMIT)?;
@@ -37,7 +40,10 @@ fn main(rt: HostRuntime) -> Result<(), anyhow::Error> {
     let image = Image::read(alloc, &mut SafeSource::new(PROGRAM.to_vec(alloc)?, 4096))?;
     let settings = Settings::new(u32::try_from(depth)?, 0, 0)?;
     let (events, bytes) = traced(alloc, &image, &settings, rounds)?;
-    println!(rt; "{events} {} {bytes}", rounds.wrapping_mul(15))?;
+    println!(rt;
+        "{events} {} {bytes}",
+        rounds.wrapping_mul(u64::from(ROUND))
+    )?;
     Ok(())
 }
 
@@ -57,7 +63,7 @@ fn traced(
     rounds: u64,
 ) -> Result<(u64, usize), UnitFault> {
     let mut bytes = Vec::new(alloc);
-    let Ok(mut unit) = Unit::new(alloc, settings, 15) else {
+    let Ok(mut unit) = Unit::new(alloc, settings, STACK) else {
         return Err(UnitFault::Memory);
     };
     match run_rounds(&mut unit, image, settings.depth(), rounds, &mut bytes) {
@@ -72,7 +78,7 @@ fn traced(
     }
 }
 
-/// Runs the rounds, and tells how many events they had. As many rounds are held as the depth has room for.
+/// Runs the rounds, and tells how many events they had. Half the depth is held: a round has four P0 steps.
 fn run_rounds(
     unit: &mut Unit,
     image: &Image,
@@ -80,7 +86,7 @@ fn run_rounds(
     rounds: u64,
     bytes: &mut Vec<u8>,
 ) -> Result<u64, UnitFault> {
-    let held = u64::from(depth / 8);
+    let held = u64::from(depth / (2 * P0_STEPS));
     begin(unit, image, bytes)?;
     let mut events: u64 = 1;
     for round in 0..rounds {

@@ -12,7 +12,10 @@ use spec_run::Event;
 use trace_unit::{Unit, UnitFault};
 
 /// The instructions of a round.
-const ROUND: u32 = 15;
+pub const ROUND: u32 = 15;
+
+/// The P0 steps of a round: its call, its return, the branch that may be predicted wrongly, and the branch back.
+pub const P0_STEPS: u32 = 4;
 
 /// Where the loop begins, and where its call returns to.
 const LOOP: u64 = 0x1000;
