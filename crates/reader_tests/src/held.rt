@@ -1,4 +1,4 @@
-//! The queue of held elements: each public call once, that it can succeed, and what it gives on lists of elements worked out by hand.
+//! The queue of held elements: each method once, that it can succeed, and what it gives on lists of elements worked out by hand.
 use element_queue::*;
 use etm_types::{Ctx, Entry, P0, Pre, QueueFault};
 use std::test::Fail;
@@ -125,6 +125,28 @@ fn trace_is_missing_behind_what_was_not_seen(rt: HostRuntime) -> Result<(), Fail
         }
     );
     assert_eq!(rt; queue.close().counts().lost, 2);
+    Ok(())
+}
+
+#[test]
+fn the_atom_that_is_committed_next_is_told(rt: HostRuntime) -> Result<(), Fail> {
+    let mut queue = Queue::new(rt.alloc(), 2)?;
+    queue.push(INTERRUPT);
+    assert_eq!(rt; queue.oldest_atom(), None);
+    queue.commit_one();
+    queue.note(PreElem::Addr(0x1000));
+    queue.push(TAKEN);
+    let oldest = Some(AtomEntry {
+        addr: Some(0x1000),
+        taken: true,
+    });
+    assert_eq!(rt; queue.oldest_atom(), oldest);
+    assert_eq!(rt; queue.next_committed(false), None);
+    assert!(rt; queue.has_room());
+    queue.push(NOT_TAKEN);
+    assert!(rt; !queue.has_room());
+    assert_eq!(rt; queue.next_committed(false), oldest);
+    queue.close();
     Ok(())
 }
 

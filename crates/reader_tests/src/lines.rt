@@ -1,5 +1,5 @@
-//! Lines: each public call once, with the largest numbers, and that a line is one write. Which text a value has is shown by
-//! `proofs/Examples.antt` of `path_text` and the files beside it.
+//! Lines: each public call but the law once, with the largest numbers, and that a line is one write. Which text a value has is
+//! shown by `proofs/Examples.antt` of `path_text` and the files beside it.
 ghost use Rattle.path_text.specs.PacketLines.{HasText};
 
 use etm_types::{AddrForm, AtomRun, Ctx, CtxBits, ExcMark, Id, WalkFault, Walked};
@@ -82,9 +82,16 @@ fn a_path_has_its_lines(rt: HostRuntime) -> Result<(), Fail> {
         ..block(0xffec, 6)
     };
     let last = block(0xffff_ffff_ffff_fff8, 3);
-    assert_eq!(rt; write_walked(id, &first, &mut shown, &mut sink), Ok(()));
+    let mut line = AddressLine::new(id);
+    assert_eq!(rt;
+        write_walked_on(&mut line, &first, &mut shown, &mut sink),
+        Ok(())
+    );
     assert_eq!(rt; write_gap(id, &mut sink), Ok(()));
-    assert_eq!(rt; write_walked(id, &last, &mut shown, &mut sink), Ok(()));
+    assert_eq!(rt;
+        write_walked_on(&mut line, &last, &mut shown, &mut sink),
+        Ok(())
+    );
     assert_eq!(rt; write_stop(id, &mut sink), Ok(()));
     let fault = Fault::Walk(WalkFault::ReturnMissed {
         addr: 0x1004,
@@ -156,6 +163,47 @@ fn a_path_ends_where_a_write_fails(rt: HostRuntime) -> Result<(), Fail> {
         Err(Failed)
     );
     let lines = b"01 ctx el0 ns 0 0\n01 1000\n";
+    assert_eq!(rt; sink.written(), lines.as_slice());
+    Ok(())
+}
+
+#[test]
+fn an_address_has_its_line(rt: HostRuntime) -> Result<(), Fail> {
+    let id = Id::new(111).ok_or("it is an ID")?;
+    let mut sink = MemSink::new(rt.alloc(), Vec::new(rt.alloc()));
+    let mut line = AddressLine::new(id);
+    assert!(rt; line.id() == id);
+    for address in [0xffff, 0x1_0000, 0x1_0004, u64::MAX] {
+        line.move_to(address);
+        assert_eq!(rt; line.write(&mut sink), Ok(()));
+    }
+    assert_eq!(rt;
+        sink.written(),
+        b"6f ffff\n6f 10000\n6f 10004\n6f ffffffffffffffff\n".as_slice()
+    );
+    Ok(())
+}
+
+#[test]
+fn a_line_is_put_together(rt: HostRuntime) -> Result<(), Fail> {
+    let id = Id::new(111).ok_or("it is an ID")?;
+    let mut sink = MemSink::new(rt.alloc(), Vec::new(rt.alloc()));
+    let mut line = Line::begin(id);
+    line.byte(0x0a);
+    line.hex(0xfedc_ba98_7654_3210);
+    line.text(b" ");
+    line.hex_u32(u32::MAX);
+    line.text(b" ");
+    line.decimal_u8(u8::MAX);
+    assert_eq!(rt; line.write(&mut sink), Ok(()));
+    let mut line = Line::new();
+    line.decimal(u64::MAX);
+    line.text(b" ");
+    line.decimal_u32(u32::MAX);
+    assert_eq!(rt; line.write(&mut sink), Ok(()));
+    let packet = Packet::On;
+    assert_eq!(rt; write_packet_line(id, 7, &packet, &mut sink), Ok(()));
+    let lines = b"6f 0afedcba9876543210 ffffffff 255\n18446744073709551615 4294967295\n6f 7 on\n";
     assert_eq!(rt; sink.written(), lines.as_slice());
     Ok(())
 }

@@ -1,6 +1,6 @@
-//! The packet reader: each call once, and the bytes at which readers go wrong.
+//! The packet reader: each method once, and the bytes at which readers go wrong.
 use etm_types::{AddrForm, AtomRun, CtxBits, Settings};
-use packet_grammar::{Packet, PacketFault};
+use packet_grammar::{End, Packet, PacketFault};
 use packet_reader::*;
 
 /// The answer to the last of the bytes behind an A-sync, in a reader of a VMID of one byte and a context
@@ -26,17 +26,16 @@ fn last_answer(bytes: &[u8]) -> Option<Step> {
 fn more_zeros_than_an_a_sync_has_are_skipped(rt: HostRuntime) {
     let settings = Settings::new(16, 0, 0).expect(&rt, "settings");
     let mut reader = PacketReader::new(&settings);
+    assert_eq!(rt; reader.end_without_fault(), End::NoSync);
     for _ in 0..12 {
-        if reader.taken() < 100 {
-            assert_eq!(rt; reader.take(0), Step::Skipped);
-        }
+        assert!(rt; reader.taken() < 100);
+        assert_eq!(rt; reader.take(0), Step::Skipped);
     }
-    if reader.taken() < 100 {
-        let packet = Packet::Async;
-        assert_eq!(rt; reader.take(0x80), Step::Whole { at: 1, packet });
-        assert!(rt; reader.synced());
-        assert_eq!(rt; reader.rest(), 0);
-    }
+    assert!(rt; reader.taken() < 100);
+    let packet = Packet::Async;
+    assert_eq!(rt; reader.take(0x80), Step::Whole { at: 1, packet });
+    assert!(rt; reader.synced());
+    assert_eq!(rt; reader.rest(), 0);
 }
 
 #[test]
@@ -142,15 +141,32 @@ fn atoms_are_taken_at_once_between_packets(rt: HostRuntime) {
     let settings = Settings::new(16, 1, 4).expect(&rt, "settings");
     let mut reader = PacketReader::new(&settings);
     for byte in [0, 0, 0, 0, 0, 0, 0, 0, 0, 0, 0, 0x80] {
-        if reader.taken() < 100 {
-            assert_eq!(rt; reader.take_atoms(0xf7), None);
-            reader.take(byte);
-        }
+        assert!(rt; reader.taken() < 100);
+        assert_eq!(rt; reader.take_atoms(0xf7), None);
+        reader.take(byte);
     }
-    if reader.taken() < 100 {
-        let run = AtomRun { count: 1, bits: 1 };
-        assert_eq!(rt; reader.take_atoms(0xf7), Some((12, run)));
-        assert_eq!(rt; reader.take_atoms(0x04), None);
-        assert_eq!(rt; reader.taken(), 13);
+    assert!(rt; reader.taken() < 100);
+    let run = AtomRun { count: 1, bits: 1 };
+    assert_eq!(rt; reader.take_atoms(0xf7), Some((12, run)));
+    assert_eq!(rt; reader.take_atoms(0x04), None);
+    assert_eq!(rt; reader.taken(), 13);
+}
+
+#[test]
+fn a_commit_is_taken_at_once_or_by_its_last_byte(rt: HostRuntime) {
+    let settings = Settings::new(16, 1, 4).expect(&rt, "settings");
+    let mut reader = PacketReader::new(&settings);
+    for byte in [0, 0, 0, 0, 0, 0, 0, 0, 0, 0, 0, 0x80] {
+        assert!(rt; reader.taken() < 100);
+        reader.take(byte);
     }
+    assert!(rt; reader.taken() < 100);
+    match reader.take_commit(&[0x2d, 0x05, 0xf7]) {
+        Some((at, count, behind)) => assert_eq!(rt; (at, count, behind.len()), (12, 5, 1)),
+        None => assert!(rt; false),
+    }
+    assert!(rt; reader.taken() < 100);
+    assert_eq!(rt; reader.take(0x2d), Step::More);
+    assert!(rt; reader.taken() < 100);
+    assert_eq!(rt; reader.take_commit_end(0x07), Some((14, 7)));
 }

@@ -42,6 +42,15 @@ fn block(on: bool, ctx: Ctx, start: u64, count: u64) -> Option<Walked> {
     })
 }
 
+/// A block with an exception of this kind behind it, which returns to an address.
+fn interrupted(block: Option<Walked>, kind: u8, ret: u64) -> Option<Walked> {
+    let walked = block?;
+    Some(Walked {
+        exc: Some(ExcMark { kind, ret }),
+        ..walked
+    })
+}
+
 #[test]
 fn two_blocks_and_a_plain_step(rt: HostRuntime) {
     let mut path = RetiredPath::new();
@@ -84,17 +93,7 @@ fn exceptions(rt: HostRuntime) {
     path.begin();
     assert_eq!(rt;
         path.retire(&step(0x2000, PROGRAM, StepKind::Exc { kind: 3 }, 0x8000)),
-        Some(Walked {
-            on: true,
-            unknown: false,
-            ctx: PROGRAM,
-            start: 0x2000,
-            count: 0,
-            exc: Some(ExcMark {
-                kind: 3,
-                ret: 0x2000,
-            }),
-        })
+        interrupted(block(true, PROGRAM, 0x2000, 0), 3, 0x2000)
     );
     assert_eq!(rt;
         path.retire(&step(0x8000, HANDLER, StepKind::Plain, 0x8004)),
@@ -110,16 +109,6 @@ fn exceptions(rt: HostRuntime) {
     );
     assert_eq!(rt;
         path.retire(&step(0x2004, PROGRAM, StepKind::Exc { kind: 14 }, 0x8000)),
-        Some(Walked {
-            on: false,
-            unknown: false,
-            ctx: PROGRAM,
-            start: 0x2000,
-            count: 1,
-            exc: Some(ExcMark {
-                kind: 14,
-                ret: 0x2004,
-            }),
-        })
+        interrupted(block(false, PROGRAM, 0x2000, 1), 14, 0x2004)
     );
 }

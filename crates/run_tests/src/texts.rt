@@ -2,7 +2,7 @@
 ghost use Rattle.std.specs.Prelude.{◌≤◌, length};
 ghost use Rattle.bench_text.specs.Refusals.{most_text};
 
-use bench_text::{Bench, BenchFault, BenchLine, BenchWhy, Weave};
+use bench_text::{Bench, BenchFault, BenchLine, BenchWhy};
 use etm_types::{Ctx, Id};
 use spec_run::{Event, RunFault};
 use std::alloc::Global;
@@ -16,6 +16,12 @@ fn fault(alloc: Global, text: &[u8]) -> Option<(u64, BenchWhy)>
         Err(BenchFault::Bad { line, why }) => Some((line, why)),
         _ => None,
     }
+}
+
+/// The ID and the count of the `k`-th weave.
+fn weave_of(bench: &Bench, k: usize) -> Option<(u8, u32)> {
+    let weave = bench.weave_at(k)?;
+    Some((weave.id.get(), weave.count))
 }
 
 #[test]
@@ -52,14 +58,9 @@ fn a_run_file_has_its_parts(rt: HostRuntime) -> Result<(), Fail> {
     assert_eq!(rt; bench.line_at(0, 1).copied(), Some(step));
     assert_eq!(rt; bench.line_at(0, 2).copied(), None);
     assert_eq!(rt; bench.line_at(1, 0).copied(), None);
-    let weaves = [bench.weave_at(0), bench.weave_at(1), bench.weave_at(2)];
-    let counts = [Some((0x6f, 1_048_576)), Some((1, 2)), None];
-    for (weave, count) in weaves.into_iter().zip(counts) {
-        assert_eq!(rt;
-            weave.map(|weave: Weave| (weave.id.get(), weave.count)),
-            count
-        );
-    }
+    assert_eq!(rt; weave_of(&bench, 0), Some((0x6f, 1_048_576)));
+    assert_eq!(rt; weave_of(&bench, 1), Some((1, 2)));
+    assert_eq!(rt; weave_of(&bench, 2), None);
     Ok(())
 }
 
