@@ -47,6 +47,24 @@ class Framer:
         return bytes(self.frames)
 
 
+def bytes_in(frames):
+    """The bytes of the one source in frames."""
+    found, source = bytearray(), 0
+    for at in range(0, len(frames), PLACES + 1):
+        following = source
+        for place, byte in enumerate(frames[at:at + PLACES]):
+            bit = frames[at + PLACES] >> place // 2 & 1
+            if place % 2 == 0 and byte & 1:  # an ID, which holds behind the next byte where the bit is set
+                following = byte >> 1
+                source = source if bit else following
+                continue
+            if source:
+                found.append(byte if place % 2 else byte | bit)
+            source = following
+        source = following
+    return bytes(found)
+
+
 def frames_of(streams):
     """The frames of streams, pairs of an ID and bytes, that write in turn."""
     rng, framer = random.Random(SEED), Framer()

@@ -84,12 +84,22 @@ def writes_of(words, capture, room):
         return sum(call.startswith("write(1,") for call in calls)
 
 
+def built(crate, *words):
+    """Has `rt run` build the program of a crate's folder, and run it with these words. Ends with a line where `rt` is not there."""
+    if shutil.which("rt") is None:
+        sys.exit(f"{sys.argv[0]}: the toolchain's command rt, which builds {os.path.basename(crate)}, was not found")
+    ran = subprocess.run(["rt", "run", *words], cwd=crate, stdin=subprocess.DEVNULL, capture_output=True, text=True)
+    if ran.returncode != 0:
+        sys.exit(ran.stdout + ran.stderr)
+
+
 def compiled(name, room, *libraries):
-    """The C program of this folder, compiled, or None where no compiler is found or a library is missing."""
+    """The C program of this folder, compiled; or None, and a line, where no compiler is found or a library is missing."""
     compiler = shutil.which("cc")
     program = os.path.join(room, name)
     source = os.path.join(os.path.dirname(os.path.realpath(__file__)), name + ".c")
     if compiler is None or subprocess.run([compiler, "-O2", "-o", program, source, *libraries]).returncode != 0:
+        print(f"{sys.argv[0]}: nothing is compared with {name}.c: cc, or what it needs, was not found")
         return None
     return program
 
