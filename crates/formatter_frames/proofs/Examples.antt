@@ -1,7 +1,7 @@
 -- Frames that were worked out by hand, in both directions.
-use Rattle.std.proofs.Common.{◌≡◌, ℕ, List, [], ◌∷◌, ◌++◌, map, refl}
+use Rattle.std.proofs.Common.{◌≡◌, ℕ, List, [], ◌∷◌, ◌++◌, refl}
 use Rattle.std.specs.Prelude.{Option, Some, None, replicate}
-use Rattle.formatter_frames.specs.Symbols.{pairs_of, id_after}
+use Rattle.formatter_frames.specs.Symbols.{pairs_of, id_after, run_of}
 use Rattle.formatter_frames.specs.Frame.{symbols_in}
 use Rattle.formatter_frames.specs.Framed.{framed}
 use Rattle.formatter_frames.specs.Unframed.{begun_frame, unframed}
@@ -14,9 +14,6 @@ carried current frame = pairs_of current (symbols_in frame)
 abbrev after : Option ℕ → List ℕ → Option ℕ
 after current frame = id_after current (symbols_in frame)
 
-abbrev all_of : ℕ → List ℕ → List (ℕ × ℕ)
-all_of id bytes = map (λ byte. (id, byte)) bytes
-
 -- ---- IDs, the low bits of data bytes, and an ID of which the byte after it is not yet
 
 abbrev mixed : List ℕ
@@ -24,7 +21,7 @@ mixed =
     0x03 ∷ 0x11 ∷ 0x22 ∷ 0x33 ∷ 0x44 ∷ 0x55 ∷ 0x66 ∷ 0x77 ∷ 0x88 ∷ 0x99 ∷ 0xaa ∷ 0xbb ∷ 0x05 ∷ 0xcc ∷ 0x07 ∷ 0x42 ∷ []
 
 mixed_carries : carried None mixed
-    ≡ all_of 1 (0x11 ∷ 0x23 ∷ 0x33 ∷ 0x44 ∷ 0x55 ∷ 0x66 ∷ 0x77 ∷ 0x88 ∷ 0x99 ∷ 0xaa ∷ 0xbb ∷ 0xcc ∷ [])
+    ≡ run_of 1 (0x11 ∷ 0x23 ∷ 0x33 ∷ 0x44 ∷ 0x55 ∷ 0x66 ∷ 0x77 ∷ 0x88 ∷ 0x99 ∷ 0xaa ∷ 0xbb ∷ 0xcc ∷ [])
 mixed_carries = refl
 
 after_mixed : after None mixed ≡ Some 3
@@ -37,18 +34,18 @@ abbrev new_at_6 : ℕ → List ℕ
 new_at_6 auxiliary = replicate 6 0x10 ++ 0x0b ∷ (replicate 8 0x10 ++ auxiliary ∷ [])
 
 -- its auxiliary bit is 0: the byte after it is of the new ID
-at_once : carried (Some 2) (new_at_6 0) ≡ all_of 2 (replicate 6 0x10) ++ all_of 5 (replicate 8 0x10)
+at_once : carried (Some 2) (new_at_6 0) ≡ run_of 2 (replicate 6 0x10) ++ run_of 5 (replicate 8 0x10)
 at_once = refl
 
 -- the bit is 1: that byte is of the ID before
-one_later : carried (Some 2) (new_at_6 8) ≡ all_of 2 (replicate 7 0x10) ++ all_of 5 (replicate 7 0x10)
+one_later : carried (Some 2) (new_at_6 8) ≡ run_of 2 (replicate 7 0x10) ++ run_of 5 (replicate 7 0x10)
 one_later = refl
 
 -- no ID holds before it, so that the bytes before it are passed over
-none_before : carried None (new_at_6 0) ≡ all_of 5 (replicate 8 0x10)
+none_before : carried None (new_at_6 0) ≡ run_of 5 (replicate 8 0x10)
 none_before = refl
 
-none_before_nor_after : carried None (new_at_6 8) ≡ all_of 5 (replicate 7 0x10)
+none_before_nor_after : carried None (new_at_6 8) ≡ run_of 5 (replicate 7 0x10)
 none_before_nor_after = refl
 
 -- ---- byte 14
@@ -57,17 +54,17 @@ abbrev last_is : ℕ → ℕ → List ℕ
 last_is byte auxiliary = replicate 14 0x10 ++ byte ∷ auxiliary ∷ []
 
 -- an ID there holds from the next frame on, whatever its auxiliary bit
-id_at_14 : carried (Some 2) (last_is 0x0b 0) ≡ all_of 2 (replicate 14 0x10)
+id_at_14 : carried (Some 2) (last_is 0x0b 0) ≡ run_of 2 (replicate 14 0x10)
 id_at_14 = refl
 
-id_at_14_with_its_bit : carried (Some 2) (last_is 0x0b 0x80) ≡ all_of 2 (replicate 14 0x10)
+id_at_14_with_its_bit : carried (Some 2) (last_is 0x0b 0x80) ≡ run_of 2 (replicate 14 0x10)
 id_at_14_with_its_bit = refl
 
 after_id_at_14 : after (Some 2) (last_is 0x0b 0x80) ≡ Some 5
 after_id_at_14 = refl
 
 -- a data byte there has its low bit from the auxiliary byte
-data_at_14 : carried (Some 2) (last_is 0x20 0x80) ≡ all_of 2 (replicate 14 0x10 ++ 0x21 ∷ [])
+data_at_14 : carried (Some 2) (last_is 0x20 0x80) ≡ run_of 2 (replicate 14 0x10 ++ 0x21 ∷ [])
 data_at_14 = refl
 
 after_data_at_14 : after (Some 2) (last_is 0x20 0x80) ≡ Some 2
@@ -108,7 +105,7 @@ nothing_begun : unframed (0x03 ∷ 0x11 ∷ []) ≡ []
 nothing_begun = refl
 
 -- the ID that a frame leaves holds in the next one, which tells none
-goes_on : unframed (mixed ++ replicate 16 0x10) ≡ carried None mixed ++ all_of 3 (replicate 8 0x10 ++ 0x11 ∷ replicate 6 0x10)
+goes_on : unframed (mixed ++ replicate 16 0x10) ≡ carried None mixed ++ run_of 3 (replicate 8 0x10 ++ 0x11 ∷ replicate 6 0x10)
 goes_on = refl
 
 -- and not before the frame that tells it

@@ -8,3 +8,4 @@ pub mod Ranges
 pub mod RoundTrip
 pub mod Writing
 pub mod Examples
+pub mod Zipped

@@ -1,5 +1,5 @@
 -- What frames carry: new IDs, and data bytes of the ID that holds (Arm CoreSight architecture, IHI 0029, the trace formatter).
-use Rattle.std.specs.Prelude.{ℕ, List, [], ◌∷◌, ◌++◌, Option, Some, None, if◌then◌else◌, ◌==◌}
+use Rattle.std.specs.Prelude.{ℕ, List, [], ◌∷◌, ◌++◌, map, Option, Some, None, if◌then◌else◌, ◌==◌}
 use Rattle.formatter_frames.specs.declared.symbol.Symbol.{Symbol}
 use Rattle.formatter_frames.specs.declared.symbol.Symbol.TheVariants.{NewId, Data}
 
@@ -25,3 +25,7 @@ told (Some current) id = if current == id then [] else NewId id ∷ []
 abbrev pub symbols_of : Option ℕ → List (ℕ × ℕ) → List Symbol
 symbols_of current [] = []
 symbols_of current (pair ∷ pairs) = told current pair.0 ++ Data pair.1 ∷ symbols_of (Some pair.0) pairs
+
+-- bytes of one ID
+abbrev pub run_of : ℕ → List ℕ → List (ℕ × ℕ)
+run_of id bytes = map (λ (byte : ℕ). (id, byte)) bytes

@@ -6,7 +6,7 @@
 //!
 //! The layers above use these contracts:
 //! - [`unpack`]: the data bytes of one frame, each with its ID, and the ID that holds after it.
-//! - [`FrameReader`]: the same of frames that come byte by byte.
+//! - [`FrameReader`]: the same of frames that come by pieces.
 //! - [`FrameWriter`]: the frames of the pairs of ID and byte that are pushed, one after the other.
 //! - the laws: what unframing gives of framed pairs, and how it goes on from frame to frame.
 #![tactic(auto)]

@@ -63,8 +63,8 @@ fn pairs_byte_by_byte(alloc: Global, bytes: &[u8]) -> Result<(Vec<(u8, u8)>, Vec
     let mut reader = FrameReader::new();
     let mut pairs = Vec::new(alloc);
     let mut left = Vec::new(alloc);
-    for byte in bytes {
-        if let Some(gained) = reader.take(*byte) {
+    for byte in bytes.chunks(1) {
+        if let (_, Some(gained)) = reader.take(byte) {
             for i in 0..gained.len() {
                 pairs.push(gained.get(i).ok_or("it is in range")?)?;
             }
@@ -164,6 +164,36 @@ fn a_stream_comes_back_byte_by_byte(rt: HostRuntime) -> Result<(), Fail> {
     for (i, count) in left.iter().enumerate() {
         assert_eq!(rt; *count as usize, (i + 1) % FRAME_BYTES, "after {i}");
     }
+    Ok(())
+}
+
+#[test]
+fn a_piece_is_taken_up_to_the_end_of_the_frame(rt: HostRuntime) {
+    let piece = [0x10; 2 * FRAME_BYTES];
+    let mut reader = FrameReader::new();
+    let (begun, none) = reader.take(&piece[..5]);
+    assert_eq!(rt; (begun, none.is_none(), reader.left()), (5, true, 5));
+    let (filled, frame) = reader.take(&piece);
+    assert_eq!(rt; (filled, frame.is_some(), reader.left()), (11, true, 0));
+    let (next, full) = reader.take(&piece[filled..]);
+    assert_eq!(rt;
+        (next, full.is_some(), reader.left()),
+        (FRAME_BYTES, true, 0)
+    );
+}
+
+#[test]
+fn bytes_of_one_id_come_at_once(rt: HostRuntime) -> Result<(), Fail> {
+    let frames = frames_of(rt.alloc(), &[(1, 0x10), (1, 0x21), (2, 0x30)])?;
+    let mut frame = [0; FRAME_BYTES];
+    for (at, byte) in frames.iter().enumerate() {
+        frame[at % FRAME_BYTES] = *byte;
+    }
+    let bytes = unpack(&frame, &mut None);
+    assert_eq!(rt; bytes.run_at(0), Some((1, [0x10, 0x21].as_slice())));
+    assert_eq!(rt; bytes.run_at(1), Some((1, [0x21].as_slice())));
+    assert_eq!(rt; bytes.run_at(2), Some((2, [0x30].as_slice())));
+    assert_eq!(rt; bytes.run_at(bytes.len()), None);
     Ok(())
 }
 

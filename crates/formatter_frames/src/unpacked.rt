@@ -1,6 +1,6 @@
 //! One frame taken apart.
-ghost use Rattle.std.specs.Prelude.{◌≡◌, ℕ, ◌+◌, ◌≤◌, ◌<◌, [], ◌∷◌, ◌++◌, length, slice_get, IfSome, IsNone, ◌↔◌};
-ghost use Rattle.formatter_frames.specs.Symbols.{pairs_of, id_after};
+ghost use Rattle.std.specs.Prelude.{◌≡◌, ℕ, ◌+◌, ◌≤◌, ◌<◌, [], ◌∷◌, ◌++◌, ◌≢◌, length, take, drop, slice_get, Some, IfSome, IsNone, ◌↔◌};
+ghost use Rattle.formatter_frames.specs.Symbols.{pairs_of, id_after, run_of};
 ghost use Rattle.formatter_frames.specs.Frame.{symbols_in};
 
 use crate::frame::{
@@ -13,20 +13,22 @@ use std::marker::Model;
 /// and byte.
 #[derive(Drop)]
 pub struct FrameBytes {
-    pairs: [(u8, u8); SYMBOLS],
+    ids: [u8; SYMBOLS],
+    bytes: [u8; SYMBOLS],
     count: usize,
 }
 
 impl Model for FrameBytes {
     ghost use Rattle.std.specs.Prelude.{◌≡◌, ℕ, ◌≤◌, List, length, take, All};
+    ghost use Rattle.std.specs.List.{zip};
     ghost use Rattle.formatter_frames.specs.Sizes.{frame_symbols};
 
     ghost Value = { List (ℕ × ℕ) };
 
-    ghost view = { λ bytes. take bytes.count bytes.pairs };
+    ghost view = { λ b. take b.count (zip b.ids b.bytes) };
 
-    ghost invariant = { λ bytes. (bytes.count ≤ frame_symbols) × (length bytes.pairs ≡ frame_symbols)
-        × All (λ pair. pair.0 ≤ 127) bytes.pairs };
+    ghost invariant = { λ b. (b.count ≤ frame_symbols) × (length b.ids ≡ frame_symbols) × (length b.bytes ≡ frame_symbols)
+        × All (λ id. id ≤ 127) b.ids };
 }
 
 impl FrameBytes {
@@ -45,17 +47,38 @@ impl FrameBytes {
         ensures within { IfSome result (λ pair. pair.0 ≤ 127) }
     {
         if i < self.count {
-            Some(self.pairs[i])
+            Some((self.ids[i], self.bytes[i]))
         } else {
             None
         }
+    }
+
+    /// The bytes from `i` on, counted from 0, that have one ID, and that ID: as many as come before another ID.
+    #[inline(always)]
+    pub fn run_at(&self, i: usize) -> Option<(u8, &[u8])>
+        ensures none { IsNone result ↔ (length self.now ≤ i) }
+        ensures run { IfSome result (λ run. (0 < length run.1.now) × (take (length run.1.now) (drop i self.now) ≡ run_of run.0 run.1.now)) }
+        ensures most { length self.now ≤ SYMBOLS }
+        ensures longest { IfSome result (λ run. (next : ℕ × ℕ) → slice_get self.now (i + length run.1.now) ≡ Some next → next.0 ≢ run.0) }
+        ensures within { IfSome result (λ run. run.0 ≤ 127) }
+    {
+        if i >= self.count {
+            return None;
+        }
+        let id = self.ids[i];
+        let mut end = i + 1;
+        while end < self.count && self.ids[end] == id {
+            end += 1;
+        }
+        Some((id, &self.bytes[i..end]))
     }
 
     fn new() -> Self
         ensures { result ≡ [] }
     {
         FrameBytes {
-            pairs: [(0, 0); SYMBOLS],
+            ids: [0; SYMBOLS],
+            bytes: [0; SYMBOLS],
             count: 0,
         }
     }
@@ -73,7 +96,8 @@ impl FrameBytes {
             Symbol::NewId(id) => *current = Some(id.get()),
             Symbol::Data(byte) => {
                 if let Some(id) = *current {
-                    self.pairs[self.count] = (id, byte);
+                    self.ids[self.count] = id;
+                    self.bytes[self.count] = byte;
                     self.count += 1;
                 }
             }

@@ -6,7 +6,8 @@ use Rattle.std.proofs.lemmas.Bool.{eq-eqb}
 use Rattle.std.proofs.lemmas.Bool.Decides.{eqb_tells}
 use Rattle.std.proofs.lemmas.List.{map-append}
 use Rattle.std.proofs.lemmas.List.Folds.{concat-append}
-use Rattle.stream_demux.specs.Texts.{BodyFrom, Listing, PairGains, Printed, lines_under, of, text_of}
+use Rattle.formatter_frames.specs.Symbols.{run_of}
+use Rattle.stream_demux.specs.Texts.{BodyFrom, Listing, Printed, lines_under, of, text_of}
 
 -- ---- texts
 
@@ -29,22 +30,34 @@ of-append id [] ys = refl
 of-append id (pair ∷ xs) ys =
     ap (λ t. if pair.0 == id then pair.1 ∷ t else t) (of-append id xs ys) ∙ if_under (pair.0 == id) pair.1 (of id xs) (of id ys)
 
-pub of_this : (id byte : ℕ) (pairs : List (ℕ × ℕ)) → of id (pairs ++ (id, byte) ∷ []) ≡ of id pairs ++ byte ∷ []
-of_this id byte pairs = of-append id pairs ((id, byte) ∷ []) ∙ ap (λ t. of id pairs ++ (if t then byte ∷ [] else [])) (eq-eqb id id refl)
-
 differ : (a b : ℕ) → a ≢ b → (a == b) ≡ false
 differ a b differs = elim (eqb_tells a b) [ inl same ↦ absurd (differs same.1) | inr other ↦ other.0 ]
 
+-- bytes of one stream
+pub of_own : (id : ℕ) (run : List ℕ) → of id (run_of id run) ≡ run
+of_own id [] = refl
+of_own id (b ∷ run) = ap (λ t. if t then b ∷ of id (run_of id run) else of id (run_of id run)) (eq-eqb id id refl) ∙ ap (λ l. b ∷ l) (of_own id run)
+
+pub of_none : (id other : ℕ) (run : List ℕ) → other ≢ id → of id (run_of other run) ≡ []
+of_none id other [] differs = refl
+of_none id other (b ∷ run) differs =
+    ap (λ t. if t then b ∷ of id (run_of other run) else of id (run_of other run)) (differ other id differs) ∙ of_none id other run differs
+
+-- and behind others
+pub of_run : (id : ℕ) (run : List ℕ) (pairs : List (ℕ × ℕ)) → of id (pairs ++ run_of id run) ≡ of id pairs ++ run
+of_run id run pairs = of-append id pairs (run_of id run) ∙ ap (λ t. of id pairs ++ t) (of_own id run)
+
+pub of_other_run : (id other : ℕ) (run : List ℕ) (pairs : List (ℕ × ℕ)) → other ≢ id → of id (pairs ++ run_of other run) ≡ of id pairs
+of_other_run id other run pairs differs =
+    of-append id pairs (run_of other run) ∙ ap (λ t. of id pairs ++ t) (of_none id other run differs) ∙ append-nil (of id pairs)
+
+pub of_this : (id byte : ℕ) (pairs : List (ℕ × ℕ)) → of id (pairs ++ (id, byte) ∷ []) ≡ of id pairs ++ byte ∷ []
+of_this id byte pairs = of_run id (byte ∷ []) pairs
+
 pub of_other : (id other byte : ℕ) (pairs : List (ℕ × ℕ)) → other ≢ id → of id (pairs ++ (other, byte) ∷ []) ≡ of id pairs
-of_other id other byte pairs differs =
-    of-append id pairs ((other, byte) ∷ []) ∙ ap (λ t. of id pairs ++ (if t then byte ∷ [] else [])) (differ other id differs)
-    ∙ append-nil (of id pairs)
+of_other id other byte pairs differs = of_other_run id other (byte ∷ []) pairs differs
 
 -- ---- bodies
-
-pub body_one : (g : Listing) (before : List (ℕ × ℕ)) (pair : ℕ × ℕ) (lines : List (List ℕ)) → PairGains g before pair lines
-    → BodyFrom g before (pair ∷ []) (lines_under pair.0 lines)
-body_one g before pair lines gains = (lines, [], gains, refl, sym (append-nil (lines_under pair.0 lines)))
 
 pub body-append : (g : Listing) (before xs ys : List (ℕ × ℕ)) (lines more : List Printed) → BodyFrom g before xs lines → BodyFrom g (before ++ xs) ys more
     → BodyFrom g before (xs ++ ys) (lines ++ more)

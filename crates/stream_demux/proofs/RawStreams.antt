@@ -1,53 +1,35 @@
 -- One stream that is not framed.
-use Rattle.std.proofs.Common.{◌≡◌, ℕ, zero, suc, ◌+◌, ◌<◌, ◌==◌, if◌then◌else◌, Bool, true, false, List, [], ◌∷◌, Result}
-use Rattle.std.proofs.Common.{refl, sym, ap, subst, ◌∙◌, inl, inr, arith, append-nil}
+use Rattle.std.proofs.Common.{◌≡◌, ℕ, zero, suc, ◌+◌, ◌<◌, Bool, true, false, List, [], Result}
+use Rattle.std.proofs.Common.{refl, sym, subst, arith, append-nil}
 use Rattle.std.specs.Prelude.{IfOk, not, ◌||◌}
-use Rattle.std.specs.List.{concat, range_with_len}
-use Rattle.std.proofs.lemmas.Bool.Decides.{eqb_tells}
+use Rattle.std.specs.List.{range_with_len}
 use Rattle.std.proofs.lemmas.List.{map-append}
 use Rattle.etm_types.specs.Settings.{Sizes}
 use Rattle.path_text.specs.Writing.{Writes}
 use Rattle.stream_demux.specs.Demuxed.{Gains, raw_pairs}
-use Rattle.stream_demux.specs.Texts.{EndsOf, IsEnding, Listing, Printed, StreamEnds, lines_under, of, sources, text_of}
-use Rattle.stream_demux.proofs.Bodies.{body_one, text_under}
-use Rattle.stream_demux.proofs.Standing.{pair_gains}
+use Rattle.stream_demux.specs.Texts.{EndsOf, IsEnding, Listing, Printed, StreamEnds, of, sources, text_of}
+use Rattle.stream_demux.specs.Streams.{RunAdds}
+use Rattle.stream_demux.proofs.Bodies.{of_none, of_own}
+use Rattle.stream_demux.proofs.Runs.{source_adds}
 use Rattle.trace_io.specs.State.{IoState}
 
 -- ---- its bytes
 
 pub of_raw : (bytes : List ℕ) → of 1 (raw_pairs bytes) ≡ bytes
-of_raw [] = refl
-of_raw (b ∷ bytes) = ap (λ t. b ∷ t) (of_raw bytes)
-
-other_test : (id : ℕ) → 1 < id → (1 == id) ≡ false
-other_test id more = elim (eqb_tells 1 id) [ inl is ↦ absurd (omega (arith, is.1, more)) | inr other ↦ other.0 ]
+of_raw bytes = of_own 1 bytes
 
 pub of_raw_other : (id : ℕ) (bytes : List ℕ) → 1 < id → of id (raw_pairs bytes) ≡ []
-of_raw_other id [] more = refl
-of_raw_other id (b ∷ bytes) more =
-    ap (λ (t : Bool). if t then b ∷ of id (raw_pairs bytes) else of id (raw_pairs bytes)) (other_test id more) ∙ of_raw_other id bytes more
+of_raw_other id bytes more = of_none id 1 bytes (λ same. omega (arith, same, more))
 
--- ---- what a byte adds
-
-pub raw_gains : {T E : Type 0} (listing : Sizes → Listing) (t s : Sizes) (id byte : ℕ) (bytes : List ℕ) (lines : List (List ℕ))
-    (a b : IoState) (result : Result T E)
-    → id ≡ 1 → t ≡ s → (listing t).gains id bytes byte lines → Writes a b result (concat lines) → Gains raw_pairs (listing s) bytes (byte ∷ []) a b result
-raw_gains listing t s id byte bytes lines a b result named same gains writes =
-    let pair : ℕ × ℕ = (1, byte) in let g = listing s in
-    let own = subst (λ (l : List ℕ). (listing t).gains id l byte lines) (sym (of_raw bytes)) gains in
-    let adds = pair_gains listing t s 1 id byte (raw_pairs bytes) lines (omega arith, omega arith) named same own in
+-- what they add
+pub raw_run : {T E : Type 0} (listing : Sizes → Listing) (t s : Sizes) (id : ℕ) (bytes run : List ℕ) (a b : IoState) (result : Result T E)
+    → id ≡ 1 → t ≡ s → RunAdds (listing t) id bytes run a b result → Gains raw_pairs (listing s) bytes run a b result
+raw_run listing t s id bytes run a b result named same adds =
     record {
-      pairs = pair ∷ [];
-      grows = map-append (λ (x : ℕ). (1, x)) bytes (byte ∷ []);
-      adds = record {
-        took = pair ∷ [];
-        others = [];
-        parts = refl;
-        lines = lines_under 1 lines;
-        body = body_one g (raw_pairs bytes) pair lines adds;
-        writes = subst (Writes a b result) (sym (text_under 1 lines)) writes;
-        all = λ ok. refl;
-      };
+      pairs = raw_pairs run;
+      grows = map-append (λ (x : ℕ). (1, x)) bytes run;
+      adds = source_adds listing t s 1 id (raw_pairs bytes) run a b result (omega arith, omega arith) named same
+          (subst (λ (l : List ℕ). RunAdds (listing t) id l run a b result) (sym (of_raw bytes)) adds);
     }
 
 -- ---- how it ends

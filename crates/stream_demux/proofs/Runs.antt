@@ -1,16 +1,18 @@
 -- Bytes of one stream that were taken one after the other.
-use Rattle.std.proofs.Common.{◌≡◌, ℕ, List, [], ◌∷◌, ◌++◌, Some, Result, Ok, Err, refl, sym, ap, subst, ◌∙◌, append-nil, append_assoc}
+use Rattle.std.proofs.Common.{◌≡◌, ℕ, ◌+◌, ◌≤◌, Bool, false, List, [], ◌∷◌, ◌++◌, length, take, drop, arith, Some, Result, Ok, Err, refl, sym, ap, subst, ◌∙◌, append-nil, append_assoc}
 use Rattle.std.specs.List.{concat}
-use Rattle.std.proofs.lemmas.List.{map-append}
+use Rattle.std.proofs.Math.Seq.{take-add}
+use Rattle.std.proofs.lemmas.List.{length-drop, length-map, length-take, map-append}
 use Rattle.std.proofs.lemmas.List.Folds.{concat-append}
+use Rattle.etm_types.specs.Id.{IsId}
 use Rattle.etm_types.specs.Settings.{Sizes}
+use Rattle.formatter_frames.specs.Symbols.{run_of}
 use Rattle.path_text.proofs.Wrote.{Wrote, fails_after, wrote_more, wrote_nothing, writes_all}
 use Rattle.path_text.specs.Writing.{Writes}
-use Rattle.stream_demux.specs.Demuxed.{Gains, raw_pairs}
-use Rattle.stream_demux.specs.Streams.{RunAdds}
-use Rattle.stream_demux.specs.Texts.{BodyFrom, Listing, StreamBody, lines_under}
-use Rattle.stream_demux.proofs.Bodies.{text_under}
-use Rattle.stream_demux.proofs.RawStreams.{of_raw}
+use Rattle.stream_demux.specs.Streams.{Adds, RunAdds}
+use Rattle.stream_demux.specs.Texts.{BodyFrom, GainsIf, Listing, StreamBody, is_source, lines_under, of}
+use Rattle.stream_demux.proofs.Bodies.{of_run, text_under}
+use Rattle.stream_demux.proofs.Standing.{is_one}
 use Rattle.trace_io.specs.State.{IoState}
 
 -- ---- bodies
@@ -39,9 +41,6 @@ pub record RunWritten (g : Listing) (id : ℕ) (before run : List ℕ) (old new 
   pub lines : List (List ℕ)
   pub body : StreamBody g id before run lines
   pub wrote : Wrote old new (concat lines)
-
-pub no_run : (g : Listing) (id : ℕ) (before : List ℕ) (a : IoState) → RunWritten g id before [] a a
-no_run g id before a = record { lines = []; body = refl; wrote = wrote_nothing a }
 
 module _ (g : Listing) (id : ℕ) (before run : List ℕ) (a b c : IoState) (was : RunWritten g id before run a b) where
   -- a byte more
@@ -83,39 +82,64 @@ run_added g id before run a b x was =
       all = λ ok. refl;
     }
 
--- ---- one stream that is not framed
+-- ---- one stream among others
 
 under-append : (id : ℕ) (xs ys : List (List ℕ)) → lines_under id (xs ++ ys) ≡ lines_under id xs ++ lines_under id ys
 under-append id xs ys = map-append (λ (line : List ℕ). record { id = Some id; line = line }) xs ys
 
-raw_body : (g : Listing) (before bytes : List ℕ) (lines : List (List ℕ)) → StreamBody g 1 before bytes lines
-    → BodyFrom g (raw_pairs before) (raw_pairs bytes) (lines_under 1 lines)
-raw_body g before [] lines none = ap (lines_under 1) none
-raw_body g before (b ∷ bytes) lines (first, rest, gains, later, is) = (
+-- the lines of bytes of a source
+run_body : (g : Listing) (id : ℕ) → IsId id → (pairs : List (ℕ × ℕ)) (before run : List ℕ) (lines : List (List ℕ)) → of id pairs ≡ before
+    → StreamBody g id before run lines → BodyFrom g pairs (run_of id run) (lines_under id lines)
+run_body g id is pairs before [] lines same none = ap (lines_under id) none
+run_body g id is pairs before (b ∷ run) lines same (first, rest, gains, later, all) = (
   first,
-  lines_under 1 rest,
-  subst (λ (l : List ℕ). g.gains 1 l b first) (sym (of_raw before)) gains,
-  subst (λ p. BodyFrom g p (raw_pairs bytes) (lines_under 1 rest)) (map-append (λ (x : ℕ). (1, x)) before (b ∷ []))
-      (raw_body g (before ++ b ∷ []) bytes rest later),
-  ap (lines_under 1) is ∙ under-append 1 first rest,
+  lines_under id rest,
+  subst (λ (t : Bool). GainsIf t g pairs (id, b) first) (sym (is_one id is)) (subst (λ (l : List ℕ). g.gains id l b first) (sym same) gains),
+  run_body g id is (pairs ++ (id, b) ∷ []) (before ++ b ∷ []) run rest (of_run id (b ∷ []) pairs ∙ ap (λ (l : List ℕ). l ++ b ∷ []) same) later,
+  ap (lines_under id) all ∙ under-append id first rest,
 )
 
--- what its bytes add
-pub raw_run : {T E : Type 0} (listing : Sizes → Listing) (t s : Sizes) (id : ℕ) (bytes run : List ℕ) (a b : IoState) (result : Result T E)
-    → id ≡ 1 → t ≡ s → RunAdds (listing t) id bytes run a b result → Gains raw_pairs (listing s) bytes run a b result
-raw_run listing t s id bytes run a b result named same adds =
-    let body = subst (λ (u : Sizes). StreamBody (listing u) 1 bytes adds.took adds.lines) same
-    (subst (λ (i : ℕ). StreamBody (listing t) i bytes adds.took adds.lines) named adds.body) in
+-- and of no source
+no_body : (g : Listing) (id : ℕ) → is_source id ≡ false → (pairs : List (ℕ × ℕ)) (run : List ℕ) → BodyFrom g pairs (run_of id run) []
+no_body g id none pairs [] = refl
+no_body g id none pairs (b ∷ run) =
+    ([], [], subst (λ (t : Bool). GainsIf t g pairs (id, b) []) (sym none) refl, no_body g id none (pairs ++ (id, b) ∷ []) run, refl)
+
+pub source_adds : {T E : Type 0} (listing : Sizes → Listing) (t s : Sizes) (id given : ℕ) (pairs : List (ℕ × ℕ)) (run : List ℕ) (a b : IoState) (result : Result T E)
+    → IsId id → given ≡ id → t ≡ s → RunAdds (listing t) given (of id pairs) run a b result → Adds (listing s) pairs (run_of id run) a b result
+source_adds listing t s id given pairs run a b result is named same adds =
+    let body = subst (λ (u : Sizes). StreamBody (listing u) id (of id pairs) adds.took adds.lines) same
+    (subst (λ (i : ℕ). StreamBody (listing t) i (of id pairs) adds.took adds.lines) named adds.body) in
     record {
-      pairs = raw_pairs run;
-      grows = map-append (λ (x : ℕ). (1, x)) bytes run;
-      adds = record {
-        took = raw_pairs adds.took;
-        others = raw_pairs adds.others;
-        parts = ap raw_pairs adds.parts ∙ map-append (λ (x : ℕ). (1, x)) adds.took adds.others;
-        lines = lines_under 1 adds.lines;
-        body = raw_body (listing s) bytes adds.took adds.lines body;
-        writes = subst (Writes a b result) (sym (text_under 1 adds.lines)) adds.writes;
-        all = λ ok. ap raw_pairs (adds.all ok);
-      };
+      took = run_of id adds.took;
+      others = run_of id adds.others;
+      parts = ap (run_of id) adds.parts ∙ map-append (λ (byte : ℕ). (id, byte)) adds.took adds.others;
+      lines = lines_under id adds.lines;
+      body = run_body (listing s) id is pairs (of id pairs) adds.took adds.lines refl body;
+      writes = subst (Writes a b result) (sym (text_under id adds.lines)) adds.writes;
+      all = λ ok. ap (run_of id) (adds.all ok);
     }
+
+pub no_source_adds : {T E : Type 0} (g : Listing) (id : ℕ) (pairs : List (ℕ × ℕ)) (run : List ℕ) (a : IoState) (x : T) → is_source id ≡ false
+    → Adds {T = T} {E = E} g pairs (run_of id run) a a (Ok x)
+no_source_adds g id pairs run a x none =
+    record {
+      took = run_of id run;
+      others = [];
+      parts = sym (append-nil (run_of id run));
+      lines = [];
+      body = no_body g id none pairs run;
+      writes = writes_all a a x [] (wrote_nothing a);
+      all = λ ok. refl;
+    }
+
+-- ---- runs of a frame
+
+module _ (n id : ℕ) (frame : List (ℕ × ℕ)) (run : List ℕ) (is : take (length run) (drop n frame) ≡ run_of id run) where
+  pub with_run : take (n + length run) frame ≡ take n frame ++ run_of id run
+  with_run = take-add n (length run) frame ∙ ap (λ (l : List (ℕ × ℕ)). take n frame ++ l) is
+
+  pub run_within : n ≤ length frame → n + length run ≤ length frame
+  run_within within =
+      let many : length (take (length run) (drop n frame)) ≡ length run = ap length is ∙ length-map run (λ (byte : ℕ). (id, byte)) in
+      omega (arith, within, many, length-take (length run) (drop n frame), length-drop n frame)

@@ -1,8 +1,9 @@
 -- Streams that stand at their bytes among pairs of ID and byte.
-use Rattle.std.proofs.Common.{◌≡◌, ◌≢◌, ℕ, zero, suc, ◌+◌, ◌≤◌, ◌<◌, List, [], ◌∷◌, ◌++◌, length, map, take, Some, refl, sym, ap, subst, ◌∙◌, arith}
+use Rattle.std.proofs.Common.{◌≡◌, ◌≢◌, ℕ, zero, suc, ◌+◌, ◌≤◌, ◌<◌, List, [], ◌∷◌, ◌++◌, length, map, Some, refl, sym, ap, subst, ◌∙◌, arith}
 use Rattle.std.specs.Prelude.{slice_get, slice_set, ◌&&◌, ◌↔◌, nat_lt, nat_le, true, false, Bool, All, IsTrue, IsOk, IsErr, Result, Ok, Err}
 use Rattle.std.proofs.lemmas.Bool.{lt-ltb, le-leb}
-use Rattle.std.proofs.lemmas.List.{length-set, take_more}
+use Rattle.std.proofs.lemmas.Bool.Decides.{nat_tests}
+use Rattle.std.proofs.lemmas.List.{length-set}
 use Rattle.std.proofs.lemmas.List.Elements.{All-set, All-get_or}
 use Rattle.std.proofs.lemmas.Option.{get_or_from_slice_get, slice_get_within}
 use Rattle.etm_types.specs.Id.{IsId}
@@ -10,8 +11,9 @@ use Rattle.etm_types.specs.Settings.{Sizes}
 use Rattle.element_queue.specs.Counting.{sum_of}
 use Rattle.element_queue.specs.declared.ledger.Counts.{Counts}
 use Rattle.stream_demux.specs.Streams.{AllStand, IsReady, StandFrom, TalliedFrom, total}
-use Rattle.stream_demux.specs.Texts.{GainsIf, Listing, PairGains, is_source, of}
-use Rattle.stream_demux.proofs.Bodies.{of_other, of_this}
+use Rattle.stream_demux.specs.Texts.{is_source, of}
+use Rattle.formatter_frames.specs.Symbols.{run_of}
+use Rattle.stream_demux.proofs.Bodies.{of_other_run, of_run}
 
 module _ {X : Type 0} (stands : X → List ℕ → Type 0) (sizes : X → Sizes) (s : Sizes) where
   abbrev From : ℕ → List X → List (ℕ × ℕ) → Type 0
@@ -29,33 +31,33 @@ module _ {X : Type 0} (stands : X → List ℕ → Type 0) (sizes : X → Sizes)
       let place : suc id + k ≡ id + suc k = omega arith in
       let there = stands_at (suc id) streams pairs k stream all.2 at in (subst (λ i. stands stream (of i pairs)) place there.0, there.1)
 
-  -- a byte of none of them leaves them where they are
-  pub others_stand : (id : ℕ) (streams : List X) (pairs : List (ℕ × ℕ)) (other byte : ℕ) → ((k : ℕ) → k < length streams → other ≢ id + k)
-      → From id streams pairs → From id streams (pairs ++ (other, byte) ∷ [])
-  others_stand id [] pairs other byte differs all = tt
-  others_stand id (x ∷ streams) pairs other byte differs all = (
-    subst (stands x) (sym (of_other id other byte pairs (λ is. differs 0 (omega arith) (omega (arith, is))))) all.0,
+  -- bytes of none of them leave them where they are
+  pub others_stand : (id : ℕ) (streams : List X) (pairs : List (ℕ × ℕ)) (other : ℕ) (run : List ℕ) → ((k : ℕ) → k < length streams → other ≢ id + k)
+      → From id streams pairs → From id streams (pairs ++ run_of other run)
+  others_stand id [] pairs other run differs all = tt
+  others_stand id (x ∷ streams) pairs other run differs all = (
+    subst (stands x) (sym (of_other_run id other run pairs (λ is. differs 0 (omega arith) (omega (arith, is))))) all.0,
     all.1,
-    others_stand (suc id) streams pairs other byte (λ k within is. differs (suc k) (omega (arith, within)) (omega (arith, is))) all.2,
+    others_stand (suc id) streams pairs other run (λ k within is. differs (suc k) (omega (arith, within)) (omega (arith, is))) all.2,
   )
 
-  -- the stream at a place takes a byte
-  pub one_moves : (id : ℕ) (streams : List X) (pairs : List (ℕ × ℕ)) (k byte : ℕ) (next : X) → k < length streams → From id streams pairs
-      → stands next (of (id + k) pairs ++ byte ∷ []) → sizes next ≡ s → From id (slice_set streams k next) (pairs ++ (id + k, byte) ∷ [])
-  one_moves id [] pairs k byte next within all moved same = absurd (omega (arith, within))
-  one_moves id (x ∷ streams) pairs zero byte next within all moved same =
+  -- the stream at a place takes bytes
+  pub one_moves : (id : ℕ) (streams : List X) (pairs : List (ℕ × ℕ)) (k : ℕ) (run : List ℕ) (next : X) → k < length streams → From id streams pairs
+      → stands next (of (id + k) pairs ++ run) → sizes next ≡ s → From id (slice_set streams k next) (pairs ++ run_of (id + k) run)
+  one_moves id [] pairs k run next within all moved same = absurd (omega (arith, within))
+  one_moves id (x ∷ streams) pairs zero run next within all moved same =
       let here : id + 0 ≡ id = omega arith in (
-        subst (stands next) (ap (λ i. of i pairs ++ byte ∷ []) here ∙ sym (of_this id byte pairs) ∙ ap (λ i. of id (pairs ++ (i, byte) ∷ [])) (sym here)) moved,
+        subst (stands next) (ap (λ i. of i pairs ++ run) here ∙ sym (of_run id run pairs) ∙ ap (λ i. of id (pairs ++ run_of i run)) (sym here)) moved,
         same,
-        others_stand (suc id) streams pairs (id + 0) byte (λ j _ is. omega (arith, is)) all.2,
+        others_stand (suc id) streams pairs (id + 0) run (λ j _ is. omega (arith, is)) all.2,
       )
-  one_moves id (x ∷ streams) pairs (suc k) byte next within all moved same =
+  one_moves id (x ∷ streams) pairs (suc k) run next within all moved same =
       let place : suc id + k ≡ id + suc k = omega arith in (
-        subst (stands x) (sym (of_other id (id + suc k) byte pairs (λ is. omega (arith, is)))) all.0,
+        subst (stands x) (sym (of_other_run id (id + suc k) run pairs (λ is. omega (arith, is)))) all.0,
         all.1,
-        subst (λ i. From (suc id) (slice_set streams k next) (pairs ++ (i, byte) ∷ [])) place
-            (one_moves (suc id) streams pairs k byte next (omega (arith, within)) all.2
-            (subst (λ i. stands next (of i pairs ++ byte ∷ [])) (sym place) moved) same),
+        subst (λ i. From (suc id) (slice_set streams k next) (pairs ++ run_of i run)) place
+            (one_moves (suc id) streams pairs k run next (omega (arith, within)) all.2
+            (subst (λ i. stands next (of i pairs ++ run)) (sym place) moved) same),
       )
 
   -- one more stream that stands where nothing was taken
@@ -74,24 +76,24 @@ module _ {X : Type 0} (stands : X → List ℕ → Type 0) (sizes : X → Sizes)
       let is : 1 + k ≡ id = omega (arith, place) in
       let there = stands_at 1 streams pairs k stream all.each (sym at) in (subst (λ (i : ℕ). stands stream (of i pairs)) is there.0, there.1)
 
-  pub source_moves : (streams : List X) (pairs : List (ℕ × ℕ)) (id k byte : ℕ) (stream next : X) → k + 1 ≡ id → Standing streams pairs
-      → Some stream ≡ slice_get streams k → stands next (of id pairs ++ byte ∷ []) → sizes next ≡ sizes stream
-      → Standing (slice_set streams k next) (pairs ++ (id, byte) ∷ [])
-  source_moves streams pairs id k byte stream next place all at moved same =
+  pub source_moves : (streams : List X) (pairs : List (ℕ × ℕ)) (id k : ℕ) (run : List ℕ) (stream next : X) → k + 1 ≡ id → Standing streams pairs
+      → Some stream ≡ slice_get streams k → stands next (of id pairs ++ run) → sizes next ≡ sizes stream
+      → Standing (slice_set streams k next) (pairs ++ run_of id run)
+  source_moves streams pairs id k run stream next place all at moved same =
       let is : 1 + k ≡ id = omega (arith, place) in
       record {
         count = length-set streams k next ∙ all.count;
-        each = subst (λ (i : ℕ). From 1 (slice_set streams k next) (pairs ++ (i, byte) ∷ [])) is
-            (one_moves 1 streams pairs k byte next (slice_get_within streams k stream (sym at)) all.each
-            (subst (λ (i : ℕ). stands next (of i pairs ++ byte ∷ [])) (sym is) moved) (same ∙ (stands_at 1 streams pairs k stream all.each (sym at)).1));
+        each = subst (λ (i : ℕ). From 1 (slice_set streams k next) (pairs ++ run_of i run)) is
+            (one_moves 1 streams pairs k run next (slice_get_within streams k stream (sym at)) all.each
+            (subst (λ (i : ℕ). stands next (of i pairs ++ run)) (sym is) moved) (same ∙ (stands_at 1 streams pairs k stream all.each (sym at)).1));
       }
 
-  pub no_source_moves : (streams : List X) (pairs : List (ℕ × ℕ)) (id byte : ℕ) → (IsId id → ⊥) → Standing streams pairs
-      → Standing streams (pairs ++ (id, byte) ∷ [])
-  no_source_moves streams pairs id byte none all =
+  pub no_source_moves : (streams : List X) (pairs : List (ℕ × ℕ)) (id : ℕ) (run : List ℕ) → (IsId id → ⊥) → Standing streams pairs
+      → Standing streams (pairs ++ run_of id run)
+  no_source_moves streams pairs id run none all =
       record {
         count = all.count;
-        each = others_stand 1 streams pairs id byte (λ k within is. none (omega (arith, is), omega (arith, is, within, all.count))) all.each;
+        each = others_stand 1 streams pairs id run (λ k within is. none (omega (arith, is), omega (arith, is, within, all.count))) all.each;
       }
 
 -- ---- what is ready
@@ -105,12 +107,12 @@ module _ {X : Type 0} (broken : X → Bool) (taken : X → ℕ) where
   later_ready m n streams more all k d within =
       let one = all k d within in record { whole = one.whole; few = omega (arith, one.few, more) }
 
-  pub one_ready : (m k : ℕ) (streams : List X) (stream next : X) → All (IsReady broken taken m) streams → Some stream ≡ slice_get streams k
-      → broken next ≡ false → taken next ≡ taken stream + 1 → All (IsReady broken taken (m + 1)) (slice_set streams k next)
-  one_ready m k streams stream next all at whole one =
+  pub one_ready : (m n k : ℕ) (streams : List X) (stream next : X) → All (IsReady broken taken m) streams → Some stream ≡ slice_get streams k
+      → broken next ≡ false → taken next ≡ taken stream + n → All (IsReady broken taken (m + n)) (slice_set streams k next)
+  one_ready m n k streams stream next all at whole more =
       let before = ready_at (IsReady broken taken m) streams k stream all at in
-      All-set (IsReady broken taken (m + 1)) streams k next (record { whole = whole; few = omega (arith, one, before.few) })
-      (later_ready m (m + 1) streams (omega arith) all)
+      All-set (IsReady broken taken (m + n)) streams k next (record { whole = whole; few = omega (arith, more, before.few) })
+      (later_ready m (m + n) streams (omega arith) all)
 
 -- ---- sources
 
@@ -120,6 +122,14 @@ both false b x y = absurd cc
 
 pub is_one : (id : ℕ) → IsId id → is_source id ≡ true
 is_one id is = both (nat_lt 0 id) (nat_le id 111) (lt-ltb 0 id is.0) (le-leb id 111 is.1)
+
+one_false : (a b : Bool) → (a ≡ true → b ≡ true → ⊥) → (a && b) ≡ false
+one_false false b not_both = refl
+one_false true false not_both = refl
+one_false true true not_both = absurd (not_both refl refl)
+
+pub is_none_of : (id : ℕ) → (IsId id → ⊥) → is_source id ≡ false
+is_none_of id none = one_false (nat_lt 0 id) (nat_le id 111) (λ some few. none (grind (arith, nat_tests, some), grind (arith, nat_tests, few)))
 
 -- counts of one stream more
 module _ {X : Type 0} (counts : X → Counts) where
@@ -137,13 +147,6 @@ module _ {X : Type 0} (counts : X → Counts) where
       let place : id + suc (length streams) ≡ suc id + length streams = omega arith in
       (all.0, tallied_more tallies (suc id) streams next pairs all.1 (subst (λ (i : ℕ). tallies (of i pairs) (counts next)) place one))
 
--- what a byte of a source adds is what its stream gains
-pub pair_gains : (listing : Sizes → Listing) (t s : Sizes) (id given byte : ℕ) (pairs : List (ℕ × ℕ)) (lines : List (List ℕ)) → IsId id → given ≡ id → t ≡ s
-    → (listing t).gains given (of id pairs) byte lines → PairGains (listing s) pairs (id, byte) lines
-pair_gains listing t s id given byte pairs lines is same sizes gains =
-    subst (λ (b : Bool). GainsIf b (listing s) pairs (id, byte) lines) (sym (is_one id is))
-    (subst (λ (u : Sizes). (listing u).gains id (of id pairs) byte lines) sizes (subst (λ (i : ℕ). (listing t).gains i (of id pairs) byte lines) same gains))
-
 -- a call that did not fail leaves it whole
 pub whole_where_ok : {T E : Type 0} (broken : Bool) (result : Result T E) → IsOk result → (IsTrue broken ↔ IsErr result) → broken ≡ false
 whole_where_ok false result ok breaks = refl
@@ -155,8 +158,3 @@ whole_where_ok true (Err e) ok breaks = absurd cc
 pub by_err : {T E : Type 0} (P : Result T E → Type 0) (result : Result T E) → IsErr result → ((e : E) → P (Err e)) → P result
 by_err P (Ok x) fails each = absurd cc
 by_err P (Err e) fails each = each e
-
--- ---- a list up to a place
-
-pub taken_one : {A : Type 0} (xs : List A) (n : ℕ) (x : A) → slice_get xs n ≡ Some x → take (n + 1) xs ≡ take n xs ++ x ∷ []
-taken_one xs n x at = take_more xs n x (slice_get_within xs n x at) ∙ ap (λ y. take n xs ++ y ∷ []) (get_or_from_slice_get xs n x x at)

@@ -1,12 +1,13 @@
 -- What was written of pairs that were taken one after the other.
-use Rattle.std.proofs.Common.{◌≡◌, ℕ, List, [], ◌∷◌, ◌++◌, Ok, Err, refl, sym, ap, subst, ◌∙◌, append-nil, append_assoc}
-use Rattle.std.specs.List.{concat}
+use Rattle.std.proofs.Common.{◌≡◌, ℕ, ◌+◌, ◌-◌, List, [], ◌++◌, length, take, drop, Ok, Err, arith, refl, sym, ap, subst, ◌∙◌, append-nil, append_assoc}
+use Rattle.std.proofs.Math.Seq.{take-add}
+use Rattle.std.proofs.lemmas.List.{length-drop, take_all}
 use Rattle.path_text.proofs.Wrote.{Wrote, fails_after, wrote_by, wrote_more, wrote_nothing, writes_all}
 use Rattle.path_text.specs.Writing.{Writes}
 use Rattle.stream_demux.specs.Demuxed.{Gains}
 use Rattle.stream_demux.specs.Streams.{Adds}
-use Rattle.stream_demux.specs.Texts.{BodyFrom, Listing, PairGains, Printed, lines_under, text_of}
-use Rattle.stream_demux.proofs.Bodies.{body-append, body_one, text_of-append, text_under}
+use Rattle.stream_demux.specs.Texts.{BodyFrom, Listing, Printed, text_of}
+use Rattle.stream_demux.proofs.Bodies.{body-append, text_of-append}
 use Rattle.trace_io.specs.State.{IoState}
 
 -- the lines that pairs add behind others were written, in calls that did not fail
@@ -43,15 +44,15 @@ module _ (g : Listing) (before pairs : List (ℕ × ℕ)) (a b c : IoState) (was
         all = λ ok. absurd cc;
       }
 
--- one pair
-module _ (g : Listing) (before : List (ℕ × ℕ)) (pair : ℕ × ℕ) (a b : IoState) (lines : List (List ℕ)) (gains : PairGains g before pair lines) where
-  pub one_written : Wrote a b (concat lines) → Written g before (pair ∷ []) a b
-  one_written wrote =
-      record {
-        lines = lines_under pair.0 lines;
-        body = body_one g before pair lines gains;
-        wrote = subst (Wrote a b) (sym (text_under pair.0 lines)) wrote;
-      }
+  -- the same, where the call says itself which pairs it took
+  pub fails_behind : {T U E : Type 0} (e d : E) (more others : List (ℕ × ℕ)) → Adds {T = T} g (before ++ pairs) more b c (Err e)
+      → Adds {T = U} g before ((pairs ++ more) ++ others) a c (Err d)
+  fails_behind {U = U} e d more others adds =
+      let parts : (pairs ++ adds.took) ++ (adds.others ++ others) ≡ (pairs ++ more) ++ others =
+      sym (append_assoc (pairs ++ adds.took) adds.others others) ∙ ap (λ (l : List (ℕ × ℕ)). l ++ others) (append_assoc pairs adds.took adds.others)
+      ∙ ap (λ (l : List (ℕ × ℕ)). (pairs ++ l) ++ others) (sym adds.parts) in
+      subst (λ (l : List (ℕ × ℕ)). Adds {T = U} g before l a c (Err d)) parts
+      (more_fail e d adds.took (adds.others ++ others) adds.lines adds.body adds.writes)
 
 -- all that was written is what the pairs add
 pub all_added : {T E : Type 0} (g : Listing) (before pairs : List (ℕ × ℕ)) (a b : IoState) (x : T) → Written g before pairs a b
@@ -74,6 +75,11 @@ added g before pairs a b x adds =
     record { lines = adds.lines; body = subst (λ p. BodyFrom g before p adds.lines) all adds.body; wrote = wrote_by a b x (text_of adds.lines) adds.writes }
 
 -- ---- pieces, in whatever layout
+
+-- the front of what is behind a place
+pub front_behind : (at n : ℕ) (piece : List ℕ) → take (at + n) piece ≡ take at piece ++ take n (take (length piece - at) (drop at piece))
+front_behind at n piece =
+    take-add at n piece ∙ ap (λ l. take at piece ++ take n l) (sym (take_all (length piece - at) (drop at piece) (omega (arith, length-drop at piece))))
 
 module _ (carry : List ℕ → List (ℕ × ℕ)) where
   -- the lines that a piece adds behind other bytes were written, in calls that did not fail
@@ -129,8 +135,8 @@ module _ (carry : List ℕ → List (ℕ × ℕ)) where
   all_gained g bytes piece a b x was =
       record { pairs = was.pairs; grows = was.grows; adds = all_added g (carry bytes) was.pairs a b x was.written }
 
-  -- a byte more that was taken
-  pub byte_gained : {T E : Type 0} (g : Listing) (bytes piece : List ℕ) (byte : ℕ) (a b c : IoState) (x : T) → Gained g bytes piece a b
-      → Gains {T = T} {E = E} carry g (bytes ++ piece) (byte ∷ []) b c (Ok x) → Gained g bytes (piece ++ byte ∷ []) a c
-  byte_gained g bytes piece byte a b c x was gains =
-      more_gained g bytes piece a b was (byte ∷ []) gains.pairs gains.grows c (added g (carry (bytes ++ piece)) gains.pairs b c x gains.adds)
+  -- more bytes that were taken
+  pub gained_more : {T E : Type 0} (g : Listing) (bytes piece more : List ℕ) (a b c : IoState) (x : T) → Gained g bytes piece a b
+      → Gains {T = T} {E = E} carry g (bytes ++ piece) more b c (Ok x) → Gained g bytes (piece ++ more) a c
+  gained_more g bytes piece more a b c x was gains =
+      more_gained g bytes piece a b was more gains.pairs gains.grows c (added g (carry (bytes ++ piece)) gains.pairs b c x gains.adds)

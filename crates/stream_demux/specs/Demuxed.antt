@@ -1,8 +1,9 @@
 -- What contracts see of frames that are parted into streams.
-use Rattle.std.specs.Prelude.{◌≡◌, ℕ, ◌^◌, Bool, false, List, ◌++◌, length, map, Option, Result, refl}
+use Rattle.std.specs.Prelude.{◌≡◌, ℕ, ◌^◌, Bool, false, List, ◌++◌, length, Option, Result, refl}
 use Rattle.std.specs.Coded.{Coded, code_by, coded×, coded_list, coded_ℕ, coded_bool, coded_option}
 use Rattle.etm_types.specs.Settings.{Sizes}
 use Rattle.formatter_frames.specs.Reader as frames
+use Rattle.formatter_frames.specs.Symbols.{run_of}
 use Rattle.formatter_frames.specs.Unframed.{unframed}
 use Rattle.stream_demux.specs.Streams.{Adds, AllStand}
 use Rattle.stream_demux.specs.Texts.{Listing}
@@ -52,7 +53,7 @@ raw_id = 1
 
 -- each byte is one of it
 abbrev pub raw_pairs : List ℕ → List (ℕ × ℕ)
-raw_pairs bytes = map (λ (byte : ℕ). (raw_id, byte)) bytes
+raw_pairs bytes = run_of raw_id bytes
 
 -- these bytes of it were taken, and no write failed
 pub record RawStandsAt {X : Type 0} (stands : X → List ℕ → Type 0) (sizes : X → Sizes) (broken : X → Bool) (taken : X → ℕ) (s : Sizes) (stream : X)

@@ -1,5 +1,5 @@
 //! Frames of many sources, taken by pieces.
-ghost use Rattle.std.specs.Prelude.{◌≡◌, ◌<◌, ◌≤◌, ◌+◌, ◌^◌, ◌++◌, ◌∷◌, ◌↔◌, [], ℕ, List, Bool, false, All, not, length, map, IsOk, IsErr, IsTrue, IfOk};
+ghost use Rattle.std.specs.Prelude.{◌≡◌, ◌<◌, ◌≤◌, ◌+◌, ◌^◌, ◌++◌, ◌∷◌, ◌↔◌, [], ℕ, List, Bool, false, All, not, length, take, map, IsOk, IsErr, IsTrue, IfOk};
 ghost use Rattle.element_queue.specs.Counting.{Balances, no_counts};
 ghost use Rattle.etm_types.specs.Settings.{Sizes};
 ghost use Rattle.formatter_frames.specs.Reader as reader;
@@ -83,10 +83,19 @@ impl<S: Stream> Demux<S> {
         ensures taken { IsOk result → self.new.taken ≡ self.old.taken + length piece.now }
         ensures between { (self.old.taken ≤ self.new.taken) × (self.new.taken ≤ self.old.taken + length piece.now) }
     {
-        for byte in piece {
-            self.taken += 1;
-            match take_byte(&mut self.frames, &mut self.sources, shared, *byte, sink) {
-                Ok(()) => {}
+        let mut at = 0;
+        while at < piece.len() {
+            match take_front(
+                &mut self.frames,
+                &mut self.sources,
+                shared,
+                &piece[at..],
+                sink,
+            ) {
+                Ok(count) => {
+                    self.taken += count as u64;
+                    at += count;
+                }
                 Err(failed) => {
                     self.broken = true;
                     return Err(failed);
@@ -162,34 +171,38 @@ impl<S: Stream> Demux<S> {
     }
 }
 
-/// Takes the next byte of frames, and the bytes that the frame carries which it fills.
-fn take_byte<S: Stream, K: Sink>(
+/// Takes the bytes of a piece up to the end of the frame that is begun, and the bytes that this frame carries where it is full. Says
+/// how many it took of the piece.
+fn take_front<S: Stream, K: Sink>(
     frames: &mut FrameReader,
     sources: &mut Sources<S>,
     shared: &S::Shared,
-    byte: u8,
+    piece: &[u8],
     sink: &mut K,
-) -> Result<(), Failed>
+) -> Result<usize, Failed>
     requires { All (IsReady S.broken S.taken (2 ^ 61)) sources.old }
-    ensures frames { (bytes : List ℕ) → reader.StandsAt frames.old bytes → reader.StandsAt frames.new (bytes ++ byte ∷ []) }
+    ensures frames { (bytes : List ℕ) → reader.StandsAt frames.old bytes → IfOk result (λ n. reader.StandsAt frames.new (bytes ++ take n piece.now)) }
     ensures stands { (s : Sizes) (bytes : List ℕ) → reader.StandsAt frames.old bytes
-        → AllStand (S.stands shared.now) S.sizes s sources.old (unframed bytes) → IsOk result
-        → AllStand (S.stands shared.now) S.sizes s sources.new (unframed (bytes ++ byte ∷ [])) }
+        → AllStand (S.stands shared.now) S.sizes s sources.old (unframed bytes)
+        → IfOk result (λ n. AllStand (S.stands shared.now) S.sizes s sources.new (unframed (bytes ++ take n piece.now))) }
     ensures gains { (s : Sizes) (bytes : List ℕ) → reader.StandsAt frames.old bytes
         → AllStand (S.stands shared.now) S.sizes s sources.old (unframed bytes)
-        → Gains unframed (S.listing shared.now s) bytes (byte ∷ []) (K.state sink.old) (K.state sink.new) result }
+        → (n : ℕ) × Gains unframed (S.listing shared.now s) bytes (take n piece.now) (K.state sink.old) (K.state sink.new) result
+        × IfOk result (λ count. count ≡ n) }
     ensures cause { HasCause (K.state sink.old) (K.state sink.new) result }
     ensures shows { ShowsAsBefore (K.state sink.old) (K.state sink.new) }
     ensures ready { (most : ℕ) → All (IsReady S.broken S.taken most) sources.old → IsOk result
         → All (IsReady S.broken S.taken (most + 15)) sources.new }
+    ensures some { IfOk result (λ n. (n ≤ length piece.now) × (0 < length piece.now → 0 < n)) }
 {
-    match frames.take(byte) {
-        Some(frame) => take_frame(sources, shared, &frame, sink),
-        None => Ok(()),
+    let (count, frame) = frames.take(piece);
+    if let Some(frame) = frame {
+        take_frame(sources, shared, &frame, sink)?;
     }
+    Ok(count)
 }
 
-/// Takes the bytes that a frame carries, in order.
+/// Takes the bytes that a frame carries, in order, those of one ID at once.
 fn take_frame<S: Stream, K: Sink>(
     sources: &mut Sources<S>,
     shared: &S::Shared,
@@ -206,9 +219,10 @@ fn take_frame<S: Stream, K: Sink>(
     ensures ready { (most : ℕ) → All (IsReady S.broken S.taken most) sources.old → IsOk result
         → All (IsReady S.broken S.taken (most + 15)) sources.new }
 {
-    for place in 0..frame.len() {
-        let (id, byte) = frame.get(place).unwrap();
-        sources.take(shared, id, byte, sink)?;
+    let mut place = 0;
+    while let Some((id, run)) = frame.run_at(place) {
+        sources.take_run(shared, id, run, sink)?;
+        place += run.len();
     }
     Ok(())
 }

@@ -1,11 +1,12 @@
 //! The streams of all trace sources, each found by its ID.
-ghost use Rattle.std.specs.Prelude.{◌≡◌, ◌<◌, ◌≤◌, ◌+◌, ◌-◌, ◌^◌, ◌++◌, ◌∷◌, [], ℕ, List, Bool, false, All, not, length, map, IsOk, IfOk};
+ghost use Rattle.std.specs.Prelude.{◌≡◌, ◌<◌, ◌≤◌, ◌+◌, ◌^◌, ◌++◌, ◌∷◌, [], ℕ, List, Bool, false, All, not, length, map, IsOk, IfOk};
 ghost use Rattle.element_queue.specs.Counting.{Balances, no_counts, sum_of};
 ghost use Rattle.etm_types.specs.Settings.{Sizes};
-ghost use Rattle.std.specs.List.{concat, range_with_len};
+ghost use Rattle.formatter_frames.specs.Symbols.{run_of};
+ghost use Rattle.std.specs.List.{range_with_len};
 ghost use Rattle.path_text.specs.Writing.{Writes};
-ghost use Rattle.stream_demux.specs.Streams.{AllStand, AllTallied, IsReady, StandFrom, total};
-ghost use Rattle.stream_demux.specs.Texts.{EndsOf, PairGains, Printed, sources, text_of};
+ghost use Rattle.stream_demux.specs.Streams.{Adds, AllStand, AllTallied, IsReady, StandFrom, total};
+ghost use Rattle.stream_demux.specs.Texts.{EndsOf, Printed, sources, text_of};
 ghost use Rattle.trace_io.specs.Bytes.{ShowsAsBefore};
 ghost use Rattle.trace_io.specs.Causes.{HasCause};
 
@@ -68,29 +69,29 @@ impl<S: Stream> Sources<S> {
         Ok(Sources { ring })
     }
 
-    /// Takes a byte of the stream of an ID, and writes the lines that it adds. A byte of no source is passed over.
-    pub fn take<K: Sink>(
+    /// Takes the next bytes of the stream of an ID, and writes the lines that they add. Bytes of no source are passed over.
+    pub fn take_run<K: Sink>(
         &mut self,
         shared: &S::Shared,
         id: u8,
-        byte: u8,
+        run: &[u8],
         sink: &mut K,
     ) -> Result<(), Failed>
-        requires { All (IsReady S.broken S.taken (2 ^ 62 - 1)) self.old }
+        requires { (most : ℕ) × All (IsReady S.broken S.taken most) self.old × (most + length run.now ≤ 2 ^ 62) }
         ensures stands { (s : Sizes) (pairs : List (ℕ × ℕ)) → AllStand (S.stands shared.now) S.sizes s self.old pairs
-            → IsOk result → AllStand (S.stands shared.now) S.sizes s self.new (pairs ++ (id, byte) ∷ []) }
-        ensures gains { (s : Sizes) (pairs : List (ℕ × ℕ)) → AllStand (S.stands shared.now) S.sizes s self.old pairs
-            → (lines : List (List ℕ)) × PairGains (S.listing shared.now s) pairs (id, byte) lines
-            × Writes (K.state sink.old) (K.state sink.new) result (concat lines) }
+            → IsOk result → AllStand (S.stands shared.now) S.sizes s self.new (pairs ++ run_of id run.now) }
+        ensures adds { (s : Sizes) (pairs : List (ℕ × ℕ)) → AllStand (S.stands shared.now) S.sizes s self.old pairs
+            → Adds (S.listing shared.now s) pairs (run_of id run.now) (K.state sink.old) (K.state sink.new) result }
         ensures cause { HasCause (K.state sink.old) (K.state sink.new) result }
         ensures shows { ShowsAsBefore (K.state sink.old) (K.state sink.new) }
-        ensures ready { (most : ℕ) → All (IsReady S.broken S.taken most) self.old → IsOk result → All (IsReady S.broken S.taken (most + 1)) self.new }
+        ensures ready { (most : ℕ) → All (IsReady S.broken S.taken most) self.old → IsOk result
+            → All (IsReady S.broken S.taken (most + length run.now)) self.new }
     {
         let Some(id) = Id::new(id) else {
             return Ok(());
         };
         match self.ring.get_mut(usize::from(id.get()) - 1) {
-            Some(stream) => stream.take(shared, id, byte, sink),
+            Some(stream) => stream.take_run(shared, id, run, sink),
             None => unreachable!(),
         }
     }

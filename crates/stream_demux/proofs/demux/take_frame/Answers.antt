@@ -1,78 +1,81 @@
-use Rattle.std.proofs.Common.{◌≡◌, ◌+◌, ◌≤◌, ◌∷◌, ◌++◌, [], Some, Err, take, drop, refl, sym, ap, subst, ◌∙◌, arith, append_assoc}
-use Rattle.std.specs.Prelude.{All, slice_get}
-use Rattle.std.specs.List.{concat}
+use Rattle.std.proofs.Common.{◌≡◌, ◌+◌, ◌++◌, Err, length, take, drop, refl, sym, ap, subst, ◌∙◌, arith, append_assoc}
+use Rattle.std.specs.Prelude.{All}
 use Rattle.std.proofs.lemmas.List.{take_all, take-append-drop}
-use Rattle.path_text.proofs.Wrote.{wrote_by}
-use Rattle.path_text.specs.Writing.{Writes}
+use Rattle.formatter_frames.specs.Symbols.{run_of}
 use Rattle.stream_demux.specs.Streams.{Adds, AllStand, IsReady}
-use Rattle.stream_demux.specs.Texts.{lines_under}
-use Rattle.stream_demux.proofs.Bodies.{body_one, text_under}
-use Rattle.stream_demux.proofs.Standing.{by_err, later_ready, taken_one}
-use Rattle.stream_demux.proofs.Writing.{Written, all_added, more_fail, more_written, one_written}
+use Rattle.stream_demux.proofs.Runs.{run_within, with_run}
+use Rattle.stream_demux.proofs.Standing.{by_err, later_ready}
+use Rattle.stream_demux.proofs.Writing.{Written, added, all_added, fails_behind, more_written}
 use Rattle.stream_demux.proofs.demux.take_frame.Goals as goal
 
-pub take-requires : goal.take-requires
-take-requires g c =
-    let most : 2305843009213693952 + c.loop-place.place ≤ 4611686018427387903 = omega (arith, c.loop-place-test.true, c.len-place-end.ensures.most) in
-    later_ready g.S.Stream.broken g.S.Stream.taken (2305843009213693952 + c.loop-place.place) 4611686018427387903 c.loop-place.sources most
-    (c.loop-place.invariant.ready 2305843009213693952 c.requires)
+pub take_run-requires : goal.take_run-requires
+take_run-requires g c =
+    let n = c.loop-id.place in let run = c.in-Some.run'.now in
+    let within = run_within n c.in-Some.id c.args.frame.now run c.in-Some.ensures.run.1 c.loop-id.invariant.within in
+    (2305843009213693952 + n, c.loop-id.invariant.ready 2305843009213693952 c.requires, omega (arith, within, c.in-Some.ensures.most))
 
-pub returns-in_err-take-clause-adds : goal.returns-in_err-take-clause-adds
-returns-in_err-take-clause-adds g c s pairs all =
-    let state = g.K.Sink.state in let i = c.loop-place.invariant in let n = c.loop-place.place in let frame = c.args.frame.now in
-    let front = take n frame in let pair = c.unwrap-id.result in let listing = g.S.Stream.listing c.args.shared.now s in
-    let at : slice_get frame n ≡ Some pair = sym c.get.ensures.value ∙ c.unwrap-id.ensures in
-    let more : take (n + 1) frame ≡ front ++ pair ∷ [] = taken_one frame n pair at in
-    let parts : (front ++ pair ∷ []) ++ drop (n + 1) frame ≡ frame = ap (λ l. l ++ drop (n + 1) frame) (sym more) ∙ take-append-drop (n + 1) frame in
-    let gains = c.in_err-take.ensures.gains s (pairs ++ front) (i.stands s pairs all) in
-    let old = state c.args.sink.now in let here = state c.loop-place.sink in let new = state c.take.new.sink in
+pub returns-in_err-take_run-clause-adds : goal.returns-in_err-take_run-clause-adds
+returns-in_err-take_run-clause-adds g c s pairs all =
+    let state = g.K.Sink.state in let i = c.loop-id.invariant in let n = c.loop-id.place in let frame = c.args.frame.now in
+    let front = take n frame in let run = c.in-Some.run'.now in let listing = g.S.Stream.listing c.args.shared.now s in
+    let more = with_run n c.in-Some.id frame run c.in-Some.ensures.run.1 in
+    let parts : (front ++ run_of c.in-Some.id run) ++ drop (n + length run) frame ≡ frame =
+    ap (λ l. l ++ drop (n + length run) frame) (sym more) ∙ take-append-drop (n + length run) frame in
+    let adds = c.in_err-take_run.ensures.adds s (pairs ++ front) (i.stands s pairs all) in
+    let old = state c.args.sink.now in let here = state c.loop-id.sink in let new = state c.take_run.new.sink in
     by_err (Adds {T = Unit {0}} listing pairs frame old new) c.from_residual.result c.from_residual.ensures.0 (λ d.
     subst (λ l. Adds {T = Unit {0}} listing pairs l old new (Err d)) parts
-    (more_fail listing pairs front old here new (i.written s pairs all) c.in_err-take.field-0.0 d (pair ∷ []) (drop (n + 1) frame) (lines_under pair.0 gains.0)
-    (body_one listing (pairs ++ front) pair gains.0 gains.1) (subst (Writes here new (Err c.in_err-take.field-0.0)) (sym (text_under pair.0 gains.0)) gains.2)))
+    (fails_behind listing pairs front old here new (i.written s pairs all) c.in_err-take_run.field-0.0 d (run_of c.in-Some.id run)
+    (drop (n + length run) frame) adds))
 
-pub loop-place-preserved : goal.loop-place-preserved
-loop-place-preserved g c =
-    let state = g.K.Sink.state in let i = c.loop-place.invariant in let n = c.loop-place.place in let frame = c.args.frame.now in
-    let front = take n frame in let pair = c.unwrap-id.result in
-    let at : slice_get frame n ≡ Some pair = sym c.get.ensures.value ∙ c.unwrap-id.ensures in
-    let more : take (n + 1) frame ≡ front ++ pair ∷ [] = taken_one frame n pair at in
+pub overflow_add-place : goal.overflow_add-place
+overflow_add-place g c =
+    let within = run_within c.loop-id.place c.in-Some.id c.args.frame.now c.in-Some.run'.now c.in-Some.ensures.run.1 c.loop-id.invariant.within in
+    omega (arith, within, c.in-Some.ensures.most)
+
+pub loop-id-preserved : goal.loop-id-preserved
+loop-id-preserved g c =
+    let state = g.K.Sink.state in let i = c.loop-id.invariant in let n = c.loop-id.place in let frame = c.args.frame.now in
+    let front = take n frame in let run = c.in-Some.run'.now in
+    let more = with_run n c.in-Some.id frame run c.in-Some.ensures.run.1 in
     let stands = g.S.Stream.stands c.args.shared.now in
-    let old = state c.args.sink.now in let here = state c.loop-place.sink in let new = state c.take.new.sink in
+    let old = state c.args.sink.now in let here = state c.loop-id.sink in let new = state c.take_run.new.sink in
     record {
+      within = run_within n c.in-Some.id frame run c.in-Some.ensures.run.1 i.within;
       stands = λ s pairs all.
-          subst (λ l. AllStand stands g.S.Stream.sizes s c.take.new.self (pairs ++ l)) (sym more)
-          (subst (AllStand stands g.S.Stream.sizes s c.take.new.self) (append_assoc pairs front (pair ∷ []))
-          (c.in_ok-take.ensures.stands s (pairs ++ front) (i.stands s pairs all) refl));
+          subst (λ l. AllStand stands g.S.Stream.sizes s c.take_run.new.self (pairs ++ l)) (sym more)
+          (subst (AllStand stands g.S.Stream.sizes s c.take_run.new.self) (append_assoc pairs front (run_of c.in-Some.id run))
+          (c.in_ok-take_run.ensures.stands s (pairs ++ front) (i.stands s pairs all) refl));
       written = λ s pairs all.
           let listing = g.S.Stream.listing c.args.shared.now s in
-          let gains = c.in_ok-take.ensures.gains s (pairs ++ front) (i.stands s pairs all) in
+          let adds = c.in_ok-take_run.ensures.adds s (pairs ++ front) (i.stands s pairs all) in
           subst (λ l. Written listing pairs l old new) (sym more)
-          (more_written listing pairs front old here new (i.written s pairs all) (pair ∷ [])
-          (one_written listing (pairs ++ front) pair here new gains.0 gains.1 (wrote_by here new tt (concat gains.0) gains.2)));
-      kept = c.in_ok-take.ensures.cause.kept ∙ i.kept;
-      shows = c.take.ensures.shows ∙ i.shows;
+          (more_written listing pairs front old here new (i.written s pairs all) (run_of c.in-Some.id run)
+          (added listing (pairs ++ front) (run_of c.in-Some.id run) here new c.in_ok-take_run.field-0 adds));
+      kept = c.in_ok-take_run.ensures.cause.kept ∙ i.kept;
+      shows = c.take_run.ensures.shows ∙ i.shows;
       ready = λ most all.
-          let sum : most + n + 1 ≡ most + (n + 1) = omega arith in
-          subst (λ k. All (IsReady g.S.Stream.broken g.S.Stream.taken k) c.take.new.self) sum (c.in_ok-take.ensures.ready (most + n) (i.ready most all) refl);
+          let sum : most + n + length run ≡ most + (n + length run) = omega arith in
+          subst (λ k. All (IsReady g.S.Stream.broken g.S.Stream.taken k) c.take_run.new.self) sum
+          (c.in_ok-take_run.ensures.ready (most + n) (i.ready most all) refl);
     }
 
 pub returns-clause-stands : goal.returns-clause-stands
 returns-clause-stands g c s pairs all ok =
-    let n = c.loop-place.place in let whole = take_all n c.args.frame.now (omega (arith, c.loop-place-test.false, c.len-place-end.ensures.count)) in
-    subst (λ l. AllStand (g.S.Stream.stands c.args.shared.now) g.S.Stream.sizes s c.loop-place.sources (pairs ++ l)) whole
-    (c.loop-place.invariant.stands s pairs all)
+    let n = c.loop-id.place in let whole = take_all n c.args.frame.now (c.in_default.ensures.none.0 refl) in
+    subst (λ l. AllStand (g.S.Stream.stands c.args.shared.now) g.S.Stream.sizes s c.loop-id.sources (pairs ++ l)) whole
+    (c.loop-id.invariant.stands s pairs all)
 
 pub returns-clause-adds : goal.returns-clause-adds
 returns-clause-adds g c s pairs all =
-    let state = g.K.Sink.state in let n = c.loop-place.place in
-    let whole = take_all n c.args.frame.now (omega (arith, c.loop-place-test.false, c.len-place-end.ensures.count)) in
+    let state = g.K.Sink.state in let n = c.loop-id.place in
+    let whole = take_all n c.args.frame.now (c.in_default.ensures.none.0 refl) in
     let listing = g.S.Stream.listing c.args.shared.now s in
-    all_added listing pairs c.args.frame.now (state c.args.sink.now) (state c.loop-place.sink) tt
-    (subst (λ l. Written listing pairs l (state c.args.sink.now) (state c.loop-place.sink)) whole (c.loop-place.invariant.written s pairs all))
+    all_added listing pairs c.args.frame.now (state c.args.sink.now) (state c.loop-id.sink) tt
+    (subst (λ l. Written listing pairs l (state c.args.sink.now) (state c.loop-id.sink)) whole (c.loop-id.invariant.written s pairs all))
 
 pub returns-clause-ready : goal.returns-clause-ready
 returns-clause-ready g c most all ok =
-    let n = c.loop-place.place in
-    later_ready g.S.Stream.broken g.S.Stream.taken (most + n) (most + 15) c.loop-place.sources
-    (omega (arith, c.loop-place.auto.place-end, c.len-place-end.ensures.most)) (c.loop-place.invariant.ready most all)
+    let n = c.loop-id.place in
+    later_ready g.S.Stream.broken g.S.Stream.taken (most + n) (most + 15) c.loop-id.sources
+    (omega (arith, c.loop-id.invariant.within, c.run_at.ensures.most)) (c.loop-id.invariant.ready most all)

@@ -1,4 +1,4 @@
-use Rattle.std.proofs.Common.{◌+◌, ℕ, List, ◌++◌, take}
+use Rattle.std.proofs.Common.{◌+◌, ◌-◌, ◌≤◌, ℕ, List, ◌++◌, length, take}
 use Rattle.std.specs.Prelude.{All}
 use Rattle.etm_types.specs.Settings.{Sizes}
 use Rattle.stream_demux.specs.Streams.{AllStand, IsReady}
@@ -7,10 +7,14 @@ use Rattle.stream_demux.proofs.demux.take_frame.Given as goal
 use Rattle.trace_io.specs.Bytes.{ShowsAsBefore}
 use Rattle.trace_io.specs.Causes.{KeepsFaults}
 
-abbrev pub invariant-loop-place : goal.invariant-loop-place
-invariant-loop-place g l =
+abbrev pub decreases-loop-id : goal.decreases-loop-id
+decreases-loop-id g l = length l.frame - l.place
+
+abbrev pub invariant-loop-id : goal.invariant-loop-id
+invariant-loop-id g l =
     let state = g.K.Sink.state in let at = g.S.Stream.stands l.shared in
     record {
+      within : l.place ≤ length l.frame;
       stands : (s : Sizes) (pairs : List (ℕ × ℕ)) → AllStand at g.S.Stream.sizes s l.fn.sources pairs
           → AllStand at g.S.Stream.sizes s l.sources (pairs ++ take l.place l.frame);
       written : (s : Sizes) (pairs : List (ℕ × ℕ)) → AllStand at g.S.Stream.sizes s l.fn.sources pairs

@@ -1,6 +1,6 @@
 use Rattle.std.proofs.Common.{sym, subst}
 use Rattle.stream_demux.specs.Demuxed.{RawStandsAt}
-use Rattle.stream_demux.proofs.Runs.{raw_run}
+use Rattle.stream_demux.proofs.RawStreams.{raw_run}
 use Rattle.stream_demux.proofs.raw.RawStream.take_piece.Goals as goal
 
 pub returns-clause-gains : goal.returns-clause-gains
