@@ -1,5 +1,6 @@
 -- Lines of several items.
-use Rattle.std.proofs.Common.{◌≡◌, ℕ, zero, suc, ◌+◌, ◌-◌, ◌%◌, ◌^◌, ◌<◌, Bool, true, false}
+use Rattle.std.proofs.Common.{◌≡◌, ℕ, zero, suc, ◌+◌, ◌-◌, ◌*◌, ◌%◌, ◌^◌, ◌<◌, ◌≤◌, Bool, true, false}
+use Rattle.std.proofs.Math.Nat.{mod-add-mod}
 use Rattle.std.proofs.Common.{List, [], ◌∷◌, ◌++◌, Option, Some, None, refl, sym, ap, ◌∙◌, arith, append_assoc}
 use Rattle.std.specs.Prelude.{if◌then◌else◌}
 use Rattle.std.proofs.lemmas.Bool.{eq-eqb}
@@ -17,6 +18,29 @@ pub instruction_lines-next : (id address left : ℕ) → 0 < left
     → instruction_lines id address left ≡ line_of id (hex address) ++ instruction_lines id ((address + 4) % 2 ^ 64) (left - 1)
 instruction_lines-next id address zero some = absurd (omega arith)
 instruction_lines-next id address (suc n) some = ap (λ k. line_of id (hex address) ++ instruction_lines id ((address + 4) % 2 ^ 64) k) (omega arith)
+
+-- some lines, and the others behind them
+pub instruction_lines-add : (id address k left : ℕ)
+    → instruction_lines id address (suc k) ++ instruction_lines id ((address + suc k * 4) % 2 ^ 64) left ≡ instruction_lines id address (suc k + left)
+instruction_lines-add id address zero left =
+    let one : suc zero + left ≡ suc left = omega arith in
+    append_assoc (line_of id (hex address)) [] (instruction_lines id ((address + 4) % 2 ^ 64) left) ∙ ap (instruction_lines id address) (sym one)
+instruction_lines-add id address (suc k) left =
+    let next = (address + 4) % 2 ^ 64 in
+    let further : address + suc (suc k) * 4 ≡ address + 4 + suc k * 4 = omega arith in
+    let more : suc (suc k) + left ≡ suc (suc k + left) = omega arith in
+    let behind : (address + suc (suc k) * 4) % 2 ^ 64 ≡ (next + suc k * 4) % 2 ^ 64 =
+    ap (λ n. n % 2 ^ 64) further ∙ sym (mod-add-mod (address + 4) (2 ^ 64) (suc k * 4)) in
+    append_assoc (line_of id (hex address)) (instruction_lines id next (suc k)) (instruction_lines id ((address + suc (suc k) * 4) % 2 ^ 64) left)
+    ∙ ap (λ n. line_of id (hex address) ++ (instruction_lines id next (suc k) ++ instruction_lines id n left)) behind
+    ∙ ap (λ t. line_of id (hex address) ++ t) (instruction_lines-add id next k left) ∙ ap (instruction_lines id address) (sym more)
+
+pub instruction_lines-parts : (id address near left : ℕ) → 0 < near → near ≤ left
+    → instruction_lines id address near ++ instruction_lines id ((address + near * 4) % 2 ^ 64) (left - near) ≡ instruction_lines id address left
+instruction_lines-parts id address zero left some few = absurd (omega (arith, some))
+instruction_lines-parts id address (suc k) left some few =
+    let all : suc k + (left - suc k) ≡ left = omega (arith, few) in
+    instruction_lines-add id address k (left - suc k) ∙ ap (instruction_lines id address) all
 
 -- ---- contexts that are printed once
 

@@ -2,11 +2,12 @@
 //!
 //! The addresses of a block go up by 4, and a loop comes back to the same block, so that most often no digit but the last four
 //! changes from a line to the next. The bytes of the line are kept, and then only these four are put.
-ghost use Rattle.std.specs.Prelude.{◌≡◌, ◌+◌, ◌≤◌, ◌/◌, ◌↔◌, IsTrue, length};
+ghost use Rattle.std.specs.Prelude.{◌≡◌, ◌+◌, ◌≤◌, ◌<◌, ◌/◌, ◌%◌, ◌^◌, ◌↔◌, IsTrue, length};
 ghost use Rattle.path_text.specs.Lines.{hex};
 ghost use Rattle.path_text.specs.Writing.{Writes};
 
 use crate::digits::{digit, hex_count, put_hex, put_last_four_hex};
+use a64_branches::INSTRUCTION_BYTES;
 use etm_types::Id;
 use std::marker::Model;
 use trace_io::{Failed, Sink, write_all};
@@ -84,6 +85,19 @@ impl AddressLine {
             self.len = end + 1;
         }
         self.address = address;
+    }
+
+    /// Moves to the next instruction, whose address differs in no digit but the last four, and has at least these.
+    #[inline(always)]
+    pub(crate) fn step(&mut self)
+        requires four { 4096 ≤ self.old.address }
+        requires near { self.old.address % 65536 + 4 < 65536 }
+        ensures id { self.new.id ≡ self.old.id }
+        ensures address { self.new.address ≡ self.old.address + 4 }
+        ensures within { self.new.address < 2 ^ 64 }
+    {
+        self.address += INSTRUCTION_BYTES;
+        put_last_four_hex(self.address, &mut self.bytes, self.len - 1);
     }
 
     /// Writes the line by one call.

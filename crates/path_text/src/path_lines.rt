@@ -1,5 +1,5 @@
 //! The lines of a path.
-ghost use Rattle.std.specs.Prelude.{◌≡◌, ◌+◌, ◌++◌, ◌≤◌, length, codes, IfOk, Some, None};
+ghost use Rattle.std.specs.Prelude.{◌≡◌, ◌+◌, ◌-◌, ◌*◌, ◌%◌, ◌++◌, ◌≤◌, ◌<◌, length, codes, IfOk, Some, None};
 ghost use Rattle.etm_types.specs.Walked.{exception, items_of};
 ghost use Rattle.path_text.specs.Lines.{HasRoom, AddsAtMost, line_of, hex};
 ghost use Rattle.path_text.specs.PathLines.{whole_context_text, exception_names, name_among, exception_text, same_context, context_line};
@@ -66,7 +66,7 @@ fn write_context_once<K: Sink>(
     }
 }
 
-/// Writes the lines of so many instructions, one after the other.
+/// Writes the lines of so many instructions, one after the other: as many at once as differ in no digit but the last four.
 fn write_instructions<K: Sink>(
     line: &mut AddressLine,
     start: u64,
@@ -77,12 +77,44 @@ fn write_instructions<K: Sink>(
     ensures lines { Writes (K.state sink.old) (K.state sink.new) result (instruction_lines line.old.id start count) }
 {
     let mut address = start;
-    for _done in 0..count {
+    let mut left = count;
+    while left > 0 {
         line.move_to(address);
-        line.write(sink)?;
-        address = address.wrapping_add(INSTRUCTION_BYTES);
+        let near = left.min(near_lines(address));
+        write_near(line, near, sink)?;
+        address = address.wrapping_add(near * INSTRUCTION_BYTES);
+        left -= near;
     }
     Ok(())
+}
+
+/// The lines of how many instructions from an address on differ in no digit but the last four.
+#[inline(always)]
+fn near_lines(address: u64) -> u64
+    ensures some { 0 < result }
+    ensures few { result ≤ 16384 }
+    ensures near { (1 < result) → (4096 ≤ address) × (address % 65536 + 4 * (result - 1) < 65536) }
+{
+    if address < 4096 {
+        1
+    } else {
+        (65535 - address % 65536) / INSTRUCTION_BYTES + 1
+    }
+}
+
+/// Writes the lines of instructions of which only the last four digits differ, from that of the line's address on.
+#[inline(always)]
+fn write_near<K: Sink>(line: &mut AddressLine, count: u64, sink: &mut K) -> Result<(), Failed>
+    requires some { 0 < count }
+    requires near { (1 < count) → (4096 ≤ line.old.address) × (line.old.address % 65536 + 4 * (count - 1) < 65536) }
+    ensures id { line.new.id ≡ line.old.id }
+    ensures lines { Writes (K.state sink.old) (K.state sink.new) result (instruction_lines line.old.id line.old.address count) }
+{
+    for _done in 1..count {
+        line.write(sink)?;
+        line.step();
+    }
+    line.write(sink)
 }
 
 /// Writes the lines of the instructions of a walk, after that of their context.
