@@ -14,11 +14,6 @@ use Rattle.path_text.specs.Lines.{line_of, hex}
 use Rattle.path_text.specs.PathLines.{instruction_lines, lines_of, item_lines, context_line, same_context}
 use Rattle.path_text.specs.PathLines.{same_security, shown_after, shown_after_all, on_line, block_items}
 
-pub instruction_lines-next : (id address left : ℕ) → 0 < left
-    → instruction_lines id address left ≡ line_of id (hex address) ++ instruction_lines id ((address + 4) % 2 ^ 64) (left - 1)
-instruction_lines-next id address zero some = absurd (omega arith)
-instruction_lines-next id address (suc n) some = ap (λ k. line_of id (hex address) ++ instruction_lines id ((address + 4) % 2 ^ 64) k) (omega arith)
-
 -- some lines, and the others behind them
 pub instruction_lines-add : (id address k left : ℕ)
     → instruction_lines id address (suc k) ++ instruction_lines id ((address + suc k * 4) % 2 ^ 64) left ≡ instruction_lines id address (suc k + left)

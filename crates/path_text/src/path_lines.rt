@@ -94,6 +94,7 @@ fn near_lines(address: u64) -> u64
     ensures some { 0 < result }
     ensures few { result ≤ 16384 }
     ensures near { (1 < result) → (4096 ≤ address) × (address % 65536 + 4 * (result - 1) < 65536) }
+    ensures most { (4096 ≤ address) → 65536 ≤ address % 65536 + 4 * result }
 {
     if address < 4096 {
         1

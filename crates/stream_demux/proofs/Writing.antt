@@ -2,7 +2,7 @@
 use Rattle.std.proofs.Common.{◌≡◌, ℕ, ◌+◌, ◌-◌, List, [], ◌++◌, length, take, drop, Ok, Err, arith, refl, sym, ap, subst, ◌∙◌, append-nil, append_assoc}
 use Rattle.std.proofs.Math.Seq.{take-add}
 use Rattle.std.proofs.lemmas.List.{length-drop, take_all}
-use Rattle.path_text.proofs.Wrote.{Wrote, fails_after, wrote_by, wrote_more, wrote_nothing, writes_all}
+use Rattle.path_text.proofs.Wrote.{Wrote, fails_after, wrote_by, wrote_more, writes_all}
 use Rattle.path_text.specs.Writing.{Writes}
 use Rattle.stream_demux.specs.Demuxed.{Gains}
 use Rattle.stream_demux.specs.Streams.{Adds}
@@ -15,9 +15,6 @@ pub record Written (g : Listing) (before pairs : List (ℕ × ℕ)) (old new : I
   pub lines : List Printed
   pub body : BodyFrom g before pairs lines
   pub wrote : Wrote old new (text_of lines)
-
-pub nothing_written : (g : Listing) (before : List (ℕ × ℕ)) (a : IoState) → Written g before [] a a
-nothing_written g before a = record { lines = []; body = refl; wrote = wrote_nothing a }
 
 module _ (g : Listing) (before pairs : List (ℕ × ℕ)) (a b c : IoState) (was : Written g before pairs a b) where
   -- more pairs behind them
@@ -87,14 +84,6 @@ module _ (carry : List ℕ → List (ℕ × ℕ)) where
     pub pairs : List (ℕ × ℕ)
     pub grows : carry (bytes ++ piece) ≡ carry bytes ++ pairs
     pub written : Written g (carry bytes) pairs old new
-
-  pub nothing_gained : (g : Listing) (bytes : List ℕ) (a : IoState) → Gained g bytes [] a a
-  nothing_gained g bytes a =
-      record {
-        pairs = [];
-        grows = ap carry (append-nil bytes) ∙ sym (append-nil (carry bytes));
-        written = nothing_written g (carry bytes) a;
-      }
 
   module _ (g : Listing) (bytes piece : List ℕ) (a b : IoState) (was : Gained g bytes piece a b) (more : List ℕ) (pairs : List (ℕ × ℕ))
       (grows : carry ((bytes ++ piece) ++ more) ≡ carry (bytes ++ piece) ++ pairs) where
