@@ -10,19 +10,21 @@ use Rattle.program_image.specs.declared.image.Image.{Image}
 use Rattle.program_image.specs.declared.fault.ImageWhy.{ImageWhy}
 use Rattle.trace_cmd.specs.Answers.{Answers, AnswersSo, Asks, Call, IsBenchBad, IsBenchFault, IsCall, IsImageBad, IsImageFault}
 use Rattle.trace_cmd.specs.Answers.{IsNoMemory, IsOwnBenchBad, IsOwnImageBad, IsOwnTooLong, IsRetired, IsRetiredCall, IsRunFileCall, IsSelftestOf}
-use Rattle.trace_cmd.specs.Answers.{IsPacketsUnder, IsPathUnder, IsTested, IsTraceCall, IsTraced, IsUsage, IsWriteFault, usage_line}
-use Rattle.trace_cmd.specs.Retired.{Prints, PrintsFront, RetiresSo, RunsSo}
-use Rattle.trace_cmd.specs.Grows.{Grow, frames_grow, raw_grows}
-use Rattle.trace_cmd.specs.Listed.{Interrupts, Listed}
+use Rattle.trace_cmd.specs.Answers.{IsPacketsUnder, IsPathUnder, IsTested, IsTraceCall, IsTraced, IsUsage, IsWriteFault}
+use Rattle.answer_lines.specs.UsageLine.{usage_line}
+use Rattle.answer_lines.specs.Prints.{Prints, PrintsFront}
+use Rattle.retired_paths.specs.Retired.{RetiresSo, RunsSo}
+use Rattle.input_pieces.specs.Grows.{Grow, frames_grow, raw_grows}
+use Rattle.input_pieces.specs.Listed.{Interrupts, Listed}
 use Rattle.trace_cmd.specs.Printing.{What, layout_of, left_of, listing_of, pairs_in, pairs_of}
-use Rattle.trace_cmd.specs.Selftest.{TestsSo}
-use Rattle.trace_cmd.specs.Traced.{TracesSo}
-use Rattle.trace_cmd.specs.Words.{meaning}
-use Rattle.trace_cmd.specs.declared.status.Status.{Status}
-use Rattle.trace_cmd.specs.declared.status.Status.TheVariants as status
-use Rattle.trace_cmd.specs.declared.words.Layout.{Layout}
-use Rattle.trace_cmd.specs.declared.words.Layout.TheVariants.{Raw, Frames}
-use Rattle.trace_cmd.proofs.Interrupts.{broken_cut, completed_cut, exceeded_cut}
+use Rattle.traced_runs.specs.Selftest.{TestsSo}
+use Rattle.traced_runs.specs.Traced.{TracesSo}
+use Rattle.command_words.specs.Words.{meaning}
+use Rattle.answer_lines.specs.declared.status.Status.{Status}
+use Rattle.answer_lines.specs.declared.status.Status.TheVariants as status
+use Rattle.command_words.specs.declared.words.Layout.{Layout}
+use Rattle.command_words.specs.declared.words.Layout.TheVariants.{Raw, Frames}
+use Rattle.input_pieces.proofs.Interrupts.{broken_cut, completed_cut, exceeded_cut}
 use Rattle.trace_io.specs.Bytes.{AppendsAll, KeepsBytes, TakesAtMost}
 use Rattle.trace_io.specs.Causes.{HasCause, Rose}
 use Rattle.trace_io.specs.State.{IoState}

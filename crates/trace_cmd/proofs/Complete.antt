@@ -19,25 +19,25 @@ use Rattle.program_image.specs.declared.image.Image.{Image}
 use Rattle.stream_demux.proofs.OneText.{one_text}
 use Rattle.stream_demux.proofs.PathTexts.{one_text_of_paths}
 use Rattle.stream_demux.specs.Texts.{IsText, Printed}
-use Rattle.trace_cmd.proofs.PacketLists.{one_end, one_gain}
+use Rattle.packet_list.proofs.PacketLists.{one_end, one_gain}
 use Rattle.trace_cmd.proofs.TracedCalls.{one_image, taken_are}
-use Rattle.trace_cmd.proofs.WordLemmas.{within}
+use Rattle.command_words.proofs.WordLemmas.{within}
 use Rattle.trace_cmd.specs.Answers.{Answers, Asks, Call, IsBenchBad, IsImageBad, IsImageCall, IsOwnBenchBad, IsOwnImageBad, IsOwnTooLong}
 use Rattle.trace_cmd.specs.Answers.{IsPacketsCall, IsPathCall, IsRunFileCall, IsSelftestOf}
 use Rattle.trace_cmd.specs.Complete.{AreAlike, FaultsAreDecided, HasImage, HasInput, HasRunFile, IsDone, IsDoneOrFaulted, NothingFailed, ShowAlike}
 use Rattle.trace_cmd.specs.Complete.{NumbersAreDone, PacketsAreDone, PathsAreDone, RunFilesAreDone}
-use Rattle.trace_cmd.specs.Listed.{Completes, Exceeds, most_input}
-use Rattle.trace_cmd.specs.PacketList.{packet_lists}
+use Rattle.input_pieces.specs.Listed.{Completes, Exceeds, most_input}
+use Rattle.packet_list.specs.PacketList.{packet_lists}
 use Rattle.trace_cmd.specs.Printing.{PacketsOf, PathsOf, What, left_of, listing_of, pairs_of}
-use Rattle.trace_cmd.specs.Retired.{IsBadBench}
-use Rattle.trace_cmd.specs.Selftest.{AreGood}
-use Rattle.trace_cmd.specs.Traced.{trace_frames}
-use Rattle.trace_cmd.specs.Words.{Command, Path, Packets, Retired, Selftest, Seen, Trace, command_in, layout_in, meaning, nothing_seen}
-use Rattle.trace_cmd.specs.Words.{cut_of, most_number, number_of, number_to, seen_of, sizes_in}
-use Rattle.trace_cmd.specs.declared.status.Status.{Status}
-use Rattle.trace_cmd.specs.declared.status.Status.TheVariants as status
-use Rattle.trace_cmd.specs.declared.words.CommandName.{CommandName}
-use Rattle.trace_cmd.specs.declared.words.CommandName.TheVariants as name
+use Rattle.retired_paths.specs.Retired.{IsBadBench}
+use Rattle.traced_runs.specs.Selftest.{AreGood}
+use Rattle.traced_runs.specs.Traced.{trace_frames}
+use Rattle.command_words.specs.Words.{Command, Path, Packets, Retired, Selftest, Seen, Trace, command_in, layout_in, meaning, nothing_seen}
+use Rattle.command_words.specs.Words.{cut_of, most_number, number_of, number_to, seen_of, sizes_in}
+use Rattle.answer_lines.specs.declared.status.Status.{Status}
+use Rattle.answer_lines.specs.declared.status.Status.TheVariants as status
+use Rattle.command_words.specs.declared.words.CommandName.{CommandName}
+use Rattle.command_words.specs.declared.words.CommandName.TheVariants as name
 use Rattle.trace_io.specs.State.{IoState}
 
 -- ---- what is taken of good bytes

@@ -10,16 +10,16 @@ use Rattle.program_image.specs.ImageText.{image_of}
 use Rattle.program_image.specs.declared.image.Image.{Image}
 use Rattle.stream_demux.specs.Paths.{paths}
 use Rattle.stream_demux.specs.Texts.{IsText, Printed, text_of}
-use Rattle.trace_cmd.proofs.TracedStreams.{shows_traces, traces_are_shown}
+use Rattle.traced_runs.proofs.TracedStreams.{shows_traces, traces_are_shown}
 use Rattle.trace_cmd.specs.Answers.{Answers, Asks, Call, IsRetired, IsTested, IsTraced}
-use Rattle.trace_cmd.specs.Listed.{Completes}
+use Rattle.input_pieces.specs.Listed.{Completes}
 use Rattle.trace_cmd.specs.Printing.{PathsOf, PacketsOf, What, left_in, left_of, listing_of, pairs_in, pairs_of}
-use Rattle.trace_cmd.specs.Traced.{AreAccepted, IsTraceText, trace_frames}
+use Rattle.traced_runs.specs.Traced.{AreAccepted, IsTraceText, trace_frames}
 use Rattle.trace_cmd.specs.TracedCalls.{IsPathOfTrace, PrintsTraces}
-use Rattle.trace_cmd.specs.declared.status.Status.{Status}
-use Rattle.trace_cmd.specs.declared.status.Status.TheVariants as status
-use Rattle.trace_cmd.specs.declared.words.Layout.{Layout}
-use Rattle.trace_cmd.specs.declared.words.Layout.TheVariants.{Frames}
+use Rattle.answer_lines.specs.declared.status.Status.{Status}
+use Rattle.answer_lines.specs.declared.status.Status.TheVariants as status
+use Rattle.command_words.specs.declared.words.Layout.{Layout}
+use Rattle.command_words.specs.declared.words.Layout.TheVariants.{Frames}
 use Rattle.trace_io.specs.Bytes.{AppendsAll}
 use Rattle.trace_io.specs.State.{IoState}
 

@@ -6,34 +6,21 @@ use Rattle.trace_io.specs.Causes.{KeepsFaults, Rose}
 use Rattle.program_image.specs.declared.image.Image.{Image}
 use Rattle.program_image.specs.Answers.{TakesImage, TakesNoImage}
 use Rattle.program_image.specs.declared.fault.ImageWhy.{ImageWhy}
-use Rattle.trace_cmd.specs.declared.status.Status.{Status}
-use Rattle.trace_cmd.specs.declared.status.Status.TheVariants as status
-use Rattle.trace_cmd.specs.Retired.{IsBadBench, IsRetiredText, Prints, PrintsFront}
-use Rattle.trace_cmd.specs.ImageLine.{image_line}
-use Rattle.trace_cmd.specs.Selftest.{HasBadBench, HasBadImage, IsSummary, IsTooLong}
-use Rattle.trace_cmd.specs.Traced.{IsTracedFrames}
-use Rattle.trace_cmd.specs.Words.{Path, Packets, Retired, Selftest, Trace, meaning}
+use Rattle.answer_lines.specs.declared.status.Status.{Status}
+use Rattle.answer_lines.specs.declared.status.Status.TheVariants as status
+use Rattle.retired_paths.specs.Retired.{IsBadBench, IsRetiredText}
+use Rattle.answer_lines.specs.Prints.{Prints, PrintsFront}
+use Rattle.answer_lines.specs.ImageLine.{image_line}
+use Rattle.answer_lines.specs.UsageLine.{usage_line}
+use Rattle.traced_runs.specs.Selftest.{HasBadBench, HasBadImage, IsSummary, IsTooLong}
+use Rattle.traced_runs.specs.Traced.{IsTracedFrames}
+use Rattle.command_words.specs.Words.{Path, Packets, Retired, Selftest, Trace, meaning}
 use Rattle.bench_text.specs.declared.fault.BenchWhy.{BenchWhy}
 use Rattle.etm_types.specs.Settings.{Sizes}
-use Rattle.trace_cmd.specs.Listed.{Breaks, Completes, Exceeds, Interrupts}
+use Rattle.input_pieces.specs.Listed.{Breaks, Completes, Exceeds, Interrupts}
 use Rattle.trace_cmd.specs.Printing.{What, PathsOf, PacketsOf, left_of, listing_of, pairs_of}
-use Rattle.trace_cmd.specs.declared.words.Layout.{Layout}
+use Rattle.command_words.specs.declared.words.Layout.{Layout}
 use Rattle.trace_io.specs.declared.traits.Failed.{Failed}
-
--- the number of each answer
-abbrev pub code_of : Status → ℕ
-code_of status.Done = 0
-code_of status.Usage = 1
-code_of (status.ImageBad line why) = 2
-code_of (status.BenchBad line why) = 3
-code_of status.Faulted = 4
-code_of status.ReadFault = 5
-code_of status.WriteFault = 6
-code_of status.NoMemory = 7
-code_of status.InputTooLong = 8
-
-abbrev pub usage_line : List ℕ
-usage_line = codes "usage: etm path|packets|trace|retired|selftest" ++ 10 ∷ []
 
 -- ---- a call
 

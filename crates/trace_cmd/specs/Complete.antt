@@ -5,11 +5,11 @@ use Rattle.bench_text.specs.Refusals.{bench_of}
 use Rattle.program_image.specs.ImageText.{image_of}
 use Rattle.program_image.specs.declared.image.Image.{Image}
 use Rattle.trace_cmd.specs.Answers.{Answers, Call, IsPacketsCall, IsPathCall, IsRunFileCall, IsSelftestOf}
-use Rattle.trace_cmd.specs.Listed.{most_input}
-use Rattle.trace_cmd.specs.Selftest.{AreGood}
-use Rattle.trace_cmd.specs.Traced.{trace_frames}
-use Rattle.trace_cmd.specs.declared.status.Status.{Status}
-use Rattle.trace_cmd.specs.declared.status.Status.TheVariants as status
+use Rattle.input_pieces.specs.Listed.{most_input}
+use Rattle.traced_runs.specs.Selftest.{AreGood}
+use Rattle.traced_runs.specs.Traced.{trace_frames}
+use Rattle.answer_lines.specs.declared.status.Status.{Status}
+use Rattle.answer_lines.specs.declared.status.Status.TheVariants as status
 use Rattle.trace_io.specs.Causes.{Rose}
 use Rattle.trace_io.specs.State.{IoState}
 

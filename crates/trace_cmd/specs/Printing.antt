@@ -6,9 +6,9 @@ use Rattle.program_image.specs.declared.image.Image.{Image}
 use Rattle.stream_demux.specs.Demuxed.{raw_pairs}
 use Rattle.stream_demux.specs.Paths.{paths}
 use Rattle.stream_demux.specs.Texts.{Listing}
-use Rattle.trace_cmd.specs.PacketList.{packet_lists}
-use Rattle.trace_cmd.specs.declared.words.Layout.{Layout}
-use Rattle.trace_cmd.specs.declared.words.Layout.TheVariants.{Raw, Frames}
+use Rattle.packet_list.specs.PacketList.{packet_lists}
+use Rattle.command_words.specs.declared.words.Layout.{Layout}
+use Rattle.command_words.specs.declared.words.Layout.TheVariants.{Raw, Frames}
 
 -- the paths of streams over an image, or their packets, under the sizes of the trace units
 pub data What : Type 0 where

@@ -5,10 +5,10 @@ use Rattle.program_image.specs.ImageText.{image_of}
 use Rattle.program_image.specs.declared.image.Image.{Image}
 use Rattle.stream_demux.specs.Texts.{Printed, text_of}
 use Rattle.trace_cmd.specs.Answers.{Call, IsPathUnder}
-use Rattle.trace_cmd.specs.Traced.{ShowsTraces, trace_frames}
-use Rattle.trace_cmd.specs.declared.status.Status.{Status}
-use Rattle.trace_cmd.specs.declared.status.Status.TheVariants as status
-use Rattle.trace_cmd.specs.declared.words.Layout.TheVariants.{Frames}
+use Rattle.traced_runs.specs.Traced.{ShowsTraces, trace_frames}
+use Rattle.answer_lines.specs.declared.status.Status.{Status}
+use Rattle.answer_lines.specs.declared.status.Status.TheVariants as status
+use Rattle.command_words.specs.declared.words.Layout.TheVariants.{Frames}
 use Rattle.trace_io.specs.Bytes.{AppendsAll}
 use Rattle.trace_io.specs.State.{IoState}
 

@@ -7,32 +7,27 @@ ghost use Rattle.trace_io.specs.State.{IoState};
 ghost use Rattle.program_image.specs.Answers.{TakesImage};
 ghost use Rattle.program_image.specs.ImageText.{most_text as most_image_text};
 ghost use Rattle.program_image.specs.Part.{Part};
-ghost use Rattle.trace_cmd.specs.Words.{meaning, texts};
+ghost use Rattle.command_words.specs.Words.{meaning, texts};
 ghost use Rattle.path_text.specs.Writing.{Writes};
 ghost use Rattle.trace_cmd.specs.Answers.{Answers, AnswersSo, IsImageCall, IsPacketsCall, IsPathUnder, IsRetiredCall};
 ghost use Rattle.trace_cmd.specs.Answers.{IsRunFileCall, IsTraceCall, IsWriteFault, NoReadFailed, ReadsFirst, ReadsImage};
-ghost use Rattle.trace_cmd.specs.Answers.{IsSelftestCall, call, usage_line};
-ghost use Rattle.trace_cmd.specs.Listed.{Listed};
+ghost use Rattle.answer_lines.specs.UsageLine.{usage_line};
+ghost use Rattle.trace_cmd.specs.Answers.{IsSelftestCall, call};
+ghost use Rattle.input_pieces.specs.Listed.{Listed};
 ghost use Rattle.trace_cmd.specs.Printing.{left_in, pairs_in};
 
-use crate::image_line::write_image_bad;
-use crate::input::print_input;
-use crate::packet_list::PacketStream;
-use crate::parser::command_of;
-use crate::retired::retire_input;
-use crate::selftest::test_number;
-use crate::status::Status;
-use crate::traced::trace_input;
-use crate::words::{Command, Layout};
+use answer_lines::{Status, write_image_bad, write_usage};
+use command_words::{Command, Layout, command_of};
 use etm_types::Settings;
+use input_pieces::print_input;
+use packet_list::PacketStream;
 use program_image::{Image, ImageFault, ImageWhy};
+use retired_paths::retire_input;
 use std::alloc::Global;
 use stream_decoder::StreamDecoder;
 use stream_demux::{Demux, RawStream, Stream};
-use trace_io::{Failed, Sink, Source, write_all};
-
-/// The line that is printed where the words have no meaning.
-const USAGE: [u8; 47] = *b"usage: etm path|packets|trace|retired|selftest\n";
+use trace_io::{Failed, Sink, Source};
+use traced_runs::{test_number, trace_input};
 
 /// Takes the memory for the streams of an input, and prints what is asked of them. Without the memory nothing is read.
 fn print_streams<S: Stream, J: Source, K: Sink>(
@@ -192,7 +187,7 @@ fn answer_trace<I: Source, J: Source, K: Sink>(
 fn answer_usage<K: Sink>(out: &mut K) -> Result<Status, Failed>
     ensures { Writes (K.state out.old) (K.state out.new) result usage_line × IfOk result (λ status. status ≡ Status.Usage) }
 {
-    match write_all(out, &USAGE) {
+    match write_usage(out) {
         Ok(()) => Ok(Status::Usage),
         Err(failed) => Err(failed),
     }

@@ -2,9 +2,9 @@ use Rattle.std.proofs.Common.{Option, Some, IfSome, inl, inr, refl, sym, ap, sub
 use Rattle.std.specs.Option.{option_map}
 use Rattle.trace_cmd.specs.Answers.{call}
 use Rattle.trace_cmd.specs.Printing.{PacketsOf}
-use Rattle.trace_cmd.specs.Said.{IsInRange, said}
-use Rattle.trace_cmd.specs.Words.{texts}
-use Rattle.trace_cmd.specs.declared.words.Command.{Command as Told}
+use Rattle.command_words.specs.Said.{IsInRange, said}
+use Rattle.command_words.specs.Words.{texts}
+use Rattle.command_words.specs.declared.words.Command.{Command as Told}
 use Rattle.trace_cmd.proofs.AnswerLemmas.{none_taken, packets_of_no_run_file, path_of_no_run_file, so_by, so_of_number, so_of_usage, so_of_words}
 use Rattle.trace_cmd.proofs.command.answer_words.Goals as goal
 

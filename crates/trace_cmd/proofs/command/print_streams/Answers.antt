@@ -1,7 +1,7 @@
 use Rattle.std.proofs.Common.{ℕ, List, length, inr, sym, subst}
 use Rattle.formatter_frames.specs.Unframed.{begun_frame, unframed}
 use Rattle.stream_demux.specs.Demuxed.{raw_pairs}
-use Rattle.trace_cmd.specs.Listed.{Listed}
+use Rattle.input_pieces.specs.Listed.{Listed}
 use Rattle.trace_cmd.specs.Printing.{left_in, pairs_in}
 use Rattle.trace_cmd.proofs.command.print_streams.Goals as goal
 

@@ -1,6 +1,6 @@
 use Rattle.std.proofs.Common.{subst}
 use Rattle.trace_cmd.specs.Answers.{AnswersSo, call}
-use Rattle.trace_cmd.specs.Words.{texts}
+use Rattle.command_words.specs.Words.{texts}
 use Rattle.trace_cmd.proofs.AnswerLemmas.{all_flushed, flush_fails_behind, write_fails}
 use Rattle.trace_cmd.proofs.command.run.Goals as goal
 

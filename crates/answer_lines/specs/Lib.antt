@@ -1,0 +1,6 @@
+pub mod BenchLine
+pub mod Codes
+pub mod ImageLine
+pub mod Prints
+pub mod SummaryLine
+pub mod UsageLine

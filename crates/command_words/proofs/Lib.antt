@@ -1,0 +1,9 @@
+mod CommandLines
+pub mod WordAgreement
+pub mod WordEnds
+mod WordExamples
+pub mod WordLemmas
+pub mod WordMeaning
+pub mod WordParses
+pub mod WordTurns
+pub mod WordWalk

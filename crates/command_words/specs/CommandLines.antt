@@ -1,0 +1,138 @@
+-- How the words of a command line stand in a row.
+use Rattle.std.specs.Prelude.{◌≡◌, ℕ, ◌≤◌, true, false, List, [], ◌∷◌, ◌++◌, codes, Option, Some, None, All, if◌then◌else◌}
+use Rattle.std.specs.Str.{bytes_eq}
+use Rattle.etm_types.specs.Settings.{Sizes, AreSettings}
+use Rattle.program_image.specs.Line.{decimal_of}
+use Rattle.command_words.specs.Words.{is_dashed, most_cut, most_number, name_of, takes_value}
+use Rattle.command_words.specs.declared.words.CommandOption.{CommandOption}
+use Rattle.command_words.specs.declared.words.CommandOption.TheVariants as option
+use Rattle.command_words.specs.declared.words.Layout.{Layout}
+use Rattle.command_words.specs.declared.words.Layout.TheVariants.{Raw, Frames}
+
+-- ---- the pieces of a line
+
+-- what stands behind a command: an option with its value in the next word, or in its own behind `=`, a flag, or the positional
+pub data Piece : Type 0 where
+  Apart : CommandOption → List ℕ → Piece
+  Joined : CommandOption → List ℕ → Piece
+  Flag : CommandOption → Piece
+  Positional : List ℕ → Piece
+
+abbrev pub word_of : CommandOption → List ℕ
+word_of o = codes "--" ++ name_of o
+
+-- its words
+abbrev pub words_of : Piece → List (List ℕ)
+words_of (Apart o value) = word_of o ∷ value ∷ []
+words_of (Joined o value) = (word_of o ++ 61 ∷ value) ∷ []
+words_of (Flag o) = word_of o ∷ []
+words_of (Positional word) = word ∷ []
+
+-- the words of pieces in a row, and those behind them
+abbrev pub in_row : List Piece → List (List ℕ) → List (List ℕ)
+in_row [] behind = behind
+in_row (piece ∷ pieces) behind = words_of piece ++ in_row pieces behind
+
+-- a flag has no value and another option has one, and neither a positional nor a value in the next word is dashed
+abbrev pub IsPiece : Piece → Type 0
+IsPiece (Apart o value) = (takes_value o ≡ true) × (is_dashed value ≡ false)
+IsPiece (Joined o value) = takes_value o ≡ true
+IsPiece (Flag o) = takes_value o ≡ false
+IsPiece (Positional word) = is_dashed word ≡ false
+
+-- nothing more, or `--` with positionals behind it
+abbrev pub IsEnd : List (List ℕ) → List (List ℕ) → Type 0
+IsEnd [] positionals = positionals ≡ []
+IsEnd (word ∷ words) positionals = (word ≡ codes "--") × (words ≡ positionals)
+
+-- ---- what the pieces say
+
+-- the value is added where the options are the same
+abbrev pub value_for : CommandOption → CommandOption → List ℕ → List (List ℕ) → List (List ℕ)
+value_for o p value values = if bytes_eq (name_of o) (name_of p) then value ∷ values else values
+
+-- the values of an option, in their order, and of a flag an empty one for each time that it stands
+abbrev pub values_of : CommandOption → List Piece → List (List ℕ)
+values_of o [] = []
+values_of o (Apart p value ∷ pieces) = value_for o p value (values_of o pieces)
+values_of o (Joined p value ∷ pieces) = value_for o p value (values_of o pieces)
+values_of o (Flag p ∷ pieces) = value_for o p [] (values_of o pieces)
+values_of o (Positional word ∷ pieces) = values_of o pieces
+
+-- the positionals, in their order
+abbrev pub positionals_of : List Piece → List (List ℕ)
+positionals_of [] = []
+positionals_of (Apart p value ∷ pieces) = positionals_of pieces
+positionals_of (Joined p value ∷ pieces) = positionals_of pieces
+positionals_of (Flag p ∷ pieces) = positionals_of pieces
+positionals_of (Positional word ∷ pieces) = word ∷ positionals_of pieces
+
+-- `--raw` once stands for one stream that is not framed, and its absence for formatter frames
+abbrev pub IsLayout : List (List ℕ) → Layout → Type 0
+IsLayout [] layout = layout ≡ Frames
+IsLayout (flag ∷ []) layout = layout ≡ Raw
+IsLayout (flag ∷ other ∷ flags) layout = ⊥
+
+-- one value is a number, and the absence of one stands for the default
+abbrev pub IsNumber : ℕ → List (List ℕ) → ℕ → Type 0
+IsNumber default [] n = n ≡ default
+IsNumber default (value ∷ []) n = decimal_of value ≡ Some n
+IsNumber default (value ∷ other ∷ values) n = ⊥
+
+-- one value is how many bytes are read, and its absence stands for all
+abbrev pub IsCut : List (List ℕ) → Option ℕ → Type 0
+IsCut [] cut = cut ≡ None
+IsCut (value ∷ []) cut = (k : ℕ) × (decimal_of value ≡ Some k) × (k ≤ most_cut) × (cut ≡ Some k)
+IsCut (value ∷ other ∷ values) cut = ⊥
+
+-- ---- lines
+
+-- the words of a command: its own, pieces in any order, and an end, with these positionals among them
+pub record IsLine (word : List ℕ) (words positionals : List (List ℕ)) : Type 0 where
+  pub pieces : List Piece
+  pub ended : List (List ℕ)
+  pub behind : List (List ℕ)
+  pub row : words ≡ word ∷ in_row pieces ended
+  pub are_pieces : All IsPiece pieces
+  pub end_is : IsEnd ended behind
+  pub positionals_are : positionals_of pieces ++ behind ≡ positionals
+
+-- `path`, with numbers in range and one positional
+pub record IsPathLine (words : List (List ℕ)) (image : List ℕ) (s : Sizes) (layout : Layout) : Type 0 where
+  pub line : IsLine (codes "path") words (image ∷ [])
+  pub layout_is : IsLayout (values_of option.Raw line.pieces) layout
+  pub no_cut : values_of option.Cut line.pieces ≡ []
+  pub depth_is : IsNumber 16 (values_of option.Depth line.pieces) s.depth
+  pub vmid_is : IsNumber 1 (values_of option.Vmid line.pieces) s.vmid_bytes
+  pub cid_is : IsNumber 4 (values_of option.Cid line.pieces) s.cid_bytes
+  pub within : AreSettings s
+
+-- `packets`, with numbers in range and no positional; no packet depends on the depth, which is the default
+pub record IsPacketsLine (words : List (List ℕ)) (s : Sizes) (layout : Layout) : Type 0 where
+  pub line : IsLine (codes "packets") words []
+  pub layout_is : IsLayout (values_of option.Raw line.pieces) layout
+  pub no_depth : values_of option.Depth line.pieces ≡ []
+  pub no_cut : values_of option.Cut line.pieces ≡ []
+  pub depth_is : s.depth ≡ 16
+  pub vmid_is : IsNumber 1 (values_of option.Vmid line.pieces) s.vmid_bytes
+  pub cid_is : IsNumber 4 (values_of option.Cid line.pieces) s.cid_bytes
+  pub within : AreSettings s
+
+-- `retired`, with no option and one positional
+pub record IsRetiredLine (words : List (List ℕ)) (image : List ℕ) : Type 0 where
+  pub line : IsLine (codes "retired") words (image ∷ [])
+  pub no_option : (o : CommandOption) → values_of o line.pieces ≡ []
+
+-- `trace`, with no option and one positional
+pub record IsTraceLine (words : List (List ℕ)) (image : List ℕ) : Type 0 where
+  pub line : IsLine (codes "trace") words (image ∷ [])
+  pub no_option : (o : CommandOption) → values_of o line.pieces ≡ []
+
+-- `selftest`, with a number in range as its positional, and how many bytes are read
+pub record IsSelftestLine (words : List (List ℕ)) (n : ℕ) (cut : Option ℕ) : Type 0 where
+  pub number : List ℕ
+  pub line : IsLine (codes "selftest") words (number ∷ [])
+  pub number_is : decimal_of number ≡ Some n
+  pub number_within : n ≤ most_number
+  pub cut_is : IsCut (values_of option.Cut line.pieces) cut
+  pub no_other : All (λ (o : CommandOption). values_of o line.pieces ≡ []) (option.Raw ∷ option.Depth ∷ option.Vmid ∷ option.Cid ∷ [])

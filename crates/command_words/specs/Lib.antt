@@ -1,0 +1,4 @@
+pub mod CommandLines
+pub mod Said
+pub mod WordRules
+pub mod Words

@@ -1,0 +1,220 @@
+-- What the words of the command line mean.
+use Rattle.std.specs.Prelude.{ℕ, ◌^◌, ◌==◌, ◌&&◌, ◌||◌, nat_le, Bool, true, false, not, List, [], ◌∷◌, codes, Option, Some, None, is_some}
+use Rattle.std.specs.Prelude.{if◌then◌else◌, String, map, string_bytes, find}
+use Rattle.std.specs.List.{before_first, after_first, list_any}
+use Rattle.std.specs.Option.{option_map, option_and_then, option_map_or}
+use Rattle.std.specs.Str.{bytes_eq}
+use Rattle.etm_types.specs.Settings.{Sizes, is_vmid_size, is_cid_size}
+use Rattle.program_image.specs.Line.{decimal_of}
+use Rattle.command_words.specs.declared.words.CommandName.{CommandName}
+use Rattle.command_words.specs.declared.words.CommandName.TheVariants as name
+use Rattle.command_words.specs.declared.words.CommandOption.{CommandOption}
+use Rattle.command_words.specs.declared.words.CommandOption.TheVariants as option
+use Rattle.command_words.specs.declared.words.Layout.{Layout}
+use Rattle.command_words.specs.declared.words.Layout.TheVariants.{Raw, Frames}
+
+-- the bytes of each word
+abbrev pub texts : {Z : Type 0} → List (String Z) → List (List ℕ)
+texts words = map (λ word. string_bytes word) words
+
+-- a command, with what its words say
+pub data Command : Type 0 where
+  -- the path of each stream: the name of the image, the trace unit's sizes, and how the input is laid out
+  Path : List ℕ → Sizes → Layout → Command
+  -- the packets of each stream: the trace unit's sizes, and how the input is laid out
+  Packets : Sizes → Layout → Command
+  -- the retired path of each stream of a run file: the name of the image
+  Retired : List ℕ → Command
+  -- the trace of each stream of a run file, in frames: the name of the image
+  Trace : List ℕ → Command
+  -- both ends tried on the run file of a number: the number, and how many bytes of its frames are read, where not all are
+  Selftest : ℕ → Option ℕ → Command
+
+-- ---- the commands and their options
+
+-- the name of an option, which stands behind `--` in its word
+abbrev pub name_of : CommandOption → List ℕ
+name_of option.Raw = codes "raw"
+name_of option.Depth = codes "depth"
+name_of option.Vmid = codes "vmid"
+name_of option.Cid = codes "cid"
+name_of option.Cut = codes "cut"
+
+-- an option takes a value, and a flag none
+abbrev pub takes_value : CommandOption → Bool
+takes_value option.Raw = false
+takes_value option.Depth = true
+takes_value option.Vmid = true
+takes_value option.Cid = true
+takes_value option.Cut = true
+
+-- a command: its word, its options, and whether it has a positional: an IMAGE, or a number
+pub record CommandRow : Type 0 where
+  pub word : List ℕ
+  pub name : CommandName
+  pub options : List CommandOption
+  pub has_positional : Bool
+
+abbrev pub row : List ℕ → CommandName → List CommandOption → Bool → CommandRow
+row word name options has_positional = record { word = word; name = name; options = options; has_positional = has_positional }
+
+-- the table of commands; no packet depends on the depth
+abbrev pub commands : List CommandRow
+commands =
+    row (codes "path") name.Path (option.Raw ∷ option.Depth ∷ option.Vmid ∷ option.Cid ∷ []) true
+    ∷ row (codes "packets") name.Packets (option.Raw ∷ option.Vmid ∷ option.Cid ∷ []) false
+    ∷ row (codes "retired") name.Retired [] true
+    ∷ row (codes "trace") name.Trace [] true
+    ∷ row (codes "selftest") name.Selftest (option.Cut ∷ []) true
+    ∷ []
+
+-- ---- a word
+
+-- a word that begins with `-` and is longer; it is no positional, and no option's value
+abbrev pub is_dashed : List ℕ → Bool
+is_dashed [] = false
+is_dashed (a ∷ []) = false
+is_dashed (a ∷ b ∷ rest) = a == 45
+
+-- what stands behind a first `-`
+abbrev pub behind_dash : List ℕ → Option (List ℕ)
+behind_dash [] = None
+behind_dash (byte ∷ rest) = if byte == 45 then Some rest else None
+
+abbrev pub is_equals : ℕ → Bool
+is_equals byte = byte == 61
+
+-- NAME or NAME=VALUE: the name, and the value where `=` stands
+abbrev pub name_and_value : List ℕ → List ℕ × Option (List ℕ)
+name_and_value text = (before_first is_equals text, if list_any is_equals text then Some (after_first is_equals text) else None)
+
+-- ---- the walk over the words behind a command
+
+-- what was seen so far: the flag, the values of the options and the positional
+pub record Seen : Type 0 where
+  pub raw : Bool
+  pub depth : Option (List ℕ)
+  pub vmid : Option (List ℕ)
+  pub cid : Option (List ℕ)
+  pub cut : Option (List ℕ)
+  pub positional : Option (List ℕ)
+  -- the option that takes the next word
+  pub waits : Option CommandOption
+  -- whether `--` stood
+  pub ended : Bool
+
+abbrev pub nothing_seen : Seen
+nothing_seen = record { raw = false; depth = None; vmid = None; cid = None; cut = None; positional = None; waits = None; ended = false }
+
+abbrev pub is_seen : CommandOption → Seen → Bool
+is_seen option.Raw seen = seen.raw
+is_seen option.Depth seen = is_some seen.depth
+is_seen option.Vmid seen = is_some seen.vmid
+is_seen option.Cid seen = is_some seen.cid
+is_seen option.Cut seen = is_some seen.cut
+
+-- an option is seen, with its value, of which a flag has none
+abbrev pub with_value : CommandOption → List ℕ → Seen → Seen
+with_value option.Raw value seen = record seen { raw = true; waits = None }
+with_value option.Depth value seen = record seen { depth = Some value; waits = None }
+with_value option.Vmid value seen = record seen { vmid = Some value; waits = None }
+with_value option.Cid value seen = record seen { cid = Some value; waits = None }
+with_value option.Cut value seen = record seen { cut = Some value; waits = None }
+
+-- the word is the positional, which stands once
+abbrev pub with_positional : CommandRow → List ℕ → Seen → Option Seen
+with_positional row word seen = if row.has_positional && not (is_some seen.positional) then Some (record seen { positional = Some word }) else None
+
+-- an option stands once: with the value of its own word, or it takes the next word; a flag has no value
+abbrev pub with_option : CommandOption → Option (List ℕ) → Seen → Option Seen
+with_option o (Some value) seen = if is_seen o seen || not (takes_value o) then None else Some (with_value o value seen)
+with_option o None seen =
+    if is_seen o seen then None else if takes_value o then Some (record seen { waits = Some o }) else Some (with_value o [] seen)
+
+-- `--NAME` or `--NAME=VALUE`, with the text behind `--`, is an option of the command
+abbrev pub with_named : CommandRow → List ℕ → Seen → Option Seen
+with_named row text seen =
+    option_and_then (λ o. with_option o (name_and_value text).1 seen) (find (λ o. bytes_eq (name_and_value text).0 (name_of o)) row.options)
+
+-- `--` ends the options, and another dashed word is an option
+abbrev pub with_dashed : CommandRow → List ℕ → Seen → Option Seen
+with_dashed row word seen =
+    if bytes_eq word (codes "--") then Some (record seen { ended = true })
+    else option_and_then (λ text. with_named row text seen) (option_and_then behind_dash (behind_dash word))
+
+-- one more word
+abbrev pub with_word : CommandRow → List ℕ → Seen → Option Seen
+with_word row word seen =
+    if not seen.ended && is_dashed word then (if is_some seen.waits then None else with_dashed row word seen)
+    else option_map_or (λ o. Some (with_value o word seen)) seen.waits (with_positional row word seen)
+
+-- nothing is missing: no option lacks its value, and the positional is there where the command has one
+abbrev pub is_whole : CommandRow → Seen → Bool
+is_whole row seen = not (is_some seen.waits) && (is_some seen.positional || not row.has_positional)
+
+-- what is seen of all the words
+abbrev pub seen_of : CommandRow → Seen → List (List ℕ) → Option Seen
+seen_of row seen [] = if is_whole row seen then Some seen else None
+seen_of row seen (word ∷ words) = option_and_then (λ next. seen_of row next words) (with_word row word seen)
+
+-- ---- the meaning
+
+-- the sizes of a trace unit: a depth of at most 4096, a VMID of 0, 1, 2 or 4 bytes, a context ID of 0 or 4 bytes
+abbrev pub sizes_of : ℕ → ℕ → ℕ → Option Sizes
+sizes_of depth vmid cid =
+    if nat_le depth 4096 && is_vmid_size vmid && is_cid_size cid then Some (record { depth = depth; vmid_bytes = vmid; cid_bytes = cid }) else None
+
+-- the number of a value's text, or the default where there is no value
+abbrev pub number_of : ℕ → Option (List ℕ) → Option ℕ
+number_of default None = Some default
+number_of default (Some value) = decimal_of value
+
+abbrev pub sizes_in : Seen → Option Sizes
+sizes_in seen =
+    option_and_then (λ depth. option_and_then (λ vmid. option_and_then (λ cid. sizes_of depth vmid cid)
+    (number_of 4 seen.cid)) (number_of 1 seen.vmid)) (number_of 16 seen.depth)
+
+-- one stream where `--raw` stood, formatter frames where it did not
+abbrev pub layout_in : Seen → Layout
+layout_in seen = if seen.raw then Raw else Frames
+
+-- the number of a text, where it is no more than the most
+abbrev pub number_to : ℕ → List ℕ → Option ℕ
+number_to most text = option_and_then (λ n. if nat_le n most then Some n else None) (decimal_of text)
+
+-- the highest number that is tried
+abbrev pub most_number : ℕ
+most_number = 99999
+
+-- the most bytes that are read of frames
+abbrev pub most_cut : ℕ
+most_cut = 2 ^ 30
+
+-- how many bytes are read, where `--cut` stands: none where that is no such number
+abbrev pub cut_of : Option (List ℕ) → Option (Option ℕ)
+cut_of None = Some None
+cut_of (Some text) = option_map Some (number_to most_cut text)
+
+abbrev pub selftest_in : Seen → Option Command
+selftest_in seen = option_and_then (λ word. option_and_then (λ n. option_map (Selftest n) (cut_of seen.cut)) (number_to most_number word)) seen.positional
+
+abbrev pub command_in : CommandName → Seen → Option Command
+command_in name.Path seen = option_and_then (λ image. option_map (λ sizes. Path image sizes (layout_in seen)) (sizes_in seen)) seen.positional
+command_in name.Packets seen = option_map (λ sizes. Packets sizes (layout_in seen)) (sizes_in seen)
+command_in name.Retired seen = option_map Retired seen.positional
+command_in name.Trace seen = option_map Trace seen.positional
+command_in name.Selftest seen = selftest_in seen
+
+-- The first word is a command, and the others are its options and its positional, in any order.
+abbrev pub meaning : List (List ℕ) → Option Command
+meaning [] = None
+meaning (word ∷ words) =
+    option_and_then (λ row. option_and_then (command_in row.name) (seen_of row nothing_seen words)) (find (λ row. bytes_eq word row.word) commands)
+
+abbrev pub image_of : Option Command → Option (List ℕ)
+image_of None = None
+image_of (Some (Path image sizes layout)) = Some image
+image_of (Some (Packets sizes layout)) = None
+image_of (Some (Retired image)) = Some image
+image_of (Some (Trace image)) = Some image
+image_of (Some (Selftest n cut)) = None

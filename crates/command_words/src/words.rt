@@ -1,0 +1,482 @@
+//! The words of the command line.
+ghost use Rattle.std.specs.Prelude.{◌≡◌, IfSome, find, map};
+ghost use Rattle.std.specs.Option.{option_map};
+ghost use Rattle.std.specs.Str.{bytes_eq};
+ghost use Rattle.command_words.specs.Words.{behind_dash, commands, command_in, cut_of, image_of, is_dashed, is_seen, is_whole, layout_in};
+ghost use Rattle.command_words.specs.Words.{meaning, name_and_value, name_of, nothing_seen, number_of, number_to, seen_of, selftest_in};
+ghost use Rattle.command_words.specs.Words.{sizes_in, sizes_of, takes_value, texts, with_dashed, with_named, with_option, with_positional};
+ghost use Rattle.command_words.specs.Words.{with_value, with_word};
+ghost use Rattle.etm_types.specs.Settings.{AreSettings};
+ghost use Rattle.command_words.specs.Said.{IsInRange, line_of, said, seen_by};
+
+use etm_types::Settings;
+use program_image::text::decimal;
+
+/// The speculation depth where no word gives one.
+const DEPTH: u64 = 16;
+
+/// The size of a VMID in bytes, where no word gives one.
+const VMID_BYTES: u64 = 1;
+
+/// The size of a context ID in bytes, where no word gives one.
+const CID_BYTES: u64 = 4;
+
+/// The highest number of which both ends are tried.
+const MOST_NUMBER: u32 = 99_999;
+
+/// The most bytes that are read of frames.
+const MOST_CUT: u32 = 1 << 30;
+
+/// How the input is laid out.
+#[derive(Clone, Copy, Debug, PartialEq, Eq)]
+pub enum Layout {
+    /// One stream that is not framed (`--raw`).
+    Raw,
+    /// Formatter frames of many streams (Arm CoreSight architecture, IHI 0029).
+    Frames,
+}
+
+/// A command, with what its words say.
+#[derive(Clone, Copy, Debug)]
+pub enum Command<'a> {
+    /// The path of each stream, over the image of this name.
+    Path {
+        image: &'a str,
+        settings: Settings,
+        layout: Layout,
+    },
+    /// The packets of each stream.
+    Packets {
+        settings: Settings,
+        layout: Layout,
+    },
+    /// The retired path of each stream of a run file, over the image of this name.
+    Retired {
+        image: &'a str,
+    },
+    /// The trace of each stream of a run file, over the image of this name.
+    Trace {
+        image: &'a str,
+    },
+    /// Both ends, tried on the run file that is made from a number. Of its frames so many bytes are read, or all.
+    Selftest {
+        number: u32,
+        cut: Option<u32>,
+    },
+}
+
+/// The commands.
+#[derive(Clone, Copy, Debug)]
+pub enum CommandName {
+    Path,
+    Packets,
+    Retired,
+    Trace,
+    Selftest,
+}
+
+/// The options of the commands. `--raw` is a flag, and the others take a value.
+#[derive(Clone, Copy, Debug)]
+pub enum CommandOption {
+    Raw,
+    Depth,
+    Vmid,
+    Cid,
+    Cut,
+}
+
+impl CommandOption {
+    /// Its name, which stands behind `--` in its word.
+    pub fn name(self) -> &'static str
+        ensures { result.now ≡ name_of self }
+    {
+        match self {
+            CommandOption::Raw => "raw",
+            CommandOption::Depth => "depth",
+            CommandOption::Vmid => "vmid",
+            CommandOption::Cid => "cid",
+            CommandOption::Cut => "cut",
+        }
+    }
+
+    /// Whether it takes a value.
+    pub fn takes_value(self) -> bool
+        ensures { result ≡ takes_value self }
+    {
+        !matches!(self, CommandOption::Raw)
+    }
+}
+
+/// A command, with its options, and whether it has a positional: an IMAGE, or a number.
+#[derive(Clone, Copy, Debug)]
+pub struct CommandLine {
+    pub word: &'static str,
+    pub name: CommandName,
+    pub options: &'static [CommandOption],
+    pub has_positional: bool,
+}
+
+/// The commands: `path [--raw] [--depth N] [--vmid N] [--cid N] IMAGE`, `packets [--raw] [--vmid N] [--cid N]`,
+/// `retired IMAGE`, `trace IMAGE` and `selftest [--cut K] N`.
+pub const COMMANDS: [CommandLine; 5] = [
+    CommandLine {
+        word: "path",
+        name: CommandName::Path,
+        options: &[
+            CommandOption::Raw,
+            CommandOption::Depth,
+            CommandOption::Vmid,
+            CommandOption::Cid,
+        ],
+        has_positional: true,
+    },
+    CommandLine {
+        word: "packets",
+        name: CommandName::Packets,
+        options: &[CommandOption::Raw, CommandOption::Vmid, CommandOption::Cid],
+        has_positional: false,
+    },
+    CommandLine {
+        word: "retired",
+        name: CommandName::Retired,
+        options: &[],
+        has_positional: true,
+    },
+    CommandLine {
+        word: "trace",
+        name: CommandName::Trace,
+        options: &[],
+        has_positional: true,
+    },
+    CommandLine {
+        word: "selftest",
+        name: CommandName::Selftest,
+        options: &[CommandOption::Cut],
+        has_positional: true,
+    },
+];
+
+/// The command of a word, among these.
+fn line_in(lines: &[CommandLine], word: &str) -> Option<CommandLine>
+    ensures { option_map line_of result ≡ find (λ row. bytes_eq word.now row.word) (map line_of lines.now) }
+{
+    match lines {
+        [line, ..] if word == line.word => Some(*line),
+        [_, rest @ ..] => line_in(rest, word),
+        [] => None,
+    }
+}
+
+/// The command of a word.
+pub fn line_of(word: &str) -> Option<CommandLine>
+    ensures { option_map line_of result ≡ find (λ row. bytes_eq word.now row.word) commands }
+{
+    line_in(&COMMANDS, word)
+}
+
+/// What was seen so far of the words behind a command.
+#[derive(Clone, Copy, Debug)]
+pub struct Seen<'a> {
+    pub raw: bool,
+    pub depth: Option<&'a str>,
+    pub vmid: Option<&'a str>,
+    pub cid: Option<&'a str>,
+    pub cut: Option<&'a str>,
+    pub positional: Option<&'a str>,
+    /// The option that takes the next word.
+    pub waits: Option<CommandOption>,
+    /// Whether `--` stood.
+    pub ended: bool,
+}
+
+/// Whether a word begins with `-` and is longer.
+fn is_dashed(word: &str) -> bool
+    ensures { result ≡ is_dashed word.now }
+{
+    match word.as_bytes() {
+        [] | [_] => false,
+        [first, ..] => *first == b'-',
+    }
+}
+
+/// What stands behind a first `-`.
+fn behind_dash(word: &str) -> Option<&str>
+    ensures { option_map (λ s. s.now) result ≡ behind_dash word.now }
+{
+    word.strip_prefix('-')
+}
+
+/// The parts of NAME or NAME=VALUE.
+fn name_and_value(text: &str) -> (&str, Option<&str>)
+    ensures { (result.0.now, option_map (λ v. v.now) result.1) ≡ name_and_value text.now }
+{
+    match text.split_once('=') {
+        Some((name, value)) => (name, Some(value)),
+        None => (text, None),
+    }
+}
+
+impl<'a> Seen<'a> {
+    /// Nothing.
+    fn nothing() -> Self
+        ensures { seen_by result ≡ nothing_seen }
+    {
+        Self {
+            raw: false,
+            depth: None,
+            vmid: None,
+            cid: None,
+            cut: None,
+            positional: None,
+            waits: None,
+            ended: false,
+        }
+    }
+
+    /// Whether an option stood.
+    fn has(&self, option: CommandOption) -> bool
+        ensures { result ≡ is_seen option (seen_by self.now) }
+    {
+        match option {
+            CommandOption::Raw => self.raw,
+            CommandOption::Depth => self.depth.is_some(),
+            CommandOption::Vmid => self.vmid.is_some(),
+            CommandOption::Cid => self.cid.is_some(),
+            CommandOption::Cut => self.cut.is_some(),
+        }
+    }
+
+    /// An option, with its value.
+    fn with_value(mut self, option: CommandOption, value: &'a str) -> Self
+        ensures { seen_by result ≡ with_value option value.entry.now (seen_by self.entry) }
+    {
+        self.waits = None;
+        match option {
+            CommandOption::Raw => self.raw = true,
+            CommandOption::Depth => self.depth = Some(value),
+            CommandOption::Vmid => self.vmid = Some(value),
+            CommandOption::Cid => self.cid = Some(value),
+            CommandOption::Cut => self.cut = Some(value),
+        }
+        self
+    }
+
+    /// The positional, where the command has one and it did not stand.
+    fn with_positional(mut self, line: &CommandLine, word: &'a str) -> Option<Self>
+        ensures { option_map seen_by result ≡ with_positional (line_of line.now) word.entry.now (seen_by self.entry) }
+    {
+        if line.has_positional && self.positional.is_none() {
+            self.positional = Some(word);
+            Some(self)
+        } else {
+            None
+        }
+    }
+
+    /// An option that did not stand, with the value of its own word.
+    fn with_option(mut self, option: CommandOption, value: Option<&'a str>) -> Option<Self>
+        ensures { option_map seen_by result ≡ with_option option (option_map (λ v. v.now) value.entry) (seen_by self.entry) }
+    {
+        match value {
+            _ if self.has(option) => None,
+            Some(value) if option.takes_value() => Some(self.with_value(option, value)),
+            Some(_) => None,
+            None if option.takes_value() => {
+                self.waits = Some(option);
+                Some(self)
+            }
+            None => Some(self.with_value(option, "")),
+        }
+    }
+
+    /// An option of the command, by the text behind `--`.
+    fn with_named(self, line: &CommandLine, text: &'a str) -> Option<Self>
+        ensures { option_map seen_by result ≡ with_named (line_of line.now) text.entry.now (seen_by self.entry) }
+    {
+        let (name, value) = name_and_value(text);
+        let option = option_named(line.options, name)?;
+        self.with_option(option, value)
+    }
+
+    /// The end of the options, or an option of the command.
+    fn with_dashed(mut self, line: &CommandLine, word: &'a str) -> Option<Self>
+        ensures { option_map seen_by result ≡ with_dashed (line_of line.now) word.entry.now (seen_by self.entry) }
+    {
+        if word == "--" {
+            self.ended = true;
+            return Some(self);
+        }
+        let text = behind_dash(behind_dash(word)?)?;
+        self.with_named(line, text)
+    }
+
+    /// One more word.
+    fn with_word(self, line: &CommandLine, word: &'a str) -> Option<Self>
+        ensures { option_map seen_by result ≡ with_word (line_of line.now) word.entry.now (seen_by self.entry) }
+    {
+        match self.waits {
+            Some(_) if !self.ended && is_dashed(word) => None,
+            None if !self.ended && is_dashed(word) => self.with_dashed(line, word),
+            Some(option) => Some(self.with_value(option, word)),
+            None => self.with_positional(line, word),
+        }
+    }
+
+    /// Whether nothing is missing.
+    fn is_whole(&self, line: &CommandLine) -> bool
+        ensures { result ≡ is_whole (line_of line.now) (seen_by self.now) }
+    {
+        self.waits.is_none() && (self.positional.is_some() || !line.has_positional)
+    }
+
+    /// The settings, where the values are numbers in range.
+    fn settings(&self) -> Option<Settings>
+        ensures value { result ≡ sizes_in (seen_by self.now) }
+        ensures within { IfSome result AreSettings }
+    {
+        let depth = number_of(self.depth, DEPTH)?;
+        let vmid_bytes = number_of(self.vmid, VMID_BYTES)?;
+        let cid_bytes = number_of(self.cid, CID_BYTES)?;
+        settings_of(depth, vmid_bytes, cid_bytes)
+    }
+
+    /// The layout.
+    fn layout(&self) -> Layout
+        ensures { result ≡ layout_in (seen_by self.now) }
+    {
+        if self.raw {
+            Layout::Raw
+        } else {
+            Layout::Frames
+        }
+    }
+
+    /// How many bytes of frames are read, where `--cut` stands. There is no answer where its value is no such number.
+    fn cut(&self) -> Option<Option<u32>>
+        ensures { result ≡ cut_of (seen_by self.now).cut }
+    {
+        match self.cut {
+            Some(text) => number_to(text, MOST_CUT).map(Some),
+            None => Some(None),
+        }
+    }
+
+    /// The command `selftest`.
+    fn selftest(&self) -> Option<Command<'a>>
+        ensures value { option_map said result ≡ selftest_in (seen_by self.now) }
+        ensures within { IfSome result IsInRange }
+    {
+        let number = number_to(self.positional?, MOST_NUMBER)?;
+        let cut = self.cut()?;
+        Some(Command::Selftest { number, cut })
+    }
+
+    /// The command of this name.
+    pub fn command(&self, name: CommandName) -> Option<Command<'a>>
+        ensures value { option_map said result ≡ command_in name (seen_by self.now) }
+        ensures within { IfSome result IsInRange }
+    {
+        match name {
+            CommandName::Path => {
+                let image = self.positional?;
+                let settings = self.settings()?;
+                let layout = self.layout();
+                Some(Command::Path {
+                    image,
+                    settings,
+                    layout,
+                })
+            }
+            CommandName::Packets => {
+                let settings = self.settings()?;
+                let layout = self.layout();
+                Some(Command::Packets { settings, layout })
+            }
+            CommandName::Retired => {
+                let image = self.positional?;
+                Some(Command::Retired { image })
+            }
+            CommandName::Trace => {
+                let image = self.positional?;
+                Some(Command::Trace { image })
+            }
+            CommandName::Selftest => self.selftest(),
+        }
+    }
+}
+
+/// The option of this name, where it is one of these.
+fn option_named(options: &[CommandOption], name: &str) -> Option<CommandOption>
+    ensures { result ≡ find (λ o. bytes_eq name.now (name_of o)) options.now }
+{
+    options.iter().copied().find(|option| name == option.name())
+}
+
+/// The number of a value's text, or the default where there is no value.
+fn number_of(value: Option<&str>, default: u64) -> Option<u64>
+    ensures { result ≡ number_of default (option_map (λ v. v.now) value.entry) }
+{
+    match value {
+        Some(text) => decimal(text.as_bytes()),
+        None => Some(default),
+    }
+}
+
+/// The number of a text, where it is no more than `most`.
+fn number_to(text: &str, most: u32) -> Option<u32>
+    ensures { result ≡ number_to most text.now }
+{
+    let number = decimal(text.as_bytes())?;
+    let number = u32::try_from(number).ok()?;
+    if number <= most { Some(number) } else { None }
+}
+
+/// The settings of these numbers, where they are in range.
+fn settings_of(depth: u64, vmid_bytes: u64, cid_bytes: u64) -> Option<Settings>
+    ensures value { result ≡ sizes_of depth vmid_bytes cid_bytes }
+    ensures within { IfSome result AreSettings }
+{
+    let depth = u32::try_from(depth).ok()?;
+    let vmid_bytes = u8::try_from(vmid_bytes).ok()?;
+    let cid_bytes = u8::try_from(cid_bytes).ok()?;
+    Settings::new(depth, vmid_bytes, cid_bytes).ok()
+}
+
+/// What is seen of the words behind a command.
+fn seen_of<'a>(line: &CommandLine, words: &'a [String]) -> Option<Seen<'a>>
+    ensures { option_map seen_by result ≡ seen_of (line_of line.now) nothing_seen (texts words.entry.now) }
+{
+    let mut seen = Seen::nothing();
+    for word in words {
+        seen = seen.with_word(line, word.as_str())?;
+    }
+    if seen.is_whole(line) {
+        Some(seen)
+    } else {
+        None
+    }
+}
+
+/// The command that the words mean, where they mean one. It takes no memory.
+fn read_command(words: &[String]) -> Option<Command<'_>>
+    ensures value { option_map said result ≡ meaning (texts words.now) }
+    ensures within { IfSome result IsInRange }
+{
+    let (word, behind) = words.split_first()?;
+    let line = line_of(word.as_str())?;
+    let seen = seen_of(&line, behind)?;
+    seen.command(line.name)
+}
+
+/// The name of the image, where the words have a meaning and their command reads one. It takes no
+/// memory.
+pub fn image_name(words: &[String]) -> Option<&str>
+    ensures { option_map (λ name. name.now) result ≡ image_of (meaning (texts words.now)) }
+{
+    match read_command(words) {
+        Some(Command::Path { image, .. } | Command::Retired { image } | Command::Trace { image }) =>
+            Some(image),
+        Some(Command::Packets { .. } | Command::Selftest { .. }) => None,
+        None => None,
+    }
+}

@@ -1,0 +1,146 @@
+//! The reading of the input by pieces. The lines of each piece are written and flushed before the next is read.
+ghost use Rattle.std.specs.Prelude.{◌≡◌, ◌⊎◌, ◌<◌, ◌≤◌, ◌+◌, ◌^◌, ◌++◌, [], ℕ, List, false, length, Ok, Err, IsOk};
+ghost use Rattle.etm_types.specs.Settings.{Sizes};
+ghost use Rattle.stream_demux.specs.Demuxed.{Gains};
+ghost use Rattle.input_pieces.specs.Listed.{Listed, most_input};
+ghost use Rattle.input_pieces.specs.Reading.{GivesBytes, StopsSo, Took};
+ghost use Rattle.trace_io.specs.Bytes.{ShowsAsBefore};
+ghost use Rattle.trace_io.specs.Causes.{HasCause, KeepsFaults};
+
+use crate::printer::Printer;
+use answer_lines::Status;
+use trace_io::{Failed, Sink, Source};
+
+/// The most bytes of input.
+pub const MOST_INPUT: usize = 1 << 30;
+
+/// The most bytes that are taken at once.
+const MOST_AT_ONCE: usize = 4096;
+
+/// Why no more of an input is taken.
+#[derive(Clone, Copy, Debug)]
+pub enum Stop {
+    /// It is at its end.
+    End,
+    /// It has more bytes than are taken.
+    TooLong,
+    /// A read failed.
+    ReadFault,
+}
+
+/// What a read gave.
+#[derive(Clone, Copy, Debug)]
+pub enum Piece {
+    /// So many bytes, at the front of the buffer.
+    Bytes(usize),
+    /// No bytes to take.
+    Stop(Stop),
+}
+
+/// Reads the next piece of an input of which `taken` bytes were taken. Once no more are taken, one byte more tells that
+/// the input is too long.
+fn read_piece<J: Source>(input: &mut J, taken: usize, buffer: &mut [u8; MOST_AT_ONCE]) -> Piece
+    requires { taken ≤ most_input }
+    ensures bytes { (count : ℕ) → result ≡ Piece.Bytes count → GivesBytes (J.state input.old) (J.state input.new) taken count buffer.new }
+    ensures stop { (stop : Stop) → result ≡ Piece.Stop stop → StopsSo (J.state input.old) (J.state input.new) taken stop }
+    ensures shows { ShowsAsBefore (J.state input.old) (J.state input.new) }
+    ensures later { (J.state input.old).faults ≤ (J.state input.new).faults }
+{
+    let left = MOST_INPUT - taken;
+    let room = left.clamp(1, MOST_AT_ONCE);
+    match input.read(&mut buffer[..room]) {
+        Ok(0) => Piece::Stop(Stop::End),
+        Ok(_) if left == 0 => Piece::Stop(Stop::TooLong),
+        Ok(count) => Piece::Bytes(count),
+        Err(_) => Piece::Stop(Stop::ReadFault),
+    }
+}
+
+/// Takes an input to its end, or up to what stops that. The error means that a write failed.
+fn take_input<P: Printer, J: Source, K: Sink>(
+    printer: &mut P,
+    shared: &P::Shared,
+    input: &mut J,
+    out: &mut K,
+) -> Result<Stop, Failed>
+    requires fresh { (P.broken printer.old ≡ false) × (P.taken printer.old ≡ 0) }
+    ensures took { (s : Sizes) → P.stands shared.now s printer.old [] → Took (P.stands shared.now s printer.new) P.carried P.left (P.listing shared.now s)
+        (J.state input.old) (J.state input.new) (K.state out.old) (K.state out.new) result }
+    ensures whole { (stop : Stop) → result ≡ Ok stop → P.broken printer.new ≡ false }
+    ensures kept { (result ≡ Ok Stop.ReadFault) ⊎ KeepsFaults (J.state input.old) (J.state input.new) }
+    ensures cause { HasCause (K.state out.old) (K.state out.new) result }
+    ensures shows { ShowsAsBefore (K.state out.old) (K.state out.new) }
+    ensures input_shows { ShowsAsBefore (J.state input.old) (J.state input.new) }
+    ensures input_later { (J.state input.old).faults ≤ (J.state input.new).faults }
+{
+    let mut buffer = [0; MOST_AT_ONCE];
+    let mut taken = 0;
+    loop {
+        match read_piece(input, taken, &mut buffer) {
+            Piece::Bytes(count) => {
+                print_piece(printer, shared, &buffer[..count], out)?;
+                taken += count;
+            }
+            Piece::Stop(stop) => return Ok(stop),
+        }
+    }
+}
+
+/// Prints an input by pieces, and says how that ended. The error means that a write failed.
+pub fn print_input<P: Printer, J: Source, K: Sink>(
+    mut printer: P,
+    shared: &P::Shared,
+    input: &mut J,
+    out: &mut K,
+) -> Result<Status, Failed>
+    requires fresh { (P.broken printer ≡ false) × (P.taken printer ≡ 0) }
+    ensures answer { (s : Sizes) → P.stands shared.now s printer [] → Listed P.carried P.left (P.listing shared.now s)
+        (J.state input.old) (J.state input.new) (K.state out.old) (K.state out.new) result }
+    ensures kept { (result ≡ Ok Status.ReadFault) ⊎ KeepsFaults (J.state input.old) (J.state input.new) }
+    ensures cause { HasCause (K.state out.old) (K.state out.new) result }
+    ensures shows { ShowsAsBefore (K.state out.old) (K.state out.new) }
+    ensures input_shows { ShowsAsBefore (J.state input.old) (J.state input.new) }
+    ensures input_later { (J.state input.old).faults ≤ (J.state input.new).faults }
+{
+    match take_input(&mut printer, shared, input, out) {
+        Ok(Stop::End) => match printer.finish(out) {
+            Ok(true) => Ok(Status::Done),
+            Ok(false) => Ok(Status::Faulted),
+            Err(failed) => Err(failed),
+        },
+        Ok(Stop::TooLong) => {
+            printer.abandon();
+            Ok(Status::InputTooLong)
+        }
+        Ok(Stop::ReadFault) => {
+            printer.abandon();
+            Ok(Status::ReadFault)
+        }
+        Err(failed) => {
+            printer.abandon();
+            Err(failed)
+        }
+    }
+}
+
+/// Prints what a piece adds, and flushes it.
+fn print_piece<P: Printer, K: Sink>(
+    printer: &mut P,
+    shared: &P::Shared,
+    piece: &[u8],
+    out: &mut K,
+) -> Result<(), Failed>
+    requires whole { P.broken printer.old ≡ false }
+    requires few { P.taken printer.old + length piece.now ≤ 2 ^ 30 }
+    ensures stands { (s : Sizes) (bytes : List ℕ) → P.stands shared.now s printer.old bytes → IsOk result
+        → P.stands shared.now s printer.new (bytes ++ piece.now) }
+    ensures gains { (s : Sizes) (bytes : List ℕ) → P.stands shared.now s printer.old bytes
+        → Gains P.carried (P.listing shared.now s) bytes piece.now (K.state out.old) (K.state out.new) result }
+    ensures cause { HasCause (K.state out.old) (K.state out.new) result }
+    ensures shows { ShowsAsBefore (K.state out.old) (K.state out.new) }
+    ensures whole { IsOk result → P.broken printer.new ≡ false }
+    ensures taken { IsOk result → P.taken printer.new ≡ P.taken printer.old + length piece.now }
+{
+    printer.take_piece(shared, piece, out)?;
+    out.flush()
+}

@@ -1,0 +1,3 @@
+pub mod PacketLists
+pub mod PacketRuns
+pub mod PacketTexts

@@ -1,0 +1,4 @@
+pub mod Refused
+pub mod RetiredEvents
+pub mod RetiredSteps
+pub mod RetiredStreams

@@ -1,0 +1,14 @@
+use Rattle.std.proofs.Common.{◌≡◌, ◌++◌, ℕ, List, drop}
+use Rattle.path_text.proofs.Wrote.{Wrote}
+use Rattle.retired_paths.specs.Retired.{streams_text}
+use Rattle.retired_paths.proofs.retired.print_retired.Given as goal
+
+abbrev pub invariant-loop-s : goal.invariant-loop-s
+invariant-loop-s g l =
+    let state = g.K.Sink.state in
+    let most = l.bench.settings.depth in
+    record {
+      depth : (l.retiring.run.depth ≡ most) × (l.retiring.depth ≡ most);
+      so_far : (text : List ℕ) × Wrote (state l.fn.out) (state l.out) text
+          × (text ++ streams_text l.image most (drop l.s l.bench.streams) ≡ streams_text l.image most l.bench.streams);
+    }

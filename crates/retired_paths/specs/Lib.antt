@@ -1,0 +1,2 @@
+pub mod Retired
+pub mod Retiring

@@ -1,0 +1,151 @@
+//! The command `retired`: a run file is read and tested whole, and then its retired paths are printed.
+ghost use Rattle.std.specs.Prelude.{◌≡◌, ◌⊎◌, ◌+◌, ◌≤◌, List, [], None, Some, Ok, Err, IsOk, slice_get};
+ghost use Rattle.bench_text.specs.Parts.{BenchStream, IsBench, events_of};
+ghost use Rattle.bench_text.specs.Refusals.{most_text, refusal_among, stream_refusal};
+ghost use Rattle.etm_types.specs.Settings.{Sizes};
+ghost use Rattle.path_text.specs.Writing.{Writes};
+ghost use Rattle.program_image.specs.Blocks.{HasGap};
+ghost use Rattle.spec_run.specs.Stands.{StandsAt};
+ghost use Rattle.spec_run.specs.declared.event.Event.{Event};
+ghost use Rattle.retired_paths.specs.Retired.{RetiresSo, retired_text, stream_text};
+ghost use Rattle.retired_paths.specs.Retiring.{CanGoOn, RefusesLine, events_with, bad_line};
+ghost use Rattle.trace_io.specs.Bytes.{ShowsAsBefore, TakesAtMost};
+ghost use Rattle.trace_io.specs.Causes.{HasCause, KeepsFaults};
+
+use crate::bench_input::{Unread, read_bench, refuse};
+use crate::retiring::Retiring;
+use answer_lines::Status;
+use bench_text::{Bench, BenchLine, BenchWhy};
+use program_image::Image;
+use spec_run::{Run, RunFault};
+use std::alloc::Global;
+use trace_io::{Failed, Sink, Source};
+
+/// Runs the events of a line.
+fn run_line(run: &mut Run, image: &Image, line: &BenchLine) -> Result<(), RunFault>
+    ensures stands { (s : Sizes) (events : List Event) → StandsAt image.now s run.old events → IsOk result
+        → StandsAt image.now s run.new (events_with events line.now.times line.now.event) }
+    ensures refused { (s : Sizes) (events : List Event) → StandsAt image.now s run.old events
+        → (fault : RunFault) → result ≡ Err fault → RefusesLine image.now s events line.now fault }
+    ensures depth { run.new.depth ≡ run.old.depth }
+{
+    for _ in 0..line.times {
+        run.apply(image, &line.event)?;
+    }
+    Ok(())
+}
+
+/// The first line of a stream whose event is refused, and why.
+fn stream_refusal(run: &mut Run, image: &Image, bench: &Bench, s: usize) -> Option<(u64, RunFault)>
+    ensures value { (sizes : Sizes) (stream : BenchStream) → slice_get bench.now.streams s ≡ Some stream
+        → StandsAt image.now sizes run.old [] → bad_line result ≡ stream_refusal image.now sizes.depth stream }
+    ensures depth { run.new.depth ≡ run.old.depth }
+{
+    let mut k = 0;
+    while let Some(line) = bench.line_at(s, k) {
+        if let Err(fault) = run_line(run, image, line) {
+            return Some((line.line, fault));
+        }
+        k += 1;
+    }
+    None
+}
+
+/// The first line whose event is refused, and why.
+fn first_refusal(run: &mut Run, image: &Image, bench: &Bench) -> Option<(u64, RunFault)>
+    ensures value { bad_line result ≡ refusal_among image.now run.old.depth bench.now.streams }
+    ensures depth { run.new.depth ≡ run.old.depth }
+{
+    for s in 0..bench.streams() {
+        run.restart();
+        let refusal = stream_refusal(run, image, bench, s);
+        if refusal.is_some() {
+            return refusal;
+        }
+    }
+    None
+}
+
+/// Prints the retired path of a stream, whose events are all accepted.
+fn print_stream<K: Sink>(
+    retiring: &mut Retiring,
+    image: &Image,
+    bench: &Bench,
+    s: usize,
+    out: &mut K,
+) -> Result<(), Failed>
+    requires { (sizes : Sizes) × (stream : BenchStream) × (slice_get bench.now.streams s ≡ Some stream)
+        × CanGoOn image.now sizes retiring.old [] (events_of stream.lines) }
+    ensures prints { (sizes : Sizes) (stream : BenchStream) → slice_get bench.now.streams s ≡ Some stream
+        → CanGoOn image.now sizes retiring.old [] (events_of stream.lines)
+        → Writes (K.state out.old) (K.state out.new) result (stream_text image.now sizes.depth stream) }
+    ensures depth { (retiring.new.run.depth ≡ retiring.old.run.depth) × (retiring.new.depth ≡ retiring.old.depth) }
+{
+    let Some(id) = bench.id_at(s) else {
+        unreachable!()
+    };
+    let mut k = 0;
+    while let Some(line) = bench.line_at(s, k) {
+        retiring.print_line(image, id, line, out)?;
+        k += 1;
+    }
+    Ok(())
+}
+
+/// Prints the retired paths of all streams, whose events are all accepted.
+fn print_retired<K: Sink>(
+    retiring: &mut Retiring,
+    image: &Image,
+    bench: &Bench,
+    out: &mut K,
+) -> Result<(), Failed>
+    requires gap { HasGap image.now }
+    requires parts { IsBench bench.now }
+    requires accepted { refusal_among image.now bench.now.settings.depth bench.now.streams ≡ None }
+    requires depth { (retiring.old.run.depth ≡ bench.now.settings.depth) × (retiring.old.depth ≡ bench.now.settings.depth) }
+    ensures { Writes (K.state out.old) (K.state out.new) result (retired_text image.now bench.now) }
+{
+    for s in 0..bench.streams() {
+        retiring.restart();
+        print_stream(retiring, image, bench, s, out)?;
+    }
+    Ok(())
+}
+
+/// Reads a run file and tests all of it, then prints its retired paths.
+pub fn retire_input<J: Source, K: Sink>(
+    alloc: Global,
+    image: &Image,
+    input: &mut J,
+    out: &mut K,
+) -> Result<Status, Failed>
+    ensures answer { RetiresSo image.now (J.state input.old) (J.state input.new) (K.state out.old) (K.state out.new) result }
+    ensures few { TakesAtMost (J.state input.old) (J.state input.new) (most_text + 1) }
+    ensures kept { (result ≡ Ok Status.ReadFault) ⊎ KeepsFaults (J.state input.old) (J.state input.new) }
+    ensures input_shows { ShowsAsBefore (J.state input.old) (J.state input.new) }
+    ensures input_later { (J.state input.old).faults ≤ (J.state input.new).faults }
+    ensures cause { HasCause (K.state out.old) (K.state out.new) result }
+    ensures shows { ShowsAsBefore (K.state out.old) (K.state out.new) }
+{
+    let bench = match read_bench(alloc, input) {
+        Ok(bench) => bench,
+        Err(Unread::Bad { line, why }) => return refuse(line, why, out),
+        Err(Unread::ReadFault) => return Ok(Status::ReadFault),
+        Err(Unread::Memory) => return Ok(Status::NoMemory),
+    };
+    let Ok(mut run) = Run::new(alloc, bench.settings()) else {
+        return Ok(Status::NoMemory);
+    };
+    if let Some((line, fault)) = first_refusal(&mut run, image, &bench) {
+        return refuse(line, BenchWhy::Run(fault), out);
+    }
+    // No image has a word at each address, as the contract of this call tells: no block of it is without end.
+    let _block = image.block(0);
+    print_retired(
+        &mut Retiring::new(run, bench.settings().depth()),
+        image,
+        &bench,
+        out,
+    )?;
+    Ok(Status::Done)
+}

@@ -1,8 +1,0 @@
-use Rattle.trace_cmd.proofs.TracedStreams.{no_event_no_line, traces_are_shown}
-use Rattle.trace_cmd.proofs.laws.traced_streams_show_their_retired_paths.Goals as goal
-
-pub returns-clause-no_event : goal.returns-clause-no_event
-returns-clause-no_event c = no_event_no_line
-
-pub returns-clause-shown : goal.returns-clause-shown
-returns-clause-shown c = traces_are_shown

@@ -1,0 +1,7 @@
+mod SelftestExamples
+pub mod SelftestLines
+pub mod SelftestTexts
+mod TracedExamples
+pub mod TracedPaths
+pub mod TracedStreams
+pub mod Tracing

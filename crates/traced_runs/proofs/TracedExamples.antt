@@ -1,0 +1,141 @@
+-- The frames and the lines of a small run file, as they were worked out by hand, beside what a wrong rule would write or show.
+use Rattle.std.proofs.Common.{◌≡◌, ℕ, true, false, List, [], ◌∷◌, ◌++◌, Some, None, drop, take, refl, arith, ap}
+use Rattle.std.specs.Prelude.{codes, length}
+use Rattle.std.specs.List.{concat}
+use Rattle.std.proofs.lemmas.List.Elements.{All-from_recursion, recursion_from_All}
+use Rattle.a64_branches.specs.Classes.{class_of}
+use Rattle.atom_formats.specs.Formats.{atom_formats}
+use Rattle.bench_text.specs.Parts.{BenchParts, BenchStream, events_of}
+use Rattle.bench_text.specs.declared.line.BenchLine.{BenchLine}
+use Rattle.etm_types.specs.declared.context.Ctx.{Ctx}
+use Rattle.path_text.specs.Lines.{in_base}
+use Rattle.program_image.specs.Part.{Part}
+use Rattle.spec_run.specs.declared.event.Event.{Event}
+use Rattle.spec_run.specs.declared.event.Event.TheVariants as event
+use Rattle.stream_demux.specs.Laws.{lines_with}
+use Rattle.stream_demux.specs.Texts.{Printed, lines_under, text_of}
+use Rattle.retired_paths.specs.Retired.{stream_text}
+use Rattle.traced_runs.specs.Traced.{ShowsTraces, end_lines, is_of_one, trace_lines, trace_pairs, traces}
+use Rattle.woven_traces.specs.Woven.{under}
+use Rattle.trace_unit.specs.Packing.{byte_of}
+
+-- ---- three streams, of which one has no event
+
+abbrev user : Ctx
+user = record { el = 0; ns = false; vmid = 0; cid = 0 }
+
+-- at 0x2008: B to itself
+abbrev loop : List Part
+loop = record { start = 0x2008; bytes = 0x00 ∷ 0x00 ∷ 0x00 ∷ 0x14 ∷ [] } ∷ []
+
+abbrev once : Event → BenchLine
+once e = record { line = 9; event = e; times = 1 }
+
+abbrev bench : BenchParts
+bench = record {
+  settings = record { depth = 64; vmid_bytes = 0; cid_bytes = 0 };
+  stack = 15;
+  streams =
+      record { id = 5; lines = once (event.On 0x2008 user) ∷ once event.Taken ∷ once (event.Retire 1) ∷ [] }
+      ∷ record { id = 3; lines = [] } ∷ record { id = 2; lines = once (event.On 0x2008 user) ∷ [] } ∷ [];
+  weaves = record { id = 5; count = 1 } ∷ record { id = 2; count = 2 } ∷ record { id = 3; count = 7 } ∷ record { id = 5; count = 99 } ∷ [];
+}
+
+-- ---- their bytes
+
+-- eleven bytes 00, and 80; trace info; trace on; address and context
+abbrev beginning : List ℕ
+beginning =
+    0x00 ∷ 0x00 ∷ 0x00 ∷ 0x00 ∷ 0x00 ∷ 0x00 ∷ 0x00 ∷ 0x00 ∷ 0x00 ∷ 0x00 ∷ 0x00 ∷ 0x80 ∷ 0x01 ∷ 0x01 ∷ 0x00 ∷ 0x04
+    ∷ 0x85 ∷ 0x02 ∷ 0x10 ∷ 0x00 ∷ 0x00 ∷ 0x00 ∷ 0x00 ∷ 0x00 ∷ 0x00 ∷ 0x10 ∷ []
+
+-- an atom, and a commit
+abbrev of_five : List ℕ
+of_five = beginning ++ 0xf7 ∷ 0x2d ∷ 0x01 ∷ []
+
+pub traces_are : traces loop bench ≡ (5, of_five) ∷ (3, []) ∷ (2, beginning) ∷ []
+unfolding class_of atom_formats byte_of
+traces_are = refl
+
+-- woven: the weaves of the stream without bytes take nothing, and what no weave takes comes behind
+abbrev rest_of_five : List (ℕ × ℕ)
+rest_of_five = under 5 (drop 1 of_five)
+
+abbrev rest_of_two : List (ℕ × ℕ)
+rest_of_two = under 2 (drop 2 beginning)
+
+pub pairs_are : trace_pairs loop bench ≡ (5, 0x00) ∷ (2, 0x00) ∷ (2, 0x00) ∷ (rest_of_five ++ rest_of_two)
+unfolding class_of atom_formats byte_of
+pairs_are = refl
+
+-- ---- their lines
+
+abbrev line : ℕ → List ℕ → Printed
+line id text = record { id = Some id; line = text ++ 10 ∷ [] }
+
+abbrev five : List Printed
+five = line 5 (codes "05 on") ∷ line 5 (codes "05 ctx el0 s 0 0") ∷ line 5 (codes "05 2008") ∷ []
+
+abbrev ends : List Printed
+ends = line 2 (codes "02 end") ∷ line 5 (codes "05 end") ∷ []
+
+abbrev Has : List Printed → BenchStream → Type 0
+Has lines s = lines_with s.id lines ≡ lines_under s.id (trace_lines loop 64 s)
+
+abbrev HasText : List Printed → BenchStream → Type 0
+HasText lines s = text_of (lines_with s.id lines) ≡ stream_text loop 64 s ++ concat (end_lines s.id (events_of s.lines))
+
+abbrev IsOne : Printed → Type 0
+IsOne l = is_of_one bench.streams l.id ≡ true
+
+pub lines_are : ShowsTraces loop bench (five ++ ends)
+unfolding class_of in_base
+lines_are = record {
+  streams = All-from_recursion (Has (five ++ ends)) bench.streams (refl, (refl, (refl, tt)));
+  retired = All-from_recursion (HasText (five ++ ends)) bench.streams (refl, (refl, (refl, tt)));
+  alone = All-from_recursion IsOne (five ++ ends) (refl, (refl, (refl, (refl, (refl, tt)))));
+}
+
+-- the stream without an event has no end
+abbrev with_an_end : List Printed
+with_an_end = five ++ line 2 (codes "02 end") ∷ line 3 (codes "03 end") ∷ line 5 (codes "05 end") ∷ []
+
+not_an_end : ShowsTraces loop bench with_an_end → ⊥
+unfolding class_of in_base
+not_an_end shows =
+    let (first, (second, (third, none))) = recursion_from_All (Has with_an_end) bench.streams shows.streams in
+    absurd (omega (arith, ap length second))
+
+-- one with events has one, though it retires nothing
+abbrev without_an_end : List Printed
+without_an_end = five ++ line 5 (codes "05 end") ∷ []
+
+not_without : ShowsTraces loop bench without_an_end → ⊥
+unfolding class_of in_base
+not_without shows =
+    let (first, (second, (third, none))) = recursion_from_All (Has without_an_end) bench.streams shows.streams in
+    absurd (omega (arith, ap length third))
+
+-- no line is one of no stream
+abbrev with_a_cut : List Printed
+with_a_cut = five ++ ends ++ record { id = None; line = codes "frame cut 3" ++ 10 ∷ [] } ∷ []
+
+not_cut : ShowsTraces loop bench with_a_cut → ⊥
+not_cut shows = let last : false ≡ true = shows.alone 5 (line 5 []) (omega arith) in cc
+
+-- nor of another
+abbrev with_another : List Printed
+with_another = line 7 (codes "07 end") ∷ (five ++ ends)
+
+not_another : ShowsTraces loop bench with_another → ⊥
+not_another shows = let first : false ≡ true = shows.alone 0 (line 5 []) (omega arith) in cc
+
+-- lines of one stream do not change places
+abbrev turned : List Printed
+turned = line 5 (codes "05 ctx el0 s 0 0") ∷ line 5 (codes "05 on") ∷ line 5 (codes "05 2008") ∷ ends
+
+not_turned : ShowsTraces loop bench turned → ⊥
+unfolding class_of in_base
+not_turned shows =
+    let (first, (second, (third, none))) = recursion_from_All (Has turned) bench.streams shows.streams in
+    absurd (omega (arith, ap (λ (l : List Printed). length (text_of (take 1 l))) first))

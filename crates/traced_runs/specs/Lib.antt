@@ -1,0 +1,3 @@
+pub mod Selftest
+pub mod Traced
+pub mod Tracing

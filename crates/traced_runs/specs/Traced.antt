@@ -1,0 +1,98 @@
+-- What `trace` writes of a run file over an image, and what is printed of the paths in that.
+use Rattle.std.specs.Prelude.{◌≡◌, ℕ, Bool, true, false, All, List, [], ◌∷◌, ◌++◌, map, Option, Some, None, Result, Ok}
+use Rattle.std.specs.List.{concat}
+use Rattle.bench_text.specs.Parts.{BenchParts, BenchStream, events_of, has_stream}
+use Rattle.bench_text.specs.Refusals.{bench_of, refusal_among}
+use Rattle.formatter_frames.specs.Framed.{framed}
+use Rattle.formatter_frames.specs.Unframed.{begun_frame, unframed}
+use Rattle.packet_grammar.specs.declared.end.End.TheVariants as end
+use Rattle.path_text.specs.EndLines.{end_line}
+use Rattle.path_text.specs.PathLines.{line_list}
+use Rattle.program_image.specs.declared.image.Image.{Image}
+use Rattle.spec_run.specs.RunAfter.{run_after}
+use Rattle.spec_run.specs.declared.event.Event.{Event}
+use Rattle.stream_demux.specs.Laws.{lines_with}
+use Rattle.stream_demux.specs.Paths.{paths}
+use Rattle.stream_demux.specs.Texts.{IsText, Printed, lines_under, of, text_of}
+use Rattle.retired_paths.specs.Retired.{RunsSo, items_after, stream_text}
+use Rattle.woven_traces.specs.Woven.{woven}
+use Rattle.answer_lines.specs.declared.status.Status.{Status}
+use Rattle.trace_io.specs.Bytes.{TakesAll}
+use Rattle.trace_io.specs.State.{IoState}
+use Rattle.trace_io.specs.declared.traits.Failed.{Failed}
+use Rattle.trace_unit.specs.Written.{settled}
+
+-- what the trace unit of each stream writes for its events, with the ID of the stream
+abbrev pub traces : Image → BenchParts → List (ℕ × List ℕ)
+traces image b = map (λ (s : BenchStream). (s.id, settled image b.settings b.stack (events_of s.lines))) b.streams
+
+-- woven as the run file says
+abbrev pub trace_pairs : Image → BenchParts → List (ℕ × ℕ)
+trace_pairs image b = woven b.weaves (traces image b)
+
+-- in frames
+abbrev pub trace_frames : Image → BenchParts → List ℕ
+trace_frames image b = framed (trace_pairs image b)
+
+-- ---- the paths in them
+
+-- a trace has one end, a clean one, where it has an event
+abbrev pub end_lines : ℕ → List Event → List (List ℕ)
+end_lines id [] = []
+end_lines id (e ∷ events) = end_line id end.Clean ∷ []
+
+-- the lines of a stream's trace: those of its retired path, and then of its end
+abbrev pub trace_lines : Image → ℕ → BenchStream → List (List ℕ)
+trace_lines image depth s =
+    line_list s.id None (items_after (run_after image depth (events_of s.lines))) ++ end_lines s.id (events_of s.lines)
+
+-- the ID is there, and is that of a stream
+abbrev pub is_of_one : List BenchStream → Option ℕ → Bool
+is_of_one streams None = false
+is_of_one streams (Some id) = has_stream id streams
+
+-- Each stream has the lines of its trace. As a text they are what `retired` prints of it, and then its end. Each line is one of a stream.
+pub record ShowsTraces (image : Image) (b : BenchParts) (lines : List Printed) : Type 0 where
+  pub streams : All (λ (s : BenchStream). lines_with s.id lines ≡ lines_under s.id (trace_lines image b.settings.depth s)) b.streams
+  pub retired : All (λ (s : BenchStream). text_of (lines_with s.id lines)
+      ≡ stream_text image b.settings.depth s ++ concat (end_lines s.id (events_of s.lines))) b.streams
+  pub alone : All (λ (l : Printed). is_of_one b.streams l.id ≡ true) lines
+
+-- what is printed of the paths in the frames; faulty says whether one of them has a fault
+abbrev pub IsTraceText : Image → BenchParts → List Printed → Bool → Type 0
+IsTraceText image b lines faulty = IsText (paths image b.settings) (unframed (trace_frames image b)) 0 lines faulty
+
+-- The frames are whole, and carry each trace. Their paths have no fault, and show the traces; nothing else is printed of them.
+pub record TracesAreShown (image : Image) (b : BenchParts) : Type 0 where
+  pub nothing_left : begun_frame (trace_frames image b) ≡ []
+  pub carried : All (λ (t : ℕ × List ℕ). of t.0 (unframed (trace_frames image b)) ≡ t.1) (traces image b)
+  pub lines : List Printed
+  pub text : IsTraceText image b lines false
+  pub shows : ShowsTraces image b lines
+  pub only : (others : List Printed) (faulty : Bool) → IsTraceText image b others faulty → (others ≡ lines) × (faulty ≡ false)
+
+-- a stream without an event has no byte, and no line
+abbrev pub NoEventNoLine : Type 0
+NoEventNoLine =
+    (image : Image) (b : BenchParts) (s : BenchStream) → events_of s.lines ≡ []
+    → (settled image b.settings b.stack (events_of s.lines) ≡ []) × (trace_lines image b.settings.depth s ≡ [])
+
+-- all events are accepted
+abbrev pub AreAccepted : Image → BenchParts → Type 0
+AreAccepted image b = refusal_among image b.settings.depth b.streams ≡ None
+
+-- ---- what is read of a run file, and written
+
+-- A run file was read to its end, all of whose events are accepted over the image. These are the frames of its traces, and what is printed of
+-- the paths in them is what `retired` prints of each stream, and its end.
+pub record IsTracedFrames (image : Image) (input input' : IoState) (frames : List ℕ) : Type 0 where
+  pub run_file : List ℕ
+  pub read : TakesAll input input' run_file
+  pub bench : BenchParts
+  pub accepted : bench_of image run_file ≡ Ok bench
+  pub written : frames ≡ trace_frames image bench
+  pub shown : TracesAreShown image bench
+
+-- how a run file is answered by its traces
+abbrev pub TracesSo : Image → IoState → IoState → IoState → IoState → Result Status Failed → Type 0
+TracesSo image input input' = RunsSo (IsTracedFrames image input input') image input input'

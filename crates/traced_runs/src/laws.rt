@@ -1,0 +1,12 @@
+//! What holds of what is traced.
+ghost use Rattle.bench_text.specs.Parts.{BenchParts, IsBench};
+ghost use Rattle.program_image.specs.Part.{IsImage};
+ghost use Rattle.program_image.specs.declared.image.Image.{Image};
+ghost use Rattle.traced_runs.specs.Traced.{AreAccepted, NoEventNoLine, TracesAreShown};
+
+/// Where all events of a run file are accepted, the frames of its traces show each stream's retired path, which ends clean, and
+/// nothing else. A stream without an event has no line.
+pub fn traced_streams_show_their_retired_paths()
+    ensures no_event { NoEventNoLine }
+    ensures shown { (image : Image) (b : BenchParts) → IsImage image → IsBench b → AreAccepted image b → TracesAreShown image b }
+{}

@@ -1,0 +1,174 @@
+//! The command `trace`: the streams of a run file are traced, one after the other, and then their traces are woven into frames.
+//!
+//! Nothing is written before the last stream is traced, so that a run file that is bad, or want of memory, leaves no frame.
+ghost use Rattle.std.specs.Prelude.{◌≡◌, ◌⊎◌, ℕ, ◌+◌, ◌≤◌, List, [], None, Some, Ok, Err, IsOk, IfOk, slice_get};
+ghost use Rattle.bench_text.specs.Parts.{BenchStream, IsBench, events_of};
+ghost use Rattle.bench_text.specs.Refusals.{most_text, refusal_among, stream_refusal};
+ghost use Rattle.spec_run.specs.RunAfter.{IsEvent};
+ghost use Rattle.spec_run.specs.declared.event.Event.{Event};
+ghost use Rattle.spec_run.specs.declared.run_fault.RunFault.{RunFault as Refusal};
+ghost use Rattle.retired_paths.specs.Retiring.{RefusesLine, events_with};
+ghost use Rattle.traced_runs.specs.Traced.{TracesSo, traces};
+ghost use Rattle.traced_runs.specs.Tracing.{IsTracing, refused_at};
+ghost use Rattle.woven_traces.specs.Weaving.{all_left};
+ghost use Rattle.trace_io.specs.Bytes.{ShowsAsBefore, TakesAtMost};
+ghost use Rattle.trace_io.specs.Causes.{HasCause, KeepsFaults};
+ghost use Rattle.trace_unit.specs.Written.{settled};
+
+use answer_lines::Status;
+use bench_text::{Bench, BenchLine, BenchWhy};
+use program_image::Image;
+use retired_paths::{Unread, read_bench, refuse};
+use spec_run::RunFault;
+use std::alloc::Global;
+use trace_io::{Failed, Sink, Source};
+use trace_unit::{Unit, UnitFault};
+use woven_traces::{Trace, write_woven};
+
+/// Why streams were not traced.
+#[derive(Clone, Copy, Debug)]
+pub enum Untraced {
+    /// The event of this line is refused.
+    Refused { line: u64, fault: RunFault },
+    /// Memory is wanting.
+    Memory,
+}
+
+/// Traces the events of a line.
+fn trace_line(
+    unit: &mut Unit,
+    image: &Image,
+    line: &BenchLine,
+    bytes: &mut Vec<u8>,
+) -> Result<(), UnitFault>
+    requires { IsEvent unit.old.settings line.now.event }
+    ensures traces { (events : List Event) → IsTracing image.now unit.old bytes.old.items events → IsOk result
+        → IsTracing image.now unit.new bytes.new.items (events_with events line.now.times line.now.event) }
+    ensures refused { (events : List Event) → IsTracing image.now unit.old bytes.old.items events
+        → (fault : Refusal) → result ≡ Err (UnitFault.Run fault) → RefusesLine image.now unit.old.settings events line.now fault }
+    ensures settings { (unit.new.settings ≡ unit.old.settings) × (unit.new.stack_depth ≡ unit.old.stack_depth) }
+{
+    for _ in 0..line.times {
+        unit.accept(image, &line.event, bytes)?;
+    }
+    Ok(())
+}
+
+/// Traces the events of a stream.
+fn trace_lines(
+    unit: &mut Unit,
+    image: &Image,
+    bench: &Bench,
+    s: usize,
+    bytes: &mut Vec<u8>,
+) -> Result<(), Untraced>
+    requires parts { IsBench bench.now }
+    requires settings { unit.old.settings ≡ bench.now.settings }
+    ensures traces { (stream : BenchStream) → slice_get bench.now.streams s ≡ Some stream
+        → IsTracing image.now unit.old bytes.old.items [] → IsOk result
+        → IsTracing image.now unit.new bytes.new.items (events_of stream.lines)
+        × (stream_refusal image.now bench.now.settings.depth stream ≡ None) }
+    ensures refused { (stream : BenchStream) → slice_get bench.now.streams s ≡ Some stream
+        → IsTracing image.now unit.old bytes.old.items []
+        → (line : ℕ) (fault : Refusal) → result ≡ Err (Untraced.Refused line fault)
+        → stream_refusal image.now bench.now.settings.depth stream ≡ refused_at line fault }
+    ensures settings { (unit.new.settings ≡ unit.old.settings) × (unit.new.stack_depth ≡ unit.old.stack_depth) }
+{
+    let mut k = 0;
+    while let Some(line) = bench.line_at(s, k) {
+        match trace_line(unit, image, line, bytes) {
+            Ok(()) => k += 1,
+            Err(UnitFault::Run(fault)) => {
+                return Err(Untraced::Refused {
+                    line: line.line,
+                    fault,
+                });
+            }
+            Err(UnitFault::Memory) => return Err(Untraced::Memory),
+        }
+    }
+    Ok(())
+}
+
+/// The trace of a stream.
+fn traced_stream(alloc: Global, image: &Image, bench: &Bench, s: usize) -> Result<Vec<u8>, Untraced>
+    requires { IsBench bench.now }
+    ensures bytes { (stream : BenchStream) → slice_get bench.now.streams s ≡ Some stream
+        → IfOk result (λ bytes. (bytes.items ≡ settled image.now bench.now.settings bench.now.stack (events_of stream.lines))
+        × (stream_refusal image.now bench.now.settings.depth stream ≡ None)) }
+    ensures refused { (stream : BenchStream) → slice_get bench.now.streams s ≡ Some stream
+        → (line : ℕ) (fault : Refusal) → result ≡ Err (Untraced.Refused line fault)
+        → stream_refusal image.now bench.now.settings.depth stream ≡ refused_at line fault }
+{
+    let Ok(mut unit) = Unit::new(alloc, bench.settings(), bench.stack()) else {
+        return Err(Untraced::Memory);
+    };
+    let mut bytes = Vec::new(alloc);
+    match trace_lines(&mut unit, image, bench, s, &mut bytes) {
+        Ok(()) => match unit.end(&mut bytes) {
+            Ok(_) => Ok(bytes),
+            Err(_) => Err(Untraced::Memory),
+        },
+        Err(untraced) => {
+            unit.abandon();
+            Err(untraced)
+        }
+    }
+}
+
+/// The traces of all streams, in the order of their declaration.
+pub fn traced_streams(alloc: Global, image: &Image, bench: &Bench) -> Result<Vec<Trace>, Untraced>
+    requires { IsBench bench.now }
+    ensures traces { IfOk result (λ made. (all_left made.items ≡ traces image.now bench.now)
+        × (refusal_among image.now bench.now.settings.depth bench.now.streams ≡ None)) }
+    ensures refused { (line : ℕ) (fault : Refusal) → result ≡ Err (Untraced.Refused line fault)
+        → refusal_among image.now bench.now.settings.depth bench.now.streams ≡ refused_at line fault }
+{
+    let mut made = Vec::new(alloc);
+    for s in 0..bench.streams() {
+        let Some(id) = bench.id_at(s) else {
+            unreachable!()
+        };
+        let bytes = traced_stream(alloc, image, bench, s)?;
+        let trace = Trace {
+            id,
+            bytes,
+            woven: 0,
+        };
+        made.push(trace).map_err(|_| Untraced::Memory)?;
+    }
+    Ok(made)
+}
+
+/// Reads a run file and traces all of it, then writes the frames of its traces.
+pub fn trace_input<J: Source, K: Sink>(
+    alloc: Global,
+    image: &Image,
+    input: &mut J,
+    out: &mut K,
+) -> Result<Status, Failed>
+    ensures answer { TracesSo image.now (J.state input.old) (J.state input.new) (K.state out.old) (K.state out.new) result }
+    ensures few { TakesAtMost (J.state input.old) (J.state input.new) (most_text + 1) }
+    ensures kept { (result ≡ Ok Status.ReadFault) ⊎ KeepsFaults (J.state input.old) (J.state input.new) }
+    ensures input_shows { ShowsAsBefore (J.state input.old) (J.state input.new) }
+    ensures input_later { (J.state input.old).faults ≤ (J.state input.new).faults }
+    ensures cause { HasCause (K.state out.old) (K.state out.new) result }
+    ensures shows { ShowsAsBefore (K.state out.old) (K.state out.new) }
+{
+    let bench = match read_bench(alloc, input) {
+        Ok(bench) => bench,
+        Err(Unread::Bad { line, why }) => return refuse(line, why, out),
+        Err(Unread::ReadFault) => return Ok(Status::ReadFault),
+        Err(Unread::Memory) => return Ok(Status::NoMemory),
+    };
+    match traced_streams(alloc, image, &bench) {
+        Ok(mut traces) => {
+            // No two parts of an image overlap, as the contract of this call tells.
+            let _word = image.word_at(0);
+            write_woven(&bench, &mut traces, out)?;
+            Ok(Status::Done)
+        }
+        Err(Untraced::Refused { line, fault }) => refuse(line, BenchWhy::Run(fault), out),
+        Err(Untraced::Memory) => Ok(Status::NoMemory),
+    }
+}

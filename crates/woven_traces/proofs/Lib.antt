@@ -1,0 +1,4 @@
+mod WovenExamples
+pub mod WovenFrames
+pub mod WovenPlaces
+pub mod WovenWhole
