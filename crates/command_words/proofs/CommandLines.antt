@@ -14,9 +14,9 @@ use Rattle.command_words.specs.declared.words.CommandOption.{CommandOption}
 use Rattle.command_words.specs.declared.words.CommandOption.TheVariants as option
 use Rattle.command_words.specs.declared.words.Layout.{Layout}
 use Rattle.command_words.specs.declared.words.Layout.TheVariants.{Raw, Frames}
-use Rattle.command_words.specs.Words.{Command, CommandRow, Path, Packets, Retired, Seen, Selftest, Trace, command_in, cut_of, is_dashed, is_seen, is_whole}
-use Rattle.command_words.specs.Words.{layout_in, meaning, most_cut, most_number, name_of, nothing_seen, number_of, number_to, row, seen_of, sizes_in, sizes_of}
-use Rattle.command_words.specs.Words.{takes_value, with_dashed, with_option, with_value, with_word}
+use Rattle.command_words.specs.Words.{Command, CommandRow, Intake, Path, Packets, Program, Retired, Seen, Selftest, Trace, command_in, cut_of, intake_in}
+use Rattle.command_words.specs.Words.{is_dashed, is_seen, is_whole, layout_in, meaning, most_cut, most_number, name_of, nothing_seen, number_of, number_to}
+use Rattle.command_words.specs.Words.{program_in, row, seen_of, sizes_in, sizes_of, takes_value, with_dashed, with_option, with_value, with_word}
 use Rattle.command_words.specs.CommandLines.{Piece, Apart, Joined, Flag, Positional, IsCut, IsEnd, IsLayout, IsLine, IsNumber, IsPiece, IsPathLine}
 use Rattle.command_words.specs.CommandLines.{IsPacketsLine, IsRetiredLine, IsSelftestLine, IsTraceLine, in_row, positionals_of, value_for, values_of, word_of}
 use Rattle.command_words.specs.CommandLines.{words_of}
@@ -761,32 +761,40 @@ line_of line word words positionals c b p are = record {
   positionals_are = sym p.positionals ∙ are;
 }
 
--- what the end says of the numbers and the layout
-record Says (end : Seen) (s : Sizes) (layout : Layout) : Type 0 where
-  sizes : SizesIn end s
-  layout_is : layout_in end ≡ layout
+-- what the end says of how the input is taken
+record Says (end : Seen) (intake : Intake) : Type 0 where
+  sizes : SizesIn end intake.units
+  layout_is : layout_in end ≡ intake.layout
 
-path_says : (end : Seen) (image : List ℕ) (s : Sizes) (layout : Layout) → command_in name.Path end ≡ Some (Path image s layout)
-    → (end.positional ≡ Some image) × Says end s layout
-path_says end image s layout e =
-    let i = then_some end.positional _ (Path image s layout) e in let z = map_some (sizes_in end) _ (Path image s layout) i.2 in
-    let image_is : i.0 ≡ image = let f = z.2 in cc in let sizes_are : z.0 ≡ s = let f = z.2 in cc in
-    let layout_is : layout_in end ≡ layout = let f = z.2 in cc in
-    (i.1 ∙ ap Some image_is, record { sizes = sizes_found end s (z.1 ∙ ap Some sizes_are); layout_is = layout_is })
+intake_found : (end : Seen) (intake : Intake) → intake_in end ≡ Some intake → Says end intake
+intake_found end intake e =
+    let z = map_some (sizes_in end) _ intake e in
+    record { sizes = sizes_found end intake.units (z.1 ∙ ap Some (ap (λ (i : Intake). i.units) z.2)); layout_is = ap (λ (i : Intake). i.layout) z.2 }
 
-packets_says : (end : Seen) (s : Sizes) (layout : Layout) → command_in name.Packets end ≡ Some (Packets s layout) → Says end s layout
-packets_says end s layout e =
-    let z = map_some (sizes_in end) _ (Packets s layout) e in let sizes_are : z.0 ≡ s = let f = z.2 in cc in
-    let layout_is : layout_in end ≡ layout = let f = z.2 in cc in
-    record { sizes = sizes_found end s (z.1 ∙ ap Some sizes_are); layout_is = layout_is }
+program_found : (end : Seen) (program : Program) → program_in end ≡ Some program → end.positional ≡ Some program.name
+program_found end program e = let i = map_some end.positional _ program e in i.1 ∙ ap Some (ap (λ (p : Program). p.name) i.2)
 
-retired_says : (end : Seen) (image : List ℕ) → command_in name.Retired end ≡ Some (Retired image) → end.positional ≡ Some image
-retired_says end image e =
-    let i = map_some end.positional Retired (Retired image) e in let image_is : i.0 ≡ image = let f = i.2 in cc in i.1 ∙ ap Some image_is
+path_says : (end : Seen) (program : Program) (intake : Intake) → command_in name.Path end ≡ Some (Path program intake)
+    → (end.positional ≡ Some program.name) × Says end intake
+path_says end program intake e =
+    let p = then_some (program_in end) _ (Path program intake) e in let i = map_some (intake_in end) (Path p.0) (Path program intake) p.2 in
+    let program_is : p.0 ≡ program = (let f = i.2 in cc) in let intake_is : i.0 ≡ intake = (let f = i.2 in cc) in
+    (program_found end program (p.1 ∙ ap Some program_is), intake_found end intake (i.1 ∙ ap Some intake_is))
 
-trace_says : (end : Seen) (image : List ℕ) → command_in name.Trace end ≡ Some (Trace image) → end.positional ≡ Some image
-trace_says end image e =
-    let i = map_some end.positional Trace (Trace image) e in let image_is : i.0 ≡ image = let f = i.2 in cc in i.1 ∙ ap Some image_is
+packets_says : (end : Seen) (intake : Intake) → command_in name.Packets end ≡ Some (Packets intake) → Says end intake
+packets_says end intake e =
+    let i = map_some (intake_in end) Packets (Packets intake) e in let intake_is : i.0 ≡ intake = (let f = i.2 in cc) in
+    intake_found end intake (i.1 ∙ ap Some intake_is)
+
+retired_says : (end : Seen) (program : Program) → command_in name.Retired end ≡ Some (Retired program) → end.positional ≡ Some program.name
+retired_says end program e =
+    let p = map_some (program_in end) Retired (Retired program) e in let program_is : p.0 ≡ program = (let f = p.2 in cc) in
+    program_found end program (p.1 ∙ ap Some program_is)
+
+trace_says : (end : Seen) (program : Program) → command_in name.Trace end ≡ Some (Trace program) → end.positional ≡ Some program.name
+trace_says end program e =
+    let p = map_some (program_in end) Trace (Trace program) e in let program_is : p.0 ≡ program = (let f = p.2 in cc) in
+    program_found end program (p.1 ∙ ap Some program_is)
 
 -- what the end says of a number, and of how many bytes are read
 record SaysNumber (end : Seen) (n : ℕ) (cut : Option ℕ) : Type 0 where
@@ -818,17 +826,17 @@ lacked : (row : CommandRow) (o : CommandOption) (values : List (List ℕ)) → f
 lacked row o values lacks (inl has) = absurd (let f = sym lacks ∙ has in cc)
 lacked row o values lacks (inr none) = none
 
-path_of_line : (word : List ℕ) (words : List (List ℕ)) (image : List ℕ) (s : Sizes) (layout : Layout) → Begins path_row word words (Path image s layout)
-    → IsPathLine (word ∷ words) image s layout
-path_of_line word words image s layout b =
-    let p = begin_parts path_row word words (Path image s layout) b in let says = path_says b.end image s layout b.means in let sizes = says.1.sizes in
+path_of_line : (word : List ℕ) (words : List (List ℕ)) (program : Program) (intake : Intake) → Begins path_row word words (Path program intake)
+    → IsPathLine (word ∷ words) program intake
+path_of_line word words program intake b =
+    let p = begin_parts path_row word words (Path program intake) b in let says = path_says b.end program intake b.means in let sizes = says.1.sizes in
     record {
-      line = line_of path_row word words (image ∷ []) (Path image s layout) b p (ap listed says.0);
-      layout_is = layout_values b.end layout (values_of option.Raw p.pieces) says.1.layout_is (p.values option.Raw);
+      line = line_of path_row word words (program.name ∷ []) (Path program intake) b p (ap listed says.0);
+      layout_is = layout_values b.end intake.layout (values_of option.Raw p.pieces) says.1.layout_is (p.values option.Raw);
       no_cut = lacked path_row option.Cut (values_of option.Cut p.pieces) refl (p.has option.Cut);
-      depth_is = number_values 16 b.end.depth s.depth (values_of option.Depth p.pieces) sizes.depth_is (p.values option.Depth);
-      vmid_is = number_values 1 b.end.vmid s.vmid_bytes (values_of option.Vmid p.pieces) sizes.vmid_is (p.values option.Vmid);
-      cid_is = number_values 4 b.end.cid s.cid_bytes (values_of option.Cid p.pieces) sizes.cid_is (p.values option.Cid);
+      depth_is = number_values 16 b.end.depth intake.units.depth (values_of option.Depth p.pieces) sizes.depth_is (p.values option.Depth);
+      vmid_is = number_values 1 b.end.vmid intake.units.vmid_bytes (values_of option.Vmid p.pieces) sizes.vmid_is (p.values option.Vmid);
+      cid_is = number_values 4 b.end.cid intake.units.cid_bytes (values_of option.Cid p.pieces) sizes.cid_is (p.values option.Cid);
       within = sizes.within;
     }
 
@@ -836,37 +844,37 @@ no_positionals : (positionals : List (List ℕ)) → (packets_row.has_positional
 no_positionals positionals (inl has) = absurd cc
 no_positionals positionals (inr none) = none
 
-packets_of_line : (word : List ℕ) (words : List (List ℕ)) (s : Sizes) (layout : Layout) → Begins packets_row word words (Packets s layout)
-    → IsPacketsLine (word ∷ words) s layout
-packets_of_line word words s layout b =
-    let p = begin_parts packets_row word words (Packets s layout) b in let says = packets_says b.end s layout b.means in let sizes = says.sizes in
+packets_of_line : (word : List ℕ) (words : List (List ℕ)) (intake : Intake) → Begins packets_row word words (Packets intake)
+    → IsPacketsLine (word ∷ words) intake
+packets_of_line word words intake b =
+    let p = begin_parts packets_row word words (Packets intake) b in let says = packets_says b.end intake b.means in let sizes = says.sizes in
     let none = lacked packets_row option.Depth (values_of option.Depth p.pieces) refl (p.has option.Depth) in
     record {
-      line = line_of packets_row word words [] (Packets s layout) b p (p.positionals ∙ no_positionals (positionals_of p.pieces ++ p.behind) p.allowed);
-      layout_is = layout_values b.end layout (values_of option.Raw p.pieces) says.layout_is (p.values option.Raw);
+      line = line_of packets_row word words [] (Packets intake) b p (p.positionals ∙ no_positionals (positionals_of p.pieces ++ p.behind) p.allowed);
+      layout_is = layout_values b.end intake.layout (values_of option.Raw p.pieces) says.layout_is (p.values option.Raw);
       no_depth = none;
       no_cut = lacked packets_row option.Cut (values_of option.Cut p.pieces) refl (p.has option.Cut);
-      depth_is = number_values 16 b.end.depth s.depth [] sizes.depth_is (p.values option.Depth ∙ none);
-      vmid_is = number_values 1 b.end.vmid s.vmid_bytes (values_of option.Vmid p.pieces) sizes.vmid_is (p.values option.Vmid);
-      cid_is = number_values 4 b.end.cid s.cid_bytes (values_of option.Cid p.pieces) sizes.cid_is (p.values option.Cid);
+      depth_is = number_values 16 b.end.depth intake.units.depth [] sizes.depth_is (p.values option.Depth ∙ none);
+      vmid_is = number_values 1 b.end.vmid intake.units.vmid_bytes (values_of option.Vmid p.pieces) sizes.vmid_is (p.values option.Vmid);
+      cid_is = number_values 4 b.end.cid intake.units.cid_bytes (values_of option.Cid p.pieces) sizes.cid_is (p.values option.Cid);
       within = sizes.within;
     }
 
-retired_of_line : (word : List ℕ) (words : List (List ℕ)) (image : List ℕ) → Begins retired_row word words (Retired image)
-    → IsRetiredLine (word ∷ words) image
-retired_of_line word words image b =
-    let p = begin_parts retired_row word words (Retired image) b in
+retired_of_line : (word : List ℕ) (words : List (List ℕ)) (program : Program) → Begins retired_row word words (Retired program)
+    → IsRetiredLine (word ∷ words) program
+retired_of_line word words program b =
+    let p = begin_parts retired_row word words (Retired program) b in
     record {
-      line = line_of retired_row word words (image ∷ []) (Retired image) b p (ap listed (retired_says b.end image b.means));
+      line = line_of retired_row word words (program.name ∷ []) (Retired program) b p (ap listed (retired_says b.end program b.means));
       no_option = λ o. lacked retired_row o (values_of o p.pieces) refl (p.has o);
     }
 
-trace_of_line : (word : List ℕ) (words : List (List ℕ)) (image : List ℕ) → Begins trace_row word words (Trace image)
-    → IsTraceLine (word ∷ words) image
-trace_of_line word words image b =
-    let p = begin_parts trace_row word words (Trace image) b in
+trace_of_line : (word : List ℕ) (words : List (List ℕ)) (program : Program) → Begins trace_row word words (Trace program)
+    → IsTraceLine (word ∷ words) program
+trace_of_line word words program b =
+    let p = begin_parts trace_row word words (Trace program) b in
     record {
-      line = line_of trace_row word words (image ∷ []) (Trace image) b p (ap listed (trace_says b.end image b.means));
+      line = line_of trace_row word words (program.name ∷ []) (Trace program) b p (ap listed (trace_says b.end program b.means));
       no_option = λ o. lacked trace_row o (values_of o p.pieces) refl (p.has o);
     }
 
@@ -898,17 +906,17 @@ selftest_of_line word words n cut b =
 
 -- a command means what its name says
 abbrev name_in : Command → CommandName
-name_in (Path image s layout) = name.Path
-name_in (Packets s layout) = name.Packets
-name_in (Retired image) = name.Retired
-name_in (Trace image) = name.Trace
+name_in (Path program intake) = name.Path
+name_in (Packets intake) = name.Packets
+name_in (Retired program) = name.Retired
+name_in (Trace program) = name.Trace
 name_in (Selftest n cut) = name.Selftest
 
 named : (n : CommandName) (end : Seen) (c : Command) → command_in n end ≡ Some c → n ≡ name_in c
-named name.Path end c e = let i = then_some end.positional _ c e in let z = map_some (sizes_in end) _ c i.2 in ap name_in z.2
-named name.Packets end c e = let z = map_some (sizes_in end) _ c e in ap name_in z.2
-named name.Retired end c e = let i = map_some end.positional Retired c e in ap name_in i.2
-named name.Trace end c e = let i = map_some end.positional Trace c e in ap name_in i.2
+named name.Path end c e = let i = then_some (program_in end) _ c e in let z = map_some (intake_in end) (Path i.0) c i.2 in ap name_in z.2
+named name.Packets end c e = let z = map_some (intake_in end) Packets c e in ap name_in z.2
+named name.Retired end c e = let i = map_some (program_in end) Retired c e in ap name_in i.2
+named name.Trace end c e = let i = map_some (program_in end) Trace c e in ap name_in i.2
 named name.Selftest end c e =
     let w = then_some end.positional _ c e in let m = then_some (number_to most_number w.0) _ c w.2 in
     let k = map_some (cut_of end.cut) (Selftest m.0) c m.2 in ap name_in k.2
@@ -916,45 +924,45 @@ named name.Selftest end c e =
 another : (n : CommandName) (end : Seen) (c : Command) → command_in n end ≡ Some c → (n ≡ name_in c → ⊥) → ⊥
 another n end c e other = other (named n end c e)
 
-pub path_line : (words : List (List ℕ)) (image : List ℕ) (s : Sizes) (layout : Layout) → meaning words ≡ Some (Path image s layout)
-    → IsPathLine words image s layout
-path_line [] image s layout e = absurd cc
-path_line (word ∷ words) image s layout e = elim (line word words (Path image s layout) e) [
-  | inl b ↦ path_of_line word words image s layout b
-  | inr (inl b) ↦ absurd (another name.Packets b.end (Path image s layout) b.means (λ f. absurd cc))
-  | inr (inr (inl b)) ↦ absurd (another name.Retired b.end (Path image s layout) b.means (λ f. absurd cc))
-  | inr (inr (inr (inl b))) ↦ absurd (another name.Trace b.end (Path image s layout) b.means (λ f. absurd cc))
-  | inr (inr (inr (inr b))) ↦ absurd (another name.Selftest b.end (Path image s layout) b.means (λ f. absurd cc))
+pub path_line : (words : List (List ℕ)) (program : Program) (intake : Intake) → meaning words ≡ Some (Path program intake)
+    → IsPathLine words program intake
+path_line [] program intake e = absurd cc
+path_line (word ∷ words) program intake e = elim (line word words (Path program intake) e) [
+  | inl b ↦ path_of_line word words program intake b
+  | inr (inl b) ↦ absurd (another name.Packets b.end (Path program intake) b.means (λ f. absurd cc))
+  | inr (inr (inl b)) ↦ absurd (another name.Retired b.end (Path program intake) b.means (λ f. absurd cc))
+  | inr (inr (inr (inl b))) ↦ absurd (another name.Trace b.end (Path program intake) b.means (λ f. absurd cc))
+  | inr (inr (inr (inr b))) ↦ absurd (another name.Selftest b.end (Path program intake) b.means (λ f. absurd cc))
 ]
 
-pub packets_line : (words : List (List ℕ)) (s : Sizes) (layout : Layout) → meaning words ≡ Some (Packets s layout) → IsPacketsLine words s layout
-packets_line [] s layout e = absurd cc
-packets_line (word ∷ words) s layout e = elim (line word words (Packets s layout) e) [
-  | inl b ↦ absurd (another name.Path b.end (Packets s layout) b.means (λ f. absurd cc))
-  | inr (inl b) ↦ packets_of_line word words s layout b
-  | inr (inr (inl b)) ↦ absurd (another name.Retired b.end (Packets s layout) b.means (λ f. absurd cc))
-  | inr (inr (inr (inl b))) ↦ absurd (another name.Trace b.end (Packets s layout) b.means (λ f. absurd cc))
-  | inr (inr (inr (inr b))) ↦ absurd (another name.Selftest b.end (Packets s layout) b.means (λ f. absurd cc))
+pub packets_line : (words : List (List ℕ)) (intake : Intake) → meaning words ≡ Some (Packets intake) → IsPacketsLine words intake
+packets_line [] intake e = absurd cc
+packets_line (word ∷ words) intake e = elim (line word words (Packets intake) e) [
+  | inl b ↦ absurd (another name.Path b.end (Packets intake) b.means (λ f. absurd cc))
+  | inr (inl b) ↦ packets_of_line word words intake b
+  | inr (inr (inl b)) ↦ absurd (another name.Retired b.end (Packets intake) b.means (λ f. absurd cc))
+  | inr (inr (inr (inl b))) ↦ absurd (another name.Trace b.end (Packets intake) b.means (λ f. absurd cc))
+  | inr (inr (inr (inr b))) ↦ absurd (another name.Selftest b.end (Packets intake) b.means (λ f. absurd cc))
 ]
 
-pub retired_line : (words : List (List ℕ)) (image : List ℕ) → meaning words ≡ Some (Retired image) → IsRetiredLine words image
-retired_line [] image e = absurd cc
-retired_line (word ∷ words) image e = elim (line word words (Retired image) e) [
-  | inl b ↦ absurd (another name.Path b.end (Retired image) b.means (λ f. absurd cc))
-  | inr (inl b) ↦ absurd (another name.Packets b.end (Retired image) b.means (λ f. absurd cc))
-  | inr (inr (inl b)) ↦ retired_of_line word words image b
-  | inr (inr (inr (inl b))) ↦ absurd (another name.Trace b.end (Retired image) b.means (λ f. absurd cc))
-  | inr (inr (inr (inr b))) ↦ absurd (another name.Selftest b.end (Retired image) b.means (λ f. absurd cc))
+pub retired_line : (words : List (List ℕ)) (program : Program) → meaning words ≡ Some (Retired program) → IsRetiredLine words program
+retired_line [] program e = absurd cc
+retired_line (word ∷ words) program e = elim (line word words (Retired program) e) [
+  | inl b ↦ absurd (another name.Path b.end (Retired program) b.means (λ f. absurd cc))
+  | inr (inl b) ↦ absurd (another name.Packets b.end (Retired program) b.means (λ f. absurd cc))
+  | inr (inr (inl b)) ↦ retired_of_line word words program b
+  | inr (inr (inr (inl b))) ↦ absurd (another name.Trace b.end (Retired program) b.means (λ f. absurd cc))
+  | inr (inr (inr (inr b))) ↦ absurd (another name.Selftest b.end (Retired program) b.means (λ f. absurd cc))
 ]
 
-pub trace_line : (words : List (List ℕ)) (image : List ℕ) → meaning words ≡ Some (Trace image) → IsTraceLine words image
-trace_line [] image e = absurd cc
-trace_line (word ∷ words) image e = elim (line word words (Trace image) e) [
-  | inl b ↦ absurd (another name.Path b.end (Trace image) b.means (λ f. absurd cc))
-  | inr (inl b) ↦ absurd (another name.Packets b.end (Trace image) b.means (λ f. absurd cc))
-  | inr (inr (inl b)) ↦ absurd (another name.Retired b.end (Trace image) b.means (λ f. absurd cc))
-  | inr (inr (inr (inl b))) ↦ trace_of_line word words image b
-  | inr (inr (inr (inr b))) ↦ absurd (another name.Selftest b.end (Trace image) b.means (λ f. absurd cc))
+pub trace_line : (words : List (List ℕ)) (program : Program) → meaning words ≡ Some (Trace program) → IsTraceLine words program
+trace_line [] program e = absurd cc
+trace_line (word ∷ words) program e = elim (line word words (Trace program) e) [
+  | inl b ↦ absurd (another name.Path b.end (Trace program) b.means (λ f. absurd cc))
+  | inr (inl b) ↦ absurd (another name.Packets b.end (Trace program) b.means (λ f. absurd cc))
+  | inr (inr (inl b)) ↦ absurd (another name.Retired b.end (Trace program) b.means (λ f. absurd cc))
+  | inr (inr (inr (inl b))) ↦ trace_of_line word words program b
+  | inr (inr (inr (inr b))) ↦ absurd (another name.Selftest b.end (Trace program) b.means (λ f. absurd cc))
 ]
 
 pub selftest_line : (words : List (List ℕ)) (n : ℕ) (cut : Option ℕ) → meaning words ≡ Some (Selftest n cut) → IsSelftestLine words n cut
@@ -984,58 +992,66 @@ layout_once [] layout is = tt
 layout_once (v ∷ []) layout is = tt
 layout_once (v ∷ w ∷ values) layout is = absurd is
 
--- the numbers and the layout of what is seen
-said_by : (end : Seen) (s : Sizes) (layout : Layout) (raw depth vmid cid : List (List ℕ)) → given option.Raw end ≡ raw → listed end.depth ≡ depth
-    → listed end.vmid ≡ vmid → listed end.cid ≡ cid → IsLayout raw layout → IsNumber 16 depth s.depth → IsNumber 1 vmid s.vmid_bytes
-    → IsNumber 4 cid s.cid_bytes → AreSettings s → (sizes_in end ≡ Some s) × (layout_in end ≡ layout)
-said_by end s layout raw depth vmid cid r d v c layout_is depth_is vmid_is cid_is within = (
-  sizes_said end s (record {
-    depth_is = number_said 16 end.depth s.depth (subst (λ (l : List (List ℕ)). IsNumber 16 l s.depth) (sym d) depth_is);
-    vmid_is = number_said 1 end.vmid s.vmid_bytes (subst (λ (l : List (List ℕ)). IsNumber 1 l s.vmid_bytes) (sym v) vmid_is);
-    cid_is = number_said 4 end.cid s.cid_bytes (subst (λ (l : List (List ℕ)). IsNumber 4 l s.cid_bytes) (sym c) cid_is);
-    within = within;
-  }),
-  layout_said end.raw layout (subst (λ (l : List (List ℕ)). IsLayout l layout) (sym r) layout_is),
-)
+abbrev taken_so : Sizes → Layout → Intake
+taken_so units layout = record { units = units; layout = layout }
 
-path_once : (words : List (List ℕ)) (image : List ℕ) (s : Sizes) (layout : Layout) (l : IsPathLine words image s layout) (o : CommandOption)
+-- how the input is taken, by what is seen
+said_by : (end : Seen) (intake : Intake) (raw depth vmid cid : List (List ℕ)) → given option.Raw end ≡ raw → listed end.depth ≡ depth
+    → listed end.vmid ≡ vmid → listed end.cid ≡ cid → IsLayout raw intake.layout → IsNumber 16 depth intake.units.depth
+    → IsNumber 1 vmid intake.units.vmid_bytes → IsNumber 4 cid intake.units.cid_bytes → AreSettings intake.units → intake_in end ≡ Some intake
+said_by end intake raw depth vmid cid r d v c layout_is depth_is vmid_is cid_is within =
+    let s = intake.units in
+    let sizes_are = sizes_said end s (record {
+      depth_is = number_said 16 end.depth s.depth (subst (λ (l : List (List ℕ)). IsNumber 16 l s.depth) (sym d) depth_is);
+      vmid_is = number_said 1 end.vmid s.vmid_bytes (subst (λ (l : List (List ℕ)). IsNumber 1 l s.vmid_bytes) (sym v) vmid_is);
+      cid_is = number_said 4 end.cid s.cid_bytes (subst (λ (l : List (List ℕ)). IsNumber 4 l s.cid_bytes) (sym c) cid_is);
+      within = within;
+    }) in
+    let layout_so = layout_said end.raw intake.layout (subst (λ (l : List (List ℕ)). IsLayout l intake.layout) (sym r) layout_is) in
+    ap (option_map (λ (units : Sizes). taken_so units (layout_in end))) sizes_are ∙ ap (λ (layout : Layout). Some (taken_so intake.units layout)) layout_so
+
+path_once : (words : List (List ℕ)) (program : Program) (intake : Intake) (l : IsPathLine words program intake) (o : CommandOption)
     → OnceAtMost (given o nothing_seen ++ values_of o l.line.pieces)
-path_once words image s layout l option.Raw = layout_once (values_of option.Raw l.line.pieces) layout l.layout_is
-path_once words image s layout l option.Depth = number_once 16 (values_of option.Depth l.line.pieces) s.depth l.depth_is
-path_once words image s layout l option.Vmid = number_once 1 (values_of option.Vmid l.line.pieces) s.vmid_bytes l.vmid_is
-path_once words image s layout l option.Cid = number_once 4 (values_of option.Cid l.line.pieces) s.cid_bytes l.cid_is
-path_once words image s layout l option.Cut = subst OnceAtMost (sym l.no_cut) tt
+path_once words program intake l option.Raw = layout_once (values_of option.Raw l.line.pieces) intake.layout l.layout_is
+path_once words program intake l option.Depth = number_once 16 (values_of option.Depth l.line.pieces) intake.units.depth l.depth_is
+path_once words program intake l option.Vmid = number_once 1 (values_of option.Vmid l.line.pieces) intake.units.vmid_bytes l.vmid_is
+path_once words program intake l option.Cid = number_once 4 (values_of option.Cid l.line.pieces) intake.units.cid_bytes l.cid_is
+path_once words program intake l option.Cut = subst OnceAtMost (sym l.no_cut) tt
 
-path_has : (words : List (List ℕ)) (image : List ℕ) (s : Sizes) (layout : Layout) (l : IsPathLine words image s layout) (o : CommandOption)
+path_has : (words : List (List ℕ)) (program : Program) (intake : Intake) (l : IsPathLine words program intake) (o : CommandOption)
     → Has path_row o ⊎ (values_of o l.line.pieces ≡ [])
-path_has words image s layout l option.Raw = inl refl
-path_has words image s layout l option.Depth = inl refl
-path_has words image s layout l option.Vmid = inl refl
-path_has words image s layout l option.Cid = inl refl
-path_has words image s layout l option.Cut = inr l.no_cut
+path_has words program intake l option.Raw = inl refl
+path_has words program intake l option.Depth = inl refl
+path_has words program intake l option.Vmid = inl refl
+path_has words program intake l option.Cid = inl refl
+path_has words program intake l option.Cut = inr l.no_cut
 
 positional_once : (positionals : List (List ℕ)) (word : List ℕ) → positionals ≡ word ∷ [] → OnceAtMost positionals
 positional_once positionals word are = subst OnceAtMost (sym are) tt
 
-path_means : (words : List (List ℕ)) (end : Seen) (image : List ℕ) (s : Sizes) (layout : Layout) → seen_of path_row nothing_seen words ≡ Some end
-    → end.positional ≡ Some image → sizes_in end ≡ Some s → layout_in end ≡ layout → meaning (codes "path" ∷ words) ≡ Some (Path image s layout)
-path_means words end image s layout e i z l =
-    ap (option_and_then (command_in name.Path)) e ∙ (ap (option_and_then (λ v. option_map (λ sizes. Path v sizes (layout_in end)) (sizes_in end))) i
-    ∙ (ap (option_map (λ sizes. Path image sizes (layout_in end))) z ∙ ap (λ (y : Layout). Some (Path image s y)) l))
+abbrev named_so : List ℕ → Program
+named_so name = record { name = name }
 
-packets_means : (words : List (List ℕ)) (end : Seen) (s : Sizes) (layout : Layout) → seen_of packets_row nothing_seen words ≡ Some end
-    → sizes_in end ≡ Some s → layout_in end ≡ layout → meaning (codes "packets" ∷ words) ≡ Some (Packets s layout)
-packets_means words end s layout e z l =
-    ap (option_and_then (command_in name.Packets)) e
-    ∙ (ap (option_map (λ sizes. Packets sizes (layout_in end))) z ∙ ap (λ (y : Layout). Some (Packets s y)) l)
+program_said : (end : Seen) (program : Program) → end.positional ≡ Some program.name → program_in end ≡ Some program
+program_said end program e = ap (option_map named_so) e
 
-retired_means : (words : List (List ℕ)) (end : Seen) (image : List ℕ) → seen_of retired_row nothing_seen words ≡ Some end
-    → end.positional ≡ Some image → meaning (codes "retired" ∷ words) ≡ Some (Retired image)
-retired_means words end image e i = ap (option_and_then (command_in name.Retired)) e ∙ ap (option_map Retired) i
+path_means : (words : List (List ℕ)) (end : Seen) (program : Program) (intake : Intake) → seen_of path_row nothing_seen words ≡ Some end
+    → program_in end ≡ Some program → intake_in end ≡ Some intake → meaning (codes "path" ∷ words) ≡ Some (Path program intake)
+path_means words end program intake e p i =
+    ap (option_and_then (command_in name.Path)) e
+    ∙ (ap (option_and_then (λ v. option_map (Path v) (intake_in end))) p ∙ ap (option_map (Path program)) i)
 
-trace_means : (words : List (List ℕ)) (end : Seen) (image : List ℕ) → seen_of trace_row nothing_seen words ≡ Some end
-    → end.positional ≡ Some image → meaning (codes "trace" ∷ words) ≡ Some (Trace image)
-trace_means words end image e i = ap (option_and_then (command_in name.Trace)) e ∙ ap (option_map Trace) i
+packets_means : (words : List (List ℕ)) (end : Seen) (intake : Intake) → seen_of packets_row nothing_seen words ≡ Some end
+    → intake_in end ≡ Some intake → meaning (codes "packets" ∷ words) ≡ Some (Packets intake)
+packets_means words end intake e i = ap (option_and_then (command_in name.Packets)) e ∙ ap (option_map Packets) i
+
+retired_means : (words : List (List ℕ)) (end : Seen) (program : Program) → seen_of retired_row nothing_seen words ≡ Some end
+    → program_in end ≡ Some program → meaning (codes "retired" ∷ words) ≡ Some (Retired program)
+retired_means words end program e p = ap (option_and_then (command_in name.Retired)) e ∙ ap (option_map Retired) p
+
+trace_means : (words : List (List ℕ)) (end : Seen) (program : Program) → seen_of trace_row nothing_seen words ≡ Some end
+    → program_in end ≡ Some program → meaning (codes "trace" ∷ words) ≡ Some (Trace program)
+trace_means words end program e p = ap (option_and_then (command_in name.Trace)) e ∙ ap (option_map Trace) p
 
 selftest_means : (words : List (List ℕ)) (end : Seen) (number : List ℕ) (n : ℕ) (cut : Option ℕ) → seen_of selftest_row nothing_seen words ≡ Some end
     → end.positional ≡ Some number → number_to most_number number ≡ Some n → cut_of end.cut ≡ Some cut
@@ -1045,96 +1061,98 @@ selftest_means words end number n cut e i m k =
     ∙ (ap (option_and_then (λ word. option_and_then (λ x. option_map (Selftest x) (cut_of end.cut)) (number_to most_number word))) i
     ∙ (ap (option_and_then (λ x. option_map (Selftest x) (cut_of end.cut))) m ∙ ap (option_map (Selftest n)) k))
 
-pub path_said : (words : List (List ℕ)) (image : List ℕ) (s : Sizes) (layout : Layout) → IsPathLine words image s layout
-    → meaning words ≡ Some (Path image s layout)
-path_said words image s layout l =
+pub path_said : (words : List (List ℕ)) (program : Program) (intake : Intake) → IsPathLine words program intake
+    → meaning words ≡ Some (Path program intake)
+path_said words program intake l =
     let t = taken path_row l.line.pieces l.line.ended l.line.behind nothing_seen refl l.line.are_pieces l.line.end_is (record {
       free = refl;
-      once = path_once words image s layout l;
-      one = positional_once (positionals_of l.line.pieces ++ l.line.behind) image l.line.positionals_are;
-      has = path_has words image s layout l;
+      once = path_once words program intake l;
+      one = positional_once (positionals_of l.line.pieces ++ l.line.behind) program.name l.line.positionals_are;
+      has = path_has words program intake l;
       allowed = inl refl;
-      enough = inr (image, l.line.positionals_are);
+      enough = inr (program.name, l.line.positionals_are);
     }) in
-    let says = said_by t.end s layout (values_of option.Raw l.line.pieces) (values_of option.Depth l.line.pieces) (values_of option.Vmid l.line.pieces)
+    let says = said_by t.end intake (values_of option.Raw l.line.pieces) (values_of option.Depth l.line.pieces) (values_of option.Vmid l.line.pieces)
     (values_of option.Cid l.line.pieces) (t.values option.Raw) (t.values option.Depth) (t.values option.Vmid) (t.values option.Cid)
     l.layout_is l.depth_is l.vmid_is l.cid_is l.within in
     ap meaning l.line.row
-    ∙ path_means (in_row l.line.pieces l.line.ended) t.end image s layout t.seen_is
-    (positional_said t.end.positional image (t.positionals ∙ l.line.positionals_are)) says.0 says.1
+    ∙ path_means (in_row l.line.pieces l.line.ended) t.end program intake t.seen_is
+    (program_said t.end program (positional_said t.end.positional program.name (t.positionals ∙ l.line.positionals_are))) says
 
-packets_once : (words : List (List ℕ)) (s : Sizes) (layout : Layout) (l : IsPacketsLine words s layout) (o : CommandOption)
+packets_once : (words : List (List ℕ)) (intake : Intake) (l : IsPacketsLine words intake) (o : CommandOption)
     → OnceAtMost (given o nothing_seen ++ values_of o l.line.pieces)
-packets_once words s layout l option.Raw = layout_once (values_of option.Raw l.line.pieces) layout l.layout_is
-packets_once words s layout l option.Depth = subst OnceAtMost (sym l.no_depth) tt
-packets_once words s layout l option.Vmid = number_once 1 (values_of option.Vmid l.line.pieces) s.vmid_bytes l.vmid_is
-packets_once words s layout l option.Cid = number_once 4 (values_of option.Cid l.line.pieces) s.cid_bytes l.cid_is
-packets_once words s layout l option.Cut = subst OnceAtMost (sym l.no_cut) tt
+packets_once words intake l option.Raw = layout_once (values_of option.Raw l.line.pieces) intake.layout l.layout_is
+packets_once words intake l option.Depth = subst OnceAtMost (sym l.no_depth) tt
+packets_once words intake l option.Vmid = number_once 1 (values_of option.Vmid l.line.pieces) intake.units.vmid_bytes l.vmid_is
+packets_once words intake l option.Cid = number_once 4 (values_of option.Cid l.line.pieces) intake.units.cid_bytes l.cid_is
+packets_once words intake l option.Cut = subst OnceAtMost (sym l.no_cut) tt
 
-packets_has : (words : List (List ℕ)) (s : Sizes) (layout : Layout) (l : IsPacketsLine words s layout) (o : CommandOption)
+packets_has : (words : List (List ℕ)) (intake : Intake) (l : IsPacketsLine words intake) (o : CommandOption)
     → Has packets_row o ⊎ (values_of o l.line.pieces ≡ [])
-packets_has words s layout l option.Raw = inl refl
-packets_has words s layout l option.Depth = inr l.no_depth
-packets_has words s layout l option.Vmid = inl refl
-packets_has words s layout l option.Cid = inl refl
-packets_has words s layout l option.Cut = inr l.no_cut
+packets_has words intake l option.Raw = inl refl
+packets_has words intake l option.Depth = inr l.no_depth
+packets_has words intake l option.Vmid = inl refl
+packets_has words intake l option.Cid = inl refl
+packets_has words intake l option.Cut = inr l.no_cut
 
-pub packets_said : (words : List (List ℕ)) (s : Sizes) (layout : Layout) → IsPacketsLine words s layout → meaning words ≡ Some (Packets s layout)
-packets_said words s layout l =
+pub packets_said : (words : List (List ℕ)) (intake : Intake) → IsPacketsLine words intake → meaning words ≡ Some (Packets intake)
+packets_said words intake l =
     let t = taken packets_row l.line.pieces l.line.ended l.line.behind nothing_seen refl l.line.are_pieces l.line.end_is (record {
       free = refl;
-      once = packets_once words s layout l;
+      once = packets_once words intake l;
       one = subst OnceAtMost (sym l.line.positionals_are) tt;
-      has = packets_has words s layout l;
+      has = packets_has words intake l;
       allowed = inr l.line.positionals_are;
       enough = inl refl;
     }) in
-    let says = said_by t.end s layout (values_of option.Raw l.line.pieces) [] (values_of option.Vmid l.line.pieces)
+    let says = said_by t.end intake (values_of option.Raw l.line.pieces) [] (values_of option.Vmid l.line.pieces)
     (values_of option.Cid l.line.pieces) (t.values option.Raw) (t.values option.Depth ∙ l.no_depth) (t.values option.Vmid) (t.values option.Cid)
     l.layout_is l.depth_is l.vmid_is l.cid_is l.within in
-    ap meaning l.line.row ∙ packets_means (in_row l.line.pieces l.line.ended) t.end s layout t.seen_is says.0 says.1
+    ap meaning l.line.row ∙ packets_means (in_row l.line.pieces l.line.ended) t.end intake t.seen_is says
 
-retired_once : (words : List (List ℕ)) (image : List ℕ) (l : IsRetiredLine words image) (o : CommandOption)
+retired_once : (words : List (List ℕ)) (program : Program) (l : IsRetiredLine words program) (o : CommandOption)
     → OnceAtMost (given o nothing_seen ++ values_of o l.line.pieces)
-retired_once words image l option.Raw = subst OnceAtMost (sym (l.no_option option.Raw)) tt
-retired_once words image l option.Depth = subst OnceAtMost (sym (l.no_option option.Depth)) tt
-retired_once words image l option.Vmid = subst OnceAtMost (sym (l.no_option option.Vmid)) tt
-retired_once words image l option.Cid = subst OnceAtMost (sym (l.no_option option.Cid)) tt
-retired_once words image l option.Cut = subst OnceAtMost (sym (l.no_option option.Cut)) tt
+retired_once words program l option.Raw = subst OnceAtMost (sym (l.no_option option.Raw)) tt
+retired_once words program l option.Depth = subst OnceAtMost (sym (l.no_option option.Depth)) tt
+retired_once words program l option.Vmid = subst OnceAtMost (sym (l.no_option option.Vmid)) tt
+retired_once words program l option.Cid = subst OnceAtMost (sym (l.no_option option.Cid)) tt
+retired_once words program l option.Cut = subst OnceAtMost (sym (l.no_option option.Cut)) tt
 
-pub retired_said : (words : List (List ℕ)) (image : List ℕ) → IsRetiredLine words image → meaning words ≡ Some (Retired image)
-retired_said words image l =
+pub retired_said : (words : List (List ℕ)) (program : Program) → IsRetiredLine words program → meaning words ≡ Some (Retired program)
+retired_said words program l =
     let t = taken retired_row l.line.pieces l.line.ended l.line.behind nothing_seen refl l.line.are_pieces l.line.end_is (record {
       free = refl;
-      once = retired_once words image l;
-      one = positional_once (positionals_of l.line.pieces ++ l.line.behind) image l.line.positionals_are;
+      once = retired_once words program l;
+      one = positional_once (positionals_of l.line.pieces ++ l.line.behind) program.name l.line.positionals_are;
       has = λ o. inr (l.no_option o);
       allowed = inl refl;
-      enough = inr (image, l.line.positionals_are);
+      enough = inr (program.name, l.line.positionals_are);
     }) in
     ap meaning l.line.row
-    ∙ retired_means (in_row l.line.pieces l.line.ended) t.end image t.seen_is (positional_said t.end.positional image (t.positionals ∙ l.line.positionals_are))
+    ∙ retired_means (in_row l.line.pieces l.line.ended) t.end program t.seen_is
+    (program_said t.end program (positional_said t.end.positional program.name (t.positionals ∙ l.line.positionals_are)))
 
-trace_once : (words : List (List ℕ)) (image : List ℕ) (l : IsTraceLine words image) (o : CommandOption)
+trace_once : (words : List (List ℕ)) (program : Program) (l : IsTraceLine words program) (o : CommandOption)
     → OnceAtMost (given o nothing_seen ++ values_of o l.line.pieces)
-trace_once words image l option.Raw = subst OnceAtMost (sym (l.no_option option.Raw)) tt
-trace_once words image l option.Depth = subst OnceAtMost (sym (l.no_option option.Depth)) tt
-trace_once words image l option.Vmid = subst OnceAtMost (sym (l.no_option option.Vmid)) tt
-trace_once words image l option.Cid = subst OnceAtMost (sym (l.no_option option.Cid)) tt
-trace_once words image l option.Cut = subst OnceAtMost (sym (l.no_option option.Cut)) tt
+trace_once words program l option.Raw = subst OnceAtMost (sym (l.no_option option.Raw)) tt
+trace_once words program l option.Depth = subst OnceAtMost (sym (l.no_option option.Depth)) tt
+trace_once words program l option.Vmid = subst OnceAtMost (sym (l.no_option option.Vmid)) tt
+trace_once words program l option.Cid = subst OnceAtMost (sym (l.no_option option.Cid)) tt
+trace_once words program l option.Cut = subst OnceAtMost (sym (l.no_option option.Cut)) tt
 
-pub trace_said : (words : List (List ℕ)) (image : List ℕ) → IsTraceLine words image → meaning words ≡ Some (Trace image)
-trace_said words image l =
+pub trace_said : (words : List (List ℕ)) (program : Program) → IsTraceLine words program → meaning words ≡ Some (Trace program)
+trace_said words program l =
     let t = taken trace_row l.line.pieces l.line.ended l.line.behind nothing_seen refl l.line.are_pieces l.line.end_is (record {
       free = refl;
-      once = trace_once words image l;
-      one = positional_once (positionals_of l.line.pieces ++ l.line.behind) image l.line.positionals_are;
+      once = trace_once words program l;
+      one = positional_once (positionals_of l.line.pieces ++ l.line.behind) program.name l.line.positionals_are;
       has = λ o. inr (l.no_option o);
       allowed = inl refl;
-      enough = inr (image, l.line.positionals_are);
+      enough = inr (program.name, l.line.positionals_are);
     }) in
     ap meaning l.line.row
-    ∙ trace_means (in_row l.line.pieces l.line.ended) t.end image t.seen_is (positional_said t.end.positional image (t.positionals ∙ l.line.positionals_are))
+    ∙ trace_means (in_row l.line.pieces l.line.ended) t.end program t.seen_is
+    (program_said t.end program (positional_said t.end.positional program.name (t.positionals ∙ l.line.positionals_are)))
 
 selftest_has : (pieces : List Piece) → All (Unused pieces) (option.Raw ∷ option.Depth ∷ option.Vmid ∷ option.Cid ∷ []) → (o : CommandOption)
     → Has selftest_row o ⊎ Unused pieces o

@@ -1,36 +1,44 @@
 -- Command lines with their meaning, and near misses.
-use Rattle.std.proofs.Common.{◌≡◌, ℕ, [], ◌∷◌, codes, Option, Some, None, refl, ap, arith}
+use Rattle.std.proofs.Common.{◌≡◌, ℕ, List, [], ◌∷◌, codes, Option, Some, None, refl, ap, arith}
 use Rattle.etm_types.specs.Settings.{Sizes}
+use Rattle.command_words.specs.declared.words.Layout.{Layout}
 use Rattle.command_words.specs.declared.words.Layout.TheVariants.{Raw, Frames}
 use Rattle.command_words.specs.Words.{Command, Path, Packets, Retired, Selftest, Trace, meaning, image_of}
+use Rattle.command_words.specs.Words.{BareKind, Intake, NoCommand, NumberKind, PathKind, Program, RunFileKind, kind_of, program_of}
 
 abbrev sizes : ℕ → ℕ → ℕ → Sizes
 sizes depth vmid cid = record { depth = depth; vmid_bytes = vmid; cid_bytes = cid }
 
+abbrev of_image : List ℕ → Program
+of_image name = record { name = name }
+
+abbrev taken : Sizes → Layout → Intake
+taken units layout = record { units = units; layout = layout }
+
 -- ---- the commands with their defaults
 
 -- path img
-pub path_of_frames : meaning (codes "path" ∷ codes "img" ∷ []) ≡ Some (Path (codes "img") (sizes 16 1 4) Frames)
+pub path_of_frames : meaning (codes "path" ∷ codes "img" ∷ []) ≡ Some (Path (of_image (codes "img")) (taken (sizes 16 1 4) Frames))
 path_of_frames = refl
 
 -- path --raw img
-pub path_of_one_stream : meaning (codes "path" ∷ codes "--raw" ∷ codes "img" ∷ []) ≡ Some (Path (codes "img") (sizes 16 1 4) Raw)
+pub path_of_one_stream : meaning (codes "path" ∷ codes "--raw" ∷ codes "img" ∷ []) ≡ Some (Path (of_image (codes "img")) (taken (sizes 16 1 4) Raw))
 path_of_one_stream = refl
 
 -- packets
-pub packets_of_frames : meaning (codes "packets" ∷ []) ≡ Some (Packets (sizes 16 1 4) Frames)
+pub packets_of_frames : meaning (codes "packets" ∷ []) ≡ Some (Packets (taken (sizes 16 1 4) Frames))
 packets_of_frames = refl
 
 -- packets --raw
-pub packets_of_one_stream : meaning (codes "packets" ∷ codes "--raw" ∷ []) ≡ Some (Packets (sizes 16 1 4) Raw)
+pub packets_of_one_stream : meaning (codes "packets" ∷ codes "--raw" ∷ []) ≡ Some (Packets (taken (sizes 16 1 4) Raw))
 packets_of_one_stream = refl
 
 -- retired img
-pub retired_path : meaning (codes "retired" ∷ codes "img" ∷ []) ≡ Some (Retired (codes "img"))
+pub retired_path : meaning (codes "retired" ∷ codes "img" ∷ []) ≡ Some (Retired (of_image (codes "img")))
 retired_path = refl
 
 -- trace img
-pub traces_of_a_run : meaning (codes "trace" ∷ codes "img" ∷ []) ≡ Some (Trace (codes "img"))
+pub traces_of_a_run : meaning (codes "trace" ∷ codes "img" ∷ []) ≡ Some (Trace (of_image (codes "img")))
 traces_of_a_run = refl
 
 -- selftest 0
@@ -40,21 +48,21 @@ number_tried = refl
 -- ---- values, in the next word or behind `=`
 
 -- path --depth 0 img
-pub depth_apart : meaning (codes "path" ∷ codes "--depth" ∷ codes "0" ∷ codes "img" ∷ []) ≡ Some (Path (codes "img") (sizes 0 1 4) Frames)
+pub depth_apart : meaning (codes "path" ∷ codes "--depth" ∷ codes "0" ∷ codes "img" ∷ []) ≡ Some (Path (of_image (codes "img")) (taken (sizes 0 1 4) Frames))
 depth_apart = refl
 
 -- path --depth=16 img
-pub depth_joined : meaning (codes "path" ∷ codes "--depth=16" ∷ codes "img" ∷ []) ≡ Some (Path (codes "img") (sizes 16 1 4) Frames)
+pub depth_joined : meaning (codes "path" ∷ codes "--depth=16" ∷ codes "img" ∷ []) ≡ Some (Path (of_image (codes "img")) (taken (sizes 16 1 4) Frames))
 depth_joined = refl
 
 -- path --raw --depth 4096 --vmid 4 --cid 0 img
 pub path_with_all :
     meaning (codes "path" ∷ codes "--raw" ∷ codes "--depth" ∷ codes "4096" ∷ codes "--vmid" ∷ codes "4" ∷ codes "--cid" ∷ codes "0" ∷ codes "img" ∷ [])
-    ≡ Some (Path (codes "img") (sizes 4096 4 0) Raw)
+    ≡ Some (Path (of_image (codes "img")) (taken (sizes 4096 4 0) Raw))
 path_with_all = refl
 
 -- packets --cid=0 --raw --vmid 2
-pub packets_with_all : meaning (codes "packets" ∷ codes "--cid=0" ∷ codes "--raw" ∷ codes "--vmid" ∷ codes "2" ∷ []) ≡ Some (Packets (sizes 16 2 0) Raw)
+pub packets_with_all : meaning (codes "packets" ∷ codes "--cid=0" ∷ codes "--raw" ∷ codes "--vmid" ∷ codes "2" ∷ []) ≡ Some (Packets (taken (sizes 16 2 0) Raw))
 packets_with_all = refl
 
 -- path img --depth
@@ -104,16 +112,17 @@ no_name = refl
 -- ---- any order, each option once
 
 -- path img --cid 4 --raw
-pub image_first : meaning (codes "path" ∷ codes "img" ∷ codes "--cid" ∷ codes "4" ∷ codes "--raw" ∷ []) ≡ Some (Path (codes "img") (sizes 16 1 4) Raw)
+pub image_first : meaning (codes "path" ∷ codes "img" ∷ codes "--cid" ∷ codes "4" ∷ codes "--raw" ∷ [])
+    ≡ Some (Path (of_image (codes "img")) (taken (sizes 16 1 4) Raw))
 image_first = refl
 
 -- path --vmid 2 img --depth=8
 pub image_in_the_middle : meaning (codes "path" ∷ codes "--vmid" ∷ codes "2" ∷ codes "img" ∷ codes "--depth=8" ∷ [])
-    ≡ Some (Path (codes "img") (sizes 8 2 4) Frames)
+    ≡ Some (Path (of_image (codes "img")) (taken (sizes 8 2 4) Frames))
 image_in_the_middle = refl
 
 -- packets --cid 0 --vmid 0
-pub sizes_turned : meaning (codes "packets" ∷ codes "--cid" ∷ codes "0" ∷ codes "--vmid" ∷ codes "0" ∷ []) ≡ Some (Packets (sizes 16 0 0) Frames)
+pub sizes_turned : meaning (codes "packets" ∷ codes "--cid" ∷ codes "0" ∷ codes "--vmid" ∷ codes "0" ∷ []) ≡ Some (Packets (taken (sizes 16 0 0) Frames))
 sizes_turned = refl
 
 -- path --raw --raw img
@@ -151,19 +160,19 @@ pub two_images_apart : meaning (codes "path" ∷ codes "img" ∷ codes "--raw" �
 two_images_apart = refl
 
 -- path -
-pub image_of_a_dash : meaning (codes "path" ∷ codes "-" ∷ []) ≡ Some (Path (codes "-") (sizes 16 1 4) Frames)
+pub image_of_a_dash : meaning (codes "path" ∷ codes "-" ∷ []) ≡ Some (Path (of_image (codes "-")) (taken (sizes 16 1 4) Frames))
 image_of_a_dash = refl
 
 -- path 4
-pub image_of_a_number : meaning (codes "path" ∷ codes "4" ∷ []) ≡ Some (Path (codes "4") (sizes 16 1 4) Frames)
+pub image_of_a_number : meaning (codes "path" ∷ codes "4" ∷ []) ≡ Some (Path (of_image (codes "4")) (taken (sizes 16 1 4) Frames))
 image_of_a_number = refl
 
 -- path path
-pub image_of_a_command : meaning (codes "path" ∷ codes "path" ∷ []) ≡ Some (Path (codes "path") (sizes 16 1 4) Frames)
+pub image_of_a_command : meaning (codes "path" ∷ codes "path" ∷ []) ≡ Some (Path (of_image (codes "path")) (taken (sizes 16 1 4) Frames))
 image_of_a_command = refl
 
 -- path raw=1
-pub image_of_equals : meaning (codes "path" ∷ codes "raw=1" ∷ []) ≡ Some (Path (codes "raw=1") (sizes 16 1 4) Frames)
+pub image_of_equals : meaning (codes "path" ∷ codes "raw=1" ∷ []) ≡ Some (Path (of_image (codes "raw=1")) (taken (sizes 16 1 4) Frames))
 image_of_equals = refl
 
 -- path -x
@@ -187,7 +196,7 @@ pub retired_of_two_images : meaning (codes "retired" ∷ codes "img" ∷ codes "
 retired_of_two_images = refl
 
 -- retired -
-pub retired_of_a_dash : meaning (codes "retired" ∷ codes "-" ∷ []) ≡ Some (Retired (codes "-"))
+pub retired_of_a_dash : meaning (codes "retired" ∷ codes "-" ∷ []) ≡ Some (Retired (of_image (codes "-")))
 retired_of_a_dash = refl
 
 -- trace
@@ -199,34 +208,34 @@ pub trace_of_two_images : meaning (codes "trace" ∷ codes "img" ∷ codes "img"
 trace_of_two_images = refl
 
 -- trace -
-pub traced_by_a_dash : meaning (codes "trace" ∷ codes "-" ∷ []) ≡ Some (Trace (codes "-"))
+pub traced_by_a_dash : meaning (codes "trace" ∷ codes "-" ∷ []) ≡ Some (Trace (of_image (codes "-")))
 traced_by_a_dash = refl
 
 -- ---- `--`
 
 -- path -- img
-pub image_behind_the_end : meaning (codes "path" ∷ codes "--" ∷ codes "img" ∷ []) ≡ Some (Path (codes "img") (sizes 16 1 4) Frames)
+pub image_behind_the_end : meaning (codes "path" ∷ codes "--" ∷ codes "img" ∷ []) ≡ Some (Path (of_image (codes "img")) (taken (sizes 16 1 4) Frames))
 image_behind_the_end = refl
 
 -- path -- --raw
-pub image_like_a_flag : meaning (codes "path" ∷ codes "--" ∷ codes "--raw" ∷ []) ≡ Some (Path (codes "--raw") (sizes 16 1 4) Frames)
+pub image_like_a_flag : meaning (codes "path" ∷ codes "--" ∷ codes "--raw" ∷ []) ≡ Some (Path (of_image (codes "--raw")) (taken (sizes 16 1 4) Frames))
 image_like_a_flag = refl
 
 -- path -- --
-pub image_like_the_end : meaning (codes "path" ∷ codes "--" ∷ codes "--" ∷ []) ≡ Some (Path (codes "--") (sizes 16 1 4) Frames)
+pub image_like_the_end : meaning (codes "path" ∷ codes "--" ∷ codes "--" ∷ []) ≡ Some (Path (of_image (codes "--")) (taken (sizes 16 1 4) Frames))
 image_like_the_end = refl
 
 -- trace -- --raw
-pub traces_of_an_image_like_a_flag : meaning (codes "trace" ∷ codes "--" ∷ codes "--raw" ∷ []) ≡ Some (Trace (codes "--raw"))
+pub traces_of_an_image_like_a_flag : meaning (codes "trace" ∷ codes "--" ∷ codes "--raw" ∷ []) ≡ Some (Trace (of_image (codes "--raw")))
 traces_of_an_image_like_a_flag = refl
 
 -- path --raw --depth 4 -- -x
 pub options_before_the_end : meaning (codes "path" ∷ codes "--raw" ∷ codes "--depth" ∷ codes "4" ∷ codes "--" ∷ codes "-x" ∷ [])
-    ≡ Some (Path (codes "-x") (sizes 4 1 4) Raw)
+    ≡ Some (Path (of_image (codes "-x")) (taken (sizes 4 1 4) Raw))
 options_before_the_end = refl
 
 -- path img --
-pub image_before_the_end : meaning (codes "path" ∷ codes "img" ∷ codes "--" ∷ []) ≡ Some (Path (codes "img") (sizes 16 1 4) Frames)
+pub image_before_the_end : meaning (codes "path" ∷ codes "img" ∷ codes "--" ∷ []) ≡ Some (Path (of_image (codes "img")) (taken (sizes 16 1 4) Frames))
 image_before_the_end = refl
 
 -- path --
@@ -250,7 +259,7 @@ pub option_behind_the_end : meaning (codes "path" ∷ codes "img" ∷ codes "--"
 option_behind_the_end = refl
 
 -- packets --
-pub packets_to_the_end : meaning (codes "packets" ∷ codes "--" ∷ []) ≡ Some (Packets (sizes 16 1 4) Frames)
+pub packets_to_the_end : meaning (codes "packets" ∷ codes "--" ∷ []) ≡ Some (Packets (taken (sizes 16 1 4) Frames))
 packets_to_the_end = refl
 
 -- packets -- --
@@ -485,7 +494,8 @@ image_before_the_command = refl
 -- ---- numbers
 
 -- path --depth 0000000016 img
-pub ten_digits : meaning (codes "path" ∷ codes "--depth" ∷ codes "0000000016" ∷ codes "img" ∷ []) ≡ Some (Path (codes "img") (sizes 16 1 4) Frames)
+pub ten_digits : meaning (codes "path" ∷ codes "--depth" ∷ codes "0000000016" ∷ codes "img" ∷ [])
+    ≡ Some (Path (of_image (codes "img")) (taken (sizes 16 1 4) Frames))
 ten_digits = refl
 
 -- path --depth 00000000016 img
@@ -497,7 +507,7 @@ pub four_gibi : meaning (codes "path" ∷ codes "--depth" ∷ codes "4294967296"
 four_gibi = refl
 
 -- path --depth 4096 img
-pub deepest : meaning (codes "path" ∷ codes "--depth" ∷ codes "4096" ∷ codes "img" ∷ []) ≡ Some (Path (codes "img") (sizes 4096 1 4) Frames)
+pub deepest : meaning (codes "path" ∷ codes "--depth" ∷ codes "4096" ∷ codes "img" ∷ []) ≡ Some (Path (of_image (codes "img")) (taken (sizes 4096 1 4) Frames))
 deepest = refl
 
 -- path --depth 4097 img
@@ -513,7 +523,7 @@ pub hex_digit : meaning (codes "path" ∷ codes "--depth" ∷ codes "1f" ∷ cod
 hex_digit = refl
 
 -- path --vmid=0 img
-pub no_vmid : meaning (codes "path" ∷ codes "--vmid=0" ∷ codes "img" ∷ []) ≡ Some (Path (codes "img") (sizes 16 0 4) Frames)
+pub no_vmid : meaning (codes "path" ∷ codes "--vmid=0" ∷ codes "img" ∷ []) ≡ Some (Path (of_image (codes "img")) (taken (sizes 16 0 4) Frames))
 no_vmid = refl
 
 -- path img --vmid 3
@@ -733,7 +743,7 @@ cut_before_the_command = refl
 -- ---- words that are empty or have a blank
 
 -- an empty word is a positional, and no number
-pub an_empty_image : meaning (codes "path" ∷ [] ∷ []) ≡ Some (Path [] (sizes 16 1 4) Frames)
+pub an_empty_image : meaning (codes "path" ∷ [] ∷ []) ≡ Some (Path (of_image []) (taken (sizes 16 1 4) Frames))
 an_empty_image = refl
 
 pub an_empty_value : meaning (codes "path" ∷ codes "--depth" ∷ [] ∷ codes "img" ∷ []) ≡ None
@@ -759,6 +769,9 @@ one_word_is_not_two = refl
 
 -- ---- the image
 
+pub no_image_of_no_command : image_of None ≡ None
+no_image_of_no_command = refl
+
 pub no_image_of_packets : image_of (meaning (codes "packets" ∷ codes "--" ∷ [])) ≡ None
 no_image_of_packets = refl
 
@@ -774,36 +787,72 @@ image_of_traces = refl
 pub no_image_of_a_number : image_of (meaning (codes "selftest" ∷ codes "--cut" ∷ codes "32" ∷ codes "0" ∷ [])) ≡ None
 no_image_of_a_number = refl
 
+-- ---- the program and the kind of a command
+
+pub program_of_a_path : program_of (Path (of_image (codes "img")) (taken (sizes 16 1 4) Frames)) ≡ Some (of_image (codes "img"))
+program_of_a_path = refl
+
+pub no_program_of_packets : program_of (Packets (taken (sizes 16 1 4) Raw)) ≡ None
+no_program_of_packets = refl
+
+pub program_of_a_retired_path : program_of (Retired (of_image (codes "img"))) ≡ Some (of_image (codes "img"))
+program_of_a_retired_path = refl
+
+pub program_of_traces : program_of (Trace (of_image (codes "img"))) ≡ Some (of_image (codes "img"))
+program_of_traces = refl
+
+pub no_program_of_a_number : program_of (Selftest 5 (Some 32)) ≡ None
+no_program_of_a_number = refl
+
+pub kind_of_no_command : kind_of None ≡ NoCommand
+kind_of_no_command = refl
+
+pub kind_of_a_path : kind_of (Some (Path (of_image (codes "img")) (taken (sizes 16 1 4) Raw))) ≡ PathKind
+kind_of_a_path = refl
+
+pub kind_of_packets : kind_of (Some (Packets (taken (sizes 16 1 4) Frames))) ≡ BareKind
+kind_of_packets = refl
+
+pub kind_of_a_retired_path : kind_of (Some (Retired (of_image (codes "img")))) ≡ RunFileKind
+kind_of_a_retired_path = refl
+
+pub kind_of_traces : kind_of (Some (Trace (of_image (codes "img")))) ≡ RunFileKind
+kind_of_traces = refl
+
+pub kind_of_a_number : kind_of (Some (Selftest 5 None)) ≡ NumberKind
+kind_of_a_number = refl
+
 -- ---- near misses, which are false
 
--- the depth and the size of a context ID that are told, 0 where none is
+-- how a command takes its input; sizes of 0, and frames, where it takes none
+abbrev intake_in : Option Command → Intake
+intake_in (Some (Path program intake)) = intake
+intake_in (Some (Packets intake)) = intake
+intake_in (Some (Retired program)) = taken (sizes 0 0 0) Frames
+intake_in (Some (Trace program)) = taken (sizes 0 0 0) Frames
+intake_in (Some (Selftest n cut)) = taken (sizes 0 0 0) Frames
+intake_in None = taken (sizes 0 0 0) Frames
+
 abbrev depth_in : Option Command → ℕ
-depth_in (Some (Path image s layout)) = s.depth
-depth_in (Some (Packets s layout)) = s.depth
-depth_in (Some (Retired image)) = 0
-depth_in (Some (Trace image)) = 0
-depth_in (Some (Selftest n cut)) = 0
-depth_in None = 0
+depth_in command = (intake_in command).units.depth
 
 abbrev cid_in : Option Command → ℕ
-cid_in (Some (Path image s layout)) = s.cid_bytes
-cid_in (Some (Packets s layout)) = s.cid_bytes
-cid_in (Some (Retired image)) = 0
-cid_in (Some (Trace image)) = 0
-cid_in (Some (Selftest n cut)) = 0
-cid_in None = 0
+cid_in command = (intake_in command).units.cid_bytes
+
+abbrev layout_in : Option Command → Layout
+layout_in command = (intake_in command).layout
 
 -- the number that is told, 0 where none is
 abbrev number_in : Option Command → ℕ
-number_in (Some (Path image s layout)) = 0
-number_in (Some (Packets s layout)) = 0
-number_in (Some (Retired image)) = 0
-number_in (Some (Trace image)) = 0
+number_in (Some (Path program intake)) = 0
+number_in (Some (Packets intake)) = 0
+number_in (Some (Retired program)) = 0
+number_in (Some (Trace program)) = 0
 number_in (Some (Selftest n cut)) = n
 number_in None = 0
 
 -- the default of the depth is not 0
-pub not_depth_0 : meaning (codes "path" ∷ codes "img" ∷ []) ≡ Some (Path (codes "img") (sizes 0 1 4) Frames) → ⊥
+pub not_depth_0 : meaning (codes "path" ∷ codes "img" ∷ []) ≡ Some (Path (of_image (codes "img")) (taken (sizes 0 1 4) Frames)) → ⊥
 not_depth_0 e = let same : ◌≡◌ {A = ℕ} 16 0 = ap depth_in e in absurd (omega (arith, same))
 
 -- zeros in front of a number and behind it are not the same
@@ -812,27 +861,27 @@ pub not_a_number_with_zeros_behind :
 not_a_number_with_zeros_behind e = let same : ◌≡◌ {A = ℕ} 16 160 = ap depth_in e in absurd (omega (arith, same))
 
 -- an option and its number are no image
-pub not_an_image : meaning (codes "path" ∷ codes "--vmid" ∷ codes "2" ∷ codes "img" ∷ []) ≡ Some (Path (codes "2") (sizes 16 1 4) Frames) → ⊥
-not_an_image e = absurd cc
+pub not_an_image : meaning (codes "path" ∷ codes "--vmid" ∷ codes "2" ∷ codes "img" ∷ []) ≡ Some (Path (of_image (codes "2")) (taken (sizes 16 1 4) Frames)) → ⊥
+not_an_image e = let same : Some (codes "img") ≡ Some (codes "2") = ap image_of e in absurd cc
 
 -- the sizes do not change places
-pub not_the_context_id : meaning (codes "packets" ∷ codes "--vmid" ∷ codes "0" ∷ []) ≡ Some (Packets (sizes 16 1 0) Frames) → ⊥
+pub not_the_context_id : meaning (codes "packets" ∷ codes "--vmid" ∷ codes "0" ∷ []) ≡ Some (Packets (taken (sizes 16 1 0) Frames)) → ⊥
 not_the_context_id e = let same : ◌≡◌ {A = ℕ} 4 0 = ap cid_in e in absurd (omega (arith, same))
 
 -- --raw tells the layout
 pub not_frames : meaning (codes "path" ∷ codes "--raw" ∷ codes "img" ∷ []) ≡ meaning (codes "path" ∷ codes "img" ∷ []) → ⊥
-not_frames e = absurd cc
+not_frames e = let same : Raw ≡ Frames = ap layout_in e in absurd cc
 
 -- a run file has no sizes in the words
-pub not_a_path : meaning (codes "retired" ∷ codes "img" ∷ []) ≡ Some (Path (codes "img") (sizes 16 1 4) Frames) → ⊥
+pub not_a_path : meaning (codes "retired" ∷ codes "img" ∷ []) ≡ Some (Path (of_image (codes "img")) (taken (sizes 16 1 4) Frames)) → ⊥
 not_a_path e = absurd cc
 
 -- traces are not retired paths
-pub not_retired : meaning (codes "trace" ∷ codes "img" ∷ []) ≡ Some (Retired (codes "img")) → ⊥
+pub not_retired : meaning (codes "trace" ∷ codes "img" ∷ []) ≡ Some (Retired (of_image (codes "img"))) → ⊥
 not_retired e = absurd cc
 
-pub not_raw : meaning (codes "packets" ∷ []) ≡ Some (Packets (sizes 16 1 4) Raw) → ⊥
-not_raw e = absurd cc
+pub not_raw : meaning (codes "packets" ∷ []) ≡ Some (Packets (taken (sizes 16 1 4) Raw)) → ⊥
+not_raw e = let same : Frames ≡ Raw = ap layout_in e in absurd cc
 
 -- what is cut is not the number
 pub not_the_cut : meaning (codes "selftest" ∷ codes "--cut" ∷ codes "32" ∷ codes "0" ∷ []) ≡ Some (Selftest 32 (Some 0)) → ⊥
@@ -843,5 +892,5 @@ pub not_cut_at_once : meaning (codes "selftest" ∷ codes "5" ∷ []) ≡ meanin
 not_cut_at_once e = absurd cc
 
 -- a number is no image
-pub not_traced : meaning (codes "selftest" ∷ codes "5" ∷ []) ≡ Some (Trace (codes "5")) → ⊥
+pub not_traced : meaning (codes "selftest" ∷ codes "5" ∷ []) ≡ Some (Trace (of_image (codes "5"))) → ⊥
 not_traced e = absurd cc

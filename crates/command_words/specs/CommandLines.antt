@@ -1,9 +1,9 @@
 -- How the words of a command line stand in a row.
 use Rattle.std.specs.Prelude.{◌≡◌, ℕ, ◌≤◌, true, false, List, [], ◌∷◌, ◌++◌, codes, Option, Some, None, All, if◌then◌else◌}
 use Rattle.std.specs.Str.{bytes_eq}
-use Rattle.etm_types.specs.Settings.{Sizes, AreSettings}
+use Rattle.etm_types.specs.Settings.{AreSettings}
 use Rattle.program_image.specs.Line.{decimal_of}
-use Rattle.command_words.specs.Words.{is_dashed, most_cut, most_number, name_of, takes_value}
+use Rattle.command_words.specs.Words.{Intake, Program, is_dashed, most_cut, most_number, name_of, takes_value}
 use Rattle.command_words.specs.declared.words.CommandOption.{CommandOption}
 use Rattle.command_words.specs.declared.words.CommandOption.TheVariants as option
 use Rattle.command_words.specs.declared.words.Layout.{Layout}
@@ -98,34 +98,34 @@ pub record IsLine (word : List ℕ) (words positionals : List (List ℕ)) : Type
   pub positionals_are : positionals_of pieces ++ behind ≡ positionals
 
 -- `path`, with numbers in range and one positional
-pub record IsPathLine (words : List (List ℕ)) (image : List ℕ) (s : Sizes) (layout : Layout) : Type 0 where
-  pub line : IsLine (codes "path") words (image ∷ [])
-  pub layout_is : IsLayout (values_of option.Raw line.pieces) layout
+pub record IsPathLine (words : List (List ℕ)) (program : Program) (intake : Intake) : Type 0 where
+  pub line : IsLine (codes "path") words (program.name ∷ [])
+  pub layout_is : IsLayout (values_of option.Raw line.pieces) intake.layout
   pub no_cut : values_of option.Cut line.pieces ≡ []
-  pub depth_is : IsNumber 16 (values_of option.Depth line.pieces) s.depth
-  pub vmid_is : IsNumber 1 (values_of option.Vmid line.pieces) s.vmid_bytes
-  pub cid_is : IsNumber 4 (values_of option.Cid line.pieces) s.cid_bytes
-  pub within : AreSettings s
+  pub depth_is : IsNumber 16 (values_of option.Depth line.pieces) intake.units.depth
+  pub vmid_is : IsNumber 1 (values_of option.Vmid line.pieces) intake.units.vmid_bytes
+  pub cid_is : IsNumber 4 (values_of option.Cid line.pieces) intake.units.cid_bytes
+  pub within : AreSettings intake.units
 
 -- `packets`, with numbers in range and no positional; no packet depends on the depth, which is the default
-pub record IsPacketsLine (words : List (List ℕ)) (s : Sizes) (layout : Layout) : Type 0 where
+pub record IsPacketsLine (words : List (List ℕ)) (intake : Intake) : Type 0 where
   pub line : IsLine (codes "packets") words []
-  pub layout_is : IsLayout (values_of option.Raw line.pieces) layout
+  pub layout_is : IsLayout (values_of option.Raw line.pieces) intake.layout
   pub no_depth : values_of option.Depth line.pieces ≡ []
   pub no_cut : values_of option.Cut line.pieces ≡ []
-  pub depth_is : s.depth ≡ 16
-  pub vmid_is : IsNumber 1 (values_of option.Vmid line.pieces) s.vmid_bytes
-  pub cid_is : IsNumber 4 (values_of option.Cid line.pieces) s.cid_bytes
-  pub within : AreSettings s
+  pub depth_is : intake.units.depth ≡ 16
+  pub vmid_is : IsNumber 1 (values_of option.Vmid line.pieces) intake.units.vmid_bytes
+  pub cid_is : IsNumber 4 (values_of option.Cid line.pieces) intake.units.cid_bytes
+  pub within : AreSettings intake.units
 
 -- `retired`, with no option and one positional
-pub record IsRetiredLine (words : List (List ℕ)) (image : List ℕ) : Type 0 where
-  pub line : IsLine (codes "retired") words (image ∷ [])
+pub record IsRetiredLine (words : List (List ℕ)) (program : Program) : Type 0 where
+  pub line : IsLine (codes "retired") words (program.name ∷ [])
   pub no_option : (o : CommandOption) → values_of o line.pieces ≡ []
 
 -- `trace`, with no option and one positional
-pub record IsTraceLine (words : List (List ℕ)) (image : List ℕ) : Type 0 where
-  pub line : IsLine (codes "trace") words (image ∷ [])
+pub record IsTraceLine (words : List (List ℕ)) (program : Program) : Type 0 where
+  pub line : IsLine (codes "trace") words (program.name ∷ [])
   pub no_option : (o : CommandOption) → values_of o line.pieces ≡ []
 
 -- `selftest`, with a number in range as its positional, and how many bytes are read

@@ -2,25 +2,33 @@
 use Rattle.std.specs.Prelude.{⊤, ◌≤◌}
 use Rattle.std.specs.Option.{option_map}
 use Rattle.etm_types.specs.Settings.{AreSettings}
-use Rattle.command_words.specs.Words.{Command, CommandRow, Path, Packets, Retired, Seen, Selftest, Trace, most_number, row}
+use Rattle.command_words.specs.Words.{Command, CommandRow, Intake, Path, Packets, Program, Retired, Seen, Selftest, Trace, most_number, row}
 use Rattle.command_words.specs.declared.words.Command.{Command as Told}
 use Rattle.command_words.specs.declared.words.Command.TheVariants as told
 use Rattle.command_words.specs.declared.words.CommandLine.{CommandLine}
+use Rattle.command_words.specs.declared.words.Intake.{Intake as ToldIntake}
+use Rattle.command_words.specs.declared.words.Program.{Program as ToldProgram}
 use Rattle.command_words.specs.declared.words.Seen.{Seen as ToldSeen}
 
+abbrev pub said_program : ToldProgram → Program
+said_program program = record { name = program.name.now }
+
+abbrev pub said_intake : ToldIntake → Intake
+said_intake intake = record { units = intake.settings; layout = intake.layout }
+
 abbrev pub said : Told → Command
-said (told.Path image settings layout) = Path image.now settings layout
-said (told.Packets settings layout) = Packets settings layout
-said (told.Retired image) = Retired image.now
-said (told.Trace image) = Trace image.now
+said (told.Path program intake) = Path (said_program program) (said_intake intake)
+said (told.Packets intake) = Packets (said_intake intake)
+said (told.Retired program) = Retired (said_program program)
+said (told.Trace program) = Trace (said_program program)
 said (told.Selftest n cut) = Selftest n cut
 
 -- its sizes, where it has any, are those of settings, and its number is one that is tried
 abbrev pub IsInRange : Told → Type 0
-IsInRange (told.Path image settings layout) = AreSettings settings
-IsInRange (told.Packets settings layout) = AreSettings settings
-IsInRange (told.Retired image) = ⊤
-IsInRange (told.Trace image) = ⊤
+IsInRange (told.Path program intake) = AreSettings intake.settings
+IsInRange (told.Packets intake) = AreSettings intake.settings
+IsInRange (told.Retired program) = ⊤
+IsInRange (told.Trace program) = ⊤
 IsInRange (told.Selftest n cut) = n ≤ most_number
 
 abbrev pub line_of : CommandLine → CommandRow

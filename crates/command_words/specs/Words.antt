@@ -17,18 +17,55 @@ use Rattle.command_words.specs.declared.words.Layout.TheVariants.{Raw, Frames}
 abbrev pub texts : {Z : Type 0} → List (String Z) → List (List ℕ)
 texts words = map (λ word. string_bytes word) words
 
+-- the program that ran: the name of its image
+pub record Program : Type 0 where
+  pub name : List ℕ
+
+-- how an input is taken: the sizes of the trace units, and how it is laid out
+pub record Intake : Type 0 where
+  pub units : Sizes
+  pub layout : Layout
+
 -- a command, with what its words say
 pub data Command : Type 0 where
-  -- the path of each stream: the name of the image, the trace unit's sizes, and how the input is laid out
-  Path : List ℕ → Sizes → Layout → Command
-  -- the packets of each stream: the trace unit's sizes, and how the input is laid out
-  Packets : Sizes → Layout → Command
-  -- the retired path of each stream of a run file: the name of the image
-  Retired : List ℕ → Command
-  -- the trace of each stream of a run file, in frames: the name of the image
-  Trace : List ℕ → Command
+  -- the path of each stream
+  Path : Program → Intake → Command
+  -- the packets of each stream
+  Packets : Intake → Command
+  -- the retired path of each stream of a run file
+  Retired : Program → Command
+  -- the trace of each stream of a run file, in frames
+  Trace : Program → Command
   -- both ends tried on the run file of a number: the number, and how many bytes of its frames are read, where not all are
   Selftest : ℕ → Option ℕ → Command
+
+-- the program whose image a command reads, where it reads one
+abbrev pub program_of : Command → Option Program
+program_of (Path program intake) = Some program
+program_of (Packets intake) = None
+program_of (Retired program) = Some program
+program_of (Trace program) = Some program
+program_of (Selftest n cut) = None
+
+-- what a command reads
+pub data Kind : Type 0 where
+  NoCommand : Kind
+  -- an input over an image
+  PathKind : Kind
+  -- an input without an image
+  BareKind : Kind
+  -- a run file over an image
+  RunFileKind : Kind
+  -- nothing but a number
+  NumberKind : Kind
+
+abbrev pub kind_of : Option Command → Kind
+kind_of None = NoCommand
+kind_of (Some (Path program intake)) = PathKind
+kind_of (Some (Packets intake)) = BareKind
+kind_of (Some (Retired program)) = RunFileKind
+kind_of (Some (Trace program)) = RunFileKind
+kind_of (Some (Selftest n cut)) = NumberKind
 
 -- ---- the commands and their options
 
@@ -178,6 +215,14 @@ sizes_in seen =
 abbrev pub layout_in : Seen → Layout
 layout_in seen = if seen.raw then Raw else Frames
 
+-- the positional names the image of the program
+abbrev pub program_in : Seen → Option Program
+program_in seen = option_map (λ image. record { name = image }) seen.positional
+
+-- how the input is taken, where the sizes are in range
+abbrev pub intake_in : Seen → Option Intake
+intake_in seen = option_map (λ units. record { units = units; layout = layout_in seen }) (sizes_in seen)
+
 -- the number of a text, where it is no more than the most
 abbrev pub number_to : ℕ → List ℕ → Option ℕ
 number_to most text = option_and_then (λ n. if nat_le n most then Some n else None) (decimal_of text)
@@ -199,10 +244,10 @@ abbrev pub selftest_in : Seen → Option Command
 selftest_in seen = option_and_then (λ word. option_and_then (λ n. option_map (Selftest n) (cut_of seen.cut)) (number_to most_number word)) seen.positional
 
 abbrev pub command_in : CommandName → Seen → Option Command
-command_in name.Path seen = option_and_then (λ image. option_map (λ sizes. Path image sizes (layout_in seen)) (sizes_in seen)) seen.positional
-command_in name.Packets seen = option_map (λ sizes. Packets sizes (layout_in seen)) (sizes_in seen)
-command_in name.Retired seen = option_map Retired seen.positional
-command_in name.Trace seen = option_map Trace seen.positional
+command_in name.Path seen = option_and_then (λ program. option_map (Path program) (intake_in seen)) (program_in seen)
+command_in name.Packets seen = option_map Packets (intake_in seen)
+command_in name.Retired seen = option_map Retired (program_in seen)
+command_in name.Trace seen = option_map Trace (program_in seen)
 command_in name.Selftest seen = selftest_in seen
 
 -- The first word is a command, and the others are its options and its positional, in any order.
@@ -211,10 +256,6 @@ meaning [] = None
 meaning (word ∷ words) =
     option_and_then (λ row. option_and_then (command_in row.name) (seen_of row nothing_seen words)) (find (λ row. bytes_eq word row.word) commands)
 
+-- the name of the image, where the command reads one
 abbrev pub image_of : Option Command → Option (List ℕ)
-image_of None = None
-image_of (Some (Path image sizes layout)) = Some image
-image_of (Some (Packets sizes layout)) = None
-image_of (Some (Retired image)) = Some image
-image_of (Some (Trace image)) = Some image
-image_of (Some (Selftest n cut)) = None
+image_of command = option_map (λ program. program.name) (option_and_then program_of command)

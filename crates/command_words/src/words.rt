@@ -1,13 +1,13 @@
-//! The words of the command line.
+//! The words of the command line: the table of commands, and what words mean, read without memory.
 ghost use Rattle.std.specs.Prelude.{◌≡◌, IfSome, find, map};
 ghost use Rattle.std.specs.Option.{option_map};
 ghost use Rattle.std.specs.Str.{bytes_eq};
-ghost use Rattle.command_words.specs.Words.{behind_dash, commands, command_in, cut_of, image_of, is_dashed, is_seen, is_whole, layout_in};
-ghost use Rattle.command_words.specs.Words.{meaning, name_and_value, name_of, nothing_seen, number_of, number_to, seen_of, selftest_in};
+ghost use Rattle.command_words.specs.Words.{behind_dash, commands, command_in, cut_of, image_of, intake_in, is_dashed, is_seen, is_whole, layout_in};
+ghost use Rattle.command_words.specs.Words.{meaning, name_and_value, name_of, nothing_seen, number_of, number_to, program_in, seen_of, selftest_in};
 ghost use Rattle.command_words.specs.Words.{sizes_in, sizes_of, takes_value, texts, with_dashed, with_named, with_option, with_positional};
 ghost use Rattle.command_words.specs.Words.{with_value, with_word};
 ghost use Rattle.etm_types.specs.Settings.{AreSettings};
-ghost use Rattle.command_words.specs.Said.{IsInRange, line_of, said, seen_by};
+ghost use Rattle.command_words.specs.Said.{IsInRange, line_of, said, said_intake, said_program, seen_by};
 
 use etm_types::Settings;
 use program_image::text::decimal;
@@ -36,27 +36,41 @@ pub enum Layout {
     Frames,
 }
 
+/// The program that ran.
+#[derive(Clone, Copy, Debug)]
+pub struct Program<'a> {
+    /// The name of its image.
+    pub name: &'a str,
+}
+
+/// How an input is taken.
+#[derive(Clone, Copy, Debug)]
+pub struct Intake {
+    /// The settings of the trace units.
+    pub settings: Settings,
+    /// How the input is laid out.
+    pub layout: Layout,
+}
+
 /// A command, with what its words say.
 #[derive(Clone, Copy, Debug)]
 pub enum Command<'a> {
-    /// The path of each stream, over the image of this name.
+    /// The path of each stream, over the image of a program.
     Path {
-        image: &'a str,
-        settings: Settings,
-        layout: Layout,
+        program: Program<'a>,
+        intake: Intake,
     },
     /// The packets of each stream.
     Packets {
-        settings: Settings,
-        layout: Layout,
+        intake: Intake,
     },
-    /// The retired path of each stream of a run file, over the image of this name.
+    /// The retired path of each stream of a run file, over the image of a program.
     Retired {
-        image: &'a str,
+        program: Program<'a>,
     },
-    /// The trace of each stream of a run file, over the image of this name.
+    /// The trace of each stream of a run file, over the image of a program.
     Trace {
-        image: &'a str,
+        program: Program<'a>,
     },
     /// Both ends, tried on the run file that is made from a number. Of its frames so many bytes are read, or all.
     Selftest {
@@ -351,6 +365,24 @@ impl<'a> Seen<'a> {
         }
     }
 
+    /// The program, where its name stands.
+    fn program(&self) -> Option<Program<'a>>
+        ensures { option_map said_program result ≡ program_in (seen_by self.now) }
+    {
+        let name = self.positional?;
+        Some(Program { name })
+    }
+
+    /// How the input is taken, where the values are numbers in range.
+    fn intake(&self) -> Option<Intake>
+        ensures value { option_map said_intake result ≡ intake_in (seen_by self.now) }
+        ensures within { IfSome result (λ intake. AreSettings intake.settings) }
+    {
+        let settings = self.settings()?;
+        let layout = self.layout();
+        Some(Intake { settings, layout })
+    }
+
     /// How many bytes of frames are read, where `--cut` stands. There is no answer where its value is no such number.
     fn cut(&self) -> Option<Option<u32>>
         ensures { result ≡ cut_of (seen_by self.now).cut }
@@ -378,27 +410,21 @@ impl<'a> Seen<'a> {
     {
         match name {
             CommandName::Path => {
-                let image = self.positional?;
-                let settings = self.settings()?;
-                let layout = self.layout();
-                Some(Command::Path {
-                    image,
-                    settings,
-                    layout,
-                })
+                let program = self.program()?;
+                let intake = self.intake()?;
+                Some(Command::Path { program, intake })
             }
             CommandName::Packets => {
-                let settings = self.settings()?;
-                let layout = self.layout();
-                Some(Command::Packets { settings, layout })
+                let intake = self.intake()?;
+                Some(Command::Packets { intake })
             }
             CommandName::Retired => {
-                let image = self.positional?;
-                Some(Command::Retired { image })
+                let program = self.program()?;
+                Some(Command::Retired { program })
             }
             CommandName::Trace => {
-                let image = self.positional?;
-                Some(Command::Trace { image })
+                let program = self.program()?;
+                Some(Command::Trace { program })
             }
             CommandName::Selftest => self.selftest(),
         }
@@ -474,8 +500,11 @@ pub fn image_name(words: &[String]) -> Option<&str>
     ensures { option_map (λ name. name.now) result ≡ image_of (meaning (texts words.now)) }
 {
     match read_command(words) {
-        Some(Command::Path { image, .. } | Command::Retired { image } | Command::Trace { image }) =>
-            Some(image),
+        Some(
+            Command::Path { program, .. }
+            | Command::Retired { program }
+            | Command::Trace { program },
+        ) => Some(program.name),
         Some(Command::Packets { .. } | Command::Selftest { .. }) => None,
         None => None,
     }

@@ -8,12 +8,18 @@ use Rattle.stream_demux.specs.Demuxed.{Gains}
 use Rattle.stream_demux.specs.Texts.{BodyFrom, IsText, Listing, Printed, text_of}
 use Rattle.stream_demux.proofs.Bodies.{body-append, body_parts, text_of-append}
 use Rattle.stream_demux.proofs.Writing.{Gained}
-use Rattle.input_pieces.specs.Grows.{Grow}
+use Rattle.stream_demux.specs.Laid.{Grow, IsLaid, Laid, Rests}
 use Rattle.input_pieces.specs.Listed.{Breaks, Completes, Exceeds, Interrupts, PrintsBody, Takes, most_at_once, most_input}
 use Rattle.trace_io.specs.Bytes.{AppendsAll, KeepsBytes, TakesAll}
 use Rattle.trace_io.specs.State.{IoState}
 
-module _ (carried : List ℕ → List (ℕ × ℕ)) (left : List ℕ → ℕ) (grow : Grow carried) (g : Listing) where
+module _ (laid : Laid) (is_laid : IsLaid laid) (g : Listing) where
+  abbrev carried : List ℕ → List (ℕ × ℕ)
+  carried = laid.carried
+
+  abbrev grow : Grow laid.carried
+  grow = is_laid.grows
+
   -- the lines of a front of the bytes are a front of their lines
   front_body : (bytes : List ℕ) (k : ℕ) (lines : List Printed) → BodyFrom g [] (carried bytes) lines
       → (first : List Printed) × (more : List Printed) × BodyFrom g [] (carried (take k bytes)) first × (lines ≡ first ++ more)
@@ -46,7 +52,7 @@ module _ (carried : List ℕ → List (ℕ × ℕ)) (left : List ℕ → ℕ) (g
   -- all lines of the bytes were printed before
   pub cut_behind : (a c old new : IoState) (bytes more : List ℕ) → Takes a c (bytes ++ more) → length bytes ≤ most_input → length more ≤ most_at_once
       → length (bytes ++ more) ≤ most_input + 1 → take most_input (bytes ++ more) ≡ bytes → PrintsBody carried g bytes old new
-      → Interrupts carried left g a c old new
+      → Interrupts laid g a c old new
   cut_behind a c old new bytes more took few piece all first (lines, body, printed) =
       record {
         bytes = bytes ++ more;
@@ -60,31 +66,37 @@ module _ (carried : List ℕ → List (ℕ × ℕ)) (left : List ℕ → ℕ) (g
 
   -- a front of the whole text was printed, all that comes with the bytes included
   pub cut_front : (a c old new : IoState) (bytes : List ℕ) (lines : List Printed) (faulty : Bool) (shown : List ℕ) → TakesAll a c bytes
-      → length bytes ≤ most_input → (is : IsText g (carried bytes) (left bytes) lines faulty) → AppendsAll old new shown → BeginsWith shown (text_of lines)
-      → BeginsWith (text_of is.body) shown → Interrupts carried left g a c old new
+      → length bytes ≤ most_input → (is : IsText g (laid.whole bytes) (laid.left bytes) lines faulty) → AppendsAll old new shown → BeginsWith shown (text_of lines)
+      → BeginsWith (text_of is.body) shown → Interrupts laid g a c old new
   cut_front a c old new bytes lines faulty shown read few is printed front behind =
       let same = append-nil bytes in
-      let early = early_by bytes [] is.body shown (omega arith) is.gained behind in
+      let more = is_laid.first bytes in
+      let split = body_parts g [] (carried bytes) more.0 is.body (subst (λ p. BodyFrom g [] p is.body) more.1 is.gained) in
+      let before : BeginsWith (text_of split.0) shown = (
+        text_of split.1 ++ behind.0,
+        behind.1 ∙ ap (λ t. t ++ behind.0) (ap text_of split.4 ∙ text_of-append split.0 split.1) ∙ append_assoc (text_of split.0) (text_of split.1) behind.0,
+      ) in
+      let early = early_by bytes [] split.0 shown (omega arith) split.2 before in
       record {
         bytes = bytes;
         took = read.0;
         few = omega (arith, few);
         shown = shown;
         printed = printed;
-        late = inr (read.1, few, (lines, faulty, is, front));
+        late = inr (read.1, few, inr (lines, faulty, is, front));
         early = (early.0, subst (λ b. BodyFrom g [] (carried (take (length b - most_at_once) b)) early.0) same early.1, early.2);
       }
 
   -- or all of it
   pub cut_whole : (a c old new : IoState) (bytes : List ℕ) (lines : List Printed) (faulty : Bool) → TakesAll a c bytes → length bytes ≤ most_input
-      → IsText g (carried bytes) (left bytes) lines faulty → AppendsAll old new (text_of lines) → Interrupts carried left g a c old new
+      → IsText g (laid.whole bytes) (laid.left bytes) lines faulty → AppendsAll old new (text_of lines) → Interrupts laid g a c old new
   cut_whole a c old new bytes lines faulty read few is printed = cut_front a c old new bytes lines faulty (text_of lines) read few is printed
       ([], sym (append-nil (text_of lines))) (text_of is.ending, ap text_of is.all ∙ text_of-append is.body is.ending)
 
   -- the lines of a piece could not be written
   pub cut_within : {T E : Type 0} (a b c old here new : IoState) (bytes piece : List ℕ) (e : E) → Takes a b bytes → Takes b c piece
       → length bytes + length piece ≤ most_input → length piece ≤ most_at_once → Gained carried g [] bytes old here
-      → Gains {T = T} carried g bytes piece here new (Err e) → Interrupts carried left g a c old new
+      → Gains {T = T} carried g bytes piece here new (Err e) → Interrupts laid g a c old new
   cut_within a b c old here new bytes piece e took takes few most was gains =
       let lines0 = was.written.lines in let front = gains.adds.writes.front in let lines1 = gains.adds.lines in
       let pairs0 : carried bytes ≡ was.pairs = was.grows ∙ ap (λ p. p ++ was.pairs) grow.0 in
@@ -112,10 +124,42 @@ module _ (carried : List ℕ → List (ℕ × ℕ)) (left : List ℕ → ℕ) (g
         early = early_by bytes piece lines0 shown most body0 (front.front, refl);
       }
 
+  -- the lines of the pairs that did not come with the bytes could not be written
+  pub cut_rest : {T E : Type 0} (a c old here new : IoState) (bytes : List ℕ) (lines : List Printed) (e : E) → TakesAll a c bytes
+      → length bytes ≤ most_input → BodyFrom g [] (carried bytes) lines → AppendsAll old here (text_of lines)
+      → Rests {T = T} laid g bytes here new (Err e) → Interrupts laid g a c old new
+  cut_rest a c old here new bytes lines e read few body printed rests =
+      let front = rests.adds.writes.front in let more = rests.adds.lines in let shown = text_of lines ++ front.front in
+      let same = append-nil bytes in
+      let parts : laid.whole bytes ≡ (carried bytes ++ rests.adds.took) ++ rests.adds.others =
+      rests.all ∙ ap (λ p. carried bytes ++ p) rests.adds.parts ∙ sym (append_assoc (carried bytes) rests.adds.took rests.adds.others) in
+      let text : text_of (lines ++ more) ≡ shown ++ front.rest =
+      text_of-append lines more ∙ ap (λ t. text_of lines ++ t) front.whole ∙ sym (append_assoc (text_of lines) front.front front.rest) in
+      let early = early_by bytes [] lines shown (omega arith) body (front.front, refl) in
+      record {
+        bytes = bytes;
+        took = read.0;
+        few = omega (arith, few);
+        shown = shown;
+        printed = Appends-trans old.bytes here.bytes new.bytes (text_of lines) front.front printed front.appended;
+        late = inr (
+          read.1,
+          few,
+          inl (
+            carried bytes ++ rests.adds.took,
+            lines ++ more,
+            (rests.adds.others, parts),
+            body-append g [] (carried bytes) rests.adds.took lines more body rests.adds.body,
+            (front.rest, text),
+          ),
+        );
+        early = (early.0, subst (λ b. BodyFrom g [] (carried (take (length b - most_at_once) b)) early.0) same early.1, early.2);
+      }
+
   -- ---- a flush that fails behind an answer
 
-  pub completed_cut : (a c old new newer : IoState) (faulty : Bool) → Completes carried left g a c old new faulty → KeepsBytes new newer
-      → Interrupts carried left g a c old newer
+  pub completed_cut : (a c old new newer : IoState) (faulty : Bool) → Completes laid g a c old new faulty → KeepsBytes new newer
+      → Interrupts laid g a c old newer
   completed_cut a c old new newer faulty done kept =
       cut_whole a c old newer done.bytes done.lines faulty done.read done.few done.shown
       (Appends-kept old.bytes new.bytes newer.bytes (text_of done.lines) done.printed kept)
@@ -124,14 +168,14 @@ module _ (carried : List ℕ → List (ℕ × ℕ)) (left : List ℕ → ℕ) (g
   kept_body bytes old new newer (lines, body, printed) kept =
       (lines, body, Appends-kept old.bytes new.bytes newer.bytes (text_of lines) printed kept)
 
-  pub broken_cut : (a c old new newer : IoState) → Breaks carried left g a c old new → KeepsBytes new newer → Interrupts carried left g a c old newer
+  pub broken_cut : (a c old new newer : IoState) → Breaks laid g a c old new → KeepsBytes new newer → Interrupts laid g a c old newer
   broken_cut a c old new newer broken kept =
       let same = append-nil broken.bytes in
       cut_behind a c old newer broken.bytes [] (subst (Takes a c) (sym same) broken.took) broken.few (omega arith)
       (omega (arith, broken.few, length-append broken.bytes [])) (ap (take most_input) same ∙ take_all most_input broken.bytes broken.few)
       (kept_body broken.bytes old new newer broken.printed kept)
 
-  pub exceeded_cut : (a c old new newer : IoState) → Exceeds carried left g a c old new → KeepsBytes new newer → Interrupts carried left g a c old newer
+  pub exceeded_cut : (a c old new newer : IoState) → Exceeds laid g a c old new → KeepsBytes new newer → Interrupts laid g a c old newer
   exceeded_cut a c old new newer exceeds kept =
       let bytes = exceeds.bytes in let last = exceeds.byte ∷ [] in
       let first : take most_input (bytes ++ last) ≡ bytes =

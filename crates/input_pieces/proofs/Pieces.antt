@@ -5,14 +5,14 @@ use Rattle.std.proofs.KnownBytes.{Appends-trans, Consumes-trans}
 use Rattle.path_text.specs.Writing.{Writes}
 use Rattle.stream_demux.specs.Demuxed.{Gains}
 use Rattle.stream_demux.specs.Texts.{BodyFrom, IsEnding, IsText, Listing, Printed, text_of}
-use Rattle.stream_demux.proofs.Bodies.{text_of-append}
-use Rattle.stream_demux.proofs.Writing.{Gained, added, more_gained}
-use Rattle.input_pieces.specs.Grows.{Grow}
+use Rattle.stream_demux.proofs.Bodies.{body-append, text_of-append}
+use Rattle.stream_demux.proofs.Writing.{Gained, Written, added, more_gained}
+use Rattle.stream_demux.specs.Laid.{Grow, IsLaid, Laid, Rests}
 use Rattle.input_pieces.specs.Listed.{Completes, Interrupts, PrintsBody, Takes}
 use Rattle.input_pieces.specs.Reading.{StopsSo, TookUpTo}
 use Rattle.input_pieces.specs.declared.input.Stop.{Stop}
 use Rattle.input_pieces.specs.declared.input.Stop.TheVariants.{End, TooLong, ReadFault}
-use Rattle.input_pieces.proofs.Interrupts.{cut_front}
+use Rattle.input_pieces.proofs.Interrupts.{cut_front, cut_rest}
 use Rattle.trace_io.specs.Bytes.{AppendsAll, TakesAll}
 use Rattle.trace_io.specs.Causes.{KeepsFaults}
 use Rattle.trace_io.specs.State.{IoState}
@@ -24,7 +24,13 @@ stop_kept a b c n End kept stops = inr (stops.2 ∙ kept)
 stop_kept a b c n TooLong kept stops = inr (stops.2 ∙ kept)
 stop_kept a b c n ReadFault kept stops = inl refl
 
-module _ (carried : List ℕ → List (ℕ × ℕ)) (left : List ℕ → ℕ) (grow : Grow carried) (g : Listing) where
+module _ (laid : Laid) (is_laid : IsLaid laid) (g : Listing) where
+  abbrev carried : List ℕ → List (ℕ × ℕ)
+  carried = laid.carried
+
+  abbrev grow : Grow laid.carried
+  grow = is_laid.grows
+
   -- a piece more that was taken and printed
   pub piece_gained : {T E : Type 0} (bytes piece : List ℕ) (a b c : IoState) (x : T) → Gained carried g [] bytes a b
       → Gains {T = T} {E = E} carried g bytes piece b c (Ok x) → Gained carried g [] (bytes ++ piece) a c
@@ -40,8 +46,7 @@ module _ (carried : List ℕ → List (ℕ × ℕ)) (left : List ℕ → ℕ) (g
         was.written.wrote.appended,
       )
 
-  module _ (stands : List ℕ → Type 0) (a c old here new : IoState) (took : TookUpTo stands carried g a c old here End) (ending : List Printed) (faulty : Bool)
-      (ended : IsEnding g (carried took.1) (left took.1) ending faulty) where
+  module _ (stands : List ℕ → Type 0) (a c old here : IoState) (took : TookUpTo stands laid g a c old here End) where
     abbrev bytes : List ℕ
     bytes = took.1
 
@@ -49,34 +54,66 @@ module _ (carried : List ℕ → List (ℕ × ℕ)) (left : List ℕ → ℕ) (g
     read =
         (subst (Takes a c) (append-nil bytes) (Consumes-trans a.bytes (took.0).bytes c.bytes bytes [] took.2 took.7.1), took.7.0)
 
-    abbrev lines : List Printed
-    lines = took.6.0 ++ ending
+    pub rest_fails : {T : Type 0} (new : IoState) (e : Failed) → Rests {T = T} laid g bytes here new (Err e) → Interrupts laid g a c old new
+    rest_fails new e rests = cut_rest laid is_laid g a c old here new bytes took.6.0 e read took.4 took.6.1 took.6.2 rests
 
-    abbrev text : IsText g (carried bytes) (left bytes) lines faulty
-    text = record { body = took.6.0; ending = ending; gained = took.6.1; ended = ended; all = refl }
+    module _ {T : Type 0} (mid new : IoState) (x : T) (rests : Rests {T = T} {E = Failed} laid g bytes here mid (Ok x)) (ending : List Printed) (faulty : Bool)
+        (ended : IsEnding g (laid.whole bytes) (laid.left bytes) ending faulty) where
+      abbrev rest : Written g (carried bytes) rests.pairs here mid
+      rest = added g (carried bytes) rests.pairs here mid x rests.adds
 
-    pub completes : (whole : Bool) → Writes {T = Bool} {E = Failed} here new (Ok whole) (text_of ending) → Completes carried left g a c old new faulty
-    completes whole writes =
-        record {
-          bytes = bytes;
-          read = read;
-          few = took.4;
-          lines = lines;
-          shown = text;
-          printed = subst (AppendsAll old new) (sym (text_of-append took.6.0 ending))
-              (Appends-trans old.bytes here.bytes new.bytes (text_of took.6.0) (text_of ending) took.6.2 writes.whole);
-        }
+      abbrev body : List Printed
+      body = took.6.0 ++ rest.lines
 
-    pub ending_fails : (e : Failed) → Writes {T = Bool} {E = Failed} here new (Err e) (text_of ending) → Interrupts carried left g a c old new
-    ending_fails e writes =
-        let front = writes.front in
-        cut_front carried left grow g a c old new bytes lines faulty (text_of took.6.0 ++ front.front) read took.4 text
-        (Appends-trans old.bytes here.bytes new.bytes (text_of took.6.0) front.front took.6.2 front.appended) (
-          front.rest,
-          text_of-append took.6.0 ending ∙ ap (λ t. text_of took.6.0 ++ t) front.whole
-              ∙ sym (append_assoc (text_of took.6.0) front.front front.rest),
-        )
-        (front.front, refl)
+      body_is : BodyFrom g [] (laid.whole bytes) body
+      body_is =
+          subst (λ p. BodyFrom g [] p body) (sym rests.all) (body-append g [] (carried bytes) rests.pairs took.6.0 rest.lines took.6.1 rest.body)
+
+      before : AppendsAll old mid (text_of body)
+      before = subst (AppendsAll old mid) (sym (text_of-append took.6.0 rest.lines))
+          (Appends-trans old.bytes here.bytes mid.bytes (text_of took.6.0) (text_of rest.lines) took.6.2 rest.wrote.appended)
+
+      abbrev lines : List Printed
+      lines = body ++ ending
+
+      abbrev text : IsText g (laid.whole bytes) (laid.left bytes) lines faulty
+      text = record { body = body; ending = ending; gained = body_is; ended = ended; all = refl }
+
+      pub completes : (whole : Bool) → Writes {T = Bool} {E = Failed} mid new (Ok whole) (text_of ending) → Completes laid g a c old new faulty
+      completes whole writes =
+          record {
+            bytes = bytes;
+            read = read;
+            few = took.4;
+            lines = lines;
+            shown = text;
+            printed = subst (AppendsAll old new) (sym (text_of-append body ending))
+                (Appends-trans old.bytes mid.bytes new.bytes (text_of body) (text_of ending) before writes.whole);
+          }
+
+      pub ending_fails : (e : Failed) → Writes {T = Bool} {E = Failed} mid new (Err e) (text_of ending) → Interrupts laid g a c old new
+      ending_fails e writes =
+          let front = writes.front in
+          cut_front laid is_laid g a c old new bytes lines faulty (text_of body ++ front.front) read took.4 text
+          (Appends-trans old.bytes mid.bytes new.bytes (text_of body) front.front before front.appended) (
+            front.rest,
+            text_of-append body ending ∙ ap (λ t. text_of body ++ t) front.whole ∙ sym (append_assoc (text_of body) front.front front.rest),
+          )
+          (front.front, refl)
+
+-- what a piece adds, where the number of frames that come last is one and the same
+pub gains_by : {T E : Type 0} (laid : ℕ → Laid) (k n : ℕ) → k ≡ n → (g : Listing) (bytes piece : List ℕ) (old new : IoState) (r : Result T E)
+    → Gains (laid k).carried g bytes piece old new r → Gains (laid n).carried g bytes piece old new r
+gains_by laid k n same g bytes piece old new r gains = subst (λ (m : ℕ). Gains (laid m).carried g bytes piece old new r) same gains
+
+pub rests_by : {T E : Type 0} (laid : ℕ → Laid) (k n : ℕ) → k ≡ n → (g : Listing) (bytes : List ℕ) (old new : IoState) (r : Result T E)
+    → Rests (laid k) g bytes old new r → Rests (laid n) g bytes old new r
+rests_by laid k n same g bytes old new r rests = subst (λ (m : ℕ). Rests (laid m) g bytes old new r) same rests
+
+pub ending_by : (laid : ℕ → Laid) (k n : ℕ) → k ≡ n → (g : Listing) (bytes : List ℕ) (lines : List Printed) (faulty : Bool)
+    → IsEnding g ((laid k).whole bytes) ((laid k).left bytes) lines faulty → IsEnding g ((laid n).whole bytes) ((laid n).left bytes) lines faulty
+ending_by laid k n same g bytes lines faulty ended =
+    subst (λ (m : ℕ). IsEnding g ((laid m).whole bytes) ((laid m).left bytes) lines faulty) same ended
 
 pub by_true : (x faulty : Bool) → x ≡ not faulty → x ≡ true → faulty ≡ false
 by_true x false same is = refl

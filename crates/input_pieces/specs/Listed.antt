@@ -2,6 +2,7 @@
 use Rattle.std.specs.Prelude.{◌≡◌, ◌⊎◌, ℕ, ◌+◌, ◌-◌, ◌^◌, ◌≤◌, Bool, true, false, List, [], ◌∷◌, ◌++◌, length, take, Result, Ok, Err}
 use Rattle.std.specs.Io.KnownBytes.{Consumes, IsAtEnd}
 use Rattle.path_elements.specs.PathLaws.{BeginsWith}
+use Rattle.stream_demux.specs.Laid.{Laid}
 use Rattle.stream_demux.specs.Texts.{BodyFrom, IsText, Listing, Printed, text_of}
 use Rattle.answer_lines.specs.declared.status.Status.{Status}
 use Rattle.answer_lines.specs.declared.status.Status.TheVariants as status
@@ -26,14 +27,14 @@ Takes input input' bytes = Consumes input.bytes input'.bytes bytes
 abbrev pub PrintsBody : (List ℕ → List (ℕ × ℕ)) → Listing → List ℕ → IoState → IoState → Type 0
 PrintsBody carried g bytes out out' = (lines : List Printed) × BodyFrom g [] (carried bytes) lines × AppendsAll out out' (text_of lines)
 
-module _ (carried : List ℕ → List (ℕ × ℕ)) (left : List ℕ → ℕ) (g : Listing) where
+module _ (laid : Laid) (g : Listing) where
   -- The input was read to its end, and all that it shows was printed.
   pub record Completes (input input' out out' : IoState) (faulty : Bool) : Type 0 where
     pub bytes : List ℕ
     pub read : TakesAll input input' bytes
     pub few : length bytes ≤ most_input
     pub lines : List Printed
-    pub shown : IsText g (carried bytes) (left bytes) lines faulty
+    pub shown : IsText g (laid.whole bytes) (laid.left bytes) lines faulty
     pub printed : AppendsAll out out' (text_of lines)
 
   -- A read failed behind some bytes, whose lines were printed.
@@ -41,7 +42,7 @@ module _ (carried : List ℕ → List (ℕ × ℕ)) (left : List ℕ → ℕ) (g
     pub bytes : List ℕ
     pub took : Takes input input' bytes
     pub few : length bytes ≤ most_input
-    pub printed : PrintsBody carried g bytes out out'
+    pub printed : PrintsBody laid.carried g bytes out out'
     pub rose : Rose input input'
 
   -- One byte more than the most was taken, and the lines of the others were printed.
@@ -50,7 +51,17 @@ module _ (carried : List ℕ → List (ℕ × ℕ)) (left : List ℕ → ℕ) (g
     pub byte : ℕ
     pub took : Takes input input' (bytes ++ byte ∷ [])
     pub many : length bytes ≡ most_input
-    pub printed : PrintsBody carried g bytes out out'
+    pub printed : PrintsBody laid.carried g bytes out out'
+
+  -- no more than the lines that come with the first of these pairs
+  abbrev pub SomeOf : List (ℕ × ℕ) → List ℕ → Type 0
+  SomeOf all shown =
+      (pairs : List (ℕ × ℕ)) × (lines : List Printed) × BeginsWith pairs all × BodyFrom g [] pairs lines × BeginsWith shown (text_of lines)
+
+  -- or than the whole text
+  abbrev pub FrontOf : List ℕ → List ℕ → Type 0
+  FrontOf bytes shown =
+      (lines : List Printed) × (faulty : Bool) × IsText g (laid.whole bytes) (laid.left bytes) lines faulty × BeginsWith shown (text_of lines)
 
   -- What is printed where a write fails: no more than the lines that come with some of the pairs, or than the whole text of an
   -- input that was read to its end and is not too long; and no less than the lines that come with all bytes but the last 4096.
@@ -60,11 +71,10 @@ module _ (carried : List ℕ → List (ℕ × ℕ)) (left : List ℕ → ℕ) (g
     pub few : length bytes ≤ most_input + 1
     pub shown : List ℕ
     pub printed : AppendsAll out out' shown
-    pub late : ((pairs : List (ℕ × ℕ)) × (lines : List Printed) × BeginsWith pairs (carried (take most_input bytes)) × BodyFrom g [] pairs lines
-        × BeginsWith shown (text_of lines))
-        ⊎ (IsAtEnd input'.bytes × (length bytes ≤ most_input) × ((lines : List Printed) × (faulty : Bool) × IsText g (carried bytes) (left bytes) lines faulty
-        × BeginsWith shown (text_of lines)))
-    pub early : (lines : List Printed) × BodyFrom g [] (carried (take (length bytes - most_at_once) bytes)) lines × BeginsWith (text_of lines) shown
+    pub late : SomeOf (laid.carried (take most_input bytes)) shown
+        ⊎ (IsAtEnd input'.bytes × (length bytes ≤ most_input) × (SomeOf (laid.whole bytes) shown ⊎ FrontOf bytes shown))
+    pub early : (lines : List Printed) × BodyFrom g [] (laid.carried (take (length bytes - most_at_once) bytes)) lines
+        × BeginsWith (text_of lines) shown
 
   -- the answer that the input decides, and what was printed with it
   abbrev pub Answered : IoState → IoState → IoState → IoState → Status → Type 0

@@ -1,6 +1,7 @@
 -- The reading of an input by pieces.
 use Rattle.std.specs.Prelude.{◌≡◌, ℕ, ◌+◌, ◌<◌, ◌≤◌, List, [], ◌∷◌, length, take, Result, Ok, Err}
 use Rattle.std.specs.Io.KnownBytes.{IsAtEnd}
+use Rattle.stream_demux.specs.Laid.{Laid}
 use Rattle.stream_demux.specs.Texts.{Listing}
 use Rattle.input_pieces.specs.Listed.{Interrupts, PrintsBody, Takes, most_at_once, most_input}
 use Rattle.input_pieces.specs.declared.input.Stop.{Stop}
@@ -24,12 +25,12 @@ StopsSo input input' taken TooLong = (taken ≡ most_input) × ((byte : ℕ) × 
 StopsSo input input' taken ReadFault = Takes input input' [] × Rose input input'
 
 -- An input was taken up to what stops that, and the lines that come with its bytes were printed, where no write failed.
-abbrev pub TookUpTo : (List ℕ → Type 0) → (List ℕ → List (ℕ × ℕ)) → Listing → IoState → IoState → IoState → IoState → Stop → Type 0
-TookUpTo stands carried g input input' out out' stop =
+abbrev pub TookUpTo : (List ℕ → Type 0) → Laid → Listing → IoState → IoState → IoState → IoState → Stop → Type 0
+TookUpTo stands laid g input input' out out' stop =
     (here : IoState) × (bytes : List ℕ) × Takes input here bytes × KeepsFaults input here × (length bytes ≤ most_input) × stands bytes
-    × PrintsBody carried g bytes out out' × StopsSo here input' (length bytes) stop
+    × PrintsBody laid.carried g bytes out out' × StopsSo here input' (length bytes) stop
 
 -- or a write failed
-abbrev pub Took : (List ℕ → Type 0) → (List ℕ → List (ℕ × ℕ)) → (List ℕ → ℕ) → Listing → IoState → IoState → IoState → IoState → Result Stop Failed → Type 0
-Took stands carried left g input input' out out' (Ok stop) = TookUpTo stands carried g input input' out out' stop
-Took stands carried left g input input' out out' (Err failed) = Interrupts carried left g input input' out out'
+abbrev pub Took : (List ℕ → Type 0) → Laid → Listing → IoState → IoState → IoState → IoState → Result Stop Failed → Type 0
+Took stands laid g input input' out out' (Ok stop) = TookUpTo stands laid g input input' out out' stop
+Took stands laid g input input' out out' (Err failed) = Interrupts laid g input input' out out'

@@ -7,8 +7,8 @@ ghost use Rattle.input_pieces.specs.Reading.{GivesBytes, StopsSo, Took};
 ghost use Rattle.trace_io.specs.Bytes.{ShowsAsBefore};
 ghost use Rattle.trace_io.specs.Causes.{HasCause, KeepsFaults};
 
-use crate::printer::Printer;
 use answer_lines::Status;
+use stream_demux::Printer;
 use trace_io::{Failed, Sink, Source};
 
 /// The most bytes of input.
@@ -64,9 +64,10 @@ fn take_input<P: Printer, J: Source, K: Sink>(
     out: &mut K,
 ) -> Result<Stop, Failed>
     requires fresh { (P.broken printer.old ≡ false) × (P.taken printer.old ≡ 0) }
-    ensures took { (s : Sizes) → P.stands shared.now s printer.old [] → Took (P.stands shared.now s printer.new) P.carried P.left (P.listing shared.now s)
+    ensures took { (t : ℕ → Sizes) → P.stands shared.now t printer.old [] → Took (P.stands shared.now t printer.new) (P.laid (P.frames printer.old)) (P.listing shared.now t)
         (J.state input.old) (J.state input.new) (K.state out.old) (K.state out.new) result }
-    ensures whole { (stop : Stop) → result ≡ Ok stop → P.broken printer.new ≡ false }
+    ensures whole { (stop : Stop) → result ≡ Ok stop → (P.broken printer.new ≡ false) × (P.taken printer.new ≤ most_input) }
+    ensures frames { P.frames printer.new ≡ P.frames printer.old }
     ensures kept { (result ≡ Ok Stop.ReadFault) ⊎ KeepsFaults (J.state input.old) (J.state input.new) }
     ensures cause { HasCause (K.state out.old) (K.state out.new) result }
     ensures shows { ShowsAsBefore (K.state out.old) (K.state out.new) }
@@ -94,7 +95,7 @@ pub fn print_input<P: Printer, J: Source, K: Sink>(
     out: &mut K,
 ) -> Result<Status, Failed>
     requires fresh { (P.broken printer ≡ false) × (P.taken printer ≡ 0) }
-    ensures answer { (s : Sizes) → P.stands shared.now s printer [] → Listed P.carried P.left (P.listing shared.now s)
+    ensures answer { (t : ℕ → Sizes) → P.stands shared.now t printer [] → Listed (P.laid (P.frames printer)) (P.listing shared.now t)
         (J.state input.old) (J.state input.new) (K.state out.old) (K.state out.new) result }
     ensures kept { (result ≡ Ok Status.ReadFault) ⊎ KeepsFaults (J.state input.old) (J.state input.new) }
     ensures cause { HasCause (K.state out.old) (K.state out.new) result }
@@ -103,10 +104,16 @@ pub fn print_input<P: Printer, J: Source, K: Sink>(
     ensures input_later { (J.state input.old).faults ≤ (J.state input.new).faults }
 {
     match take_input(&mut printer, shared, input, out) {
-        Ok(Stop::End) => match printer.finish(out) {
-            Ok(true) => Ok(Status::Done),
-            Ok(false) => Ok(Status::Faulted),
-            Err(failed) => Err(failed),
+        Ok(Stop::End) => match printer.take_rest(shared, out) {
+            Ok(()) => match printer.finish(out) {
+                Ok(true) => Ok(Status::Done),
+                Ok(false) => Ok(Status::Faulted),
+                Err(failed) => Err(failed),
+            },
+            Err(failed) => {
+                printer.abandon();
+                Err(failed)
+            }
         },
         Ok(Stop::TooLong) => {
             printer.abandon();
@@ -132,14 +139,15 @@ fn print_piece<P: Printer, K: Sink>(
 ) -> Result<(), Failed>
     requires whole { P.broken printer.old ≡ false }
     requires few { P.taken printer.old + length piece.now ≤ 2 ^ 30 }
-    ensures stands { (s : Sizes) (bytes : List ℕ) → P.stands shared.now s printer.old bytes → IsOk result
-        → P.stands shared.now s printer.new (bytes ++ piece.now) }
-    ensures gains { (s : Sizes) (bytes : List ℕ) → P.stands shared.now s printer.old bytes
-        → Gains P.carried (P.listing shared.now s) bytes piece.now (K.state out.old) (K.state out.new) result }
+    ensures stands { (t : ℕ → Sizes) (bytes : List ℕ) → P.stands shared.now t printer.old bytes → IsOk result
+        → P.stands shared.now t printer.new (bytes ++ piece.now) }
+    ensures gains { (t : ℕ → Sizes) (bytes : List ℕ) → P.stands shared.now t printer.old bytes
+        → Gains (P.laid (P.frames printer.old)).carried (P.listing shared.now t) bytes piece.now (K.state out.old) (K.state out.new) result }
     ensures cause { HasCause (K.state out.old) (K.state out.new) result }
     ensures shows { ShowsAsBefore (K.state out.old) (K.state out.new) }
     ensures whole { IsOk result → P.broken printer.new ≡ false }
     ensures taken { IsOk result → P.taken printer.new ≡ P.taken printer.old + length piece.now }
+    ensures frames { P.frames printer.new ≡ P.frames printer.old }
 {
     printer.take_piece(shared, piece, out)?;
     out.flush()

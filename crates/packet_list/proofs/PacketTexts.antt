@@ -1,7 +1,7 @@
 -- The packets of streams have one text.
-use Rattle.std.proofs.Common.{◌≡◌, ℕ, suc, ◌<◌, Bool, List, [], ◌∷◌, ◌++◌, Some, sym, ap, subst, ◌∙◌, arith, append-nil, append_assoc}
+use Rattle.std.proofs.Common.{◌≡◌, ℕ, suc, ◌<◌, List, [], ◌∷◌, ◌++◌, Some, sym, ap, subst, ◌∙◌, arith, append-nil, append_assoc}
 use Rattle.std.specs.Prelude.{All}
-use Rattle.std.proofs.lemmas.List.{append_cancel_left, get_or_append_left, length-append, map-append}
+use Rattle.std.proofs.lemmas.List.{get_or_append_left, length-append, map-append}
 use Rattle.std.proofs.lemmas.List.Elements.{All-map}
 use Rattle.etm_types.specs.Settings.{AreSettings, Sizes}
 use Rattle.packet_grammar.specs.Ends.{end_of}
@@ -15,9 +15,10 @@ use Rattle.path_text.specs.Lines.{IsLine}
 use Rattle.path_text.specs.PacketLines.{packet_line}
 use Rattle.path_text.proofs.Feeds.{end_is, packet_is}
 use Rattle.stream_demux.specs.Laws.{EndsAlways, EndsOnce, GainsAlways, GainsOnce, StreamLines, lines_with}
-use Rattle.stream_demux.specs.Texts.{Printed, StreamBody, StreamEnds, lines_under, of}
+use Rattle.stream_demux.specs.Texts.{Printed, StreamBody, StreamEnds, by_sizes, lines_under, of}
 use Rattle.stream_demux.proofs.Alone.{source_is_alone}
-use Rattle.stream_demux.proofs.AlonePaths.{PrintsLines, each_is}
+use Rattle.stream_demux.proofs.AlonePaths.{PrintsLines, each_is, print_by}
+use Rattle.stream_demux.proofs.BySizes.{ends_always_by, ends_once_by, gains_always_by, gains_once_by, own_lines}
 use Rattle.stream_demux.proofs.OneText.{one_body, one_text, some_text}
 use Rattle.stream_demux.proofs.Parted.{CarriesOn, fronts_begin}
 use Rattle.packet_list.specs.PacketLaws.{EachPacketIsALine, FrontsOfPacketsBegin, OneTextOfPackets, PacketsAreAlone, PacketsPrinted, SomeTextOfPackets}
@@ -47,17 +48,25 @@ module _ (s : Sizes) (are : AreSettings s) where
   end_always : EndsAlways (packet_lists s)
   end_always id bytes small = some_line s are id bytes small
 
+-- ---- many streams, each of its own sizes
+
+once_by : (t : ℕ → Sizes) → ((id : ℕ) → AreSettings (t id)) → GainsOnce (by_sizes packet_lists t)
+once_by t are = gains_once_by packet_lists t (λ id. gain_once (t id) (are id))
+
 pub one_text_of_packets : OneTextOfPackets
-one_text_of_packets s are = one_text (packet_lists s) (gain_once s are) (end_once s are)
+one_text_of_packets t are =
+    one_text (by_sizes packet_lists t) (once_by t are) (ends_once_by packet_lists t (λ id. end_once (t id) (are id)))
 
 pub some_text_of_packets : SomeTextOfPackets
-some_text_of_packets s are = some_text (packet_lists s) (gain_always s are) (end_always s are)
+some_text_of_packets t are =
+    some_text (by_sizes packet_lists t) (gains_always_by packet_lists t (λ id. gain_always (t id) (are id)))
+    (ends_always_by packet_lists t (λ id. end_always (t id) (are id)))
 
 pub fronts_of_packets_begin : (carried : List ℕ → List (ℕ × ℕ)) → CarriesOn carried → FrontsOfPacketsBegin carried
-fronts_of_packets_begin carried on s are bytes more first lines front body =
-    let g = packet_lists s in
+fronts_of_packets_begin carried on t are bytes more first lines front body =
+    let g = by_sizes packet_lists t in
     let some = fronts_begin carried g on bytes more lines body in
-    let same = one_body g (gain_once s are) [] (carried bytes) some.0 first some.1 front in
+    let same = one_body g (once_by t are) [] (carried bytes) some.0 first some.1 front in
     subst (λ (l : List Printed). BeginsWith l lines) same some.2
 
 -- ---- the packets of a stream
@@ -97,8 +106,10 @@ module _ (s : Sizes) (are : AreSettings s) (id : ℕ) where
           )
 
 pub packets_are_alone : PacketsAreAlone
-packets_are_alone s are pairs left lines faulty id source is =
-    packets_printed s are id (of id pairs) (lines_with id lines) (source_is_alone (packet_lists s) pairs left lines faulty id source is)
+packets_are_alone t id source are pairs left lines faulty is =
+    packets_printed (t id) are id (of id pairs) (lines_with id lines)
+    (own_lines packet_lists t id (of id pairs) (lines_with id lines)
+    (source_is_alone (by_sizes packet_lists t) pairs left lines faulty id source is))
 
 -- ---- each line has one LF
 
@@ -114,4 +125,4 @@ packets_print_lines s =
     each_of id packets = All-map IsLine (λ (p : ℕ × Packet). packet_line id p.0 p.1) packets (λ k d within. packet_is id _ _)
 
 pub each_packet_is_a_line : EachPacketIsALine
-each_packet_is_a_line s = each_is (packet_lists s) (packets_print_lines s)
+each_packet_is_a_line t = each_is (by_sizes packet_lists t) (print_by packet_lists t (λ id. packets_print_lines (t id)))

@@ -19,9 +19,9 @@ pub fn packets_have_one_list()
         → (line : List ℕ) × (faulty : Bool) × PacketEnds s id bytes line faulty }
 {}
 
-/// So the packets of streams have one text and no other, and before the ends it begins with that of a front of the input. The
-/// lines of a source are those of the packets of its own bytes, whatever other streams hold, and each line has one LF, which
-/// ends it.
+/// So the packets of streams, each by its own sizes, have one text and no other, and before the ends it begins with that of a front
+/// of the input. The lines of a source are those of the packets of its own bytes, whatever other streams hold, and each line has one
+/// LF, which ends it.
 pub fn packets_have_one_text()
     ensures one { OneTextOfPackets }
     ensures some { SomeTextOfPackets }

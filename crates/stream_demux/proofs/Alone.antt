@@ -8,10 +8,13 @@ use Rattle.std.proofs.lemmas.Bool.Decides.{eqb_tells}
 use Rattle.std.proofs.lemmas.List.{map-append}
 use Rattle.std.proofs.lemmas.List.Elements.{filter-append}
 use Rattle.etm_types.specs.Id.{IsId}
+use Rattle.etm_types.specs.Settings.{Sizes}
 use Rattle.path_text.specs.EndLines.{frame_cut_line}
 use Rattle.stream_demux.specs.Laws.{EndsOnce, GainsOnce, OthersDoNotCount, OthersHaveNone, SourceIsAlone, StreamLines, has_id, lines_with}
 use Rattle.stream_demux.specs.Texts.{BodyFrom, EndsOf, GainsIf, Listing, Printed, StreamBody, StreamEnds, cut_lines, is_source, lines_under, of, sources}
+use Rattle.stream_demux.specs.Texts.{by_sizes}
 use Rattle.stream_demux.proofs.Bodies.{of_other, of_this}
+use Rattle.stream_demux.proofs.BySizes.{own_lines}
 use Rattle.stream_demux.proofs.OneText.{stream_ends_once}
 use Rattle.stream_demux.proofs.Parted.{of_others}
 use Rattle.stream_demux.proofs.Standing.{is_one}
@@ -230,9 +233,10 @@ stream_lines_once g once ends_once id bytes lines others is too =
     let ends = stream_ends_once g ends_once id bytes is.ending too.ending is.faulty too.faulty is.ends too.ends in
     is.all ∙ ap (λ (l : List (List ℕ)). lines_under id l ++ is.ending) body ∙ ap (λ (l : List Printed). lines_under id too.gained ++ l) ends.0 ∙ sym too.all
 
-pub others_do_not_count : (g : Listing) → OthersDoNotCount g
-others_do_not_count g once ends_once pairs more left some lines others faulty also id source same is too =
-    let here = source_is_alone g pairs left lines faulty id source is in
-    let there = source_is_alone g more some others also id source too in
-    stream_lines_once g once ends_once id (of id more) (lines_with id lines) (lines_with id others)
-    (subst (λ (bytes : List ℕ). StreamLines g id bytes (lines_with id lines)) same here) there
+pub others_do_not_count : (g : Sizes → Listing) → OthersDoNotCount g
+others_do_not_count g t u id source sizes once ends_once pairs more left some lines others faulty also same is too =
+    let here = own_lines g t id (of id pairs) (lines_with id lines) (source_is_alone (by_sizes g t) pairs left lines faulty id source is) in
+    let there = own_lines g u id (of id more) (lines_with id others) (source_is_alone (by_sizes g u) more some others also id source too) in
+    stream_lines_once (g (u id)) once ends_once id (of id more) (lines_with id lines) (lines_with id others)
+    (subst (λ (bytes : List ℕ). StreamLines (g (u id)) id bytes (lines_with id lines)) same
+    (subst (λ (s : Sizes). StreamLines (g s) id (of id pairs) (lines_with id lines)) sizes here)) there

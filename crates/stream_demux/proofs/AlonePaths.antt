@@ -23,7 +23,9 @@ use Rattle.program_image.specs.declared.image.Image.{Image}
 use Rattle.stream_demux.specs.Laws.{EachIsALine, PathIsAlone, PathPrinted, StreamLines, lines_with}
 use Rattle.stream_demux.specs.Paths.{paths}
 use Rattle.stream_demux.specs.Texts.{BodyFrom, EndsOf, GainsIf, IsText, Listing, Printed, StreamBody, StreamEnds, cut_lines, is_source, lines_under, of, sources}
+use Rattle.stream_demux.specs.Texts.{by_sizes}
 use Rattle.stream_demux.proofs.Alone.{source_is_alone}
+use Rattle.stream_demux.proofs.BySizes.{own_lines}
 use Rattle.stream_demux.proofs.PathTexts.{one_path}
 
 -- ---- the path of no bytes
@@ -91,8 +93,10 @@ module _ (image : Image) (s : Sizes) (are : AreSettings s) (id : ℕ) where
           )
 
 pub path_is_alone : PathIsAlone
-path_is_alone image s are pairs left lines faulty id source is =
-    path_printed image s are id (of id pairs) (lines_with id lines) (source_is_alone (paths image s) pairs left lines faulty id source is)
+path_is_alone image t id source are pairs left lines faulty is =
+    path_printed image (t id) are id (of id pairs) (lines_with id lines)
+    (own_lines (paths image) t id (of id pairs) (lines_with id lines)
+    (source_is_alone (by_sizes (paths image) t) pairs left lines faulty id source is))
 
 -- ---- each line has one LF
 
@@ -106,6 +110,14 @@ under_are id lines are = All-map IsPrintedLine (λ (line : List ℕ). record { i
 pub record PrintsLines (g : Listing) : Type 0 where
   pub gained : (id : ℕ) (bytes : List ℕ) (byte : ℕ) (lines : List (List ℕ)) → g.gains id bytes byte lines → All IsLine lines
   pub ended : (id : ℕ) (bytes line : List ℕ) (faulty : Bool) → g.ends id bytes line faulty → IsLine line
+
+-- each by its own sizes
+pub print_by : (g : Sizes → Listing) (t : ℕ → Sizes) → ((id : ℕ) → PrintsLines (g (t id))) → PrintsLines (by_sizes g t)
+print_by g t prints =
+    record {
+      gained = λ id bytes byte lines gains. (prints id).gained id bytes byte lines gains;
+      ended = λ id bytes line faulty ends. (prints id).ended id bytes line faulty ends;
+    }
 
 module _ (g : Listing) (prints : PrintsLines g) where
   gains_are : (source : Bool) (before : List (ℕ × ℕ)) (pair : ℕ × ℕ) (lines : List (List ℕ)) → GainsIf source g before pair lines → All IsLine lines
@@ -153,4 +165,4 @@ paths_print_lines image s =
     }
 
 pub each_is_a_line : EachIsALine
-each_is_a_line image s = each_is (paths image s) (paths_print_lines image s)
+each_is_a_line image t = each_is (by_sizes (paths image) t) (print_by (paths image) t (λ id. paths_print_lines image (t id)))

@@ -10,8 +10,9 @@ use Rattle.path_text.specs.EndLines.{frame_cut_line}
 use Rattle.path_text.specs.Writing.{Writes}
 use Rattle.etm_types.specs.Settings.{Sizes}
 use Rattle.stream_demux.specs.Streams.{StandFrom}
-use Rattle.stream_demux.specs.Texts.{EndsOf, IsEnding, Listing, Printed, StreamEnds, cut_lines, of, sources, text_of}
+use Rattle.stream_demux.specs.Texts.{EndsOf, IsEnding, Listing, Printed, StreamEnds, by_sizes, cut_lines, of, sources, text_of}
 use Rattle.stream_demux.proofs.Bodies.{text_of-append}
+use Rattle.stream_demux.proofs.BySizes.{ends_by}
 use Rattle.trace_io.specs.State.{IoState}
 
 -- the IDs from one to another, which is not one of them
@@ -102,18 +103,18 @@ abbrev pub SomeEnds : Listing → List (ℕ × ℕ) → List ℕ → Type 0
 SomeEnds g pairs list = (lines : List Printed) × (faulty : Bool) × EndsOf g pairs list lines faulty
 
 -- of streams from an ID on these are left, and where those end in some way all do
-pub record Remaining {X : Type 0} (stands : X → List ℕ → Type 0) (sizes : X → Sizes) (s : Sizes) (g : Listing) (pairs : List (ℕ × ℕ)) (id : ℕ)
+pub record Remaining {X : Type 0} (stands : X → List ℕ → Type 0) (sizes : X → Sizes) (t : ℕ → Sizes) (g : Listing) (pairs : List (ℕ × ℕ)) (id : ℕ)
     (all left : List X) : Type 0 where
   pub at : ℕ
-  pub stand : StandFrom stands sizes s at left pairs
+  pub stand : StandFrom stands sizes t at left pairs
   pub rest : SomeEnds g pairs (range_with_len at (length left)) → SomeEnds g pairs (range_with_len id (length all))
 
-module _ {X : Type 0} (stands : X → List ℕ → Type 0) (sizes : X → Sizes) (s : Sizes) (listing : Sizes → Listing) (pairs : List (ℕ × ℕ)) (id : ℕ)
+module _ {X : Type 0} (stands : X → List ℕ → Type 0) (sizes : X → Sizes) (t : ℕ → Sizes) (listing : Sizes → Listing) (pairs : List (ℕ × ℕ)) (id : ℕ)
     (all : List X) where
   abbrev pub Left : List X → Type 0
-  Left = Remaining stands sizes s (listing s) pairs id all
+  Left = Remaining stands sizes t (by_sizes listing t) pairs id all
 
-  pub all_remain : StandFrom stands sizes s id all pairs → Left all
+  pub all_remain : StandFrom stands sizes t id all pairs → Left all
   all_remain stand = record { at = id; stand = stand; rest = λ ends. ends }
 
   pub one_less : (stream : X) (left : List X) → Left (stream ∷ left)
@@ -122,15 +123,16 @@ module _ {X : Type 0} (stands : X → List ℕ → Type 0) (sizes : X → Sizes)
   one_less stream left was ends =
       let is = was.stand in
       let one = ends was.at (of was.at pairs) is.0 in
-      let here : StreamEnds (listing s) was.at (of was.at pairs) one.0 one.1 =
-      subst (λ (t : Sizes). StreamEnds (listing t) was.at (of was.at pairs) one.0 one.1) is.1 one.2 in
+      let here : StreamEnds (by_sizes listing t) was.at (of was.at pairs) one.0 one.1 =
+      ends_by listing t was.at (of was.at pairs) one.0 one.1
+      (subst (λ (u : Sizes). StreamEnds (listing u) was.at (of was.at pairs) one.0 one.1) is.1 one.2) in
       record {
         at = was.at + 1;
-        stand = subst (λ k. StandFrom stands sizes s k left pairs) (let e : suc was.at ≡ was.at + 1 = omega arith in e) is.2;
+        stand = subst (λ k. StandFrom stands sizes t k left pairs) (let e : suc was.at ≡ was.at + 1 = omega arith in e) is.2;
         rest = λ more. was.rest (one.0 ++ more.0, one.1 || more.1, (one.0, more.0, one.1, more.1, here, more.2, refl, refl));
       }
 
-  pub none_remain : Left [] → SomeEnds (listing s) pairs (range_with_len id (length all))
+  pub none_remain : Left [] → SomeEnds (by_sizes listing t) pairs (range_with_len id (length all))
   none_remain was = was.rest ([], false, (refl, refl))
 
 -- ---- streams that are finished
@@ -183,10 +185,11 @@ written_ends g pairs list whole a b ended =
     (ended.lines, ended.faulty, ended.ends, writes_all a b whole (text_of ended.lines) ended.wrote, ended.same)
 
 -- the stream of an ID, as it was finished
-pub ends_here : (g : Sizes → Listing) (t s : Sizes) (given id : ℕ) (bytes : List ℕ) (lines : List Printed) (faulty : Bool) → t ≡ s → given ≡ id
-    → StreamEnds (g t) given bytes lines faulty → StreamEnds (g s) id bytes lines faulty
-ends_here g t s given id bytes lines faulty sizes same ends =
-    subst (λ (i : ℕ). StreamEnds (g s) i bytes lines faulty) same (subst (λ (u : Sizes). StreamEnds (g u) given bytes lines faulty) sizes ends)
+pub ends_here : (g : Sizes → Listing) (s : Sizes) (t : ℕ → Sizes) (given id : ℕ) (bytes : List ℕ) (lines : List Printed) (faulty : Bool) → s ≡ t id
+    → given ≡ id → StreamEnds (g s) given bytes lines faulty → StreamEnds (by_sizes g t) id bytes lines faulty
+ends_here g s t given id bytes lines faulty sizes same ends =
+    ends_by g t id bytes lines faulty (subst (λ (u : Sizes). StreamEnds (g u) id bytes lines faulty) sizes
+    (subst (λ (i : ℕ). StreamEnds (g s) i bytes lines faulty) same ends))
 
 -- ---- the frame that is cut
 

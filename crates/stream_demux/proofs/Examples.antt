@@ -1,12 +1,13 @@
 -- Texts that were worked out by hand, for streams of which little is printed, and texts near them that no pairs have.
-use Rattle.std.proofs.Common.{◌≡◌, ℕ, ◌==◌, Bool, true, false, List, [], ◌∷◌, ◌++◌, length, Some, None, refl, sym, ap, ◌∙◌, arith}
+use Rattle.std.proofs.Common.{◌≡◌, ℕ, ◌+◌, ◌==◌, Bool, true, false, List, [], ◌∷◌, ◌++◌, length, Some, None, refl, sym, ap, ◌∙◌, arith}
 use Rattle.std.specs.Prelude.{◌||◌, get_or, nat_lt, replicate}
+use Rattle.etm_types.specs.Settings.{Sizes}
 use Rattle.formatter_frames.specs.Unframed.{begun_frame, unframed}
 use Rattle.path_text.specs.EndLines.{frame_cut_line}
 use Rattle.stream_demux.specs.Demuxed.{raw_pairs}
 use Rattle.stream_demux.specs.Laws.{EndsOnce, GainsOnce, lines_with}
 use Rattle.stream_demux.specs.Texts.{BodyFrom, EndsOf, GainsIf, IsEnding, IsText, Listing, Printed, StreamEnds, cut_lines, is_source}
-use Rattle.stream_demux.specs.Texts.{lines_under, of, sources, text_of}
+use Rattle.stream_demux.specs.Texts.{by_sizes, lines_under, of, sources, text_of}
 use Rattle.stream_demux.proofs.OneText.{one_text}
 
 -- ---- what is printed
@@ -24,89 +25,100 @@ abbrev has_nine : List ℕ → Bool
 has_nine [] = false
 has_nine (b ∷ bytes) = (b == 9) || has_nine bytes
 
+-- a stream prints such a line by each byte, and such a one at its end
+module _ (at_byte : ℕ → ℕ → ℕ → List ℕ) (at_end : ℕ → ℕ → List ℕ) where
+  abbrev printing : Listing
+  printing = record {
+    gains = λ id bytes byte lines. lines ≡ at_byte id (length bytes) byte ∷ [];
+    ends = λ id bytes line faulty. (line ≡ at_end id (length bytes)) × (faulty ≡ has_nine bytes);
+  }
+
+  gains_once : GainsOnce printing
+  gains_once id bytes byte lines others is too = is ∙ sym too
+
+  ends_once : EndsOnce printing
+  ends_once id bytes line other faulty also (is, fault) (too, fault') = (is ∙ sym too, fault ∙ sym fault')
+
+  -- the lines of pairs
+  abbrev gained : Bool → List (ℕ × ℕ) → ℕ × ℕ → List (List ℕ)
+  gained true before pair = at_byte pair.0 (length (of pair.0 before)) pair.1 ∷ []
+  gained false before pair = []
+
+  abbrev body_of : List (ℕ × ℕ) → List (ℕ × ℕ) → List Printed
+  body_of before [] = []
+  body_of before (pair ∷ pairs) = lines_under pair.0 (gained (is_source pair.0) before pair) ++ body_of (before ++ pair ∷ []) pairs
+
+  abbrev end_of : ℕ → List ℕ → List Printed
+  end_of id [] = []
+  end_of id (b ∷ bytes) = lines_under id (at_end id (length (b ∷ bytes)) ∷ [])
+
+  abbrev ends_of : List (ℕ × ℕ) → List ℕ → List Printed
+  ends_of pairs [] = []
+  ends_of pairs (id ∷ ids) = end_of id (of id pairs) ++ ends_of pairs ids
+
+  abbrev faults_of : List (ℕ × ℕ) → List ℕ → Bool
+  faults_of pairs [] = false
+  faults_of pairs (id ∷ ids) = has_nine (of id pairs) || faults_of pairs ids
+
+  gains : (source : Bool) (before : List (ℕ × ℕ)) (pair : ℕ × ℕ) → GainsIf source printing before pair (gained source before pair)
+  gains true before pair = refl
+  gains false before pair = refl
+
+  body : (before pairs : List (ℕ × ℕ)) → BodyFrom printing before pairs (body_of before pairs)
+  body before [] = refl
+  body before (pair ∷ pairs) =
+      let source = is_source pair.0 in
+      (gained source before pair, body_of (before ++ pair ∷ []) pairs, gains source before pair, body (before ++ pair ∷ []) pairs, refl)
+
+  stream_ends : (id : ℕ) (bytes : List ℕ) → StreamEnds printing id bytes (end_of id bytes) (has_nine bytes)
+  stream_ends id [] = (refl, refl)
+  stream_ends id (b ∷ bytes) = (at_end id (length (b ∷ bytes)), (refl, refl), refl)
+
+  all_end : (pairs : List (ℕ × ℕ)) (ids : List ℕ) → EndsOf printing pairs ids (ends_of pairs ids) (faults_of pairs ids)
+  all_end pairs [] = (refl, refl)
+  all_end pairs (id ∷ ids) =
+      (end_of id (of id pairs), ends_of pairs ids, has_nine (of id pairs), faults_of pairs ids, stream_ends id (of id pairs), all_end pairs ids, refl, refl)
+
+  -- pairs have this text and no other
+  pub record PrintsBy (pairs : List (ℕ × ℕ)) (left : ℕ) (lines : List Printed) (faulty : Bool) : Type 0 where
+    pub is : IsText printing pairs left lines faulty
+    pub only : (others : List Printed) (also : Bool) → IsText printing pairs left others also → (others ≡ lines) × (also ≡ faulty)
+
+  abbrev lines_of : List (ℕ × ℕ) → ℕ → List Printed
+  lines_of pairs left = body_of [] pairs ++ (ends_of pairs sources ++ cut_lines left)
+
+  abbrev fault_of : List (ℕ × ℕ) → ℕ → Bool
+  fault_of pairs left = faults_of pairs sources || nat_lt 0 left
+
+  prints_by : (pairs : List (ℕ × ℕ)) (left : ℕ) → PrintsBy pairs left (lines_of pairs left) (fault_of pairs left)
+  prints_by pairs left =
+      let ending : IsEnding printing pairs left (ends_of pairs sources ++ cut_lines left) (fault_of pairs left) = record {
+        ends = ends_of pairs sources;
+        some_fault = faults_of pairs sources;
+        ended = all_end pairs sources;
+        all = refl;
+        fault = refl;
+      } in
+      let text : IsText printing pairs left (lines_of pairs left) (fault_of pairs left) = record {
+        body = body_of [] pairs;
+        ending = ends_of pairs sources ++ cut_lines left;
+        gained = body [] pairs;
+        ended = ending;
+        all = refl;
+      } in
+      record {
+        is = text;
+        only = λ others also too. one_text printing gains_once ends_once pairs left others (lines_of pairs left) also (fault_of pairs left) too text;
+      }
+
 abbrev tiny : Listing
-tiny = record {
-  gains = λ id bytes byte lines. lines ≡ byte_line id (length bytes) byte ∷ [];
-  ends = λ id bytes line faulty. (line ≡ last_line id (length bytes)) × (faulty ≡ has_nine bytes);
-}
+tiny = printing byte_line last_line
 
-gains_once : GainsOnce tiny
-gains_once id bytes byte lines others is too = is ∙ sym too
+abbrev Prints : List (ℕ × ℕ) → ℕ → List Printed → Bool → Type 0
+Prints = PrintsBy byte_line last_line
 
-ends_once : EndsOnce tiny
-ends_once id bytes line other faulty also (is, fault) (too, fault') = (is ∙ sym too, fault ∙ sym fault')
-
--- the lines of pairs
-abbrev gained : Bool → List (ℕ × ℕ) → ℕ × ℕ → List (List ℕ)
-gained true before pair = byte_line pair.0 (length (of pair.0 before)) pair.1 ∷ []
-gained false before pair = []
-
-abbrev body_of : List (ℕ × ℕ) → List (ℕ × ℕ) → List Printed
-body_of before [] = []
-body_of before (pair ∷ pairs) = lines_under pair.0 (gained (is_source pair.0) before pair) ++ body_of (before ++ pair ∷ []) pairs
-
-abbrev end_of : ℕ → List ℕ → List Printed
-end_of id [] = []
-end_of id (b ∷ bytes) = lines_under id (last_line id (length (b ∷ bytes)) ∷ [])
-
-abbrev ends_of : List (ℕ × ℕ) → List ℕ → List Printed
-ends_of pairs [] = []
-ends_of pairs (id ∷ ids) = end_of id (of id pairs) ++ ends_of pairs ids
-
-abbrev faults_of : List (ℕ × ℕ) → List ℕ → Bool
-faults_of pairs [] = false
-faults_of pairs (id ∷ ids) = has_nine (of id pairs) || faults_of pairs ids
-
-gains : (source : Bool) (before : List (ℕ × ℕ)) (pair : ℕ × ℕ) → GainsIf source tiny before pair (gained source before pair)
-gains true before pair = refl
-gains false before pair = refl
-
-body : (before pairs : List (ℕ × ℕ)) → BodyFrom tiny before pairs (body_of before pairs)
-body before [] = refl
-body before (pair ∷ pairs) =
-    let source = is_source pair.0 in
-    (gained source before pair, body_of (before ++ pair ∷ []) pairs, gains source before pair, body (before ++ pair ∷ []) pairs, refl)
-
-stream_ends : (id : ℕ) (bytes : List ℕ) → StreamEnds tiny id bytes (end_of id bytes) (has_nine bytes)
-stream_ends id [] = (refl, refl)
-stream_ends id (b ∷ bytes) = (last_line id (length (b ∷ bytes)), (refl, refl), refl)
-
-all_end : (pairs : List (ℕ × ℕ)) (ids : List ℕ) → EndsOf tiny pairs ids (ends_of pairs ids) (faults_of pairs ids)
-all_end pairs [] = (refl, refl)
-all_end pairs (id ∷ ids) =
-    (end_of id (of id pairs), ends_of pairs ids, has_nine (of id pairs), faults_of pairs ids, stream_ends id (of id pairs), all_end pairs ids, refl, refl)
-
--- pairs have this text and no other
-pub record Prints (pairs : List (ℕ × ℕ)) (left : ℕ) (lines : List Printed) (faulty : Bool) : Type 0 where
-  pub is : IsText tiny pairs left lines faulty
-  pub only : (others : List Printed) (also : Bool) → IsText tiny pairs left others also → (others ≡ lines) × (also ≡ faulty)
-
-abbrev lines_of : List (ℕ × ℕ) → ℕ → List Printed
-lines_of pairs left = body_of [] pairs ++ (ends_of pairs sources ++ cut_lines left)
-
-abbrev fault_of : List (ℕ × ℕ) → ℕ → Bool
-fault_of pairs left = faults_of pairs sources || nat_lt 0 left
-
-prints : (pairs : List (ℕ × ℕ)) (left : ℕ) → Prints pairs left (lines_of pairs left) (fault_of pairs left)
-prints pairs left =
-    let ending : IsEnding tiny pairs left (ends_of pairs sources ++ cut_lines left) (fault_of pairs left) = record {
-      ends = ends_of pairs sources;
-      some_fault = faults_of pairs sources;
-      ended = all_end pairs sources;
-      all = refl;
-      fault = refl;
-    } in
-    let text : IsText tiny pairs left (lines_of pairs left) (fault_of pairs left) = record {
-      body = body_of [] pairs;
-      ending = ends_of pairs sources ++ cut_lines left;
-      gained = body [] pairs;
-      ended = ending;
-      all = refl;
-    } in
-    record {
-      is = text;
-      only = λ others also too. one_text tiny gains_once ends_once pairs left others (lines_of pairs left) also (fault_of pairs left) too text;
-    }
+prints : (pairs : List (ℕ × ℕ)) (left : ℕ) → Prints pairs left (lines_of byte_line last_line pairs left) (fault_of byte_line last_line pairs left)
+prints = prints_by byte_line last_line
 
 -- ---- lines
 
@@ -160,6 +172,54 @@ lines_of_2 = refl
 
 pub lines_of_1 : lines_with 1 (in_turn_lines ++ ends 1 1 ++ ends 2 2) ≡ adds 1 0 40 ++ ends 1 1
 lines_of_1 = refl
+
+-- ---- two streams of different sizes, each by its own
+
+-- by each byte a line with the ID, the depth of its stream, and the byte
+abbrev depth_line : (ℕ → Sizes) → ℕ → ℕ → ℕ → List ℕ
+depth_line t id had byte = id ∷ (t id).depth ∷ byte ∷ 10 ∷ []
+
+-- at the end a line with the ID and the depth
+abbrev depth_last : (ℕ → Sizes) → ℕ → ℕ → List ℕ
+depth_last t id had = id ∷ (t id).depth ∷ 10 ∷ []
+
+-- of a stream of these sizes
+abbrev sized : Sizes → Listing
+sized s = printing (depth_line (λ id. s)) (depth_last (λ id. s))
+
+-- 01 has the depth 7, and 02 has 8
+abbrev seven_and_eight : ℕ → Sizes
+seven_and_eight id = record { depth = 6 + id; vmid_bytes = 0; cid_bytes = 0 }
+
+abbrev sized_adds : ℕ → ℕ → ℕ → List Printed
+sized_adds id depth byte = lines_under id ((id ∷ depth ∷ byte ∷ 10 ∷ []) ∷ [])
+
+abbrev sized_ends : ℕ → ℕ → List Printed
+sized_ends id depth = lines_under id ((id ∷ depth ∷ 10 ∷ []) ∷ [])
+
+abbrev sized_lines : List Printed
+sized_lines = sized_adds 2 8 50 ++ sized_adds 1 7 40 ++ sized_adds 2 8 51 ++ sized_ends 1 7 ++ sized_ends 2 8
+
+sized_prints : PrintsBy (depth_line seven_and_eight) (depth_last seven_and_eight) in_turn 0 sized_lines false
+unfolding sources
+sized_prints = prints_by (depth_line seven_and_eight) (depth_last seven_and_eight) in_turn 0
+
+pub each_by_its_own : IsText (by_sizes sized seven_and_eight) in_turn 0 sized_lines false
+each_by_its_own = sized_prints.is
+
+-- a line is not by the sizes of the other stream
+abbrev neighbours_lines : List Printed
+neighbours_lines = sized_adds 2 8 50 ++ sized_adds 1 8 40 ++ sized_adds 2 8 51 ++ sized_ends 1 7 ++ sized_ends 2 8
+
+pub line_by_a_neighbour : IsText (by_sizes sized seven_and_eight) in_turn 0 neighbours_lines false → ⊥
+line_by_a_neighbour other = absurd (omega (arith, ap (byte_at 5) (sized_prints.only neighbours_lines false other).0))
+
+-- nor is an end
+abbrev neighbours_end : List Printed
+neighbours_end = sized_adds 2 8 50 ++ sized_adds 1 7 40 ++ sized_adds 2 8 51 ++ sized_ends 1 8 ++ sized_ends 2 8
+
+pub end_by_a_neighbour : IsText (by_sizes sized seven_and_eight) in_turn 0 neighbours_end false → ⊥
+end_by_a_neighbour other = absurd (omega (arith, ap (byte_at 13) (sized_prints.only neighbours_end false other).0))
 
 -- ---- IDs 00, 70 and 7f are of no source, and 01 and 6f are
 

@@ -1,6 +1,7 @@
 pub mod Alone
 pub mod AlonePaths
 pub mod Bodies
+pub mod BySizes
 pub mod Ending
 pub mod PathStreams
 pub mod RawStreams

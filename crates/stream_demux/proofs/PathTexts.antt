@@ -15,8 +15,9 @@ use Rattle.program_image.specs.Part.{IsImage}
 use Rattle.program_image.specs.declared.image.Image.{Image}
 use Rattle.stream_demux.specs.Laws.{EndsAlways, EndsOnce, FrontsOfPathsBegin, GainsAlways, GainsOnce, OneTextOfPaths, SomeTextOfPaths}
 use Rattle.stream_demux.specs.Paths.{paths}
-use Rattle.stream_demux.specs.Texts.{Printed}
+use Rattle.stream_demux.specs.Texts.{Printed, by_sizes}
 use Rattle.path_elements.specs.PathLaws.{BeginsWith}
+use Rattle.stream_demux.proofs.BySizes.{ends_always_by, ends_once_by, gains_always_by, gains_once_by}
 use Rattle.stream_demux.proofs.OneText.{one_body, one_text, some_text}
 use Rattle.stream_demux.proofs.Parted.{CarriesOn, fronts_begin}
 
@@ -78,15 +79,24 @@ module _ (image : Image) (s : Sizes) (are : AreSettings s) where
       let some = path.some_path image s is are bytes small in
       (end_line id some.1, is_fault some.1, (some.0, some.1, (some.2, some.3), refl, refl))
 
+-- ---- many streams, each of its own sizes
+
+module _ (image : Image) (t : ℕ → Sizes) (are : (id : ℕ) → AreSettings (t id)) where
+  once_by : GainsOnce (by_sizes (paths image) t)
+  once_by = gains_once_by (paths image) t (λ id. paths_gain_once image (t id) (are id))
+
 pub one_text_of_paths : OneTextOfPaths
-one_text_of_paths image s are = one_text (paths image s) (paths_gain_once image s are) (paths_end_once image s are)
+one_text_of_paths image t are =
+    one_text (by_sizes (paths image) t) (once_by image t are) (ends_once_by (paths image) t (λ id. paths_end_once image (t id) (are id)))
 
 pub some_text_of_paths : SomeTextOfPaths
-some_text_of_paths image s is are = some_text (paths image s) (paths_gain_always image s are is) (paths_end_always image s are is)
+some_text_of_paths image t is are =
+    some_text (by_sizes (paths image) t) (gains_always_by (paths image) t (λ id. paths_gain_always image (t id) (are id) is))
+    (ends_always_by (paths image) t (λ id. paths_end_always image (t id) (are id) is))
 
 pub fronts_of_paths_begin : (carried : List ℕ → List (ℕ × ℕ)) → CarriesOn carried → FrontsOfPathsBegin carried
-fronts_of_paths_begin carried on image s are bytes more first lines front body =
-    let g = paths image s in
+fronts_of_paths_begin carried on image t are bytes more first lines front body =
+    let g = by_sizes (paths image) t in
     let some = fronts_begin carried g on bytes more lines body in
-    let same = one_body g (paths_gain_once image s are) [] (carried bytes) some.0 first some.1 front in
+    let same = one_body g (once_by image t are) [] (carried bytes) some.0 first some.1 front in
     subst (λ (l : List Printed). BeginsWith l lines) same some.2

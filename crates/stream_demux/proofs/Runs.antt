@@ -10,8 +10,9 @@ use Rattle.formatter_frames.specs.Symbols.{run_of}
 use Rattle.path_text.proofs.Wrote.{Wrote, fails_after, wrote_more, wrote_nothing, writes_all}
 use Rattle.path_text.specs.Writing.{Writes}
 use Rattle.stream_demux.specs.Streams.{Adds, RunAdds}
-use Rattle.stream_demux.specs.Texts.{BodyFrom, GainsIf, Listing, StreamBody, is_source, lines_under, of}
+use Rattle.stream_demux.specs.Texts.{BodyFrom, GainsIf, Listing, StreamBody, by_sizes, is_source, lines_under, of}
 use Rattle.stream_demux.proofs.Bodies.{of_run, text_under}
+use Rattle.stream_demux.proofs.BySizes.{body_by}
 use Rattle.stream_demux.proofs.Standing.{is_one}
 use Rattle.trace_io.specs.State.{IoState}
 
@@ -105,17 +106,19 @@ no_body g id none pairs [] = refl
 no_body g id none pairs (b ∷ run) =
     ([], [], subst (λ (t : Bool). GainsIf t g pairs (id, b) []) (sym none) refl, no_body g id none (pairs ++ (id, b) ∷ []) run, refl)
 
-pub source_adds : {T E : Type 0} (listing : Sizes → Listing) (t s : Sizes) (id given : ℕ) (pairs : List (ℕ × ℕ)) (run : List ℕ) (a b : IoState) (result : Result T E)
-    → IsId id → given ≡ id → t ≡ s → RunAdds (listing t) given (of id pairs) run a b result → Adds (listing s) pairs (run_of id run) a b result
-source_adds listing t s id given pairs run a b result is named same adds =
-    let body = subst (λ (u : Sizes). StreamBody (listing u) id (of id pairs) adds.took adds.lines) same
-    (subst (λ (i : ℕ). StreamBody (listing t) i (of id pairs) adds.took adds.lines) named adds.body) in
+pub source_adds : {T E : Type 0} (listing : Sizes → Listing) (s : Sizes) (t : ℕ → Sizes) (id given : ℕ) (pairs : List (ℕ × ℕ)) (run : List ℕ)
+    (a b : IoState) (result : Result T E) → IsId id → given ≡ id → s ≡ t id → RunAdds (listing s) given (of id pairs) run a b result
+    → Adds (by_sizes listing t) pairs (run_of id run) a b result
+source_adds listing s t id given pairs run a b result is named same adds =
+    let body = body_by listing t id (of id pairs) adds.took adds.lines
+    (subst (λ (u : Sizes). StreamBody (listing u) id (of id pairs) adds.took adds.lines) same
+    (subst (λ (i : ℕ). StreamBody (listing s) i (of id pairs) adds.took adds.lines) named adds.body)) in
     record {
       took = run_of id adds.took;
       others = run_of id adds.others;
       parts = ap (run_of id) adds.parts ∙ map-append (λ (byte : ℕ). (id, byte)) adds.took adds.others;
       lines = lines_under id adds.lines;
-      body = run_body (listing s) id is pairs (of id pairs) adds.took adds.lines refl body;
+      body = run_body (by_sizes listing t) id is pairs (of id pairs) adds.took adds.lines refl body;
       writes = subst (Writes a b result) (sym (text_under id adds.lines)) adds.writes;
       all = λ ok. ap (run_of id) (adds.all ok);
     }

@@ -15,21 +15,23 @@ use Rattle.stream_demux.specs.Texts.{is_source, of}
 use Rattle.formatter_frames.specs.Symbols.{run_of}
 use Rattle.stream_demux.proofs.Bodies.{of_other_run, of_run}
 
-module _ {X : Type 0} (stands : X → List ℕ → Type 0) (sizes : X → Sizes) (s : Sizes) where
+module _ {X : Type 0} (stands : X → List ℕ → Type 0) (sizes : X → Sizes) (t : ℕ → Sizes) where
   abbrev From : ℕ → List X → List (ℕ × ℕ) → Type 0
-  From = StandFrom stands sizes s
+  From = StandFrom stands sizes t
 
   -- the stream at a place
   pub stands_at : (id : ℕ) (streams : List X) (pairs : List (ℕ × ℕ)) (k : ℕ) (stream : X) → From id streams pairs → slice_get streams k ≡ Some stream
-      → stands stream (of (id + k) pairs) × (sizes stream ≡ s)
+      → stands stream (of (id + k) pairs) × (sizes stream ≡ t (id + k))
   stands_at id [] pairs k stream all at = absurd cc
   stands_at id (x ∷ streams) pairs zero stream all at =
       let same : x ≡ stream = cc in
       let here : id ≡ id + 0 = omega arith in
-      subst (λ (t : X). stands t (of (id + 0) pairs) × (sizes t ≡ s)) same (subst (λ (i : ℕ). stands x (of i pairs)) here all.0, all.1)
+      subst (λ (y : X). stands y (of (id + 0) pairs) × (sizes y ≡ t (id + 0))) same
+      (subst (λ (i : ℕ). stands x (of i pairs)) here all.0, subst (λ (i : ℕ). sizes x ≡ t i) here all.1)
   stands_at id (x ∷ streams) pairs (suc k) stream all at =
       let place : suc id + k ≡ id + suc k = omega arith in
-      let there = stands_at (suc id) streams pairs k stream all.2 at in (subst (λ i. stands stream (of i pairs)) place there.0, there.1)
+      let there = stands_at (suc id) streams pairs k stream all.2 at in
+      (subst (λ i. stands stream (of i pairs)) place there.0, subst (λ i. sizes stream ≡ t i) place there.1)
 
   -- bytes of none of them leave them where they are
   pub others_stand : (id : ℕ) (streams : List X) (pairs : List (ℕ × ℕ)) (other : ℕ) (run : List ℕ) → ((k : ℕ) → k < length streams → other ≢ id + k)
@@ -43,12 +45,12 @@ module _ {X : Type 0} (stands : X → List ℕ → Type 0) (sizes : X → Sizes)
 
   -- the stream at a place takes bytes
   pub one_moves : (id : ℕ) (streams : List X) (pairs : List (ℕ × ℕ)) (k : ℕ) (run : List ℕ) (next : X) → k < length streams → From id streams pairs
-      → stands next (of (id + k) pairs ++ run) → sizes next ≡ s → From id (slice_set streams k next) (pairs ++ run_of (id + k) run)
+      → stands next (of (id + k) pairs ++ run) → sizes next ≡ t (id + k) → From id (slice_set streams k next) (pairs ++ run_of (id + k) run)
   one_moves id [] pairs k run next within all moved same = absurd (omega (arith, within))
   one_moves id (x ∷ streams) pairs zero run next within all moved same =
       let here : id + 0 ≡ id = omega arith in (
         subst (stands next) (ap (λ i. of i pairs ++ run) here ∙ sym (of_run id run pairs) ∙ ap (λ i. of id (pairs ++ run_of i run)) (sym here)) moved,
-        same,
+        subst (λ (i : ℕ). sizes next ≡ t i) here same,
         others_stand (suc id) streams pairs (id + 0) run (λ j _ is. omega (arith, is)) all.2,
       )
   one_moves id (x ∷ streams) pairs (suc k) run next within all moved same =
@@ -57,24 +59,28 @@ module _ {X : Type 0} (stands : X → List ℕ → Type 0) (sizes : X → Sizes)
         all.1,
         subst (λ i. From (suc id) (slice_set streams k next) (pairs ++ run_of i run)) place
             (one_moves (suc id) streams pairs k run next (omega (arith, within)) all.2
-            (subst (λ i. stands next (of i pairs ++ run)) (sym place) moved) same),
+            (subst (λ i. stands next (of i pairs ++ run)) (sym place) moved) (subst (λ i. sizes next ≡ t i) (sym place) same)),
       )
 
   -- one more stream that stands where nothing was taken
-  pub one_more : (id : ℕ) (streams : List X) (next : X) → From id streams [] → stands next [] → sizes next ≡ s → From id (streams ++ next ∷ []) []
-  one_more id [] next all stood same = (stood, same, tt)
-  one_more id (x ∷ streams) next all stood same = (all.0, all.1, one_more (suc id) streams next all.2 stood same)
+  pub one_more : (id : ℕ) (streams : List X) (next : X) → From id streams [] → stands next [] → sizes next ≡ t (id + length streams)
+      → From id (streams ++ next ∷ []) []
+  one_more id [] next all stood same = let here : id + 0 ≡ id = omega arith in (stood, subst (λ (i : ℕ). sizes next ≡ t i) here same, tt)
+  one_more id (x ∷ streams) next all stood same =
+      let place : id + suc (length streams) ≡ suc id + length streams = omega arith in
+      (all.0, all.1, one_more (suc id) streams next all.2 stood (subst (λ (i : ℕ). sizes next ≡ t i) place same))
 
   -- ---- by its ID
 
   abbrev Standing : List X → List (ℕ × ℕ) → Type 0
-  Standing = AllStand stands sizes s
+  Standing = AllStand stands sizes t
 
   pub source_stands : (streams : List X) (pairs : List (ℕ × ℕ)) (id k : ℕ) (stream : X) → k + 1 ≡ id → Standing streams pairs
-      → Some stream ≡ slice_get streams k → stands stream (of id pairs) × (sizes stream ≡ s)
+      → Some stream ≡ slice_get streams k → stands stream (of id pairs) × (sizes stream ≡ t id)
   source_stands streams pairs id k stream place all at =
       let is : 1 + k ≡ id = omega (arith, place) in
-      let there = stands_at 1 streams pairs k stream all.each (sym at) in (subst (λ (i : ℕ). stands stream (of i pairs)) is there.0, there.1)
+      let there = stands_at 1 streams pairs k stream all.each (sym at) in
+      (subst (λ (i : ℕ). stands stream (of i pairs)) is there.0, subst (λ (i : ℕ). sizes stream ≡ t i) is there.1)
 
   pub source_moves : (streams : List X) (pairs : List (ℕ × ℕ)) (id k : ℕ) (run : List ℕ) (stream next : X) → k + 1 ≡ id → Standing streams pairs
       → Some stream ≡ slice_get streams k → stands next (of id pairs ++ run) → sizes next ≡ sizes stream
@@ -138,14 +144,15 @@ module _ {X : Type 0} (counts : X → Counts) where
   total_more c [] next = refl
   total_more c (x ∷ streams) next = total_more (sum_of c (counts x)) streams next
 
-  pub tallied_more : (tallies : List ℕ → Counts → Type 0) (id : ℕ) (streams : List X) (next : X) (pairs : List (ℕ × ℕ))
-      → TalliedFrom tallies id (map counts streams) pairs → tallies (of (id + length streams) pairs) (counts next)
-      → TalliedFrom tallies id (map counts (streams ++ next ∷ [])) pairs
-  tallied_more tallies id [] next pairs all one =
-      let here : id + 0 ≡ id = omega arith in (subst (λ (i : ℕ). tallies (of i pairs) (counts next)) here one, tt)
-  tallied_more tallies id (x ∷ streams) next pairs all one =
+  pub tallied_more : (tallies : Sizes → List ℕ → Counts → Type 0) (t : ℕ → Sizes) (id : ℕ) (streams : List X) (next : X) (pairs : List (ℕ × ℕ))
+      → TalliedFrom tallies t id (map counts streams) pairs
+      → tallies (t (id + length streams)) (of (id + length streams) pairs) (counts next)
+      → TalliedFrom tallies t id (map counts (streams ++ next ∷ [])) pairs
+  tallied_more tallies t id [] next pairs all one =
+      let here : id + 0 ≡ id = omega arith in (subst (λ (i : ℕ). tallies (t i) (of i pairs) (counts next)) here one, tt)
+  tallied_more tallies t id (x ∷ streams) next pairs all one =
       let place : id + suc (length streams) ≡ suc id + length streams = omega arith in
-      (all.0, tallied_more tallies (suc id) streams next pairs all.1 (subst (λ (i : ℕ). tallies (of i pairs) (counts next)) place one))
+      (all.0, tallied_more tallies t (suc id) streams next pairs all.1 (subst (λ (i : ℕ). tallies (t i) (of i pairs) (counts next)) place one))
 
 -- a call that did not fail leaves it whole
 pub whole_where_ok : {T E : Type 0} (broken : Bool) (result : Result T E) → IsOk result → (IsTrue broken ↔ IsErr result) → broken ≡ false

@@ -31,12 +31,12 @@ demuxed_code {X} code =
 abbrev pub most_bytes : ℕ
 most_bytes = 2 ^ 30
 
--- these bytes of frames were taken, and no write failed: each stream stands at its bytes, under these sizes
-pub record StandsAt {X : Type 0} (stands : X → List ℕ → Type 0) (sizes : X → Sizes) (s : Sizes) (d : Demuxed X) (bytes : List ℕ) : Type 0 where
+-- these bytes of frames were taken, and no write failed: each stream stands at its bytes, under the sizes of its ID
+pub record StandsAt {X : Type 0} (stands : X → List ℕ → Type 0) (sizes : X → Sizes) (t : ℕ → Sizes) (d : Demuxed X) (bytes : List ℕ) : Type 0 where
   pub whole : d.broken ≡ false
   pub taken : d.taken ≡ length bytes
   pub frames : frames.StandsAt d.frames bytes
-  pub streams : AllStand stands sizes s d.streams (unframed bytes)
+  pub streams : AllStand stands sizes t d.streams (unframed bytes)
 
 -- A piece is taken behind other bytes, and the lines that it adds are written: those of the pairs that it carries in this layout.
 pub record Gains {T E : Type 0} (carried : List ℕ → List (ℕ × ℕ)) (g : Listing) (bytes piece : List ℕ) (old new : IoState) (result : Result T E)
@@ -55,10 +55,10 @@ raw_id = 1
 abbrev pub raw_pairs : List ℕ → List (ℕ × ℕ)
 raw_pairs bytes = run_of raw_id bytes
 
--- these bytes of it were taken, and no write failed
-pub record RawStandsAt {X : Type 0} (stands : X → List ℕ → Type 0) (sizes : X → Sizes) (broken : X → Bool) (taken : X → ℕ) (s : Sizes) (stream : X)
+-- these bytes of it were taken, under the sizes of its ID, and no write failed
+pub record RawStandsAt {X : Type 0} (stands : X → List ℕ → Type 0) (sizes : X → Sizes) (broken : X → Bool) (taken : X → ℕ) (t : ℕ → Sizes) (stream : X)
     (bytes : List ℕ) : Type 0 where
   pub whole : broken stream ≡ false
   pub count : taken stream ≡ length bytes
   pub stand : stands stream bytes
-  pub same : sizes stream ≡ s
+  pub same : sizes stream ≡ t raw_id

@@ -14,7 +14,7 @@ use Rattle.program_image.specs.Part.{IsImage}
 use Rattle.program_image.specs.declared.image.Image.{Image}
 use Rattle.stream_demux.specs.Demuxed.{raw_id, raw_pairs}
 use Rattle.stream_demux.specs.Paths.{paths}
-use Rattle.stream_demux.specs.Texts.{BodyFrom, IsEnding, IsText, Listing, Printed, StreamBody, StreamEnds, lines_under, of}
+use Rattle.stream_demux.specs.Texts.{BodyFrom, IsEnding, IsText, Listing, Printed, StreamBody, StreamEnds, by_sizes, lines_under, of}
 
 -- ---- bytes are parted
 
@@ -56,8 +56,9 @@ FrontsBegin carried g =
 -- and what is printed of paths begins with every body of a front
 abbrev pub FrontsOfPathsBegin : (List ℕ → List (ℕ × ℕ)) → Type 0
 FrontsOfPathsBegin carried =
-    (image : Image) (s : Sizes) → AreSettings s → (bytes more : List ℕ) (first lines : List Printed)
-    → BodyFrom (paths image s) [] (carried bytes) first → BodyFrom (paths image s) [] (carried (bytes ++ more)) lines → BeginsWith first lines
+    (image : Image) (t : ℕ → Sizes) → ((id : ℕ) → AreSettings (t id)) → (bytes more : List ℕ) (first lines : List Printed)
+    → BodyFrom (by_sizes (paths image) t) [] (carried bytes) first → BodyFrom (by_sizes (paths image) t) [] (carried (bytes ++ more)) lines
+    → BeginsWith first lines
 
 -- ---- a text is one
 
@@ -115,16 +116,17 @@ SomeText g =
     GainsAlways g → EndsAlways g → (pairs : List (ℕ × ℕ)) (left : ℕ) → All HasByte pairs
     → (lines : List Printed) × (faulty : Bool) × IsText g pairs left lines faulty
 
--- what is printed of paths is so
+-- what is printed of paths is so, whatever the sizes of each stream
 abbrev pub OneTextOfPaths : Type 0
 OneTextOfPaths =
-    (image : Image) (s : Sizes) → AreSettings s → (pairs : List (ℕ × ℕ)) (left : ℕ) (lines others : List Printed) (faulty also : Bool)
-    → IsText (paths image s) pairs left lines faulty → IsText (paths image s) pairs left others also → (lines ≡ others) × (faulty ≡ also)
+    (image : Image) (t : ℕ → Sizes) → ((id : ℕ) → AreSettings (t id)) → (pairs : List (ℕ × ℕ)) (left : ℕ) (lines others : List Printed)
+    (faulty also : Bool) → IsText (by_sizes (paths image) t) pairs left lines faulty → IsText (by_sizes (paths image) t) pairs left others also
+    → (lines ≡ others) × (faulty ≡ also)
 
 abbrev pub SomeTextOfPaths : Type 0
 SomeTextOfPaths =
-    (image : Image) (s : Sizes) → IsImage image → AreSettings s → (pairs : List (ℕ × ℕ)) (left : ℕ) → All HasByte pairs
-    → (lines : List Printed) × (faulty : Bool) × IsText (paths image s) pairs left lines faulty
+    (image : Image) (t : ℕ → Sizes) → IsImage image → ((id : ℕ) → AreSettings (t id)) → (pairs : List (ℕ × ℕ)) (left : ℕ) → All HasByte pairs
+    → (lines : List Printed) × (faulty : Bool) × IsText (by_sizes (paths image) t) pairs left lines faulty
 
 -- ---- a stream is alone
 
@@ -158,12 +160,13 @@ OthersHaveNone g =
     (pairs : List (ℕ × ℕ)) (left : ℕ) (lines : List Printed) (faulty : Bool) (id : ℕ) → (IsId id → ⊥) → IsText g pairs left lines faulty
     → lines_with id lines ≡ []
 
--- so the lines of a source stay the same where the bytes of other streams change, or where its own stand among them
-abbrev pub OthersDoNotCount : Listing → Type 0
+-- So the lines of a source stay the same where the bytes of other streams change, or where its own stand among them; and where the sizes
+-- of other streams change.
+abbrev pub OthersDoNotCount : (Sizes → Listing) → Type 0
 OthersDoNotCount g =
-    GainsOnce g → EndsOnce g → (pairs more : List (ℕ × ℕ)) (left some : ℕ) (lines others : List Printed) (faulty also : Bool) (id : ℕ)
-    → IsId id → of id pairs ≡ of id more → IsText g pairs left lines faulty → IsText g more some others also
-    → lines_with id lines ≡ lines_with id others
+    (t u : ℕ → Sizes) (id : ℕ) → IsId id → t id ≡ u id → GainsOnce (g (u id)) → EndsOnce (g (u id))
+    → (pairs more : List (ℕ × ℕ)) (left some : ℕ) (lines others : List Printed) (faulty also : Bool) → of id pairs ≡ of id more
+    → IsText (by_sizes g t) pairs left lines faulty → IsText (by_sizes g u) more some others also → lines_with id lines ≡ lines_with id others
 
 -- what is printed of a path: the lines of its items, and that of how it ends; and nothing of no byte
 abbrev pub PathPrinted : Image → Sizes → ℕ → List ℕ → List Printed → Type 0
@@ -172,16 +175,17 @@ PathPrinted image s id (b ∷ bytes) lines =
     (items : List Item) × (last : End) × IsPath image s (b ∷ bytes) items last
     × (lines ≡ lines_under id (line_list id None items ++ end_line id last ∷ []))
 
--- the lines of a source among paths are those of the path of its own bytes
+-- the lines of a source among paths are those of the path of its own bytes, by its own sizes
 abbrev pub PathIsAlone : Type 0
 PathIsAlone =
-    (image : Image) (s : Sizes) → AreSettings s → (pairs : List (ℕ × ℕ)) (left : ℕ) (lines : List Printed) (faulty : Bool) (id : ℕ) → IsId id
-    → IsText (paths image s) pairs left lines faulty → PathPrinted image s id (of id pairs) (lines_with id lines)
+    (image : Image) (t : ℕ → Sizes) (id : ℕ) → IsId id → AreSettings (t id)
+    → (pairs : List (ℕ × ℕ)) (left : ℕ) (lines : List Printed) (faulty : Bool) → IsText (by_sizes (paths image) t) pairs left lines faulty
+    → PathPrinted image (t id) id (of id pairs) (lines_with id lines)
 
 -- ---- lines
 
 -- each line among paths has one LF, which ends it
 abbrev pub EachIsALine : Type 0
 EachIsALine =
-    (image : Image) (s : Sizes) (pairs : List (ℕ × ℕ)) (left : ℕ) (lines : List Printed) (faulty : Bool)
-    → IsText (paths image s) pairs left lines faulty → All (λ (l : Printed). IsLine l.line) lines
+    (image : Image) (t : ℕ → Sizes) (pairs : List (ℕ × ℕ)) (left : ℕ) (lines : List Printed) (faulty : Bool)
+    → IsText (by_sizes (paths image) t) pairs left lines faulty → All (λ (l : Printed). IsLine l.line) lines

@@ -1,4 +1,5 @@
 pub mod Demuxed
+pub mod Laid
 pub mod Laws
 pub mod Paths
 pub mod Streams

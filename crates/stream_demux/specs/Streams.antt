@@ -15,16 +15,17 @@ abbrev pub source_count : ℕ
 source_count = 111
 
 -- Each of the streams, the first with this ID and each other with the next, stands at its bytes among these pairs of ID and byte, under
--- these sizes.
-abbrev pub StandFrom : {X : Type 0} → (X → List ℕ → Type 0) → (X → Sizes) → Sizes → ℕ → List X → List (ℕ × ℕ) → Type 0
-StandFrom stands sizes s id [] pairs = Unit {0}
-StandFrom stands sizes s id (stream ∷ streams) pairs =
-    stands stream (of id pairs) × (sizes stream ≡ s) × StandFrom stands sizes s (suc id) streams pairs
+-- the sizes of its ID.
+abbrev pub StandFrom : {X : Type 0} → (X → List ℕ → Type 0) → (X → Sizes) → (ℕ → Sizes) → ℕ → List X → List (ℕ × ℕ) → Type 0
+StandFrom stands sizes t id [] pairs = Unit {0}
+StandFrom stands sizes t id (stream ∷ streams) pairs =
+    stands stream (of id pairs) × (sizes stream ≡ t id) × StandFrom stands sizes t (suc id) streams pairs
 
 -- there is one for each source, and all do, that of ID 1 first
-pub record AllStand {X : Type 0} (stands : X → List ℕ → Type 0) (sizes : X → Sizes) (s : Sizes) (streams : List X) (pairs : List (ℕ × ℕ)) : Type 0 where
+pub record AllStand {X : Type 0} (stands : X → List ℕ → Type 0) (sizes : X → Sizes) (t : ℕ → Sizes) (streams : List X) (pairs : List (ℕ × ℕ))
+    : Type 0 where
   pub count : length streams ≡ source_count
-  pub each : StandFrom stands sizes s 1 streams pairs
+  pub each : StandFrom stands sizes t 1 streams pairs
 
 -- a stream of which no write failed, and which took no more bytes than so many
 pub record IsReady {X : Type 0} (broken : X → Bool) (taken : X → ℕ) (most : ℕ) (stream : X) : Type 0 where
@@ -36,13 +37,14 @@ abbrev pub total : Counts → List Counts → Counts
 total c [] = c
 total c (d ∷ counts) = total (sum_of c d) counts
 
--- each of the counts, the first with this ID and each other with the next, is one of the bytes of its stream among these pairs
-abbrev pub TalliedFrom : (List ℕ → Counts → Type 0) → ℕ → List Counts → List (ℕ × ℕ) → Type 0
-TalliedFrom tallies id [] pairs = Unit {0}
-TalliedFrom tallies id (c ∷ counts) pairs = tallies (of id pairs) c × TalliedFrom tallies (suc id) counts pairs
+-- each of the counts, the first with this ID and each other with the next, is one of the bytes of its stream among these pairs, under the
+-- sizes of its ID
+abbrev pub TalliedFrom : (Sizes → List ℕ → Counts → Type 0) → (ℕ → Sizes) → ℕ → List Counts → List (ℕ × ℕ) → Type 0
+TalliedFrom tallies t id [] pairs = Unit {0}
+TalliedFrom tallies t id (c ∷ counts) pairs = tallies (t id) (of id pairs) c × TalliedFrom tallies t (suc id) counts pairs
 
-abbrev pub AllTallied : (List ℕ → Counts → Type 0) → List Counts → List (ℕ × ℕ) → Type 0
-AllTallied tallies counts pairs = TalliedFrom tallies 1 counts pairs
+abbrev pub AllTallied : (Sizes → List ℕ → Counts → Type 0) → (ℕ → Sizes) → List Counts → List (ℕ × ℕ) → Type 0
+AllTallied tallies t counts pairs = TalliedFrom tallies t 1 counts pairs
 
 -- Pairs were taken behind others, and the lines that they add were written. Where a write failed, some of the pairs were taken,
 -- and a front of their lines is written.

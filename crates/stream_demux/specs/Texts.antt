@@ -1,6 +1,7 @@
 -- What is printed of many streams: lines as their bytes come, and then a line for how each of them ends.
 use Rattle.std.specs.Prelude.{◌≡◌, ℕ, ◌==◌, ◌&&◌, ◌||◌, nat_lt, nat_le, Bool, true, false, if◌then◌else◌, List, [], ◌∷◌, ◌++◌, map, Option, Some, None}
 use Rattle.std.specs.List.{concat, range_with_len}
+use Rattle.etm_types.specs.Settings.{Sizes}
 use Rattle.path_text.specs.EndLines.{frame_cut_line}
 
 -- ---- lines
@@ -30,6 +31,10 @@ of id (pair ∷ pairs) = if pair.0 == id then pair.1 ∷ of id pairs else of id 
 pub record Listing : Type 1 where
   pub gains : ℕ → List ℕ → ℕ → List (List ℕ) → Type 0
   pub ends : ℕ → List ℕ → List ℕ → Bool → Type 0
+
+-- what is printed of streams whose trace units have these sizes, each by its ID
+abbrev pub by_sizes : (Sizes → Listing) → (ℕ → Sizes) → Listing
+by_sizes g t = record { gains = λ id. (g (t id)).gains id; ends = λ id. (g (t id)).ends id }
 
 -- ---- the lines that come with the bytes
 

@@ -7,7 +7,7 @@ ghost use Rattle.formatter_frames.specs.Unframed.{begun_frame, unframed};
 ghost use Rattle.path_text.specs.Writing.{Writes};
 ghost use Rattle.stream_demux.specs.Demuxed.{Gains, StandsAt};
 ghost use Rattle.stream_demux.specs.Streams.{Adds, AllStand, AllTallied, IsReady, total};
-ghost use Rattle.stream_demux.specs.Texts.{IsEnding, Printed, text_of};
+ghost use Rattle.stream_demux.specs.Texts.{IsEnding, Printed, by_sizes, text_of};
 ghost use Rattle.trace_io.specs.Bytes.{ShowsAsBefore};
 ghost use Rattle.trace_io.specs.Causes.{HasCause};
 
@@ -53,7 +53,7 @@ impl<S: Stream> Demux<S> {
     /// A demultiplexer that has taken nothing, with a stream for each source. This is the one call that takes memory, and the error
     /// means want of it.
     pub fn new(alloc: Global, settings: &Settings) -> Result<Demux<S>, AllocError>
-        ensures stands { IfOk result (λ d. (shared : S.Shared) → StandsAt (S.stands shared) S.sizes settings.now d []) }
+        ensures stands { IfOk result (λ d. (shared : S.Shared) → StandsAt (S.stands shared) S.sizes (λ id. settings.now) d []) }
     {
         Ok(Demux {
             frames: FrameReader::new(),
@@ -73,10 +73,10 @@ impl<S: Stream> Demux<S> {
     ) -> Result<(), Failed>
         requires whole { self.old.broken ≡ false }
         requires few { self.old.taken + length piece.now ≤ 2 ^ 30 }
-        ensures stands { (s : Sizes) (bytes : List ℕ) → StandsAt (S.stands shared.now) S.sizes s self.old bytes → IsOk result
-            → StandsAt (S.stands shared.now) S.sizes s self.new (bytes ++ piece.now) }
-        ensures gains { (s : Sizes) (bytes : List ℕ) → StandsAt (S.stands shared.now) S.sizes s self.old bytes
-            → Gains unframed (S.listing shared.now s) bytes piece.now (K.state sink.old) (K.state sink.new) result }
+        ensures stands { (t : ℕ → Sizes) (bytes : List ℕ) → StandsAt (S.stands shared.now) S.sizes t self.old bytes → IsOk result
+            → StandsAt (S.stands shared.now) S.sizes t self.new (bytes ++ piece.now) }
+        ensures gains { (t : ℕ → Sizes) (bytes : List ℕ) → StandsAt (S.stands shared.now) S.sizes t self.old bytes
+            → Gains unframed (by_sizes (S.listing shared.now) t) bytes piece.now (K.state sink.old) (K.state sink.new) result }
         ensures cause { HasCause (K.state sink.old) (K.state sink.new) result }
         ensures shows { ShowsAsBefore (K.state sink.old) (K.state sink.new) }
         ensures broken { IsTrue self.new.broken ↔ IsErr result }
@@ -115,7 +115,7 @@ impl<S: Stream> Demux<S> {
     /// How many bytes of frames were taken.
     pub fn taken(&self) -> u64
         ensures value { result ≡ self.now.taken }
-        ensures all { (shared : S.Shared) (s : Sizes) (bytes : List ℕ) → StandsAt (S.stands shared) S.sizes s self.now bytes
+        ensures all { (shared : S.Shared) (t : ℕ → Sizes) (bytes : List ℕ) → StandsAt (S.stands shared) S.sizes t self.now bytes
             → result ≡ length bytes }
     {
         self.taken
@@ -124,8 +124,8 @@ impl<S: Stream> Demux<S> {
     /// What became of the P0 elements of all streams.
     pub fn ledger(&self) -> Counts
         ensures value { result ≡ total no_counts (map S.counts self.now.streams) }
-        ensures tallied { (shared : S.Shared) (s : Sizes) (bytes : List ℕ) → StandsAt (S.stands shared) S.sizes s self.now bytes
-            → AllTallied (S.tallies shared s) (map S.counts self.now.streams) (unframed bytes) }
+        ensures tallied { (shared : S.Shared) (t : ℕ → Sizes) (bytes : List ℕ) → StandsAt (S.stands shared) S.sizes t self.now bytes
+            → AllTallied (S.tallies shared) t (map S.counts self.now.streams) (unframed bytes) }
     {
         self.sources.ledger()
     }
@@ -134,9 +134,9 @@ impl<S: Stream> Demux<S> {
     /// full. Says whether there is no fault and no such frame.
     pub fn finish<K: Sink>(self, sink: &mut K) -> Result<bool, Failed>
         requires { self.broken ≡ false }
-        ensures ending { (shared : S.Shared) (s : Sizes) (bytes : List ℕ) → StandsAt (S.stands shared) S.sizes s self bytes
+        ensures ending { (shared : S.Shared) (t : ℕ → Sizes) (bytes : List ℕ) → StandsAt (S.stands shared) S.sizes t self bytes
             → (lines : List Printed) × (faulty : Bool)
-            × IsEnding (S.listing shared s) (unframed bytes) (length (begun_frame bytes)) lines faulty
+            × IsEnding (by_sizes (S.listing shared) t) (unframed bytes) (length (begun_frame bytes)) lines faulty
             × Writes (K.state sink.old) (K.state sink.new) result (text_of lines) × IfOk result (λ whole. whole ≡ not faulty) }
         ensures cause { HasCause (K.state sink.old) (K.state sink.new) result }
         ensures shows { ShowsAsBefore (K.state sink.old) (K.state sink.new) }
@@ -182,12 +182,12 @@ fn take_front<S: Stream, K: Sink>(
 ) -> Result<usize, Failed>
     requires { All (IsReady S.broken S.taken (2 ^ 61)) sources.old }
     ensures frames { (bytes : List ℕ) → reader.StandsAt frames.old bytes → IfOk result (λ n. reader.StandsAt frames.new (bytes ++ take n piece.now)) }
-    ensures stands { (s : Sizes) (bytes : List ℕ) → reader.StandsAt frames.old bytes
-        → AllStand (S.stands shared.now) S.sizes s sources.old (unframed bytes)
-        → IfOk result (λ n. AllStand (S.stands shared.now) S.sizes s sources.new (unframed (bytes ++ take n piece.now))) }
-    ensures gains { (s : Sizes) (bytes : List ℕ) → reader.StandsAt frames.old bytes
-        → AllStand (S.stands shared.now) S.sizes s sources.old (unframed bytes)
-        → (n : ℕ) × Gains unframed (S.listing shared.now s) bytes (take n piece.now) (K.state sink.old) (K.state sink.new) result
+    ensures stands { (t : ℕ → Sizes) (bytes : List ℕ) → reader.StandsAt frames.old bytes
+        → AllStand (S.stands shared.now) S.sizes t sources.old (unframed bytes)
+        → IfOk result (λ n. AllStand (S.stands shared.now) S.sizes t sources.new (unframed (bytes ++ take n piece.now))) }
+    ensures gains { (t : ℕ → Sizes) (bytes : List ℕ) → reader.StandsAt frames.old bytes
+        → AllStand (S.stands shared.now) S.sizes t sources.old (unframed bytes)
+        → (n : ℕ) × Gains unframed (by_sizes (S.listing shared.now) t) bytes (take n piece.now) (K.state sink.old) (K.state sink.new) result
         × IfOk result (λ count. count ≡ n) }
     ensures cause { HasCause (K.state sink.old) (K.state sink.new) result }
     ensures shows { ShowsAsBefore (K.state sink.old) (K.state sink.new) }
@@ -210,10 +210,10 @@ fn take_frame<S: Stream, K: Sink>(
     sink: &mut K,
 ) -> Result<(), Failed>
     requires { All (IsReady S.broken S.taken (2 ^ 61)) sources.old }
-    ensures stands { (s : Sizes) (pairs : List (ℕ × ℕ)) → AllStand (S.stands shared.now) S.sizes s sources.old pairs → IsOk result
-        → AllStand (S.stands shared.now) S.sizes s sources.new (pairs ++ frame.now) }
-    ensures adds { (s : Sizes) (pairs : List (ℕ × ℕ)) → AllStand (S.stands shared.now) S.sizes s sources.old pairs
-        → Adds (S.listing shared.now s) pairs frame.now (K.state sink.old) (K.state sink.new) result }
+    ensures stands { (t : ℕ → Sizes) (pairs : List (ℕ × ℕ)) → AllStand (S.stands shared.now) S.sizes t sources.old pairs → IsOk result
+        → AllStand (S.stands shared.now) S.sizes t sources.new (pairs ++ frame.now) }
+    ensures adds { (t : ℕ → Sizes) (pairs : List (ℕ × ℕ)) → AllStand (S.stands shared.now) S.sizes t sources.old pairs
+        → Adds (by_sizes (S.listing shared.now) t) pairs frame.now (K.state sink.old) (K.state sink.new) result }
     ensures cause { HasCause (K.state sink.old) (K.state sink.new) result }
     ensures shows { ShowsAsBefore (K.state sink.old) (K.state sink.new) }
     ensures ready { (most : ℕ) → All (IsReady S.broken S.taken most) sources.old → IsOk result

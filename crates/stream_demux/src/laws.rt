@@ -1,10 +1,12 @@
 //! What the definitions of what is printed of many streams are as a whole.
+ghost use Rattle.std.specs.Prelude.{ℕ};
 ghost use Rattle.etm_types.specs.Settings.{Sizes};
 ghost use Rattle.formatter_frames.specs.Unframed.{unframed};
 ghost use Rattle.stream_demux.specs.Demuxed.{raw_pairs};
 ghost use Rattle.stream_demux.specs.Laws.{BodiesJoin, BodiesPart, BytesJoin, EachIsALine, FrontsBegin, FrontsOfPathsBegin, OneBody, OneEnding};
 ghost use Rattle.stream_demux.specs.Laws.{OneText, OneTextOfPaths, OthersDoNotCount, OthersHaveNone, PathIsAlone, RawIsOfNoOther};
 ghost use Rattle.stream_demux.specs.Laws.{RawIsOfOne, SomeBody, SomeEnding, SomeText, SomeTextOfPaths, SourceIsAlone, ZerosAreOfNone};
+ghost use Rattle.stream_demux.specs.Texts.{by_sizes};
 
 use crate::stream::Stream;
 
@@ -20,33 +22,34 @@ pub fn bytes_are_parted()
 /// What pairs print before the ends is what the first of them print, and then what the others print behind them. So what is
 /// printed of an input, framed or not, begins with what is printed of a front of it.
 pub fn a_body_grows<S: Stream>()
-    ensures join { (shared : S.Shared) (s : Sizes) → BodiesJoin (S.listing shared s) }
-    ensures part { (shared : S.Shared) (s : Sizes) → BodiesPart (S.listing shared s) }
-    ensures framed { (shared : S.Shared) (s : Sizes) → FrontsBegin unframed (S.listing shared s) }
-    ensures raw { (shared : S.Shared) (s : Sizes) → FrontsBegin raw_pairs (S.listing shared s) }
+    ensures join { (shared : S.Shared) (t : ℕ → Sizes) → BodiesJoin (by_sizes (S.listing shared) t) }
+    ensures part { (shared : S.Shared) (t : ℕ → Sizes) → BodiesPart (by_sizes (S.listing shared) t) }
+    ensures framed { (shared : S.Shared) (t : ℕ → Sizes) → FrontsBegin unframed (by_sizes (S.listing shared) t) }
+    ensures raw { (shared : S.Shared) (t : ℕ → Sizes) → FrontsBegin raw_pairs (by_sizes (S.listing shared) t) }
 {}
 
 /// Where a stream gains and ends in one way, pairs have one text at most, and where it always has some way, they have one
 /// at least.
 pub fn a_text_is_one<S: Stream>()
-    ensures body { (shared : S.Shared) (s : Sizes) → OneBody (S.listing shared s) }
-    ensures ending { (shared : S.Shared) (s : Sizes) → OneEnding (S.listing shared s) }
-    ensures text { (shared : S.Shared) (s : Sizes) → OneText (S.listing shared s) }
-    ensures some_body { (shared : S.Shared) (s : Sizes) → SomeBody (S.listing shared s) }
-    ensures some_ending { (shared : S.Shared) (s : Sizes) → SomeEnding (S.listing shared s) }
-    ensures some_text { (shared : S.Shared) (s : Sizes) → SomeText (S.listing shared s) }
+    ensures body { (shared : S.Shared) (t : ℕ → Sizes) → OneBody (by_sizes (S.listing shared) t) }
+    ensures ending { (shared : S.Shared) (t : ℕ → Sizes) → OneEnding (by_sizes (S.listing shared) t) }
+    ensures text { (shared : S.Shared) (t : ℕ → Sizes) → OneText (by_sizes (S.listing shared) t) }
+    ensures some_body { (shared : S.Shared) (t : ℕ → Sizes) → SomeBody (by_sizes (S.listing shared) t) }
+    ensures some_ending { (shared : S.Shared) (t : ℕ → Sizes) → SomeEnding (by_sizes (S.listing shared) t) }
+    ensures some_text { (shared : S.Shared) (t : ℕ → Sizes) → SomeText (by_sizes (S.listing shared) t) }
 {}
 
-/// The lines of a source are those of its own bytes, whatever else is printed: no byte and no fault of another stream changes
-/// one of them, nor does the place of its own bytes among others. An ID of no source has no line.
+/// The lines of a source are those of its own bytes, by its own sizes, whatever else is printed: no byte and no fault of another
+/// stream changes one of them, nor do the sizes of another, nor the place of its own bytes among others. An ID of no source has no
+/// line.
 pub fn a_stream_is_alone<S: Stream>()
-    ensures source { (shared : S.Shared) (s : Sizes) → SourceIsAlone (S.listing shared s) }
-    ensures none { (shared : S.Shared) (s : Sizes) → OthersHaveNone (S.listing shared s) }
-    ensures others { (shared : S.Shared) (s : Sizes) → OthersDoNotCount (S.listing shared s) }
+    ensures source { (shared : S.Shared) (t : ℕ → Sizes) → SourceIsAlone (by_sizes (S.listing shared) t) }
+    ensures none { (shared : S.Shared) (t : ℕ → Sizes) → OthersHaveNone (by_sizes (S.listing shared) t) }
+    ensures others { (shared : S.Shared) → OthersDoNotCount (S.listing shared) }
 {}
 
-/// The paths of streams have one text and no other. It begins, before the ends, with that of a front of the input. The lines
-/// of a source are those of the path of its own bytes, and each line has one LF, which ends it.
+/// The paths of streams, each by its own sizes, have one text and no other. It begins, before the ends, with that of a front of
+/// the input. The lines of a source are those of the path of its own bytes, and each line has one LF, which ends it.
 pub fn paths_have_one_text()
     ensures one { OneTextOfPaths }
     ensures some { SomeTextOfPaths }

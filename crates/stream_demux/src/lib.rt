@@ -5,11 +5,15 @@
 //! A stream decoder, which prints a path, is one. `Sources` has a stream for each source and finds it by its
 //! ID, in one step a byte. What is printed of bytes with their IDs is defined once, for any stream: the lines
 //! that the bytes add, in order, then those of the ends, by ID, and last that of a frame that is cut.
+//! Each stream has the sizes of its own trace unit: all that is said of many streams is said of a table of sizes
+//! by ID (`by_sizes`, in specs). Today `new` gives all of them the same.
 //!
 //! The layer above uses these contracts:
 //! - [`Demux`]: from the bytes of frames at which it stands it comes to those and a piece more, and writes the
 //!   lines that the piece adds; `finish` writes the last lines. Bytes of the null ID and of reserved IDs add none.
 //! - [`RawStream`]: the same of one stream that is not framed, under the ID 01.
+//! - [`Printer`]: what the two have in common, however an input is laid out. `Laid` says which pairs of ID and byte
+//!   come with its bytes, which of them come at its end, and how many bytes of a frame are left over.
 //! - the laws: an input has one text of its paths, what is printed before the ends begins with what is printed of
 //!   each front of the input, and the lines of a source are those of its own bytes, whatever other streams hold.
 //!
@@ -20,6 +24,7 @@
 mod demux;
 mod laws;
 mod paths;
+mod printer;
 mod raw;
 mod sources;
 mod stream;
@@ -28,5 +33,6 @@ pub use demux::Demux;
 pub use laws::{
     a_body_grows, a_stream_is_alone, a_text_is_one, bytes_are_parted, paths_have_one_text,
 };
+pub use printer::Printer;
 pub use raw::RawStream;
 pub use stream::Stream;

@@ -4,7 +4,7 @@ ghost use Rattle.element_queue.specs.Counting.{Balances};
 ghost use Rattle.etm_types.specs.Settings.{Sizes};
 ghost use Rattle.path_text.specs.Writing.{Writes};
 ghost use Rattle.stream_demux.specs.Demuxed.{Gains, RawStandsAt, raw_id, raw_pairs};
-ghost use Rattle.stream_demux.specs.Texts.{IsEnding, Printed, text_of};
+ghost use Rattle.stream_demux.specs.Texts.{IsEnding, Printed, by_sizes, text_of};
 ghost use Rattle.trace_io.specs.Bytes.{ShowsAsBefore};
 ghost use Rattle.trace_io.specs.Causes.{HasCause};
 
@@ -33,7 +33,7 @@ impl<S: Stream> Model for RawStream<S> {
 impl<S: Stream> RawStream<S> {
     /// A stream that has taken nothing. This is the one call that takes memory, and the error means want of it.
     pub fn new(alloc: Global, settings: &Settings) -> Result<RawStream<S>, AllocError>
-        ensures stands { IfOk result (λ r. (shared : S.Shared) → RawStandsAt (S.stands shared) S.sizes S.broken S.taken settings.now r []) }
+        ensures stands { IfOk result (λ r. (shared : S.Shared) → RawStandsAt (S.stands shared) S.sizes S.broken S.taken (λ id. settings.now) r []) }
     {
         Ok(RawStream {
             stream: S::new(alloc, settings)?,
@@ -50,10 +50,10 @@ impl<S: Stream> RawStream<S> {
     ) -> Result<(), Failed>
         requires whole { S.broken self.old ≡ false }
         requires few { S.taken self.old + length piece.now ≤ 2 ^ 30 }
-        ensures stands { (s : Sizes) (bytes : List ℕ) → RawStandsAt (S.stands shared.now) S.sizes S.broken S.taken s self.old bytes → IsOk result
-            → RawStandsAt (S.stands shared.now) S.sizes S.broken S.taken s self.new (bytes ++ piece.now) }
-        ensures gains { (s : Sizes) (bytes : List ℕ) → RawStandsAt (S.stands shared.now) S.sizes S.broken S.taken s self.old bytes
-            → Gains raw_pairs (S.listing shared.now s) bytes piece.now (K.state sink.old) (K.state sink.new) result }
+        ensures stands { (t : ℕ → Sizes) (bytes : List ℕ) → RawStandsAt (S.stands shared.now) S.sizes S.broken S.taken t self.old bytes → IsOk result
+            → RawStandsAt (S.stands shared.now) S.sizes S.broken S.taken t self.new (bytes ++ piece.now) }
+        ensures gains { (t : ℕ → Sizes) (bytes : List ℕ) → RawStandsAt (S.stands shared.now) S.sizes S.broken S.taken t self.old bytes
+            → Gains raw_pairs (by_sizes (S.listing shared.now) t) bytes piece.now (K.state sink.old) (K.state sink.new) result }
         ensures cause { HasCause (K.state sink.old) (K.state sink.new) result }
         ensures shows { ShowsAsBefore (K.state sink.old) (K.state sink.new) }
         ensures broken { IsTrue (S.broken self.new) ↔ IsErr result }
@@ -66,8 +66,8 @@ impl<S: Stream> RawStream<S> {
     /// Writes the line of how the stream ends, where it had a byte, and says whether it ends without a fault.
     pub fn finish<K: Sink>(self, sink: &mut K) -> Result<bool, Failed>
         requires { S.broken self ≡ false }
-        ensures ending { (shared : S.Shared) (s : Sizes) (bytes : List ℕ) → RawStandsAt (S.stands shared) S.sizes S.broken S.taken s self bytes
-            → (lines : List Printed) × (faulty : Bool) × IsEnding (S.listing shared s) (raw_pairs bytes) 0 lines faulty
+        ensures ending { (shared : S.Shared) (t : ℕ → Sizes) (bytes : List ℕ) → RawStandsAt (S.stands shared) S.sizes S.broken S.taken t self bytes
+            → (lines : List Printed) × (faulty : Bool) × IsEnding (by_sizes (S.listing shared) t) (raw_pairs bytes) 0 lines faulty
             × Writes (K.state sink.old) (K.state sink.new) result (text_of lines) × IfOk result (λ whole. whole ≡ not faulty) }
         ensures cause { HasCause (K.state sink.old) (K.state sink.new) result }
         ensures shows { ShowsAsBefore (K.state sink.old) (K.state sink.new) }

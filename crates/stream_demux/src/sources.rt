@@ -6,7 +6,7 @@ ghost use Rattle.formatter_frames.specs.Symbols.{run_of};
 ghost use Rattle.std.specs.List.{range_with_len};
 ghost use Rattle.path_text.specs.Writing.{Writes};
 ghost use Rattle.stream_demux.specs.Streams.{Adds, AllStand, AllTallied, IsReady, StandFrom, total};
-ghost use Rattle.stream_demux.specs.Texts.{EndsOf, Printed, sources, text_of};
+ghost use Rattle.stream_demux.specs.Texts.{EndsOf, Printed, by_sizes, sources, text_of};
 ghost use Rattle.trace_io.specs.Bytes.{ShowsAsBefore};
 ghost use Rattle.trace_io.specs.Causes.{HasCause};
 
@@ -53,7 +53,7 @@ impl<S> Model for Sources<S> {
 impl<S: Stream> Sources<S> {
     /// Streams of which nothing was taken. This is the one call that takes memory, and the error means want of it.
     pub fn new(alloc: Global, settings: &Settings) -> Result<Sources<S>, AllocError>
-        ensures stands { IfOk result (λ all. (shared : S.Shared) → AllStand (S.stands shared) S.sizes settings.now all []) }
+        ensures stands { IfOk result (λ all. (shared : S.Shared) → AllStand (S.stands shared) S.sizes (λ id. settings.now) all []) }
         ensures ready { IfOk result (λ all. All (IsReady S.broken S.taken 0) all) }
     {
         let mut ring = SpendRing::with_capacity(alloc, SOURCES)?;
@@ -78,10 +78,10 @@ impl<S: Stream> Sources<S> {
         sink: &mut K,
     ) -> Result<(), Failed>
         requires { (most : ℕ) × All (IsReady S.broken S.taken most) self.old × (most + length run.now ≤ 2 ^ 62) }
-        ensures stands { (s : Sizes) (pairs : List (ℕ × ℕ)) → AllStand (S.stands shared.now) S.sizes s self.old pairs
-            → IsOk result → AllStand (S.stands shared.now) S.sizes s self.new (pairs ++ run_of id run.now) }
-        ensures adds { (s : Sizes) (pairs : List (ℕ × ℕ)) → AllStand (S.stands shared.now) S.sizes s self.old pairs
-            → Adds (S.listing shared.now s) pairs (run_of id run.now) (K.state sink.old) (K.state sink.new) result }
+        ensures stands { (t : ℕ → Sizes) (pairs : List (ℕ × ℕ)) → AllStand (S.stands shared.now) S.sizes t self.old pairs
+            → IsOk result → AllStand (S.stands shared.now) S.sizes t self.new (pairs ++ run_of id run.now) }
+        ensures adds { (t : ℕ → Sizes) (pairs : List (ℕ × ℕ)) → AllStand (S.stands shared.now) S.sizes t self.old pairs
+            → Adds (by_sizes (S.listing shared.now) t) pairs (run_of id run.now) (K.state sink.old) (K.state sink.new) result }
         ensures cause { HasCause (K.state sink.old) (K.state sink.new) result }
         ensures shows { ShowsAsBefore (K.state sink.old) (K.state sink.new) }
         ensures ready { (most : ℕ) → All (IsReady S.broken S.taken most) self.old → IsOk result
@@ -99,8 +99,8 @@ impl<S: Stream> Sources<S> {
     /// Writes the line of how each stream ends that had a byte, by ID, and says whether all end without a fault.
     pub fn finish<K: Sink>(self, sink: &mut K) -> Result<bool, Failed>
         requires { (most : ℕ) × All (IsReady S.broken S.taken most) self }
-        ensures ends { (shared : S.Shared) (s : Sizes) (pairs : List (ℕ × ℕ)) → AllStand (S.stands shared) S.sizes s self pairs
-            → (lines : List Printed) × (faulty : Bool) × EndsOf (S.listing shared s) pairs sources lines faulty
+        ensures ends { (shared : S.Shared) (t : ℕ → Sizes) (pairs : List (ℕ × ℕ)) → AllStand (S.stands shared) S.sizes t self pairs
+            → (lines : List Printed) × (faulty : Bool) × EndsOf (by_sizes (S.listing shared) t) pairs sources lines faulty
             × Writes (K.state sink.old) (K.state sink.new) result (text_of lines) × IfOk result (λ whole. whole ≡ not faulty) }
         ensures cause { HasCause (K.state sink.old) (K.state sink.new) result }
         ensures shows { ShowsAsBefore (K.state sink.old) (K.state sink.new) }
@@ -134,8 +134,8 @@ impl<S: Stream> Sources<S> {
     /// What became of the P0 elements of all streams.
     pub fn ledger(&self) -> Counts
         ensures value { result ≡ total no_counts (map S.counts self.now) }
-        ensures tallied { (shared : S.Shared) (s : Sizes) (pairs : List (ℕ × ℕ)) → AllStand (S.stands shared) S.sizes s self.now pairs
-            → AllTallied (S.tallies shared s) (map S.counts self.now) pairs }
+        ensures tallied { (shared : S.Shared) (t : ℕ → Sizes) (pairs : List (ℕ × ℕ)) → AllStand (S.stands shared) S.sizes t self.now pairs
+            → AllTallied (S.tallies shared) t (map S.counts self.now) pairs }
     {
         let mut sum = NO_COUNTS;
         let mut place = 0;
@@ -174,8 +174,8 @@ fn add<S: Stream>(ring: &mut SpendRing<S>, stream: S)
 fn abandon_all<S: Stream>(mut ring: SpendRing<S>) -> Ledger
     ensures value { result ≡ total no_counts (map S.counts_left ring.items) }
     ensures balanced { Balances result 0 }
-    ensures ends { (shared : S.Shared) (s : Sizes) (pairs : List (ℕ × ℕ)) (id : ℕ) → StandFrom (S.stands shared) S.sizes s id ring.items pairs
-        → (lines : List Printed) × (faulty : Bool) × EndsOf (S.listing shared s) pairs (range_with_len id (length ring.items)) lines faulty }
+    ensures ends { (shared : S.Shared) (t : ℕ → Sizes) (pairs : List (ℕ × ℕ)) (id : ℕ) → StandFrom (S.stands shared) S.sizes t id ring.items pairs
+        → (lines : List Printed) × (faulty : Bool) × EndsOf (by_sizes (S.listing shared) t) pairs (range_with_len id (length ring.items)) lines faulty }
 {
     let mut ledger = Ledger::new();
     while let Some(stream) = ring.pop_front() {

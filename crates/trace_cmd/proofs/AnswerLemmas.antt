@@ -1,25 +1,26 @@
 -- Answers of a call from those of its parts, and behind the flush.
-use Rattle.std.proofs.Common.{◌≡◌, ◌⊎◌, ℕ, ◌≤◌, true, false, List, [], None, Option, Result, Ok, Err, refl, sym, subst, ◌∙◌, inl, inr, arith}
+use Rattle.std.proofs.Common.{◌≡◌, ◌⊎◌, ℕ, ◌≤◌, true, false, List, [], None, Option, Result, Ok, Err, refl, sym, subst, inl, inr, arith}
 use Rattle.std.specs.Prelude.{IfOk}
 use Rattle.std.proofs.KnownBytes.{Appends-kept, Appends-nil, Consumes-nil}
 use Rattle.bench_text.specs.declared.fault.BenchWhy.{BenchWhy}
-use Rattle.etm_types.specs.Settings.{Sizes}
 use Rattle.path_text.specs.Writing.{Writes}
-use Rattle.program_image.specs.Answers.{TakesImage}
 use Rattle.program_image.specs.declared.image.Image.{Image}
 use Rattle.program_image.specs.declared.fault.ImageWhy.{ImageWhy}
-use Rattle.trace_cmd.specs.Answers.{Answers, AnswersSo, Asks, Call, IsBenchBad, IsBenchFault, IsCall, IsImageBad, IsImageFault}
-use Rattle.trace_cmd.specs.Answers.{IsNoMemory, IsOwnBenchBad, IsOwnImageBad, IsOwnTooLong, IsRetired, IsRetiredCall, IsRunFileCall, IsSelftestOf}
-use Rattle.trace_cmd.specs.Answers.{IsPacketsUnder, IsPathUnder, IsTested, IsTraceCall, IsTraced, IsUsage, IsWriteFault}
+use Rattle.trace_cmd.specs.Answers.{Answers, AnswersSo, Asks, Call, HasRead, IsBenchBad, IsBenchFault, IsCall, IsImageFault, IsNoMemory}
+use Rattle.trace_cmd.specs.Answers.{IsOwnBenchBad, IsOwnImageBad, IsOwnTooLong, IsPacketsUnder, IsPathUnder, IsProgramBad, IsRetired, IsRetiredCall}
+use Rattle.trace_cmd.specs.Answers.{IsRunFileCall, IsSelftestOf, IsTested, IsTextOf, IsTraceCall, IsTraced, IsUsage, IsWriteFault}
+use Rattle.trace_cmd.specs.Answers.{BenchText, ImageText, OwnBenchText, OwnImageText, RetiredText, TestText, TraceText, UsageText}
+use Rattle.trace_cmd.specs.Programs.{BadText, NoProgram}
+use Rattle.trace_cmd.proofs.WordKinds.{one_kind, packets_kind, path_kind, retired_kind, trace_kind}
 use Rattle.answer_lines.specs.UsageLine.{usage_line}
 use Rattle.answer_lines.specs.Prints.{Prints, PrintsFront}
 use Rattle.retired_paths.specs.Retired.{RetiresSo, RunsSo}
-use Rattle.input_pieces.specs.Grows.{Grow, frames_grow, raw_grows}
+use Rattle.stream_demux.specs.Laid.{IsLaid, frames_laid_is, raw_laid_is}
 use Rattle.input_pieces.specs.Listed.{Interrupts, Listed}
-use Rattle.trace_cmd.specs.Printing.{What, layout_of, left_of, listing_of, pairs_in, pairs_of}
+use Rattle.trace_cmd.specs.Printing.{What, intake_of, laid_in, laid_of, listing_of}
 use Rattle.traced_runs.specs.Selftest.{TestsSo}
 use Rattle.traced_runs.specs.Traced.{TracesSo}
-use Rattle.command_words.specs.Words.{meaning}
+use Rattle.command_words.specs.Words.{BareKind, Intake, PathKind, Retired, RunFileKind, Selftest, Trace, meaning}
 use Rattle.answer_lines.specs.declared.status.Status.{Status}
 use Rattle.answer_lines.specs.declared.status.Status.TheVariants as status
 use Rattle.command_words.specs.declared.words.Layout.{Layout}
@@ -36,66 +37,65 @@ pub none_taken : (s : IoState) (most : ℕ) → TakesAtMost s s most
 none_taken s most = ([], omega arith, Consumes-nil s.bytes)
 
 -- neither paths nor packets are of a run file
-pub path_of_no_run_file : (s : Sizes) (layout : Layout) (words : List (List ℕ)) → IsPathUnder s layout words → IsRunFileCall words → ⊥
-path_of_no_run_file s layout words (image, path) (inl (other, retired)) = let same = sym path ∙ retired in cc
-path_of_no_run_file s layout words (image, path) (inr (other, trace)) = let same = sym path ∙ trace in cc
+pub path_of_no_run_file : (r : Intake) (words : List (List ℕ)) → IsPathUnder r words → IsRunFileCall words → ⊥
+path_of_no_run_file r words path file = let both : PathKind ≡ RunFileKind = one_kind PathKind RunFileKind words (path_kind r words path) file in cc
 
-pub packets_of_no_run_file : (s : Sizes) (layout : Layout) (words : List (List ℕ)) → IsPacketsUnder s layout words → IsRunFileCall words → ⊥
-packets_of_no_run_file s layout words packets (inl (other, retired)) = let same = sym packets ∙ retired in cc
-packets_of_no_run_file s layout words packets (inr (other, trace)) = let same = sym packets ∙ trace in cc
+pub packets_of_no_run_file : (r : Intake) (words : List (List ℕ)) → IsPacketsUnder r words → IsRunFileCall words → ⊥
+packets_of_no_run_file r words packets file =
+    let both : BareKind ≡ RunFileKind = one_kind BareKind RunFileKind words (packets_kind r words packets) file in cc
 
 -- ---- what a failed write leaves of each answer
 
 module _ (c : Call) (old new : IoState) where
   own_image_front : (line : ℕ) (why : ImageWhy) → PrintsFront (IsOwnImageBad c line why) old new → IsWriteFault c old new
-  own_image_front line why front = inr (inr (inr (inr (inr (inr (inr (inr (inr (inr (inl (line, why, front)))))))))))
+  own_image_front line why front = inl (OwnImageText line why, front)
 
   own_bench_front : (line : ℕ) (why : BenchWhy) → PrintsFront (IsOwnBenchBad c line why) old new → IsWriteFault c old new
-  own_bench_front line why front = inr (inr (inr (inr (inr (inr (inr (inr (inr (inr (inr (inl (line, why, front))))))))))))
+  own_bench_front line why front = inl (OwnBenchText line why, front)
 
   tested_front : PrintsFront (IsTested c) old new → IsWriteFault c old new
-  tested_front front = inr (inr (inr (inr (inr (inr (inr (inr (inr (inl front)))))))))
+  tested_front front = inl (TestText, front)
 
   too_long_front : IsOwnTooLong c old new → IsWriteFault c old new
-  too_long_front long = inr (inr (inr (inr (inr (inr (inr (inr (inr (inr (inr (inr long)))))))))))
+  too_long_front long = inr (inr (inr (inr (inr long))))
 
   traced_front : PrintsFront (IsTraced c) old new → IsWriteFault c old new
-  traced_front front = inr (inr (inr (inr (inr (inr (inr (inr (inl front))))))))
+  traced_front front = inl (TraceText, front)
 
   bench_fault_front : IsBenchFault c old new → IsWriteFault c old new
-  bench_fault_front fault = inr (inr (inr (inr (inr (inr (inr (inl fault)))))))
+  bench_fault_front fault = inr (inr (inr (inr (inl fault))))
 
   bench_front : (line : ℕ) (why : BenchWhy) → PrintsFront (IsBenchBad c line why) old new → IsWriteFault c old new
-  bench_front line why front = inr (inr (inr (inr (inr (inr (inl (line, why, front)))))))
+  bench_front line why front = inl (BenchText line why, front)
 
   retired_front : PrintsFront (IsRetired c) old new → IsWriteFault c old new
-  retired_front front = inr (inr (inr (inr (inr (inl front)))))
+  retired_front front = inl (RetiredText, front)
 
   memory_front : IsNoMemory c old new → IsWriteFault c old new
-  memory_front fault = inr (inr (inr (inr (inl fault))))
+  memory_front fault = inr (inr (inr (inl fault)))
 
   image_fault_front : IsImageFault c old new → IsWriteFault c old new
-  image_fault_front fault = inr (inr (inr (inl fault)))
+  image_fault_front fault = inr (inr (inl fault))
 
   -- of an input
   abbrev Cut : What → Type 0
-  Cut what = Interrupts (pairs_of what) (left_of what) (listing_of what) c.input c.input' old new
+  Cut what = Interrupts (laid_of what) (listing_of what) c.input c.input' old new
 
   input_front : (what : What) → Asks c what → Cut what → IsWriteFault c old new
-  input_front what asks front = inr (inr (inl (what, asks, front)))
+  input_front what asks front = inr (inl (what, asks, front))
 
-  image_front : (line : ℕ) (why : ImageWhy) → PrintsFront (IsImageBad c line why) old new → IsWriteFault c old new
-  image_front line why front = inr (inl (line, why, front))
+  image_front : (refusal : NoProgram) → PrintsFront (IsProgramBad c refusal) old new → IsWriteFault c old new
+  image_front refusal front = inl (ImageText refusal, front)
 
 -- ---- before the flush
 
-pub layout_grows : (layout : Layout) → Grow (pairs_in layout)
-layout_grows Raw = raw_grows
-layout_grows Frames = frames_grow
+pub layout_is_laid : (layout : Layout) → IsLaid (laid_in layout)
+layout_is_laid Raw = raw_laid_is
+layout_is_laid Frames = frames_laid_is
 
 -- what is asked for was printed of the input, or a write failed
 pub so_of_listed : (c : Call) (what : What) → Asks c what → (old new : IoState) (r : Result Status Failed)
-    → Listed (pairs_of what) (left_of what) (listing_of what) c.input c.input' old new r → HasCause old new r → AnswersSo c old new r
+    → Listed (laid_of what) (listing_of what) c.input c.input' old new r → HasCause old new r → AnswersSo c old new r
 so_of_listed c what asks old new (Ok status.Done) listed cause = inl (what, asks, listed)
 so_of_listed c what asks old new (Ok status.Faulted) listed cause = (what, asks, listed)
 so_of_listed c what asks old new (Ok status.ReadFault) listed cause = inr (inr (what, asks, listed))
@@ -121,7 +121,7 @@ so_of_words c old image input = record { command = inr (image, input); untouched
 -- either of these two
 pub so_by : (c : Call) (what : What) → Asks c what → (old new : IoState) (r : Result Status Failed) → IsCall c.words → HasCause old new r
     → (r ≡ Ok status.NoMemory → (c.input' ≡ c.input) × (new ≡ old))
-    → (r ≡ Ok status.NoMemory) ⊎ Listed (pairs_of what) (left_of what) (listing_of what) c.input c.input' old new r → AnswersSo c old new r
+    → (r ≡ Ok status.NoMemory) ⊎ Listed (laid_of what) (listing_of what) c.input c.input' old new r → AnswersSo c old new r
 so_by c what asks old new r command cause memory (inr listed) = so_of_listed c what asks old new r listed cause
 so_by c what asks old new r command cause memory (inl none) =
     let kept = memory none in
@@ -132,36 +132,38 @@ pub so_of_usage : (c : Call) (old new : IoState) (r : Result Status Failed) → 
     → IfOk r (λ s. s ≡ status.Usage) → AnswersSo c old new r
 so_of_usage c old new (Ok s) none w same =
     subst (λ (t : Status). Answers c old new t) (sym same) (usage_line, record { meaningless = none; printed = refl }, w.whole)
-so_of_usage c old new (Err e) none w same = (w.cause.failed, inl (usage_line, record { meaningless = none; printed = refl }, w.front))
+so_of_usage c old new (Err e) none w same = (w.cause.failed, inl (UsageText, (usage_line, record { meaningless = none; printed = refl }, w.front)))
 
 -- a run file was answered over the image
-module _ (c : Call) (parts : Image) (asks : IsRunFileCall c.words) (image : TakesImage c.image c.image' parts) (kind : List ℕ → Type 0) (old new : IoState)
-    (all : Prints kind old new → Answers c old new status.Done) (front : PrintsFront kind old new → IsWriteFault c old new) where
-  by_run_file : (r : Result Status Failed) → RunsSo kind parts c.input c.input' old new r → HasCause old new r → AnswersSo c old new r
+module _ (c : Call) (image : Image) (asks : IsRunFileCall c.words) (some : IsCall c.words) (read : HasRead c image) (kind : List ℕ → Type 0)
+    (old new : IoState) (all : Prints kind old new → Answers c old new status.Done) (part : PrintsFront kind old new → IsWriteFault c old new) where
+  by_run_file : (r : Result Status Failed) → RunsSo kind image c.input c.input' old new r → HasCause old new r → AnswersSo c old new r
   by_run_file (Ok status.Done) prints cause = all prints
-  by_run_file (Ok (status.BenchBad line why)) (text, is, printed) cause = inl (text, (asks, (parts, image, is)), printed)
-  by_run_file (Ok status.ReadFault) (rose, none) cause = inr (inl (asks, (parts, image, (rose, none))))
-  by_run_file (Ok status.NoMemory) none cause = record { command = inl (inl (inr asks)); untouched = inr asks; printed = none }
+  by_run_file (Ok (status.BenchBad line why)) (text, is, printed) cause = inl (text, (asks, (image, read, is)), printed)
+  by_run_file (Ok status.ReadFault) (rose, none) cause = inr (inl (asks, (image, read, (rose, none))))
+  by_run_file (Ok status.NoMemory) none cause = record { command = inl some; untouched = inr asks; printed = none }
   by_run_file (Ok status.Usage) none cause = absurd none
   by_run_file (Ok (status.ImageBad line why)) none cause = absurd none
   by_run_file (Ok status.Faulted) none cause = absurd none
   by_run_file (Ok status.WriteFault) none cause = absurd none
   by_run_file (Ok status.InputTooLong) none cause = absurd none
-  by_run_file (Err e) (inl prints) cause = (cause.failed, front prints)
-  by_run_file (Err e) (inr (line, why, (text, is, some))) cause =
-      (cause.failed, bench_front c old new line why (text, (asks, (parts, image, is)), some))
+  by_run_file (Err e) (inl prints) cause = (cause.failed, part prints)
+  by_run_file (Err e) (inr (line, why, (text, is, front))) cause =
+      (cause.failed, bench_front c old new line why (text, (asks, (image, read, is)), front))
 
-pub so_of_retired : (c : Call) (parts : Image) → IsRetiredCall c.words → TakesImage c.image c.image' parts → (old new : IoState) (r : Result Status Failed)
-    → RetiresSo parts c.input c.input' old new r → HasCause old new r → AnswersSo c old new r
-so_of_retired c parts asks image old new =
-    by_run_file c parts (inl asks) image _ old new (λ prints. inr (inl (prints.0, (asks, (parts, image, prints.1)), prints.2)))
-    (λ prints. retired_front c old new (prints.0, (asks, (parts, image, prints.1)), prints.2))
+pub so_of_retired : (c : Call) (image : Image) → IsRetiredCall c.words → HasRead c image → (old new : IoState) (r : Result Status Failed)
+    → RetiresSo image c.input c.input' old new r → HasCause old new r → AnswersSo c old new r
+so_of_retired c image asks read old new =
+    by_run_file c image (retired_kind c.words asks) (Retired asks.0, asks.1) read _ old new
+    (λ prints. inr (inl (prints.0, (asks, (image, read, prints.1)), prints.2)))
+    (λ prints. retired_front c old new (prints.0, (asks, (image, read, prints.1)), prints.2))
 
-pub so_of_traced : (c : Call) (parts : Image) → IsTraceCall c.words → TakesImage c.image c.image' parts → (old new : IoState) (r : Result Status Failed)
-    → TracesSo parts c.input c.input' old new r → HasCause old new r → AnswersSo c old new r
-so_of_traced c parts asks image old new =
-    by_run_file c parts (inr asks) image _ old new (λ prints. inr (inr (inl (prints.0, (asks, (parts, image, prints.1)), prints.2))))
-    (λ prints. traced_front c old new (prints.0, (asks, (parts, image, prints.1)), prints.2))
+pub so_of_traced : (c : Call) (image : Image) → IsTraceCall c.words → HasRead c image → (old new : IoState) (r : Result Status Failed)
+    → TracesSo image c.input c.input' old new r → HasCause old new r → AnswersSo c old new r
+so_of_traced c image asks read old new =
+    by_run_file c image (trace_kind c.words asks) (Trace asks.0, asks.1) read _ old new
+    (λ prints. inr (inr (inl (prints.0, (asks, (image, read, prints.1)), prints.2))))
+    (λ prints. traced_front c old new (prints.0, (asks, (image, read, prints.1)), prints.2))
 
 -- a number was answered, and the input not touched
 module _ (c : Call) (n : ℕ) (cut : Option ℕ) (asks : IsSelftestOf n cut c.words) (untouched : c.input' ≡ c.input) (old new : IoState) where
@@ -170,7 +172,7 @@ module _ (c : Call) (n : ℕ) (cut : Option ℕ) (asks : IsSelftestOf n cut c.wo
   so_of_number (Ok (status.ImageBad line why)) (text, is, printed) cause = inr (text, (n, cut, asks, is), printed)
   so_of_number (Ok (status.BenchBad line why)) (text, is, printed) cause = inr (text, (n, cut, asks, is), printed)
   so_of_number (Ok status.InputTooLong) (long, none) cause = inr ((n, cut, asks, long), none)
-  so_of_number (Ok status.NoMemory) none cause = record { command = inl (inr (inr (n, cut, asks))); untouched = inl untouched; printed = none }
+  so_of_number (Ok status.NoMemory) none cause = record { command = inl (Selftest n cut, asks); untouched = inl untouched; printed = none }
   so_of_number (Ok status.Usage) none cause = absurd none
   so_of_number (Ok status.Faulted) none cause = absurd none
   so_of_number (Ok status.ReadFault) none cause = absurd none
@@ -203,16 +205,15 @@ module _ (c : Call) (old new newer : IoState) (kept : KeepsBytes new newer) wher
   kept_memory f = record { command = f.command; untouched = f.untouched; printed = kept_all [] f.printed }
 
   kept_bench : IsBenchFault c old new → IsBenchFault c old newer
-  kept_bench (asks, (parts, image, (rose, printed))) = (asks, (parts, image, (rose, kept_all [] printed)))
+  kept_bench (asks, (image, read, (rose, printed))) = (asks, (image, read, (rose, kept_all [] printed)))
 
   kept_long : IsOwnTooLong c old new → IsOwnTooLong c old newer
   kept_long (long, printed) = (long, kept_all [] printed)
 
   -- a write failed before it
   kept_fault : IsWriteFault c old new → IsWriteFault c old newer
-  kept_fault (inl front) = inl (kept_front (IsUsage c) front)
-  kept_fault (inr (inl (line, why, front))) = image_front c old newer line why (kept_front (IsImageBad c line why) front)
-  kept_fault (inr (inr (inl (what, asks, i)))) =
+  kept_fault (inl (t, front)) = inl (t, kept_front (IsTextOf c t) front)
+  kept_fault (inr (inl (what, asks, i))) =
       input_front c old newer what asks
       (record {
         bytes = i.bytes;
@@ -223,19 +224,10 @@ module _ (c : Call) (old new newer : IoState) (kept : KeepsBytes new newer) wher
         late = i.late;
         early = i.early;
       })
-  kept_fault (inr (inr (inr (inl f)))) = image_fault_front c old newer (kept_image f)
-  kept_fault (inr (inr (inr (inr (inl f))))) = memory_front c old newer (kept_memory f)
-  kept_fault (inr (inr (inr (inr (inr (inl front)))))) = retired_front c old newer (kept_front (IsRetired c) front)
-  kept_fault (inr (inr (inr (inr (inr (inr (inl (line, why, front)))))))) =
-      bench_front c old newer line why (kept_front (IsBenchBad c line why) front)
-  kept_fault (inr (inr (inr (inr (inr (inr (inr (inl f)))))))) = bench_fault_front c old newer (kept_bench f)
-  kept_fault (inr (inr (inr (inr (inr (inr (inr (inr (inl front))))))))) = traced_front c old newer (kept_front (IsTraced c) front)
-  kept_fault (inr (inr (inr (inr (inr (inr (inr (inr (inr (inl front)))))))))) = tested_front c old newer (kept_front (IsTested c) front)
-  kept_fault (inr (inr (inr (inr (inr (inr (inr (inr (inr (inr (inl (line, why, front)))))))))))) =
-      own_image_front c old newer line why (kept_front (IsOwnImageBad c line why) front)
-  kept_fault (inr (inr (inr (inr (inr (inr (inr (inr (inr (inr (inr (inl (line, why, front))))))))))))) =
-      own_bench_front c old newer line why (kept_front (IsOwnBenchBad c line why) front)
-  kept_fault (inr (inr (inr (inr (inr (inr (inr (inr (inr (inr (inr (inr long)))))))))))) = too_long_front c old newer (kept_long long)
+  kept_fault (inr (inr (inl f))) = image_fault_front c old newer (kept_image f)
+  kept_fault (inr (inr (inr (inl f)))) = memory_front c old newer (kept_memory f)
+  kept_fault (inr (inr (inr (inr (inl f))))) = bench_fault_front c old newer (kept_bench f)
+  kept_fault (inr (inr (inr (inr (inr long))))) = too_long_front c old newer (kept_long long)
 
   -- it succeeds
   pub all_flushed : (s : Status) → new.faults ≤ newer.faults → Answers c old new s → Answers c old newer s
@@ -251,7 +243,7 @@ module _ (c : Call) (old new newer : IoState) (kept : KeepsBytes new newer) wher
   all_flushed status.Faulted later (what, asks, done) =
       (what, asks, record { bytes = done.bytes; read = done.read; few = done.few; lines = done.lines; shown = done.shown; printed = kept_all _ done.printed })
   all_flushed status.Usage later prints = kept_line (IsUsage c) prints
-  all_flushed (status.ImageBad line why) later (inl prints) = inl (kept_line (IsImageBad c line why) prints)
+  all_flushed (status.ImageBad line why) later (inl prints) = inl (kept_line (IsProgramBad c (BadText line why)) prints)
   all_flushed (status.ImageBad line why) later (inr prints) = inr (kept_line (IsOwnImageBad c line why) prints)
   all_flushed (status.BenchBad line why) later (inl prints) = inl (kept_line (IsBenchBad c line why) prints)
   all_flushed (status.BenchBad line why) later (inr prints) = inr (kept_line (IsOwnBenchBad c line why) prints)
@@ -277,15 +269,15 @@ module _ (c : Call) (old new newer : IoState) (kept : KeepsBytes new newer) wher
   cut : (s : Status) → Answers c old new s → IsWriteFault c old newer
   cut status.Done (inl (what, asks, done)) =
       input_front c old newer what asks
-      (completed_cut (pairs_of what) (left_of what) (layout_grows (layout_of what)) (listing_of what) c.input c.input' old new newer false done kept)
+      (completed_cut (laid_of what) (layout_is_laid (intake_of what).layout) (listing_of what) c.input c.input' old new newer false done kept)
   cut status.Done (inr (inl prints)) = retired_front c old newer (line_front (IsRetired c) prints)
   cut status.Done (inr (inr (inl prints))) = traced_front c old newer (line_front (IsTraced c) prints)
   cut status.Done (inr (inr (inr prints))) = tested_front c old newer (line_front (IsTested c) prints)
   cut status.Faulted (what, asks, done) =
       input_front c old newer what asks
-      (completed_cut (pairs_of what) (left_of what) (layout_grows (layout_of what)) (listing_of what) c.input c.input' old new newer true done kept)
-  cut status.Usage prints = inl (line_front (IsUsage c) prints)
-  cut (status.ImageBad line why) (inl prints) = image_front c old newer line why (line_front (IsImageBad c line why) prints)
+      (completed_cut (laid_of what) (layout_is_laid (intake_of what).layout) (listing_of what) c.input c.input' old new newer true done kept)
+  cut status.Usage prints = inl (UsageText, line_front (IsUsage c) prints)
+  cut (status.ImageBad line why) (inl prints) = image_front c old newer (BadText line why) (line_front (IsProgramBad c (BadText line why)) prints)
   cut (status.ImageBad line why) (inr prints) = own_image_front c old newer line why (line_front (IsOwnImageBad c line why) prints)
   cut (status.BenchBad line why) (inl prints) = bench_front c old newer line why (line_front (IsBenchBad c line why) prints)
   cut (status.BenchBad line why) (inr prints) = own_bench_front c old newer line why (line_front (IsOwnBenchBad c line why) prints)
@@ -293,10 +285,10 @@ module _ (c : Call) (old new newer : IoState) (kept : KeepsBytes new newer) wher
   cut status.ReadFault (inr (inl f)) = bench_fault_front c old newer (kept_bench f)
   cut status.ReadFault (inr (inr (what, asks, b))) =
       input_front c old newer what asks
-      (broken_cut (pairs_of what) (left_of what) (layout_grows (layout_of what)) (listing_of what) c.input c.input' old new newer b kept)
+      (broken_cut (laid_of what) (layout_is_laid (intake_of what).layout) (listing_of what) c.input c.input' old new newer b kept)
   cut status.InputTooLong (inl (what, asks, b)) =
       input_front c old newer what asks
-      (exceeded_cut (pairs_of what) (left_of what) (layout_grows (layout_of what)) (listing_of what) c.input c.input' old new newer b kept)
+      (exceeded_cut (laid_of what) (layout_is_laid (intake_of what).layout) (listing_of what) c.input c.input' old new newer b kept)
   cut status.InputTooLong (inr long) = too_long_front c old newer (kept_long long)
   cut status.NoMemory f = memory_front c old newer (kept_memory f)
   cut status.WriteFault (rose, f) = kept_fault f

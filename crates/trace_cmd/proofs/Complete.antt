@@ -11,29 +11,29 @@ use Rattle.bench_text.specs.Refusals.{bench_of, most_text}
 use Rattle.bench_text.specs.declared.fault.BenchWhy.{BenchWhy}
 use Rattle.etm_types.specs.Settings.{AreSettings, Sizes}
 use Rattle.program_image.proofs.TooLong.{too_long}
-use Rattle.program_image.specs.Answers.{TakesImage, TakesNoImage}
 use Rattle.program_image.specs.ImageText.{image_of}
 use Rattle.program_image.specs.declared.fault.ImageWhy.{ImageWhy}
 use Rattle.program_image.specs.declared.fault.ImageWhy.TheVariants.{TooLong}
 use Rattle.program_image.specs.declared.image.Image.{Image}
-use Rattle.stream_demux.proofs.OneText.{one_text}
 use Rattle.stream_demux.proofs.PathTexts.{one_text_of_paths}
 use Rattle.stream_demux.specs.Texts.{IsText, Printed}
-use Rattle.packet_list.proofs.PacketLists.{one_end, one_gain}
+use Rattle.packet_list.proofs.PacketTexts.{one_text_of_packets}
 use Rattle.trace_cmd.proofs.TracedCalls.{one_image, taken_are}
 use Rattle.command_words.proofs.WordLemmas.{within}
-use Rattle.trace_cmd.specs.Answers.{Answers, Asks, Call, IsBenchBad, IsImageBad, IsImageCall, IsOwnBenchBad, IsOwnImageBad, IsOwnTooLong}
-use Rattle.trace_cmd.specs.Answers.{IsPacketsCall, IsPathCall, IsRunFileCall, IsSelftestOf}
-use Rattle.trace_cmd.specs.Complete.{AreAlike, FaultsAreDecided, HasImage, HasInput, HasRunFile, IsDone, IsDoneOrFaulted, NothingFailed, ShowAlike}
+use Rattle.trace_cmd.proofs.WordKinds.{no_kind, number_kind, one_kind, packets_kind, path_kind, program_kind, retired_kind, trace_kind}
+use Rattle.trace_cmd.specs.Answers.{Answers, Asks, Call, HasImage, HasRead, IsBareCall, IsBenchBad, IsImageCall, IsOfKind, IsOwnBenchBad}
+use Rattle.trace_cmd.specs.Answers.{IsOwnImageBad, IsOwnTooLong, IsPathCall, IsProgramBad, IsRunFileCall, IsSelftestCall, IsSelftestOf}
+use Rattle.trace_cmd.specs.Complete.{AreAlike, FaultsAreDecided, HasInput, HasRunFile, IsDone, IsDoneOrFaulted, NothingFailed, ShowAlike}
 use Rattle.trace_cmd.specs.Complete.{NumbersAreDone, PacketsAreDone, PathsAreDone, RunFilesAreDone}
+use Rattle.trace_cmd.specs.Programs.{BadText, NoProgram, TakesNoProgram}
 use Rattle.input_pieces.specs.Listed.{Completes, Exceeds, most_input}
-use Rattle.packet_list.specs.PacketList.{packet_lists}
-use Rattle.trace_cmd.specs.Printing.{PacketsOf, PathsOf, What, left_of, listing_of, pairs_of}
+use Rattle.trace_cmd.specs.Printing.{PacketsOf, PathsOf, What, laid_of, listing_of, sizes_by}
 use Rattle.retired_paths.specs.Retired.{IsBadBench}
 use Rattle.traced_runs.specs.Selftest.{AreGood}
 use Rattle.traced_runs.specs.Traced.{trace_frames}
-use Rattle.command_words.specs.Words.{Command, Path, Packets, Retired, Selftest, Seen, Trace, command_in, layout_in, meaning, nothing_seen}
-use Rattle.command_words.specs.Words.{cut_of, most_number, number_of, number_to, seen_of, sizes_in}
+use Rattle.command_words.specs.Words.{BareKind, Command, Intake, Kind, NoCommand, NumberKind, Packets, Path, PathKind, Retired, RunFileKind}
+use Rattle.command_words.specs.Words.{Seen, Selftest, Trace, command_in, cut_of, intake_in, kind_of, layout_in, meaning, most_number, nothing_seen}
+use Rattle.command_words.specs.Words.{number_of, number_to, program_in, seen_of, sizes_in}
 use Rattle.answer_lines.specs.declared.status.Status.{Status}
 use Rattle.answer_lines.specs.declared.status.Status.TheVariants as status
 use Rattle.command_words.specs.declared.words.CommandName.{CommandName}
@@ -54,20 +54,22 @@ taken_front (Some xs) (Some ys) known bytes is took =
     let same : xs ≡ known = cc in let parts : length known ≡ length (bytes ++ ys) = ap length (sym same ∙ took) in
     omega (arith, parts, length-append bytes ys)
 
--- a text that spells an image is not refused
-image_stands : (old new : IoState) (text : List ℕ) (image : Image) (line : ℕ) (why : ImageWhy) → old.bytes ≡ Some text → image_of text ≡ Ok image
-    → TakesNoImage old new line why → ⊥
-image_stands old new text image line why shows spells (other, took, refused, inl ended) =
-    let same = taken_are old.bytes new.bytes text other shows (took, ended) in
-    apart {E = ℕ × ImageWhy} (image_of text) image (line, why) spells (ap image_of (sym same) ∙ refused)
-image_stands old new text image line why shows spells (other, took, refused, inr long) =
-    let front = taken_front old.bytes new.bytes text other shows took in
-    apart {E = ℕ × ImageWhy} (image_of text) image (0, TooLong) spells (too_long text 0 TooLong (omega (arith, front, long)) refl refl)
+-- a program whose bytes spell an image is not refused
+image_stands : (c : Call) (image : Image) (refusal : NoProgram) (text : List ℕ) → HasImage c image → IsProgramBad c refusal text → ⊥
+image_stands c image (BadText line why) text has bad = by bad.refused
+  where
+    by : TakesNoProgram bad.program c.image c.image' (BadText line why) → ⊥
+    by (other, took, refused, inl ended) =
+        let same = taken_are c.image.bytes c.image'.bytes has.bytes other has.shows (took, ended) in
+        apart {E = ℕ × ImageWhy} (image_of has.bytes) image (line, why) has.spells (ap image_of (sym same) ∙ refused)
+    by (other, took, refused, inr long) =
+        let front = taken_front c.image.bytes c.image'.bytes has.bytes other has.shows took in
+        apart {E = ℕ × ImageWhy} (image_of has.bytes) image (0, TooLong) has.spells (too_long has.bytes 0 TooLong (omega (arith, front, long)) refl refl)
 
 -- the image that is taken is the one that it spells
-image_taken : (c : Call) (image parts : Image) → HasImage c image → TakesImage c.image c.image' parts → parts ≡ image
-image_taken c image parts has (text, taken, spells) =
-    one_image has.text text image parts (taken_are c.image.bytes c.image'.bytes has.text text has.shows taken) has.spells spells
+image_taken : (c : Call) (image other : Image) → HasImage c image → HasRead c other → other ≡ image
+image_taken c image other has (p, named, (bytes, taken, spells)) =
+    one_image has.bytes bytes image other (taken_are c.image.bytes c.image'.bytes has.bytes bytes has.shows taken) has.spells spells
 
 -- a text that is longer than the most is no run file
 long_file : (image : Image) (file : List ℕ) (b : BenchParts) → most_text < length file → bench_of image file ≡ Ok b → ⊥
@@ -94,76 +96,39 @@ one_number n image other b also good too =
     subst (λ (i : Image). bench_of i (generated n).bench ≡ Ok also) images too.bench_is in
     let both : Ok also ≡ Ok b = sym here ∙ good.bench_is in (images, cc)
 
--- ---- words mean one command
+-- ---- what reads an input
 
--- which one, without what is said of it
-data Kind : Type 0 where
-  NoCommand : Kind
-  PathCommand : Kind
-  PacketsCommand : Kind
-  RunFileCommand : Kind
-  NumberCommand : Kind
-
-kind_of : Option Command → Kind
-kind_of None = NoCommand
-kind_of (Some (Path image s layout)) = PathCommand
-kind_of (Some (Packets s layout)) = PacketsCommand
-kind_of (Some (Retired image)) = RunFileCommand
-kind_of (Some (Trace image)) = RunFileCommand
-kind_of (Some (Selftest n cut)) = NumberCommand
-
-path_kind : (words : List (List ℕ)) → IsPathCall words → kind_of (meaning words) ≡ PathCommand
-unfolding kind_of
-path_kind words (s, layout, (image, is)) = ap kind_of is
-
-packets_kind : (words : List (List ℕ)) → IsPacketsCall words → kind_of (meaning words) ≡ PacketsCommand
-unfolding kind_of
-packets_kind words (s, layout, is) = ap kind_of is
-
-run_file_kind : (words : List (List ℕ)) → IsRunFileCall words → kind_of (meaning words) ≡ RunFileCommand
-unfolding kind_of
-run_file_kind words (inl (image, is)) = ap kind_of is
-run_file_kind words (inr (image, is)) = ap kind_of is
-
-number_kind : (n : ℕ) (cut : Option ℕ) (words : List (List ℕ)) → IsSelftestOf n cut words → kind_of (meaning words) ≡ NumberCommand
-unfolding kind_of
-number_kind n cut words is = ap kind_of is
-
-no_kind : (words : List (List ℕ)) → meaning words ≡ None → kind_of (meaning words) ≡ NoCommand
-unfolding kind_of
-no_kind words none = ap kind_of none
-
--- the command that reads an input
+-- the kind of the command that reads it
 input_kind : What → Kind
-input_kind (PathsOf image s layout) = PathCommand
-input_kind (PacketsOf s layout) = PacketsCommand
+input_kind (PathsOf image r) = PathKind
+input_kind (PacketsOf r) = BareKind
 
-asks_kind : (c : Call) (what : What) → Asks c what → kind_of (meaning c.words) ≡ input_kind what
+asks_kind : (c : Call) (what : What) → Asks c what → IsOfKind (input_kind what) c.words
 unfolding input_kind
-asks_kind c (PathsOf image s layout) asks = path_kind c.words (s, layout, asks.0)
-asks_kind c (PacketsOf s layout) asks = packets_kind c.words (s, layout, asks)
+asks_kind c (PathsOf image r) asks = path_kind r c.words asks.0
+asks_kind c (PacketsOf r) asks = packets_kind r c.words asks
 
--- an input is read by no command of a run file or a number
-no_run_file_input : (k : Kind) (what : What) → k ≡ RunFileCommand → k ≡ input_kind what → ⊥
+-- it is read by no command of a run file or a number
+no_run_file_input : (what : What) → RunFileKind ≡ input_kind what → ⊥
 unfolding input_kind
-no_run_file_input k (PathsOf image s layout) is also = let both : RunFileCommand ≡ PathCommand = sym is ∙ also in cc
-no_run_file_input k (PacketsOf s layout) is also = let both : RunFileCommand ≡ PacketsCommand = sym is ∙ also in cc
+no_run_file_input (PathsOf image r) is = cc
+no_run_file_input (PacketsOf r) is = cc
 
-no_number_input : (k : Kind) (what : What) → k ≡ NumberCommand → k ≡ input_kind what → ⊥
+no_number_input : (what : What) → NumberKind ≡ input_kind what → ⊥
 unfolding input_kind
-no_number_input k (PathsOf image s layout) is also = let both : NumberCommand ≡ PathCommand = sym is ∙ also in cc
-no_number_input k (PacketsOf s layout) is also = let both : NumberCommand ≡ PacketsCommand = sym is ∙ also in cc
+no_number_input (PathsOf image r) is = cc
+no_number_input (PacketsOf r) is = cc
 
 -- ---- the causes of answers
 
 -- nothing is wrong but a call that failed: words, image, run file and number are good, and no input is too long
 record Good (c : Call) (old new : IoState) : Type 0 where
   words : meaning c.words ≡ None → ⊥
-  image : (line : ℕ) (why : ImageWhy) (text : List ℕ) → IsImageBad c line why text → ⊥
+  image : (refusal : NoProgram) (text : List ℕ) → IsProgramBad c refusal text → ⊥
   run_file : (line : ℕ) (why : BenchWhy) (text : List ℕ) → IsBenchBad c line why text → ⊥
   own_image : (line : ℕ) (why : ImageWhy) (text : List ℕ) → IsOwnImageBad c line why text → ⊥
   own_run_file : (line : ℕ) (why : BenchWhy) (text : List ℕ) → IsOwnBenchBad c line why text → ⊥
-  few : (what : What) → Asks c what → Exceeds (pairs_of what) (left_of what) (listing_of what) c.input c.input' old new → ⊥
+  few : (what : What) → Asks c what → Exceeds (laid_of what) (listing_of what) c.input c.input' old new → ⊥
   own_few : IsOwnTooLong c old new → ⊥
 
 module _ (c : Call) (old new : IoState) where
@@ -172,14 +137,14 @@ module _ (c : Call) (old new : IoState) where
   done_or_faulted good nothing status.Faulted answers = inr (inl refl)
   done_or_faulted good nothing status.NoMemory answers = inr (inr refl)
   done_or_faulted good nothing status.Usage (text, is, printed) = absurd (good.words is.meaningless)
-  done_or_faulted good nothing (status.ImageBad line why) (inl (text, is, printed)) = absurd (good.image line why text is)
+  done_or_faulted good nothing (status.ImageBad line why) (inl (text, is, printed)) = absurd (good.image (BadText line why) text is)
   done_or_faulted good nothing (status.ImageBad line why) (inr (text, is, printed)) = absurd (good.own_image line why text is)
   done_or_faulted good nothing (status.BenchBad line why) (inl (text, is, printed)) = absurd (good.run_file line why text is)
   done_or_faulted good nothing (status.BenchBad line why) (inr (text, is, printed)) = absurd (good.own_run_file line why text is)
   done_or_faulted good nothing status.InputTooLong (inl (what, asks, exceeds)) = absurd (good.few what asks exceeds)
   done_or_faulted good nothing status.InputTooLong (inr long) = absurd (good.own_few long)
   done_or_faulted good nothing status.ReadFault (inl f) = absurd (nothing.image f.rose)
-  done_or_faulted good nothing status.ReadFault (inr (inl (asks, (parts, image, (rose, none))))) = absurd (nothing.input rose)
+  done_or_faulted good nothing status.ReadFault (inr (inl (asks, (image, read, (rose, none))))) = absurd (nothing.input rose)
   done_or_faulted good nothing status.ReadFault (inr (inr (what, asks, breaks))) = absurd (nothing.input breaks.rose)
   done_or_faulted good nothing status.WriteFault (rose, f) = absurd (nothing.out rose)
 
@@ -192,25 +157,22 @@ module _ (c : Call) (old new : IoState) where
   -- ---- run files
 
   module _ (image : Image) (b : BenchParts) (asks : IsRunFileCall c.words) (has : HasImage c image) (file : HasRunFile c image b) where
-    is_run_file : kind_of (meaning c.words) ≡ RunFileCommand
-    is_run_file = run_file_kind c.words asks
-
     not_of_input : (what : What) → Asks c what → ⊥
-    not_of_input what asked = no_run_file_input (kind_of (meaning c.words)) what is_run_file (asks_kind c what asked)
+    not_of_input what asked = no_run_file_input what (one_kind RunFileKind (input_kind what) c.words asks (asks_kind c what asked))
 
     not_of_number : (n : ℕ) (cut : Option ℕ) → IsSelftestOf n cut c.words → ⊥
-    not_of_number n cut asked = let both : RunFileCommand ≡ NumberCommand = sym is_run_file ∙ number_kind n cut c.words asked in cc
+    not_of_number n cut asked = let both : RunFileKind ≡ NumberKind = sym asks ∙ number_kind n cut c.words asked in cc
 
     refused_not : (line : ℕ) (why : BenchWhy) (text : List ℕ) → IsBenchBad c line why text → ⊥
-    refused_not line why text (asked, (parts, takes, bad)) =
-        let same = image_taken c image parts has takes in
+    refused_not line why text (asked, (other, read, bad)) =
+        let same = image_taken c image other has read in
         run_file_stands c.input c.input' file.file image b line why text file.shows file.accepted
         (subst (λ (i : Image). IsBadBench i c.input c.input' line why text) same bad)
 
     good_run_file : Good c old new
     good_run_file = record {
-      words = λ none. let both : RunFileCommand ≡ NoCommand = sym is_run_file ∙ no_kind c.words none in cc;
-      image = λ line why text bad. image_stands c.image c.image' has.text image line why has.shows has.spells bad.refused;
+      words = λ none. let both : RunFileKind ≡ NoCommand = sym asks ∙ no_kind c.words none in cc;
+      image = λ refusal text bad. image_stands c image refusal text has bad;
       run_file = refused_not;
       own_image = λ line why text bad. not_of_number bad.0 bad.1 bad.2;
       own_run_file = λ line why text bad. not_of_number bad.0 bad.1 bad.2;
@@ -222,18 +184,21 @@ module _ (c : Call) (old new : IoState) where
 
   module _ (n : ℕ) (cut : Option ℕ) (image : Image) (b : BenchParts) (asks : IsSelftestOf n cut c.words) (good : AreGood n image b)
       (few : length (trace_frames image b) ≤ most_input) where
-    is_number : kind_of (meaning c.words) ≡ NumberCommand
+    is_number : IsSelftestCall c.words
     is_number = number_kind n cut c.words asks
 
     no_input : (what : What) → Asks c what → ⊥
-    no_input what asked = no_number_input (kind_of (meaning c.words)) what is_number (asks_kind c what asked)
+    no_input what asked = no_number_input what (one_kind NumberKind (input_kind what) c.words is_number (asks_kind c what asked))
 
     no_run_file : IsRunFileCall c.words → ⊥
-    no_run_file asked = let both : NumberCommand ≡ RunFileCommand = sym is_number ∙ run_file_kind c.words asked in cc
+    no_run_file asked = let both : NumberKind ≡ RunFileKind = sym is_number ∙ asked in cc
 
     no_image : IsImageCall c.words → ⊥
-    no_image (inl asked) = let both : NumberCommand ≡ PathCommand = sym is_number ∙ path_kind c.words asked in cc
-    no_image (inr asked) = no_run_file asked
+    no_image (p, named) = by (program_kind p c.words named)
+      where
+        by : IsPathCall c.words ⊎ IsRunFileCall c.words → ⊥
+        by (inl path) = let both : NumberKind ≡ PathKind = sym is_number ∙ path in cc
+        by (inr file) = no_run_file file
 
     same_number : (m : ℕ) (other : Option ℕ) → IsSelftestOf m other c.words → m ≡ n
     same_number m other asked = let both : Some (Selftest m other) ≡ Some (Selftest n cut) = sym asked ∙ asks in cc
@@ -263,8 +228,8 @@ module _ (c : Call) (old new : IoState) where
 
     good_number : Good c old new
     good_number = record {
-      words = λ none. let both : NumberCommand ≡ NoCommand = sym is_number ∙ no_kind c.words none in cc;
-      image = λ line why text bad. no_image bad.command;
+      words = λ none. let both : NumberKind ≡ NoCommand = sym is_number ∙ no_kind c.words none in cc;
+      image = λ refusal text bad. no_image (bad.program, bad.named);
       run_file = λ line why text bad. no_run_file bad.0;
       own_image = own_image_not;
       own_run_file = own_run_file_not;
@@ -274,52 +239,49 @@ module _ (c : Call) (old new : IoState) where
 
   -- ---- paths and packets
 
-  exceeds_not : HasInput c → (what : What) → Asks c what → Exceeds (pairs_of what) (left_of what) (listing_of what) c.input c.input' old new → ⊥
+  exceeds_not : HasInput c → (what : What) → Asks c what → Exceeds (laid_of what) (listing_of what) c.input c.input' old new → ⊥
   exceeds_not has what asked exceeds =
       let front = taken_front c.input.bytes c.input'.bytes has.bytes (exceeds.bytes ++ exceeds.byte ∷ []) has.shows exceeds.took in
       omega (arith, front, has.few, exceeds.many, length-append exceeds.bytes (exceeds.byte ∷ []))
 
   module _ (image : Image) (asks : IsPathCall c.words) (has : HasImage c image) (input : HasInput c) where
-    is_path : kind_of (meaning c.words) ≡ PathCommand
-    is_path = path_kind c.words asks
-
     path_no_number : (n : ℕ) (cut : Option ℕ) → IsSelftestOf n cut c.words → ⊥
-    path_no_number n cut asked = let both : PathCommand ≡ NumberCommand = sym is_path ∙ number_kind n cut c.words asked in cc
+    path_no_number n cut asked = let both : PathKind ≡ NumberKind = sym asks ∙ number_kind n cut c.words asked in cc
 
     good_path : Good c old new
     good_path = record {
-      words = λ none. let both : PathCommand ≡ NoCommand = sym is_path ∙ no_kind c.words none in cc;
-      image = λ line why text bad. image_stands c.image c.image' has.text image line why has.shows has.spells bad.refused;
-      run_file = λ line why text bad. let both : PathCommand ≡ RunFileCommand = sym is_path ∙ run_file_kind c.words bad.0 in cc;
+      words = λ none. let both : PathKind ≡ NoCommand = sym asks ∙ no_kind c.words none in cc;
+      image = λ refusal text bad. image_stands c image refusal text has bad;
+      run_file = λ line why text bad. let both : PathKind ≡ RunFileKind = sym asks ∙ bad.0 in cc;
       own_image = λ line why text bad. path_no_number bad.0 bad.1 bad.2;
       own_run_file = λ line why text bad. path_no_number bad.0 bad.1 bad.2;
       few = exceeds_not input;
       own_few = λ long. path_no_number long.0.0 long.0.1 long.0.2;
     }
 
-  module _ (asks : IsPacketsCall c.words) (input : HasInput c) where
-    is_packets : kind_of (meaning c.words) ≡ PacketsCommand
-    is_packets = packets_kind c.words asks
+  module _ (asks : IsBareCall c.words) (input : HasInput c) where
+    bare_no_number : (n : ℕ) (cut : Option ℕ) → IsSelftestOf n cut c.words → ⊥
+    bare_no_number n cut asked = let both : BareKind ≡ NumberKind = sym asks ∙ number_kind n cut c.words asked in cc
 
-    packets_no_number : (n : ℕ) (cut : Option ℕ) → IsSelftestOf n cut c.words → ⊥
-    packets_no_number n cut asked = let both : PacketsCommand ≡ NumberCommand = sym is_packets ∙ number_kind n cut c.words asked in cc
+    bare_no_run_file : IsRunFileCall c.words → ⊥
+    bare_no_run_file asked = let both : BareKind ≡ RunFileKind = sym asks ∙ asked in cc
 
-    packets_no_run_file : IsRunFileCall c.words → ⊥
-    packets_no_run_file asked = let both : PacketsCommand ≡ RunFileCommand = sym is_packets ∙ run_file_kind c.words asked in cc
+    bare_no_image : IsImageCall c.words → ⊥
+    bare_no_image (p, named) = by (program_kind p c.words named)
+      where
+        by : IsPathCall c.words ⊎ IsRunFileCall c.words → ⊥
+        by (inl path) = let both : BareKind ≡ PathKind = sym asks ∙ path in cc
+        by (inr file) = bare_no_run_file file
 
-    packets_no_image : IsImageCall c.words → ⊥
-    packets_no_image (inl asked) = let both : PacketsCommand ≡ PathCommand = sym is_packets ∙ path_kind c.words asked in cc
-    packets_no_image (inr asked) = packets_no_run_file asked
-
-    good_packets : Good c old new
-    good_packets = record {
-      words = λ none. let both : PacketsCommand ≡ NoCommand = sym is_packets ∙ no_kind c.words none in cc;
-      image = λ line why text bad. packets_no_image bad.command;
-      run_file = λ line why text bad. packets_no_run_file bad.0;
-      own_image = λ line why text bad. packets_no_number bad.0 bad.1 bad.2;
-      own_run_file = λ line why text bad. packets_no_number bad.0 bad.1 bad.2;
+    good_bare : Good c old new
+    good_bare = record {
+      words = λ none. let both : BareKind ≡ NoCommand = sym asks ∙ no_kind c.words none in cc;
+      image = λ refusal text bad. bare_no_image (bad.program, bad.named);
+      run_file = λ line why text bad. bare_no_run_file bad.0;
+      own_image = λ line why text bad. bare_no_number bad.0 bad.1 bad.2;
+      own_run_file = λ line why text bad. bare_no_number bad.0 bad.1 bad.2;
       few = exceeds_not input;
-      own_few = λ long. packets_no_number long.0.0 long.0.1 long.0.2;
+      own_few = λ long. bare_no_number long.0.0 long.0.1 long.0.2;
     }
 
 pub run_files_are_done : RunFilesAreDone
@@ -337,7 +299,7 @@ paths_are_done c old new s image asks has input nothing answers =
     done_or_faulted c old new (good_path c old new image asks has input) nothing s answers
 
 pub packets_are_done : PacketsAreDone
-packets_are_done c old new s asks input nothing answers = done_or_faulted c old new (good_packets c old new asks input) nothing s answers
+packets_are_done c old new s asks input nothing answers = done_or_faulted c old new (good_bare c old new asks input) nothing s answers
 
 -- ---- one text of an input
 
@@ -357,24 +319,27 @@ told_settings seen s is =
     let cid = behind (number_of 4 seen.cid) _ s vmid.1 in
     subst (λ (o : Option Sizes). IfSome o AreSettings) cid.1 (within depth.0 vmid.0 cid.0)
 
+told_intake : (seen : Seen) (r : Intake) → intake_in seen ≡ Some r → AreSettings r.units
+told_intake seen r is =
+    let units = mapped (sizes_in seen) (λ (s : Sizes). record { units = s; layout = layout_in seen }) r is in
+    subst (λ (i : Intake). AreSettings i.units) units.2 (told_settings seen units.0 units.1)
+
 -- the sizes of a command that has any
 abbrev HaveSettings : Command → Type 0
-HaveSettings (Path image s layout) = AreSettings s
-HaveSettings (Packets s layout) = AreSettings s
-HaveSettings (Retired image) = ⊤
-HaveSettings (Trace image) = ⊤
+HaveSettings (Path p r) = AreSettings r.units
+HaveSettings (Packets r) = AreSettings r.units
+HaveSettings (Retired p) = ⊤
+HaveSettings (Trace p) = ⊤
 HaveSettings (Selftest n cut) = ⊤
 
 command_settings : (command : CommandName) (seen : Seen) (said : Command) → command_in command seen ≡ Some said → HaveSettings said
 command_settings name.Path seen said is =
-    let image = behind seen.positional _ said is in
-    let sizes = mapped (sizes_in seen) (λ (s : Sizes). Path image.0 s (layout_in seen)) said image.1 in
-    subst HaveSettings sizes.2 (told_settings seen sizes.0 sizes.1)
+    let program = behind (program_in seen) _ said is in let intake = mapped (intake_in seen) (Path program.0) said program.1 in
+    subst HaveSettings intake.2 (told_intake seen intake.0 intake.1)
 command_settings name.Packets seen said is =
-    let sizes = mapped (sizes_in seen) (λ (s : Sizes). Packets s (layout_in seen)) said is in
-    subst HaveSettings sizes.2 (told_settings seen sizes.0 sizes.1)
-command_settings name.Retired seen said is = let image = mapped seen.positional Retired said is in subst HaveSettings image.2 tt
-command_settings name.Trace seen said is = let image = mapped seen.positional Trace said is in subst HaveSettings image.2 tt
+    let intake = mapped (intake_in seen) Packets said is in subst HaveSettings intake.2 (told_intake seen intake.0 intake.1)
+command_settings name.Retired seen said is = let program = mapped (program_in seen) Retired said is in subst HaveSettings program.2 tt
+command_settings name.Trace seen said is = let program = mapped (program_in seen) Trace said is in subst HaveSettings program.2 tt
 command_settings name.Selftest seen said is =
     let word = behind seen.positional _ said is in let n = behind (number_to most_number word.0) _ said word.1 in
     let cut = mapped (cut_of seen.cut) (Selftest n.0) said n.1 in subst HaveSettings cut.2 tt
@@ -388,49 +353,48 @@ words_settings (word ∷ words) said is =
 
 -- what is printed has a fault or has none
 abbrev TextOf : What → List ℕ → Bool → Type 0
-TextOf what bytes faulty = (lines : List Printed) × IsText (listing_of what) (pairs_of what bytes) (left_of what bytes) lines faulty
+TextOf what bytes faulty = (lines : List Printed) × IsText (listing_of what) ((laid_of what).whole bytes) ((laid_of what).left bytes) lines faulty
 
 decided : (c : Call) (what : What) → Asks c what → (bytes : List ℕ) (faulty also : Bool) → TextOf what bytes faulty → TextOf what bytes also → faulty ≡ also
-decided c (PathsOf image s layout) (words, takes) bytes faulty also (lines, text) (others, too) =
-    (one_text_of_paths image s (words_settings c.words _ words.1) _ _ lines others faulty also text too).1
-decided c (PacketsOf s layout) words bytes faulty also (lines, text) (others, too) =
-    let are : AreSettings s = words_settings c.words _ words in
-    (one_text (packet_lists s) (one_gain s are) (one_end s are) _ _ lines others faulty also text too).1
+decided c (PathsOf image r) (words, read) bytes faulty also (lines, text) (others, too) =
+    (one_text_of_paths image (sizes_by r) (λ id. words_settings c.words _ words.1) _ _ lines others faulty also text too).1
+decided c (PacketsOf r) words bytes faulty also (lines, text) (others, too) =
+    (one_text_of_packets (sizes_by r) (λ id. words_settings c.words _ words) _ _ lines others faulty also text too).1
 
 module _ (c d : Call) (alike : AreAlike c d) where
   same_means : meaning c.words ≡ meaning d.words
   same_means = ap meaning alike.words
 
-  -- such calls over one image, or for packets
-  same_image : (image parts : Image) → TakesImage c.image c.image' image → TakesImage d.image d.image' parts
-      → (kind_of (meaning c.words) ≡ PathCommand) → IsPacketsCall c.words ⊎ ((text : List ℕ) × ShowAlike c.image d.image text) → parts ≡ image
-  same_image image parts takes takes' is (inl packets) = absurd (let both : PathCommand ≡ PacketsCommand = sym is ∙ packets_kind c.words packets in cc)
-  same_image image parts takes takes' is (inr (text, (shows, shows'))) =
-      let one = taken_are c.image.bytes c.image'.bytes text takes.0 shows takes.1 in
-      let other = taken_are d.image.bytes d.image'.bytes text takes'.0 shows' takes'.1 in
-      one_image takes.0 takes'.0 image parts (other ∙ sym one) takes.2 takes'.2
+  -- such calls over one image, or without one
+  same_image : (image other : Image) → HasRead c image → HasRead d other → IsPathCall c.words
+      → IsBareCall c.words ⊎ ((bytes : List ℕ) × ShowAlike c.image d.image bytes) → other ≡ image
+  same_image image other read read' is (inl bare) = absurd (let both : PathKind ≡ BareKind = sym is ∙ bare in cc)
+  same_image image other (p, named, (text, taken, spells)) (q, named', (text', taken', spells')) is (inr (bytes, (shows, shows'))) =
+      let one = taken_are c.image.bytes c.image'.bytes bytes text shows taken in
+      let also = taken_are d.image.bytes d.image'.bytes bytes text' shows' taken' in
+      one_image text text' image other (also ∙ sym one) spells spells'
 
   -- two such calls ask for one thing
   same_what : (what other : What) → Asks c what → Asks d other → other ≡ what
-  same_what (PathsOf image s layout) (PathsOf parts t order) (words, takes) (words', takes') =
-      let both : Some (Path words.0 s layout) ≡ Some (Path words'.0 t order) = sym words.1 ∙ same_means ∙ words'.1 in
-      let images : parts ≡ image = same_image image parts takes takes' (path_kind c.words (s, layout, words)) alike.images in
+  same_what (PathsOf image r) (PathsOf other order) (words, read) (words', read') =
+      let both : Some (Path words.0 r) ≡ Some (Path words'.0 order) = sym words.1 ∙ same_means ∙ words'.1 in
+      let images : other ≡ image = same_image image other read read' (path_kind r c.words words) alike.images in
       cc
-  same_what (PathsOf image s layout) (PacketsOf t order) (words, takes) words' =
-      let both : Some (Path words.0 s layout) ≡ Some (Packets t order) = sym words.1 ∙ same_means ∙ words' in absurd cc
-  same_what (PacketsOf s layout) (PathsOf parts t order) words (words', takes') =
-      let both : Some (Packets s layout) ≡ Some (Path words'.0 t order) = sym words ∙ same_means ∙ words'.1 in absurd cc
-  same_what (PacketsOf s layout) (PacketsOf t order) words words' =
-      let both : Some (Packets s layout) ≡ Some (Packets t order) = sym words ∙ same_means ∙ words' in cc
+  same_what (PathsOf image r) (PacketsOf order) (words, read) words' =
+      let both : Some (Path words.0 r) ≡ Some (Packets order) = sym words.1 ∙ same_means ∙ words' in absurd cc
+  same_what (PacketsOf r) (PathsOf other order) words (words', read') =
+      let both : Some (Packets r) ≡ Some (Path words'.0 order) = sym words ∙ same_means ∙ words'.1 in absurd cc
+  same_what (PacketsOf r) (PacketsOf order) words words' =
+      let both : Some (Packets r) ≡ Some (Packets order) = sym words ∙ same_means ∙ words' in cc
 
   -- the text that was printed is that of the input
   text_of_input : (e : Call) (old new : IoState) (what : What) (faulty : Bool) → e.input.bytes ≡ Some alike.input_bytes
-      → Completes (pairs_of what) (left_of what) (listing_of what) e.input e.input' old new faulty → TextOf what alike.input_bytes faulty
+      → Completes (laid_of what) (listing_of what) e.input e.input' old new faulty → TextOf what alike.input_bytes faulty
   text_of_input e old new what faulty shows done =
       let bytes = taken_are e.input.bytes e.input'.bytes alike.input_bytes done.bytes shows done.read in
-      (done.lines, subst (λ (l : List ℕ). IsText (listing_of what) (pairs_of what l) (left_of what l) done.lines faulty) bytes done.shown)
+      (done.lines, subst (λ (l : List ℕ). IsText (listing_of what) ((laid_of what).whole l) ((laid_of what).left l) done.lines faulty) bytes done.shown)
 
-  other_kind : (what : What) → Asks d what → kind_of (meaning c.words) ≡ input_kind what
+  other_kind : (what : What) → Asks d what → IsOfKind (input_kind what) c.words
   other_kind what asked = ap kind_of same_means ∙ asks_kind d what asked
 
   not_both : (old new old' new' : IoState) → Answers c old new status.Done → Answers d old' new' status.Faulted → ⊥
@@ -440,11 +404,11 @@ module _ (c d : Call) (alike : AreAlike c d) where
       let too = subst (λ (w : What). TextOf w alike.input_bytes true) same (text_of_input d old' new' other true alike.inputs.1 faulted) in
       let both : false ≡ true = decided c what asks alike.input_bytes false true text too in cc
   not_both old new old' new' (inr (inl (text, (words, rest), printed))) (what, asked, faulted) =
-      no_run_file_input (kind_of (meaning c.words)) what (run_file_kind c.words (inl words)) (other_kind what asked)
+      no_run_file_input what (one_kind RunFileKind (input_kind what) c.words (retired_kind c.words words) (other_kind what asked))
   not_both old new old' new' (inr (inr (inl (frames, (words, rest), printed)))) (what, asked, faulted) =
-      no_run_file_input (kind_of (meaning c.words)) what (run_file_kind c.words (inr words)) (other_kind what asked)
+      no_run_file_input what (one_kind RunFileKind (input_kind what) c.words (trace_kind c.words words) (other_kind what asked))
   not_both old new old' new' (inr (inr (inr (text, (n, cut, words, summary), printed)))) (what, asked, faulted) =
-      no_number_input (kind_of (meaning c.words)) what (number_kind n cut c.words words) (other_kind what asked)
+      no_number_input what (one_kind NumberKind (input_kind what) c.words (number_kind n cut c.words words) (other_kind what asked))
 
 pub faults_are_decided : FaultsAreDecided
 faults_are_decided c d old new old' new' alike = not_both c d alike old new old' new'

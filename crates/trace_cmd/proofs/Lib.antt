@@ -1,3 +1,4 @@
 pub mod AnswerLemmas
 pub mod Complete
 pub mod TracedCalls
+pub mod WordKinds

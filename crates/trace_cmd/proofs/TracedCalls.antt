@@ -9,17 +9,16 @@ use Rattle.program_image.proofs.Placed.{image_read}
 use Rattle.program_image.specs.ImageText.{image_of}
 use Rattle.program_image.specs.declared.image.Image.{Image}
 use Rattle.stream_demux.specs.Paths.{paths}
-use Rattle.stream_demux.specs.Texts.{IsText, Printed, text_of}
+use Rattle.stream_demux.specs.Texts.{IsText, Printed, by_sizes, text_of}
 use Rattle.traced_runs.proofs.TracedStreams.{shows_traces, traces_are_shown}
 use Rattle.trace_cmd.specs.Answers.{Answers, Asks, Call, IsRetired, IsTested, IsTraced}
 use Rattle.input_pieces.specs.Listed.{Completes}
-use Rattle.trace_cmd.specs.Printing.{PathsOf, PacketsOf, What, left_in, left_of, listing_of, pairs_in, pairs_of}
+use Rattle.trace_cmd.specs.Printing.{PathsOf, PacketsOf, What, laid_in, laid_of, listing_of, sizes_by}
 use Rattle.traced_runs.specs.Traced.{AreAccepted, IsTraceText, trace_frames}
-use Rattle.trace_cmd.specs.TracedCalls.{IsPathOfTrace, PrintsTraces}
+use Rattle.trace_cmd.specs.TracedCalls.{IsPathOfTrace, PrintsTraces, frames_under}
 use Rattle.answer_lines.specs.declared.status.Status.{Status}
 use Rattle.answer_lines.specs.declared.status.Status.TheVariants as status
-use Rattle.command_words.specs.declared.words.Layout.{Layout}
-use Rattle.command_words.specs.declared.words.Layout.TheVariants.{Frames}
+use Rattle.command_words.specs.Words.{Intake}
 use Rattle.trace_io.specs.Bytes.{AppendsAll}
 use Rattle.trace_io.specs.State.{IoState}
 
@@ -36,38 +35,43 @@ one_image text other image parts same is also = let all : Ok parts ≡ Ok image 
 
 module _ (c : Call) (old new : IoState) (image : Image) (b : BenchParts) (bench : IsBench b) (none : AreAccepted image b) (asks : IsPathOfTrace c image b)
   where
+    -- the sizes of each stream
+    abbrev own : ℕ → Sizes
+    own id = b.settings
+
     -- what is shown of the input is the text of the traces
-    shown : (parts : Image) (s : Sizes) (layout : Layout) (bytes : List ℕ) (lines : List Printed) (faulty : Bool) → parts ≡ image → s ≡ b.settings
-        → layout ≡ Frames → bytes ≡ trace_frames image b → begun_frame (trace_frames image b) ≡ []
-        → IsText (paths parts s) (pairs_in layout bytes) (left_in layout bytes) lines faulty → IsTraceText image b lines faulty
-    shown parts s layout bytes lines faulty image_is sizes frames input nothing is =
-        let all = subst (λ (l : Layout). IsText (paths parts s) (pairs_in l bytes) (left_in l bytes) lines faulty) frames is in
-        let carried = subst (λ (l : List ℕ). IsText (paths parts s) (unframed l) (length (begun_frame l)) lines faulty) input all in
-        let left = subst (λ (l : List ℕ). IsText (paths parts s) (unframed (trace_frames image b)) (length l) lines faulty) nothing carried in
-        let own = subst (λ (t : Sizes). IsText (paths parts t) (unframed (trace_frames image b)) 0 lines faulty) sizes left in
-        subst (λ (i : Image). IsText (paths i b.settings) (unframed (trace_frames image b)) 0 lines faulty) image_is own
+    shown : (other : Image) (r : Intake) (bytes : List ℕ) (lines : List Printed) (faulty : Bool) → other ≡ image → r ≡ frames_under b.settings
+        → bytes ≡ trace_frames image b → begun_frame (trace_frames image b) ≡ []
+        → IsText (by_sizes (paths other) (sizes_by r)) ((laid_in r.layout).whole bytes) ((laid_in r.layout).left bytes) lines faulty
+        → IsTraceText image b lines faulty
+    shown other r bytes lines faulty image_is taken input nothing is =
+        let all = subst (λ (i : Intake). IsText (by_sizes (paths other) (sizes_by i)) ((laid_in i.layout).whole bytes) ((laid_in i.layout).left bytes) lines
+        faulty) taken is in
+        let carried = subst (λ (l : List ℕ). IsText (by_sizes (paths other) own) (unframed l) (length (begun_frame l)) lines faulty) input all in
+        let left = subst (λ (l : List ℕ). IsText (by_sizes (paths other) own) (unframed (trace_frames image b)) (length l) lines faulty) nothing carried in
+        subst (λ (i : Image). IsText (by_sizes (paths i) own) (unframed (trace_frames image b)) 0 lines faulty) image_is left
 
     -- what is printed then
     abbrev Printing : Bool → Type 0
     Printing faulty = (lines : List Printed) × IsTraceText image b lines faulty × AppendsAll old new (text_of lines)
 
     printing : (what : What) (faulty : Bool) → Asks c what
-        → Completes (pairs_of what) (left_of what) (listing_of what) c.input c.input' old new faulty → Printing faulty
-    printing (PacketsOf s layout) faulty asked done = absurd (let words : _ ≡ _ = sym asked ∙ asks.words.1 in cc)
-    printing (PathsOf parts s layout) faulty (asked, (text, taken, spells)) done =
+        → Completes (laid_of what) (listing_of what) c.input c.input' old new faulty → Printing faulty
+    printing (PacketsOf r) faulty asked done = absurd (let words : _ ≡ _ = sym asked ∙ asks.words.1 in cc)
+    printing (PathsOf other r) faulty (asked, (p, named, (bytes, taken, spells))) done =
         let words = sym asked.1 ∙ asks.words.1 in
-        let sizes : s ≡ b.settings = cc in
-        let frames : layout ≡ Frames = cc in
-        let image_is = one_image asks.text text image parts (taken_are c.image.bytes c.image'.bytes asks.text text asks.image_text taken) asks.spells spells in
+        let same : r ≡ frames_under b.settings = cc in
+        let has = asks.is_same in
+        let image_is = one_image has.bytes bytes image other (taken_are c.image.bytes c.image'.bytes has.bytes bytes has.shows taken) has.spells spells in
         let input = taken_are c.input.bytes c.input'.bytes (trace_frames image b) done.bytes asks.input done.read in
-        let whole = traces_are_shown image b (image_read asks.text image asks.spells) bench none in
-        (done.lines, shown parts s layout done.bytes done.lines faulty image_is sizes frames input whole.nothing_left done.shown, done.printed)
+        let whole = traces_are_shown image b (image_read has.bytes image has.spells) bench none in
+        (done.lines, shown other r done.bytes done.lines faulty image_is same input whole.nothing_left done.shown, done.printed)
 
     not_retired : (text : List ℕ) → IsRetired c text → ⊥
-    not_retired text ((name, words), parts) = let both = sym words ∙ asks.words.1 in cc
+    not_retired text ((p, words), over) = let both = sym words ∙ asks.words.1 in cc
 
     not_traced : (frames : List ℕ) → IsTraced c frames → ⊥
-    not_traced frames ((name, words), parts) = let both = sym words ∙ asks.words.1 in cc
+    not_traced frames ((p, words), over) = let both = sym words ∙ asks.words.1 in cc
 
     not_tested : (text : List ℕ) → IsTested c text → ⊥
     not_tested text (n, cut, words, summary) = let both = sym words ∙ asks.words.1 in cc
@@ -75,13 +79,13 @@ module _ (c : Call) (old new : IoState) (image : Image) (b : BenchParts) (bench 
     pub prints_traces : (answer : Status) → Answers c old new answer → PrintsTraces image b old new answer
     prints_traces status.Done (inl (what, asked, done)) =
         let here = printing what false asked done in
-        (here.0, shows_traces image b (image_read asks.text image asks.spells) bench none here.0 false here.1, here.2)
+        (here.0, shows_traces image b (image_read asks.is_same.bytes image asks.is_same.spells) bench none here.0 false here.1, here.2)
     prints_traces status.Done (inr (inl (text, retired, printed))) = absurd (not_retired text retired)
     prints_traces status.Done (inr (inr (inl (frames, traced, printed)))) = absurd (not_traced frames traced)
     prints_traces status.Done (inr (inr (inr (text, tested, printed)))) = absurd (not_tested text tested)
     prints_traces status.Faulted (what, asked, done) =
         let here = printing what true asked done in
-        let whole = traces_are_shown image b (image_read asks.text image asks.spells) bench none in
+        let whole = traces_are_shown image b (image_read asks.is_same.bytes image asks.is_same.spells) bench none in
         let other = (whole.only here.0 true here.1).1 in absurd cc
     prints_traces status.Usage answer = tt
     prints_traces (status.ImageBad line why) answer = tt

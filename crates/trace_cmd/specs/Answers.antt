@@ -1,25 +1,23 @@
 -- What each answer of a call means, and the text that comes with it.
-use Rattle.std.specs.Prelude.{◌≡◌, ◌⊎◌, ℕ, true, false, List, [], ◌∷◌, ◌++◌, codes, Option, Some, None, Result, Ok, Err}
+use Rattle.std.specs.Prelude.{◌≡◌, ◌⊎◌, ℕ, true, false, List, [], Option, Some, None, Result, Ok, Err}
 use Rattle.trace_io.specs.State.{IoState}
 use Rattle.trace_io.specs.Bytes.{AppendsAll}
 use Rattle.trace_io.specs.Causes.{KeepsFaults, Rose}
 use Rattle.program_image.specs.declared.image.Image.{Image}
-use Rattle.program_image.specs.Answers.{TakesImage, TakesNoImage}
 use Rattle.program_image.specs.declared.fault.ImageWhy.{ImageWhy}
 use Rattle.answer_lines.specs.declared.status.Status.{Status}
 use Rattle.answer_lines.specs.declared.status.Status.TheVariants as status
 use Rattle.retired_paths.specs.Retired.{IsBadBench, IsRetiredText}
 use Rattle.answer_lines.specs.Prints.{Prints, PrintsFront}
-use Rattle.answer_lines.specs.ImageLine.{image_line}
 use Rattle.answer_lines.specs.UsageLine.{usage_line}
 use Rattle.traced_runs.specs.Selftest.{HasBadBench, HasBadImage, IsSummary, IsTooLong}
 use Rattle.traced_runs.specs.Traced.{IsTracedFrames}
-use Rattle.command_words.specs.Words.{Path, Packets, Retired, Selftest, Trace, meaning}
+use Rattle.command_words.specs.Words.{Command, Intake, Kind, Program, Path, Packets, Retired, Selftest, Trace}
+use Rattle.command_words.specs.Words.{BareKind, NumberKind, PathKind, RunFileKind, kind_of, meaning}
 use Rattle.bench_text.specs.declared.fault.BenchWhy.{BenchWhy}
-use Rattle.etm_types.specs.Settings.{Sizes}
 use Rattle.input_pieces.specs.Listed.{Breaks, Completes, Exceeds, Interrupts}
-use Rattle.trace_cmd.specs.Printing.{What, PathsOf, PacketsOf, left_of, listing_of, pairs_of}
-use Rattle.command_words.specs.declared.words.Layout.{Layout}
+use Rattle.trace_cmd.specs.Printing.{What, PathsOf, PacketsOf, laid_of, listing_of}
+use Rattle.trace_cmd.specs.Programs.{BadText, HasProgram, IsSpelled, NoProgram, TakesNoProgram, TakesProgram, line_of}
 use Rattle.trace_io.specs.declared.traits.Failed.{Failed}
 
 -- ---- a call
@@ -35,50 +33,72 @@ pub record Call : Type 0 where
 abbrev pub call : List (List ℕ) → IoState → IoState → IoState → IoState → Call
 call words image image' input input' = record { words = words; image = image; image' = image'; input = input; input' = input' }
 
--- the words ask for the path, and for the packets, under these sizes, of an input of this layout
-abbrev pub IsPathUnder : Sizes → Layout → List (List ℕ) → Type 0
-IsPathUnder s layout words = (image : List ℕ) × (meaning words ≡ Some (Path image s layout))
+-- ---- what the words ask for
 
-abbrev pub IsPacketsUnder : Sizes → Layout → List (List ℕ) → Type 0
-IsPacketsUnder s layout words = meaning words ≡ Some (Packets s layout)
+-- the path, and the packets, of an input that is taken so
+abbrev pub IsPathUnder : Intake → List (List ℕ) → Type 0
+IsPathUnder r words = (p : Program) × (meaning words ≡ Some (Path p r))
 
-abbrev pub IsPathCall : List (List ℕ) → Type 0
-IsPathCall words = (s : Sizes) × (layout : Layout) × IsPathUnder s layout words
+abbrev pub IsPacketsUnder : Intake → List (List ℕ) → Type 0
+IsPacketsUnder r words = meaning words ≡ Some (Packets r)
 
-abbrev pub IsPacketsCall : List (List ℕ) → Type 0
-IsPacketsCall words = (s : Sizes) × (layout : Layout) × IsPacketsUnder s layout words
-
+-- the retired paths of a run file, and its traces
 abbrev pub IsRetiredCall : List (List ℕ) → Type 0
-IsRetiredCall words = (image : List ℕ) × (meaning words ≡ Some (Retired image))
+IsRetiredCall words = (p : Program) × (meaning words ≡ Some (Retired p))
 
 abbrev pub IsTraceCall : List (List ℕ) → Type 0
-IsTraceCall words = (image : List ℕ) × (meaning words ≡ Some (Trace image))
+IsTraceCall words = (p : Program) × (meaning words ≡ Some (Trace p))
 
--- the words ask for a command that reads a run file over an image: for its retired paths, or for its traces
-abbrev pub IsRunFileCall : List (List ℕ) → Type 0
-IsRunFileCall words = IsRetiredCall words ⊎ IsTraceCall words
-
--- the words ask to try both ends on the run file of a number, and how many bytes of its frames are read
+-- both ends tried on the run file of a number, and how many bytes of its frames are read
 abbrev pub IsSelftestOf : ℕ → Option ℕ → List (List ℕ) → Type 0
 IsSelftestOf n cut words = meaning words ≡ Some (Selftest n cut)
 
-abbrev pub IsSelftestCall : List (List ℕ) → Type 0
-IsSelftestCall words = (n : ℕ) × (cut : Option ℕ) × IsSelftestOf n cut words
+-- a command of this kind
+abbrev pub IsOfKind : Kind → List (List ℕ) → Type 0
+IsOfKind kind words = kind_of (meaning words) ≡ kind
 
--- the words ask for a command that reads an image
+-- one that reads an input over an image, or without an image
+abbrev pub IsPathCall : List (List ℕ) → Type 0
+IsPathCall words = IsOfKind PathKind words
+
+abbrev pub IsBareCall : List (List ℕ) → Type 0
+IsBareCall words = IsOfKind BareKind words
+
+-- one that reads a run file over an image
+abbrev pub IsRunFileCall : List (List ℕ) → Type 0
+IsRunFileCall words = IsOfKind RunFileKind words
+
+-- one that reads nothing
+abbrev pub IsSelftestCall : List (List ℕ) → Type 0
+IsSelftestCall words = IsOfKind NumberKind words
+
+-- one that reads an image
 abbrev pub IsImageCall : List (List ℕ) → Type 0
-IsImageCall words = IsPathCall words ⊎ IsRunFileCall words
+IsImageCall words = (p : Program) × HasProgram p words
 
 abbrev pub IsCall : List (List ℕ) → Type 0
-IsCall words = IsImageCall words ⊎ IsPacketsCall words ⊎ IsSelftestCall words
+IsCall words = (command : Command) × (meaning words ≡ Some command)
 
--- the image was read to its end, and it is good
-abbrev pub ReadsImage : IoState → IoState → Type 0
-ReadsImage image image' = (parts : Image) × TakesImage image image' parts
+-- ---- what was read
 
--- what a command reads before the input: its image, and packets nothing
+-- the image shows bytes that spell this one
+pub record HasImage (c : Call) (image : Image) : Type 0 where
+  pub program : Program
+  pub named : HasProgram program c.words
+  pub bytes : List ℕ
+  pub shows : c.image.bytes ≡ Some bytes
+  pub spells : IsSpelled program bytes image
+
+-- the image was read to its end, as that of the program that the words name, and it is this one
+abbrev pub HasRead : Call → Image → Type 0
+HasRead c image = (p : Program) × HasProgram p c.words × TakesProgram p c.image c.image' image
+
+abbrev pub ReadsImage : Call → Type 0
+ReadsImage c = (image : Image) × HasRead c image
+
+-- what a command reads before the input: its image, and without one nothing
 abbrev pub ReadsFirst : Call → Type 0
-ReadsFirst c = (IsImageCall c.words × ReadsImage c.image c.image') ⊎ IsPacketsCall c.words
+ReadsFirst c = ReadsImage c ⊎ IsBareCall c.words
 
 -- no read of image or input failed
 abbrev pub NoReadFailed : Call → Type 0
@@ -91,16 +111,17 @@ pub record IsUsage (c : Call) (text : List ℕ) : Type 0 where
   pub meaningless : meaning c.words ≡ None
   pub printed : text ≡ usage_line
 
--- ImageBad: the image's text, read to its end or past the most that is read, has this fault first
-pub record IsImageBad (c : Call) (line : ℕ) (why : ImageWhy) (text : List ℕ) : Type 0 where
-  pub command : IsImageCall c.words
-  pub refused : TakesNoImage c.image c.image' line why
-  pub printed : text ≡ image_line line why
+-- ImageBad: the image, read to its end or past the most that is read, spells none, for this first
+pub record IsProgramBad (c : Call) (refusal : NoProgram) (text : List ℕ) : Type 0 where
+  pub program : Program
+  pub named : HasProgram program c.words
+  pub refused : TakesNoProgram program c.image c.image' refusal
+  pub printed : text ≡ line_of refusal
 
 -- what the words ask to print of the input: for paths, over the image that was read to its end
 abbrev pub Asks : Call → What → Type 0
-Asks c (PathsOf parts s layout) = IsPathUnder s layout c.words × TakesImage c.image c.image' parts
-Asks c (PacketsOf s layout) = IsPacketsUnder s layout c.words
+Asks c (PathsOf image r) = IsPathUnder r c.words × HasRead c image
+Asks c (PacketsOf r) = IsPacketsUnder r c.words
 
 -- ReadFault by the image: nothing of the input was taken, and nothing printed
 pub record IsImageFault (c : Call) (out out' : IoState) : Type 0 where
@@ -120,23 +141,23 @@ pub record IsNoMemory (c : Call) (out out' : IoState) : Type 0 where
 
 -- the words ask for this, and that is so over the image, which was read to its end
 abbrev pub OverImage : (List (List ℕ) → Type 0) → Call → (Image → Type 0) → Type 0
-OverImage Asked c Way = Asked c.words × ((parts : Image) × TakesImage c.image c.image' parts × Way parts)
+OverImage Asked c Way = Asked c.words × ((image : Image) × HasRead c image × Way image)
 
 -- the retired paths of a run file
 abbrev pub IsRetired : Call → List ℕ → Type 0
-IsRetired c text = OverImage IsRetiredCall c (λ parts. IsRetiredText parts c.input c.input' text)
+IsRetired c text = OverImage IsRetiredCall c (λ image. IsRetiredText image c.input c.input' text)
 
 -- the frames of its traces
 abbrev pub IsTraced : Call → List ℕ → Type 0
-IsTraced c frames = OverImage IsTraceCall c (λ parts. IsTracedFrames parts c.input c.input' frames)
+IsTraced c frames = OverImage IsTraceCall c (λ image. IsTracedFrames image c.input c.input' frames)
 
 -- BenchBad, of retired paths or of traces: the run file has this fault first
 abbrev pub IsBenchBad : Call → ℕ → BenchWhy → List ℕ → Type 0
-IsBenchBad c line why text = OverImage IsRunFileCall c (λ parts. IsBadBench parts c.input c.input' line why text)
+IsBenchBad c line why text = OverImage IsRunFileCall c (λ image. IsBadBench image c.input c.input' line why text)
 
 -- ReadFault by the run file, of retired paths or of traces: nothing was printed
 abbrev pub IsBenchFault : Call → IoState → IoState → Type 0
-IsBenchFault c out out' = OverImage IsRunFileCall c (λ parts. Rose c.input c.input' × AppendsAll out out' [])
+IsBenchFault c out out' = OverImage IsRunFileCall c (λ image. Rose c.input c.input' × AppendsAll out out' [])
 
 -- ---- answers of a number
 
@@ -165,33 +186,49 @@ IsOwnTooLong c out out' = OfNumber c (λ n cut. IsTooLong n) × AppendsAll out o
 abbrev pub OfInput : Call → (What → Type 0) → Type 0
 OfInput c Way = (what : What) × Asks c what × Way what
 
--- WriteFault: the count of the output rose. A front of the line of usage, of a bad image or of a bad run file was printed, or of what is
--- asked for of the input, of a run file or of a number; of another answer, nothing.
+-- The texts that a call prints whole, or a front of where a write fails.
+pub data Text : Type 0 where
+  UsageText : Text
+  ImageText : NoProgram → Text
+  RetiredText : Text
+  BenchText : ℕ → BenchWhy → Text
+  TraceText : Text
+  TestText : Text
+  OwnImageText : ℕ → ImageWhy → Text
+  OwnBenchText : ℕ → BenchWhy → Text
+
+abbrev pub IsTextOf : Call → Text → List ℕ → Type 0
+IsTextOf c UsageText text = IsUsage c text
+IsTextOf c (ImageText refusal) text = IsProgramBad c refusal text
+IsTextOf c RetiredText text = IsRetired c text
+IsTextOf c (BenchText line why) text = IsBenchBad c line why text
+IsTextOf c TraceText text = IsTraced c text
+IsTextOf c TestText text = IsTested c text
+IsTextOf c (OwnImageText line why) text = IsOwnImageBad c line why text
+IsTextOf c (OwnBenchText line why) text = IsOwnBenchBad c line why text
+
+-- WriteFault: the count of the output rose. A front of such a text was printed, or of what is asked for of the input; of another answer,
+-- nothing.
 abbrev pub IsWriteFault : Call → IoState → IoState → Type 0
 IsWriteFault c old new =
-    PrintsFront (IsUsage c) old new ⊎ ((line : ℕ) × (why : ImageWhy) × PrintsFront (IsImageBad c line why) old new)
-    ⊎ OfInput c (λ what. Interrupts (pairs_of what) (left_of what) (listing_of what) c.input c.input' old new)
-    ⊎ IsImageFault c old new ⊎ IsNoMemory c old new
-    ⊎ PrintsFront (IsRetired c) old new ⊎ ((line : ℕ) × (why : BenchWhy) × PrintsFront (IsBenchBad c line why) old new) ⊎ IsBenchFault c old new
-    ⊎ PrintsFront (IsTraced c) old new
-    ⊎ PrintsFront (IsTested c) old new ⊎ ((line : ℕ) × (why : ImageWhy) × PrintsFront (IsOwnImageBad c line why) old new)
-    ⊎ ((line : ℕ) × (why : BenchWhy) × PrintsFront (IsOwnBenchBad c line why) old new) ⊎ IsOwnTooLong c old new
+    ((t : Text) × PrintsFront (IsTextOf c t) old new) ⊎ OfInput c (λ what. Interrupts (laid_of what) (listing_of what) c.input c.input' old new)
+    ⊎ IsImageFault c old new ⊎ IsNoMemory c old new ⊎ IsBenchFault c old new ⊎ IsOwnTooLong c old new
 
 -- What each answer means, by what the output showed before and after.
 abbrev pub Answers : Call → IoState → IoState → Status → Type 0
 Answers c old new status.Done =
-    OfInput c (λ what. Completes (pairs_of what) (left_of what) (listing_of what) c.input c.input' old new false)
-    ⊎ Prints (IsRetired c) old new ⊎ Prints (IsTraced c) old new ⊎ Prints (IsTested c) old new
-Answers c old new status.Faulted =
-    OfInput c (λ what. Completes (pairs_of what) (left_of what) (listing_of what) c.input c.input' old new true)
-Answers c old new status.Usage = Prints (IsUsage c) old new
-Answers c old new (status.ImageBad line why) = Prints (IsImageBad c line why) old new ⊎ Prints (IsOwnImageBad c line why) old new
-Answers c old new (status.BenchBad line why) = Prints (IsBenchBad c line why) old new ⊎ Prints (IsOwnBenchBad c line why) old new
+    OfInput c (λ what. Completes (laid_of what) (listing_of what) c.input c.input' old new false)
+    ⊎ Prints (IsTextOf c RetiredText) old new ⊎ Prints (IsTextOf c TraceText) old new ⊎ Prints (IsTextOf c TestText) old new
+Answers c old new status.Faulted = OfInput c (λ what. Completes (laid_of what) (listing_of what) c.input c.input' old new true)
+Answers c old new status.Usage = Prints (IsTextOf c UsageText) old new
+Answers c old new (status.ImageBad line why) =
+    Prints (IsTextOf c (ImageText (BadText line why))) old new ⊎ Prints (IsTextOf c (OwnImageText line why)) old new
+Answers c old new (status.BenchBad line why) =
+    Prints (IsTextOf c (BenchText line why)) old new ⊎ Prints (IsTextOf c (OwnBenchText line why)) old new
 Answers c old new status.InputTooLong =
-    OfInput c (λ what. Exceeds (pairs_of what) (left_of what) (listing_of what) c.input c.input' old new) ⊎ IsOwnTooLong c old new
+    OfInput c (λ what. Exceeds (laid_of what) (listing_of what) c.input c.input' old new) ⊎ IsOwnTooLong c old new
 Answers c old new status.ReadFault =
-    IsImageFault c old new ⊎ IsBenchFault c old new
-    ⊎ OfInput c (λ what. Breaks (pairs_of what) (left_of what) (listing_of what) c.input c.input' old new)
+    IsImageFault c old new ⊎ IsBenchFault c old new ⊎ OfInput c (λ what. Breaks (laid_of what) (listing_of what) c.input c.input' old new)
 Answers c old new status.NoMemory = IsNoMemory c old new
 Answers c old new status.WriteFault = Rose old new × IsWriteFault c old new
 

@@ -2,9 +2,8 @@
 use Rattle.std.specs.Prelude.{◌≡◌, ◌⊎◌, ℕ, ◌≤◌, List, length, Option, Some, Ok}
 use Rattle.bench_text.specs.Parts.{BenchParts}
 use Rattle.bench_text.specs.Refusals.{bench_of}
-use Rattle.program_image.specs.ImageText.{image_of}
 use Rattle.program_image.specs.declared.image.Image.{Image}
-use Rattle.trace_cmd.specs.Answers.{Answers, Call, IsPacketsCall, IsPathCall, IsRunFileCall, IsSelftestOf}
+use Rattle.trace_cmd.specs.Answers.{Answers, Call, HasImage, IsBareCall, IsPathCall, IsRunFileCall, IsSelftestOf}
 use Rattle.input_pieces.specs.Listed.{most_input}
 use Rattle.traced_runs.specs.Selftest.{AreGood}
 use Rattle.traced_runs.specs.Traced.{trace_frames}
@@ -18,12 +17,6 @@ pub record NothingFailed (c : Call) (old new : IoState) : Type 0 where
   pub image : Rose c.image c.image' → ⊥
   pub input : Rose c.input c.input' → ⊥
   pub out : Rose old new → ⊥
-
--- the image's text spells an image
-pub record HasImage (c : Call) (image : Image) : Type 0 where
-  pub text : List ℕ
-  pub shows : c.image.bytes ≡ Some text
-  pub spells : image_of text ≡ Ok image
 
 -- the input is a run file without a bad line
 pub record HasRunFile (c : Call) (image : Image) (b : BenchParts) : Type 0 where
@@ -64,17 +57,17 @@ PathsAreDone =
 -- and so are packets, whatever the image
 abbrev pub PacketsAreDone : Type 0
 PacketsAreDone =
-    (c : Call) (old new : IoState) (answer : Status) → IsPacketsCall c.words → HasInput c → NothingFailed c old new → Answers c old new answer
+    (c : Call) (old new : IoState) (answer : Status) → IsBareCall c.words → HasInput c → NothingFailed c old new → Answers c old new answer
     → IsDoneOrFaulted answer
 
 -- both show these bytes
 abbrev pub ShowAlike : IoState → IoState → List ℕ → Type 0
 ShowAlike one other bytes = (one.bytes ≡ Some bytes) × (other.bytes ≡ Some bytes)
 
--- The words, the input, and the image's text where an image is read alone decide whether there is a fault: two such calls do not differ in that.
+-- The words, the input, and the image where one is read alone decide whether there is a fault: two such calls do not differ in that.
 pub record AreAlike (c d : Call) : Type 0 where
   pub words : c.words ≡ d.words
-  pub images : IsPacketsCall c.words ⊎ ((text : List ℕ) × ShowAlike c.image d.image text)
+  pub images : IsBareCall c.words ⊎ ((bytes : List ℕ) × ShowAlike c.image d.image bytes)
   pub input_bytes : List ℕ
   pub inputs : ShowAlike c.input d.input input_bytes
 

@@ -1,4 +1,5 @@
 pub mod Answers
 pub mod Complete
 pub mod Printing
+pub mod Programs
 pub mod TracedCalls

@@ -1,10 +1,11 @@
 -- A call of `path` for what `trace` wrote.
-use Rattle.std.specs.Prelude.{◌≡◌, ℕ, List, Some, Ok, ⊤}
+use Rattle.std.specs.Prelude.{◌≡◌, List, Some, ⊤}
 use Rattle.bench_text.specs.Parts.{BenchParts}
-use Rattle.program_image.specs.ImageText.{image_of}
+use Rattle.command_words.specs.Words.{Intake}
+use Rattle.etm_types.specs.Settings.{Sizes}
 use Rattle.program_image.specs.declared.image.Image.{Image}
 use Rattle.stream_demux.specs.Texts.{Printed, text_of}
-use Rattle.trace_cmd.specs.Answers.{Call, IsPathUnder}
+use Rattle.trace_cmd.specs.Answers.{Call, HasImage, IsPathUnder}
 use Rattle.traced_runs.specs.Traced.{ShowsTraces, trace_frames}
 use Rattle.answer_lines.specs.declared.status.Status.{Status}
 use Rattle.answer_lines.specs.declared.status.Status.TheVariants as status
@@ -12,12 +13,14 @@ use Rattle.command_words.specs.declared.words.Layout.TheVariants.{Frames}
 use Rattle.trace_io.specs.Bytes.{AppendsAll}
 use Rattle.trace_io.specs.State.{IoState}
 
+-- an input in frames, of trace units of these sizes
+abbrev pub frames_under : Sizes → Intake
+frames_under s = record { units = s; layout = Frames }
+
 -- the words ask for paths in frames, under the sizes of the run file; the image is the same, and the input is the frames
 pub record IsPathOfTrace (c : Call) (image : Image) (b : BenchParts) : Type 0 where
-  pub words : IsPathUnder b.settings Frames c.words
-  pub text : List ℕ
-  pub spells : image_of text ≡ Ok image
-  pub image_text : c.image.bytes ≡ Some text
+  pub words : IsPathUnder (frames_under b.settings) c.words
+  pub is_same : HasImage c image
   pub input : c.input.bytes ≡ Some (trace_frames image b)
 
 -- where the input is read to its end, the traces are printed, and nothing else; no such input has a fault

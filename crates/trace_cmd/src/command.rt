@@ -9,16 +9,17 @@ ghost use Rattle.program_image.specs.ImageText.{most_text as most_image_text};
 ghost use Rattle.program_image.specs.Part.{Part};
 ghost use Rattle.command_words.specs.Words.{meaning, texts};
 ghost use Rattle.path_text.specs.Writing.{Writes};
-ghost use Rattle.trace_cmd.specs.Answers.{Answers, AnswersSo, IsImageCall, IsPacketsCall, IsPathUnder, IsRetiredCall};
-ghost use Rattle.trace_cmd.specs.Answers.{IsRunFileCall, IsTraceCall, IsWriteFault, NoReadFailed, ReadsFirst, ReadsImage};
+ghost use Rattle.trace_cmd.specs.Answers.{Answers, AnswersSo, IsBareCall, IsImageCall, IsPathUnder, IsRetiredCall, IsRunFileCall};
+ghost use Rattle.trace_cmd.specs.Answers.{IsSelftestCall, IsTraceCall, IsWriteFault, NoReadFailed, ReadsFirst, call};
+ghost use Rattle.trace_cmd.specs.Printing.{laid_in, sizes_by};
+ghost use Rattle.trace_cmd.specs.Programs.{most_taken};
 ghost use Rattle.answer_lines.specs.UsageLine.{usage_line};
-ghost use Rattle.trace_cmd.specs.Answers.{IsSelftestCall, call};
 ghost use Rattle.input_pieces.specs.Listed.{Listed};
-ghost use Rattle.trace_cmd.specs.Printing.{left_in, pairs_in};
+ghost use Rattle.command_words.specs.Said.{said_intake};
+ghost use Rattle.stream_demux.specs.Texts.{by_sizes};
 
 use answer_lines::{Status, write_image_bad, write_usage};
-use command_words::{Command, Layout, command_of};
-use etm_types::Settings;
+use command_words::{Command, Intake, Layout, command_of};
 use input_pieces::print_input;
 use packet_list::PacketStream;
 use program_image::{Image, ImageFault, ImageWhy};
@@ -32,13 +33,12 @@ use traced_runs::{test_number, trace_input};
 /// Takes the memory for the streams of an input, and prints what is asked of them. Without the memory nothing is read.
 fn print_streams<S: Stream, J: Source, K: Sink>(
     alloc: Global,
-    settings: &Settings,
-    layout: Layout,
+    intake: &Intake,
     shared: &S::Shared,
     input: &mut J,
     out: &mut K,
 ) -> Result<Status, Failed>
-    ensures listed { (result ≡ Ok Status.NoMemory) ⊎ Listed (pairs_in layout) (left_in layout) (S.listing shared.now settings.now)
+    ensures listed { (result ≡ Ok Status.NoMemory) ⊎ Listed (laid_in intake.now.layout) (by_sizes (S.listing shared.now) (sizes_by (said_intake intake.now)))
         (J.state input.old) (J.state input.new) (K.state out.old) (K.state out.new) result }
     ensures memory { result ≡ Ok Status.NoMemory → (input.new ≡ input.old) × (out.new ≡ out.old) }
     ensures no_image { (line : ℕ) (why : ImageWhy) → result ≡ Ok (Status.ImageBad line why) → ⊥ }
@@ -48,12 +48,12 @@ fn print_streams<S: Stream, J: Source, K: Sink>(
     ensures input_shows { ShowsAsBefore (J.state input.old) (J.state input.new) }
     ensures input_later { (J.state input.old).faults ≤ (J.state input.new).faults }
 {
-    match layout {
-        Layout::Raw => match RawStream::<S>::new(alloc, settings) {
+    match intake.layout {
+        Layout::Raw => match RawStream::<S>::new(alloc, &intake.settings) {
             Ok(stream) => print_input(stream, shared, input, out),
             Err(_) => Ok(Status::NoMemory),
         },
-        Layout::Frames => match Demux::<S>::new(alloc, settings) {
+        Layout::Frames => match Demux::<S>::new(alloc, &intake.settings) {
             Ok(demux) => print_input(demux, shared, input, out),
             Err(_) => Ok(Status::NoMemory),
         },
@@ -92,19 +92,18 @@ fn read_image<I: Source, K: Sink>(
 /// Reads the image, and prints the paths of the input over it.
 fn answer_path<I: Source, J: Source, K: Sink>(
     alloc: Global,
-    settings: &Settings,
-    layout: Layout,
+    intake: &Intake,
     image: &mut I,
     input: &mut J,
     out: &mut K,
 ) -> Result<Status, Failed>
-    ensures answer { (words : List (List ℕ)) → IsPathUnder settings.now layout words
+    ensures answer { (words : List (List ℕ)) → IsPathUnder (said_intake intake.now) words
         → AnswersSo (call words (I.state image.old) (I.state image.new) (J.state input.old) (J.state input.new))
         (K.state out.old) (K.state out.new) result }
     ensures image_few { TakesAtMost (I.state image.old) (I.state image.new) (most_image_text + 1) }
     ensures kept { (result ≡ Ok Status.ReadFault)
         ⊎ (KeepsFaults (I.state image.old) (I.state image.new) × KeepsFaults (J.state input.old) (J.state input.new)) }
-    ensures order { (input.new ≡ input.old) ⊎ ReadsImage (I.state image.old) (I.state image.new) }
+    ensures order { (input.new ≡ input.old) ⊎ ((parts : List Part) × TakesImage (I.state image.old) (I.state image.new) parts) }
     ensures image_failed { KeepsFaults (I.state image.old) (I.state image.new) ⊎ (input.new ≡ input.old) }
     ensures image_first { (line : ℕ) (why : ImageWhy) → result ≡ Ok (Status.ImageBad line why) → input.new ≡ input.old }
     ensures memory { result ≡ Ok Status.NoMemory → input.new ≡ input.old }
@@ -116,9 +115,7 @@ fn answer_path<I: Source, J: Source, K: Sink>(
     ensures shows { ShowsAsBefore (K.state out.old) (K.state out.new) }
 {
     match read_image(alloc, image, out)? {
-        Ok(image) => print_streams::<StreamDecoder, J, K>(
-            alloc, settings, layout, &image, input, out,
-        ),
+        Ok(image) => print_streams::<StreamDecoder, J, K>(alloc, intake, &image, input, out),
         Err(status) => Ok(status),
     }
 }
@@ -137,7 +134,7 @@ fn answer_retired<I: Source, J: Source, K: Sink>(
     ensures image_few { TakesAtMost (I.state image.old) (I.state image.new) (most_image_text + 1) }
     ensures kept { (result ≡ Ok Status.ReadFault)
         ⊎ (KeepsFaults (I.state image.old) (I.state image.new) × KeepsFaults (J.state input.old) (J.state input.new)) }
-    ensures order { (input.new ≡ input.old) ⊎ ReadsImage (I.state image.old) (I.state image.new) }
+    ensures order { (input.new ≡ input.old) ⊎ ((parts : List Part) × TakesImage (I.state image.old) (I.state image.new) parts) }
     ensures image_failed { KeepsFaults (I.state image.old) (I.state image.new) ⊎ (input.new ≡ input.old) }
     ensures image_first { (line : ℕ) (why : ImageWhy) → result ≡ Ok (Status.ImageBad line why) → input.new ≡ input.old }
     ensures image_shows { ShowsAsBefore (I.state image.old) (I.state image.new) }
@@ -167,7 +164,7 @@ fn answer_trace<I: Source, J: Source, K: Sink>(
     ensures image_few { TakesAtMost (I.state image.old) (I.state image.new) (most_image_text + 1) }
     ensures kept { (result ≡ Ok Status.ReadFault)
         ⊎ (KeepsFaults (I.state image.old) (I.state image.new) × KeepsFaults (J.state input.old) (J.state input.new)) }
-    ensures order { (input.new ≡ input.old) ⊎ ReadsImage (I.state image.old) (I.state image.new) }
+    ensures order { (input.new ≡ input.old) ⊎ ((parts : List Part) × TakesImage (I.state image.old) (I.state image.new) parts) }
     ensures image_failed { KeepsFaults (I.state image.old) (I.state image.new) ⊎ (input.new ≡ input.old) }
     ensures image_first { (line : ℕ) (why : ImageWhy) → result ≡ Ok (Status.ImageBad line why) → input.new ≡ input.old }
     ensures image_shows { ShowsAsBefore (I.state image.old) (I.state image.new) }
@@ -204,13 +201,13 @@ fn answer_words<I: Source, J: Source, K: Sink>(
     ensures answer { AnswersSo (call (texts words.now) (I.state image.old) (I.state image.new) (J.state input.old) (J.state input.new))
         (K.state out.old) (K.state out.new) result }
     ensures few { IsRunFileCall (texts words.now) → TakesAtMost (J.state input.old) (J.state input.new) (most_text + 1) }
-    ensures image_few { TakesAtMost (I.state image.old) (I.state image.new) (most_image_text + 1) }
+    ensures image_few { TakesAtMost (I.state image.old) (I.state image.new) (most_taken (texts words.now)) }
     ensures kept { (result ≡ Ok Status.ReadFault)
         ⊎ (KeepsFaults (I.state image.old) (I.state image.new) × KeepsFaults (J.state input.old) (J.state input.new)) }
     ensures order { (input.new ≡ input.old)
         ⊎ ReadsFirst (call (texts words.now) (I.state image.old) (I.state image.new) (J.state input.old) (J.state input.new)) }
     ensures words_first { meaning (texts words.now) ≡ None → (image.new ≡ image.old) × (input.new ≡ input.old) }
-    ensures image_untouched { IsPacketsCall (texts words.now) → image.new ≡ image.old }
+    ensures image_untouched { IsBareCall (texts words.now) → image.new ≡ image.old }
     ensures both_untouched { IsSelftestCall (texts words.now) → (image.new ≡ image.old) × (input.new ≡ input.old) }
     ensures image_failed { KeepsFaults (I.state image.old) (I.state image.new) ⊎ (input.new ≡ input.old) }
     ensures image_first { (line : ℕ) (why : ImageWhy) → result ≡ Ok (Status.ImageBad line why) → input.new ≡ input.old }
@@ -228,13 +225,9 @@ fn answer_words<I: Source, J: Source, K: Sink>(
         Err(_) => return Ok(Status::NoMemory),
     };
     match &command {
-        Command::Path {
-            settings,
-            layout,
-            ..
-        } => answer_path(alloc, settings, *layout, image, input, out),
-        Command::Packets { settings, layout } => {
-            print_streams::<PacketStream, J, K>(alloc, settings, *layout, &(), input, out)
+        Command::Path { intake, .. } => answer_path(alloc, intake, image, input, out),
+        Command::Packets { intake } => {
+            print_streams::<PacketStream, J, K>(alloc, intake, &(), input, out)
         }
         Command::Retired { .. } => answer_retired(alloc, image, input, out),
         Command::Trace { .. } => answer_trace(alloc, image, input, out),
@@ -271,7 +264,7 @@ pub fn run<I: Source, J: Source, K: Sink>(
     // The words come first, then the image, then all memory, and then the input, which is touched only once the image is good,
     // or for its packets.
     ensures words_first { meaning (texts words.now) ≡ None → (image.new ≡ image.old) × (input.new ≡ input.old) }
-    ensures image_untouched { IsPacketsCall (texts words.now) → image.new ≡ image.old }
+    ensures image_untouched { IsBareCall (texts words.now) → image.new ≡ image.old }
     ensures both_untouched { IsSelftestCall (texts words.now) → (image.new ≡ image.old) × (input.new ≡ input.old) }
     ensures image_first { (line : ℕ) (why : ImageWhy) → result ≡ Status.ImageBad line why → input.new ≡ input.old }
     ensures image_failed { KeepsFaults (I.state image.old) (I.state image.new) ⊎ (input.new ≡ input.old) }
@@ -279,9 +272,9 @@ pub fn run<I: Source, J: Source, K: Sink>(
     ensures order { (input.new ≡ input.old)
         ⊎ ReadsFirst (call (texts words.now) (I.state image.old) (I.state image.new) (J.state input.old) (J.state input.new)) }
 
-    // Of a run file and of an image no more is read than tells that it is too long.
+    // Of a run file and of an image no more is read than tells that it is too long, and of no program nothing.
     ensures few { IsRunFileCall (texts words.now) → TakesAtMost (J.state input.old) (J.state input.new) (most_text + 1) }
-    ensures image_few { TakesAtMost (I.state image.old) (I.state image.new) (most_image_text + 1) }
+    ensures image_few { TakesAtMost (I.state image.old) (I.state image.new) (most_taken (texts words.now)) }
 
     // No call that failed is passed over.
     ensures reads { (result ≡ Status.ReadFault) ⊎ (result ≡ Status.WriteFault)

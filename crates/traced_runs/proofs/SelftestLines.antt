@@ -9,11 +9,12 @@ use Rattle.std.proofs.lemmas.List.Sums.{sum_by-append, sum_by-cons}
 use Rattle.std.proofs.lemmas.Result.{err_from_is_err_and}
 use Rattle.bench_text.specs.Parts.{BenchParts}
 use Rattle.formatter_frames.specs.Unframed.{begun_frame, unframed}
+use Rattle.stream_demux.specs.Laid.{frames_laid}
 use Rattle.path_text.specs.Lines.{IsLine}
 use Rattle.program_image.specs.declared.image.Image.{Image}
 use Rattle.stream_demux.proofs.AlonePaths.{each_is_a_line}
 use Rattle.stream_demux.specs.Paths.{paths}
-use Rattle.stream_demux.specs.Texts.{IsText, Printed, text_of}
+use Rattle.stream_demux.specs.Texts.{IsText, Printed, by_sizes, text_of}
 use Rattle.traced_runs.proofs.SelftestTexts.{all_taken, none_failed}
 use Rattle.input_pieces.specs.Listed.{Completes, Listed, most_input}
 use Rattle.traced_runs.specs.Selftest.{HasLines, line_feeds}
@@ -51,16 +52,16 @@ feeds_of_lines (l ∷ lines) are =
 pub feeds_counted : (image : Image) (b : BenchParts) (bytes : List ℕ) (lines : List Printed) → HasLines image b bytes lines
     → line_feeds (text_of lines) ≡ length lines
 feeds_counted image b bytes lines (faulty, is) =
-    feeds_of_lines lines (each_is_a_line image b.settings (unframed bytes) (length (begun_frame bytes)) lines faulty is)
+    feeds_of_lines lines (each_is_a_line image (λ id. b.settings) (unframed bytes) (length (begun_frame bytes)) lines faulty is)
 
 whole : (image : Image) (b : BenchParts) (s s' : Pieces) (out out' : IoState) (faulty : Bool)
-    → Completes unframed (λ (bytes : List ℕ). length (begun_frame bytes)) (paths image b.settings) (pieces_state s) (pieces_state s') out out' faulty
+    → Completes frames_laid (by_sizes (paths image) (λ id. b.settings)) (pieces_state s) (pieces_state s') out out' faulty
     → (lines : List Printed) × HasLines image b s.left lines × AppendsAll out out' (text_of lines)
 whole image b s s' out out' faulty c = (
   c.lines,
   (
     faulty,
-    subst (λ (l : List ℕ). IsText (paths image b.settings) (unframed l) (length (begun_frame l)) c.lines faulty) (all_taken s s' c.bytes c.read)
+    subst (λ (l : List ℕ). IsText (by_sizes (paths image) (λ id. b.settings)) (unframed l) (length (begun_frame l)) c.lines faulty) (all_taken s s' c.bytes c.read)
         c.shown,
   ),
   c.printed,
@@ -68,7 +69,7 @@ whole image b s s' out out' faulty c = (
 
 -- what was printed of bytes in memory are the lines of all of them
 pub all_printed : (image : Image) (b : BenchParts) (s s' : Pieces) (out out' : IoState) (status : Status) → length s.left ≤ most_input
-    → Listed unframed (λ (bytes : List ℕ). length (begun_frame bytes)) (paths image b.settings) (pieces_state s) (pieces_state s') out out' (Ok status)
+    → Listed frames_laid (by_sizes (paths image) (λ id. b.settings)) (pieces_state s) (pieces_state s') out out' (Ok status)
     → (lines : List Printed) × HasLines image b s.left lines × AppendsAll out out' (text_of lines)
 all_printed image b s s' out out' status.Done few c = whole image b s s' out out' false c
 all_printed image b s s' out out' status.Faulted few c = whole image b s s' out out' true c
@@ -94,7 +95,7 @@ Counts image b bytes count = (lines : List Printed) × HasLines image b bytes li
 
 pub lines_counted : (image : Image) (b : BenchParts) (s s' : Pieces) (text text' : Writing) (status : Status) → length s.left ≤ most_input
     → text.taken ≡ []
-    → Listed unframed (λ (bytes : List ℕ). length (begun_frame bytes)) (paths image b.settings) (pieces_state s) (pieces_state s')
+    → Listed frames_laid (by_sizes (paths image) (λ id. b.settings)) (pieces_state s) (pieces_state s')
     (writing_state text) (writing_state text') (Ok status)
     → Counts image b s.left (line_feeds text'.taken)
 lines_counted image b s s' text text' status few none listed =

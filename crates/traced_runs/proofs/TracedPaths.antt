@@ -19,7 +19,7 @@ use Rattle.program_image.specs.declared.image.Image.{Image}
 use Rattle.stream_demux.proofs.PathTexts.{one_path}
 use Rattle.stream_demux.specs.Laws.{PathPrinted, has_id, lines_with}
 use Rattle.stream_demux.specs.Paths.{paths}
-use Rattle.stream_demux.specs.Texts.{BodyFrom, EndsOf, IsText, Listing, Printed, StreamEnds, lines_under, of, sources}
+use Rattle.stream_demux.specs.Texts.{BodyFrom, EndsOf, IsText, Listing, Printed, StreamEnds, by_sizes, lines_under, of, sources}
 
 -- ---- a path that ends clean is one of some bytes
 
@@ -51,24 +51,25 @@ module _ (image : Image) (s : Sizes) (are : AreSettings s) where
       is ∙ ap (λ (i : List Item). lines_under id (line_list id None i ++ end_line id last ∷ [])) same.0
       ∙ ap (λ (e : End). lines_under id (line_list id None items ++ end_line id e ∷ [])) same.1
 
-  -- ---- no fault
+-- ---- no fault
 
-  stream_well : (id : ℕ) (bytes : List ℕ) (lines : List Printed) (faulty : Bool) → EndsWell image s bytes
-      → StreamEnds (paths image s) id bytes lines faulty → faulty ≡ false
+module _ (image : Image) (t : ℕ → Sizes) (are : (id : ℕ) → AreSettings (t id)) where
+  stream_well : (id : ℕ) (bytes : List ℕ) (lines : List Printed) (faulty : Bool) → EndsWell image (t id) bytes
+      → StreamEnds (by_sizes (paths image) t) id bytes lines faulty → faulty ≡ false
   stream_well id [] lines faulty well (none, whole) = whole
   stream_well id (b ∷ bytes) lines faulty (inl none) ends = absurd cc
   stream_well id (b ∷ bytes) lines faulty (inr (items, path)) (line, (others, last, also, line_is, fault_is), all) =
-      fault_is ∙ ap is_fault (one_path image s are (b ∷ bytes) others items last end.Clean also path).1
+      fault_is ∙ ap is_fault (one_path image (t id) (are id) (b ∷ bytes) others items last end.Clean also path).1
 
-  module _ (pairs : List (ℕ × ℕ)) (well : (id : ℕ) → 0 < id → EndsWell image s (of id pairs)) where
+  module _ (pairs : List (ℕ × ℕ)) (well : (id : ℕ) → 0 < id → EndsWell image (t id) (of id pairs)) where
     ends_well : (from count : ℕ) (lines : List Printed) (faulty : Bool) → 0 < from
-        → EndsOf (paths image s) pairs (range_with_len from count) lines faulty → faulty ≡ false
+        → EndsOf (by_sizes (paths image) t) pairs (range_with_len from count) lines faulty → faulty ≡ false
     ends_well from zero lines faulty some (none, whole) = whole
     ends_well from (suc count) lines faulty some (first, rest, one, others, here, later, is, fault) =
         let this = stream_well from (of from pairs) first one (well from some) here in
         fault ∙ ap (λ (b : Bool). b || others) this ∙ ends_well (from + 1) count rest others (omega arith) later
 
-    pub text_well : (lines : List Printed) (faulty : Bool) → IsText (paths image s) pairs 0 lines faulty → faulty ≡ false
+    pub text_well : (lines : List Printed) (faulty : Bool) → IsText (by_sizes (paths image) t) pairs 0 lines faulty → faulty ≡ false
     unfolding sources
     text_well lines faulty is =
         let last = is.ended in last.fault ∙ ap (λ (b : Bool). b || false) (ends_well 1 111 last.ends last.some_fault (omega arith) last.ended)

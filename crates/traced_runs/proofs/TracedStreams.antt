@@ -37,7 +37,7 @@ use Rattle.stream_demux.proofs.Parted.{zeros_are_of_none}
 use Rattle.stream_demux.proofs.PathTexts.{one_text_of_paths, some_text_of_paths}
 use Rattle.stream_demux.specs.Laws.{HasByte, PathPrinted, lines_with}
 use Rattle.stream_demux.specs.Paths.{paths}
-use Rattle.stream_demux.specs.Texts.{Printed, lines_under, of, text_of}
+use Rattle.stream_demux.specs.Texts.{Printed, by_sizes, lines_under, of, text_of}
 use Rattle.retired_paths.proofs.RetiredStreams.{accepted_by, both_none, lines_are}
 use Rattle.traced_runs.proofs.TracedPaths.{EndsWell, clean_lines, ids_are, text_has, text_well}
 use Rattle.woven_traces.proofs.WovenWhole.{others_have_no_byte, woven_bytes, woven_whole}
@@ -220,7 +220,7 @@ module _ (image : Image) (b : BenchParts) (is : IsImage image) (bench : IsBench 
 
   module _ (lines : List Printed) (faulty : Bool) (text : IsTraceText image b lines faulty) where
     of_source : (id : ℕ) → IsId id → PathPrinted image b.settings id (of id frames_carry) (lines_with id lines)
-    of_source id source = path_is_alone image b.settings bench.settings frames_carry 0 lines faulty id source text
+    of_source id source = path_is_alone image (λ i. b.settings) id source bench.settings frames_carry 0 lines faulty text
 
     of_stream : (st : BenchStream) → IsId st.id → IsTraced st → lines_with st.id lines ≡ lines_under st.id (trace_lines image b.settings.depth st)
     of_stream st source (run, bytes) =
@@ -233,7 +233,7 @@ module _ (image : Image) (b : BenchParts) (is : IsImage image) (bench : IsBench 
         by : IsId id ⊎ (IsId id → ⊥) → lines_with id lines ≡ []
         by (inl source) =
             subst (λ (l : List ℕ). PathPrinted image b.settings id l (lines_with id lines)) (carried id source.0 ∙ absent id other) (of_source id source)
-        by (inr neither) = others_have_none (paths image b.settings) frames_carry 0 lines faulty id neither text
+        by (inr neither) = others_have_none (by_sizes (paths image) (λ i. b.settings)) frames_carry 0 lines faulty id neither text
 
     as_text : (st : BenchStream) → lines_with st.id lines ≡ lines_under st.id (trace_lines image b.settings.depth st)
         → text_of (lines_with st.id lines) ≡ stream_text image b.settings.depth st ++ concat (end_lines st.id (events_of st.lines))
@@ -250,16 +250,16 @@ module _ (image : Image) (b : BenchParts) (is : IsImage image) (bench : IsBench 
     shows_traces = record {
       streams = of_streams;
       retired = λ k d within. as_text (slice_index_or b.streams k d) (of_streams k d within);
-      alone = ids_are (λ id. has_stream id b.streams) lines (text_has (paths image b.settings) frames_carry lines faulty text) of_other
+      alone = ids_are (λ id. has_stream id b.streams) lines (text_has (by_sizes (paths image) (λ i. b.settings)) frames_carry lines faulty text) of_other
           (is_of_one b.streams) (λ id. refl);
     }
 
     no_fault : faulty ≡ false
-    no_fault = text_well image b.settings bench.settings frames_carry ends_well lines faulty text
+    no_fault = text_well image (λ i. b.settings) (λ i. bench.settings) frames_carry ends_well lines faulty text
 
   pub traces_are_shown : TracesAreShown image b
   traces_are_shown =
-      let some = some_text_of_paths image b.settings is bench.settings frames_carry 0 carry_small in
+      let some = some_text_of_paths image (λ i. b.settings) is (λ i. bench.settings) frames_carry 0 carry_small in
       let lines = some.0 in
       let whole : some.1 ≡ false = no_fault lines some.1 some.2 in
       let text : IsTraceText image b lines false = subst (λ (f : Bool). IsTraceText image b lines f) whole some.2 in
@@ -269,5 +269,5 @@ module _ (image : Image) (b : BenchParts) (is : IsImage image) (bench : IsBench 
         lines = lines;
         text = text;
         shows = shows_traces lines false text;
-        only = λ others also is. one_text_of_paths image b.settings bench.settings frames_carry 0 others lines also false is text;
+        only = λ others also is. one_text_of_paths image (λ i. b.settings) (λ i. bench.settings) frames_carry 0 others lines also false is text;
       }

@@ -1,5 +1,5 @@
 -- What `selftest` prints of a number.
-use Rattle.std.specs.Prelude.{◌≡◌, ◌⊎◌, ℕ, ◌<◌, ◌≤◌, ◌==◌, Bool, List, [], ◌∷◌, ◌++◌, length, take, codes, count_by, Option, Some, None, Result, Ok, Err}
+use Rattle.std.specs.Prelude.{◌≡◌, ◌⊎◌, ℕ, ◌<◌, ◌≤◌, ◌==◌, Bool, List, [], length, take, count_by, Option, Some, None, Result, Ok, Err}
 use Rattle.bench_gen.specs.Bench.{generated}
 use Rattle.bench_text.specs.Parts.{BenchParts}
 use Rattle.bench_text.specs.Refusals.{bench_of}
@@ -9,7 +9,7 @@ use Rattle.program_image.specs.ImageText.{image_of}
 use Rattle.program_image.specs.declared.fault.ImageWhy.{ImageWhy}
 use Rattle.program_image.specs.declared.image.Image.{Image}
 use Rattle.stream_demux.specs.Paths.{paths}
-use Rattle.stream_demux.specs.Texts.{IsText, Printed}
+use Rattle.stream_demux.specs.Texts.{IsText, Printed, by_sizes}
 use Rattle.answer_lines.specs.ImageLine.{image_line}
 use Rattle.input_pieces.specs.Listed.{most_input}
 use Rattle.answer_lines.specs.Prints.{Prints, PrintsFront}
@@ -48,7 +48,8 @@ kept_of (Some cut) frames = take cut frames
 
 -- these are the lines of the paths in what is read
 abbrev pub HasLines : Image → BenchParts → List ℕ → List Printed → Type 0
-HasLines image b bytes lines = (faulty : Bool) × IsText (paths image b.settings) (unframed bytes) (length (begun_frame bytes)) lines faulty
+HasLines image b bytes lines =
+    (faulty : Bool) × IsText (by_sizes (paths image) (λ id. b.settings)) (unframed bytes) (length (begun_frame bytes)) lines faulty
 
 -- the number of line feeds
 abbrev pub line_feeds : List ℕ → ℕ

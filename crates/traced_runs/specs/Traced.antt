@@ -13,7 +13,7 @@ use Rattle.spec_run.specs.RunAfter.{run_after}
 use Rattle.spec_run.specs.declared.event.Event.{Event}
 use Rattle.stream_demux.specs.Laws.{lines_with}
 use Rattle.stream_demux.specs.Paths.{paths}
-use Rattle.stream_demux.specs.Texts.{IsText, Printed, lines_under, of, text_of}
+use Rattle.stream_demux.specs.Texts.{IsText, Printed, by_sizes, lines_under, of, text_of}
 use Rattle.retired_paths.specs.Retired.{RunsSo, items_after, stream_text}
 use Rattle.woven_traces.specs.Woven.{woven}
 use Rattle.answer_lines.specs.declared.status.Status.{Status}
@@ -60,7 +60,7 @@ pub record ShowsTraces (image : Image) (b : BenchParts) (lines : List Printed) :
 
 -- what is printed of the paths in the frames; faulty says whether one of them has a fault
 abbrev pub IsTraceText : Image → BenchParts → List Printed → Bool → Type 0
-IsTraceText image b lines faulty = IsText (paths image b.settings) (unframed (trace_frames image b)) 0 lines faulty
+IsTraceText image b lines faulty = IsText (by_sizes (paths image) (λ id. b.settings)) (unframed (trace_frames image b)) 0 lines faulty
 
 -- The frames are whole, and carry each trace. Their paths have no fault, and show the traces; nothing else is printed of them.
 pub record TracesAreShown (image : Image) (b : BenchParts) : Type 0 where

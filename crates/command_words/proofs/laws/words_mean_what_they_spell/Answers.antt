@@ -3,16 +3,16 @@ use Rattle.command_words.proofs.CommandLines.{path_said, packets_said, retired_s
 use Rattle.command_words.proofs.laws.words_mean_what_they_spell.Goals as goal
 
 pub returns-clause-path : goal.returns-clause-path
-returns-clause-path c = λ words image s layout. (path_line words image s layout, path_said words image s layout)
+returns-clause-path c = λ words program intake. (path_line words program intake, path_said words program intake)
 
 pub returns-clause-packets : goal.returns-clause-packets
-returns-clause-packets c = λ words s layout. (packets_line words s layout, packets_said words s layout)
+returns-clause-packets c = λ words intake. (packets_line words intake, packets_said words intake)
 
 pub returns-clause-retired : goal.returns-clause-retired
-returns-clause-retired c = λ words image. (retired_line words image, retired_said words image)
+returns-clause-retired c = λ words program. (retired_line words program, retired_said words program)
 
 pub returns-clause-trace : goal.returns-clause-trace
-returns-clause-trace c = λ words image. (trace_line words image, trace_said words image)
+returns-clause-trace c = λ words program. (trace_line words program, trace_said words program)
 
 pub returns-clause-selftest : goal.returns-clause-selftest
 returns-clause-selftest c = λ words n cut. (selftest_line words n cut, selftest_said words n cut)

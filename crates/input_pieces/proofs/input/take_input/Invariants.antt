@@ -13,10 +13,11 @@ invariant-loop-count g l =
       few : l.taken ≤ most_input;
       whole : g.P.Printer.broken l.printer ≡ false;
       count : g.P.Printer.taken l.printer ≡ l.taken;
-      so_far : (s : Sizes) → g.P.Printer.stands l.shared s l.fn.printer []
+      frames : g.P.Printer.frames l.printer ≡ g.P.Printer.frames l.fn.printer;
+      so_far : (t : ℕ → Sizes) → g.P.Printer.stands l.shared t l.fn.printer []
           → (bytes : List ℕ) × (length bytes ≡ l.taken) × Takes (input l.fn.input) (input l.input) bytes
-          × g.P.Printer.stands l.shared s l.printer bytes
-          × Gained g.P.Printer.carried (g.P.Printer.listing l.shared s) [] bytes (out l.fn.out) (out l.out);
+          × g.P.Printer.stands l.shared t l.printer bytes
+          × Gained (g.P.Printer.laid (g.P.Printer.frames l.fn.printer)).carried (g.P.Printer.listing l.shared t) [] bytes (out l.fn.out) (out l.out);
       input_kept : KeepsFaults (input l.fn.input) (input l.input);
       input_shows : ShowsAsBefore (input l.fn.input) (input l.input);
       kept : KeepsFaults (out l.fn.out) (out l.out);

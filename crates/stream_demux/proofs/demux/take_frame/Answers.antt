@@ -3,6 +3,7 @@ use Rattle.std.specs.Prelude.{All}
 use Rattle.std.proofs.lemmas.List.{take_all, take-append-drop}
 use Rattle.formatter_frames.specs.Symbols.{run_of}
 use Rattle.stream_demux.specs.Streams.{Adds, AllStand, IsReady}
+use Rattle.stream_demux.specs.Texts.{by_sizes}
 use Rattle.stream_demux.proofs.Runs.{run_within, with_run}
 use Rattle.stream_demux.proofs.Standing.{by_err, later_ready}
 use Rattle.stream_demux.proofs.Writing.{Written, added, all_added, fails_behind, more_written}
@@ -15,17 +16,17 @@ take_run-requires g c =
     (2305843009213693952 + n, c.loop-id.invariant.ready 2305843009213693952 c.requires, omega (arith, within, c.in-Some.ensures.most))
 
 pub returns-in_err-take_run-clause-adds : goal.returns-in_err-take_run-clause-adds
-returns-in_err-take_run-clause-adds g c s pairs all =
+returns-in_err-take_run-clause-adds g c t pairs all =
     let state = g.K.Sink.state in let i = c.loop-id.invariant in let n = c.loop-id.place in let frame = c.args.frame.now in
-    let front = take n frame in let run = c.in-Some.run'.now in let listing = g.S.Stream.listing c.args.shared.now s in
+    let front = take n frame in let run = c.in-Some.run'.now in let listing = by_sizes (g.S.Stream.listing c.args.shared.now) t in
     let more = with_run n c.in-Some.id frame run c.in-Some.ensures.run.1 in
     let parts : (front ++ run_of c.in-Some.id run) ++ drop (n + length run) frame ≡ frame =
     ap (λ l. l ++ drop (n + length run) frame) (sym more) ∙ take-append-drop (n + length run) frame in
-    let adds = c.in_err-take_run.ensures.adds s (pairs ++ front) (i.stands s pairs all) in
+    let adds = c.in_err-take_run.ensures.adds t (pairs ++ front) (i.stands t pairs all) in
     let old = state c.args.sink.now in let here = state c.loop-id.sink in let new = state c.take_run.new.sink in
     by_err (Adds {T = Unit {0}} listing pairs frame old new) c.from_residual.result c.from_residual.ensures.0 (λ d.
     subst (λ l. Adds {T = Unit {0}} listing pairs l old new (Err d)) parts
-    (fails_behind listing pairs front old here new (i.written s pairs all) c.in_err-take_run.field-0.0 d (run_of c.in-Some.id run)
+    (fails_behind listing pairs front old here new (i.written t pairs all) c.in_err-take_run.field-0.0 d (run_of c.in-Some.id run)
     (drop (n + length run) frame) adds))
 
 pub overflow_add-place : goal.overflow_add-place
@@ -42,15 +43,15 @@ loop-id-preserved g c =
     let old = state c.args.sink.now in let here = state c.loop-id.sink in let new = state c.take_run.new.sink in
     record {
       within = run_within n c.in-Some.id frame run c.in-Some.ensures.run.1 i.within;
-      stands = λ s pairs all.
-          subst (λ l. AllStand stands g.S.Stream.sizes s c.take_run.new.self (pairs ++ l)) (sym more)
-          (subst (AllStand stands g.S.Stream.sizes s c.take_run.new.self) (append_assoc pairs front (run_of c.in-Some.id run))
-          (c.in_ok-take_run.ensures.stands s (pairs ++ front) (i.stands s pairs all) refl));
-      written = λ s pairs all.
-          let listing = g.S.Stream.listing c.args.shared.now s in
-          let adds = c.in_ok-take_run.ensures.adds s (pairs ++ front) (i.stands s pairs all) in
+      stands = λ t pairs all.
+          subst (λ l. AllStand stands g.S.Stream.sizes t c.take_run.new.self (pairs ++ l)) (sym more)
+          (subst (AllStand stands g.S.Stream.sizes t c.take_run.new.self) (append_assoc pairs front (run_of c.in-Some.id run))
+          (c.in_ok-take_run.ensures.stands t (pairs ++ front) (i.stands t pairs all) refl));
+      written = λ t pairs all.
+          let listing = by_sizes (g.S.Stream.listing c.args.shared.now) t in
+          let adds = c.in_ok-take_run.ensures.adds t (pairs ++ front) (i.stands t pairs all) in
           subst (λ l. Written listing pairs l old new) (sym more)
-          (more_written listing pairs front old here new (i.written s pairs all) (run_of c.in-Some.id run)
+          (more_written listing pairs front old here new (i.written t pairs all) (run_of c.in-Some.id run)
           (added listing (pairs ++ front) (run_of c.in-Some.id run) here new c.in_ok-take_run.field-0 adds));
       kept = c.in_ok-take_run.ensures.cause.kept ∙ i.kept;
       shows = c.take_run.ensures.shows ∙ i.shows;
@@ -61,18 +62,18 @@ loop-id-preserved g c =
     }
 
 pub returns-clause-stands : goal.returns-clause-stands
-returns-clause-stands g c s pairs all ok =
+returns-clause-stands g c t pairs all ok =
     let n = c.loop-id.place in let whole = take_all n c.args.frame.now (c.in_default.ensures.none.0 refl) in
-    subst (λ l. AllStand (g.S.Stream.stands c.args.shared.now) g.S.Stream.sizes s c.loop-id.sources (pairs ++ l)) whole
-    (c.loop-id.invariant.stands s pairs all)
+    subst (λ l. AllStand (g.S.Stream.stands c.args.shared.now) g.S.Stream.sizes t c.loop-id.sources (pairs ++ l)) whole
+    (c.loop-id.invariant.stands t pairs all)
 
 pub returns-clause-adds : goal.returns-clause-adds
-returns-clause-adds g c s pairs all =
+returns-clause-adds g c t pairs all =
     let state = g.K.Sink.state in let n = c.loop-id.place in
     let whole = take_all n c.args.frame.now (c.in_default.ensures.none.0 refl) in
-    let listing = g.S.Stream.listing c.args.shared.now s in
+    let listing = by_sizes (g.S.Stream.listing c.args.shared.now) t in
     all_added listing pairs c.args.frame.now (state c.args.sink.now) (state c.loop-id.sink) tt
-    (subst (λ l. Written listing pairs l (state c.args.sink.now) (state c.loop-id.sink)) whole (c.loop-id.invariant.written s pairs all))
+    (subst (λ l. Written listing pairs l (state c.args.sink.now) (state c.loop-id.sink)) whole (c.loop-id.invariant.written t pairs all))
 
 pub returns-clause-ready : goal.returns-clause-ready
 returns-clause-ready g c most all ok =

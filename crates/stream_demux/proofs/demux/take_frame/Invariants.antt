@@ -2,6 +2,7 @@ use Rattle.std.proofs.Common.{◌+◌, ◌-◌, ◌≤◌, ℕ, List, ◌++◌, 
 use Rattle.std.specs.Prelude.{All}
 use Rattle.etm_types.specs.Settings.{Sizes}
 use Rattle.stream_demux.specs.Streams.{AllStand, IsReady}
+use Rattle.stream_demux.specs.Texts.{by_sizes}
 use Rattle.stream_demux.proofs.Writing.{Written}
 use Rattle.stream_demux.proofs.demux.take_frame.Given as goal
 use Rattle.trace_io.specs.Bytes.{ShowsAsBefore}
@@ -15,10 +16,10 @@ invariant-loop-id g l =
     let state = g.K.Sink.state in let at = g.S.Stream.stands l.shared in
     record {
       within : l.place ≤ length l.frame;
-      stands : (s : Sizes) (pairs : List (ℕ × ℕ)) → AllStand at g.S.Stream.sizes s l.fn.sources pairs
-          → AllStand at g.S.Stream.sizes s l.sources (pairs ++ take l.place l.frame);
-      written : (s : Sizes) (pairs : List (ℕ × ℕ)) → AllStand at g.S.Stream.sizes s l.fn.sources pairs
-          → Written (g.S.Stream.listing l.shared s) pairs (take l.place l.frame) (state l.fn.sink) (state l.sink);
+      stands : (t : ℕ → Sizes) (pairs : List (ℕ × ℕ)) → AllStand at g.S.Stream.sizes t l.fn.sources pairs
+          → AllStand at g.S.Stream.sizes t l.sources (pairs ++ take l.place l.frame);
+      written : (t : ℕ → Sizes) (pairs : List (ℕ × ℕ)) → AllStand at g.S.Stream.sizes t l.fn.sources pairs
+          → Written (by_sizes (g.S.Stream.listing l.shared) t) pairs (take l.place l.frame) (state l.fn.sink) (state l.sink);
       kept : KeepsFaults (state l.fn.sink) (state l.sink);
       shows : ShowsAsBefore (state l.fn.sink) (state l.sink);
       ready : (most : ℕ) → All (IsReady g.S.Stream.broken g.S.Stream.taken most) l.fn.sources

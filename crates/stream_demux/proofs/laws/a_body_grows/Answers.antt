@@ -2,16 +2,17 @@ use Rattle.formatter_frames.specs.Unframed.{unframed}
 use Rattle.stream_demux.specs.Demuxed.{raw_pairs}
 use Rattle.stream_demux.proofs.Bodies.{body-append, body_parts}
 use Rattle.stream_demux.proofs.Parted.{frames_carry_on, fronts_begin, raw_carries_on}
+use Rattle.stream_demux.specs.Texts.{by_sizes}
 use Rattle.stream_demux.proofs.laws.a_body_grows.Goals as goal
 
 pub returns-clause-join : goal.returns-clause-join
-returns-clause-join g c shared s = body-append (g.S.Stream.listing shared s)
+returns-clause-join g c shared t = body-append (by_sizes (g.S.Stream.listing shared) t)
 
 pub returns-clause-part : goal.returns-clause-part
-returns-clause-part g c shared s = body_parts (g.S.Stream.listing shared s)
+returns-clause-part g c shared t = body_parts (by_sizes (g.S.Stream.listing shared) t)
 
 pub returns-clause-framed : goal.returns-clause-framed
-returns-clause-framed g c shared s = fronts_begin unframed (g.S.Stream.listing shared s) frames_carry_on
+returns-clause-framed g c shared t = fronts_begin unframed (by_sizes (g.S.Stream.listing shared) t) frames_carry_on
 
 pub returns-clause-raw : goal.returns-clause-raw
-returns-clause-raw g c shared s = fronts_begin raw_pairs (g.S.Stream.listing shared s) raw_carries_on
+returns-clause-raw g c shared t = fronts_begin raw_pairs (by_sizes (g.S.Stream.listing shared) t) raw_carries_on

@@ -1,11 +1,12 @@
 use Rattle.stream_demux.proofs.Alone.{others_do_not_count, others_have_none, source_is_alone}
+use Rattle.stream_demux.specs.Texts.{by_sizes}
 use Rattle.stream_demux.proofs.laws.a_stream_is_alone.Goals as goal
 
 pub returns-clause-source : goal.returns-clause-source
-returns-clause-source g c shared s = source_is_alone (g.S.Stream.listing shared s)
+returns-clause-source g c shared t = source_is_alone (by_sizes (g.S.Stream.listing shared) t)
 
 pub returns-clause-none : goal.returns-clause-none
-returns-clause-none g c shared s = others_have_none (g.S.Stream.listing shared s)
+returns-clause-none g c shared t = others_have_none (by_sizes (g.S.Stream.listing shared) t)
 
 pub returns-clause-others : goal.returns-clause-others
-returns-clause-others g c shared s = others_do_not_count (g.S.Stream.listing shared s)
+returns-clause-others g c shared = others_do_not_count (g.S.Stream.listing shared)

@@ -10,7 +10,7 @@ loop-stream-init g c =
     record {
       value = ap (λ l. total l (map g.S.Stream.counts_left c.args.ring.items)) c.new-ledger.ensures;
       balanced = subst (λ (l : Counts). Balances l 0) (sym c.new-ledger.ensures) refl;
-      left = λ shared s pairs id stand. all_remain (g.S.Stream.stands shared) g.S.Stream.sizes s (g.S.Stream.listing shared) pairs id c.args.ring.items stand;
+      left = λ shared t pairs id stand. all_remain (g.S.Stream.stands shared) g.S.Stream.sizes t (g.S.Stream.listing shared) pairs id c.args.ring.items stand;
     }
 
 pub loop-stream-preserved : goal.loop-stream-preserved
@@ -22,15 +22,15 @@ loop-stream-preserved g c =
           ∙ ap (λ l. total c.loop-stream.ledger (map f l)) (sym order) ∙ c.loop-stream.invariant.value;
       balanced = c.absorb.ensures.balanced 0 0 c.loop-stream.invariant.balanced
           (subst (λ (l : Counts). Balances l 0) (sym c.abandon.ensures.value) c.abandon.ensures.balanced);
-      left = λ shared s pairs id stand.
-          one_less (g.S.Stream.stands shared) g.S.Stream.sizes s (g.S.Stream.listing shared) pairs id c.args.ring.items stream rest
-          (subst (Left (g.S.Stream.stands shared) g.S.Stream.sizes s (g.S.Stream.listing shared) pairs id c.args.ring.items) order
-          (c.loop-stream.invariant.left shared s pairs id stand)) (λ k bytes stood. c.abandon.ensures.ends shared k bytes stood);
+      left = λ shared t pairs id stand.
+          one_less (g.S.Stream.stands shared) g.S.Stream.sizes t (g.S.Stream.listing shared) pairs id c.args.ring.items stream rest
+          (subst (Left (g.S.Stream.stands shared) g.S.Stream.sizes t (g.S.Stream.listing shared) pairs id c.args.ring.items) order
+          (c.loop-stream.invariant.left shared t pairs id stand)) (λ k bytes stood. c.abandon.ensures.ends shared k bytes stood);
     }
 
 pub returns-clause-ends : goal.returns-clause-ends
-returns-clause-ends g c shared s pairs id stand =
+returns-clause-ends g c shared t pairs id stand =
     let none = none_left c.loop-stream.ring.items c.in_default.ensures.empty.1 in
-    none_remain (g.S.Stream.stands shared) g.S.Stream.sizes s (g.S.Stream.listing shared) pairs id c.args.ring.items
-    (subst (Left (g.S.Stream.stands shared) g.S.Stream.sizes s (g.S.Stream.listing shared) pairs id c.args.ring.items) (sym none)
-    (c.loop-stream.invariant.left shared s pairs id stand))
+    none_remain (g.S.Stream.stands shared) g.S.Stream.sizes t (g.S.Stream.listing shared) pairs id c.args.ring.items
+    (subst (Left (g.S.Stream.stands shared) g.S.Stream.sizes t (g.S.Stream.listing shared) pairs id c.args.ring.items) (sym none)
+    (c.loop-stream.invariant.left shared t pairs id stand))

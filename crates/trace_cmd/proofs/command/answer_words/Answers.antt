@@ -1,46 +1,47 @@
-use Rattle.std.proofs.Common.{Option, Some, IfSome, inl, inr, refl, sym, ap, subst, ◌∙◌}
+use Rattle.std.proofs.Common.{Option, Some, IfSome, inr, refl, sym, ap, subst, ◌∙◌}
 use Rattle.std.specs.Option.{option_map}
 use Rattle.trace_cmd.specs.Answers.{call}
 use Rattle.trace_cmd.specs.Printing.{PacketsOf}
-use Rattle.command_words.specs.Said.{IsInRange, said}
-use Rattle.command_words.specs.Words.{texts}
+use Rattle.command_words.specs.Said.{IsInRange, said, said_intake, said_program}
+use Rattle.command_words.specs.Words.{Packets, texts}
 use Rattle.command_words.specs.declared.words.Command.{Command as Told}
 use Rattle.trace_cmd.proofs.AnswerLemmas.{none_taken, packets_of_no_run_file, path_of_no_run_file, so_by, so_of_number, so_of_usage, so_of_words}
+use Rattle.trace_cmd.proofs.WordKinds.{path_program, read_first, retired_kind, retired_program, trace_kind, trace_program}
 use Rattle.trace_cmd.proofs.command.answer_words.Goals as goal
 
 pub returns-in-Path-clause-answer : goal.returns-in-Path-clause-answer
 returns-in-Path-clause-answer g c =
     let means = sym c.in-Ok-Some.ensures.value ∙ ap (option_map said) (c.in-Ok-Some.field-0-is ∙ ap (λ (command : Told). Some command) c.in-Path.is) in
-    c.answer_path.ensures.answer (texts c.args.words.now) (c.in-Path.image.now, means)
+    c.answer_path.ensures.answer (texts c.args.words.now) (said_program c.in-Path.program, means)
 
 pub returns-in-Packets-clause-answer : goal.returns-in-Packets-clause-answer
 returns-in-Packets-clause-answer g c =
     let means = sym c.in-Ok-Some.ensures.value ∙ ap (option_map said) (c.in-Ok-Some.field-0-is ∙ ap (λ (command : Told). Some command) c.in-Packets.is) in
     let image = g.I.Source.state in let input = g.J.Source.state in let out = g.K.Sink.state in
     let asked = call (texts c.args.words.now) (image c.args.image.now) (image c.args.image.now) (input c.args.input.now) (input c.print_streams.new.input) in
-    so_by asked (PacketsOf c.in-Packets.settings c.in-Packets.layout) means (out c.args.out.now) (out c.print_streams.new.out) c.print_streams.result
-    (inr (inl (c.in-Packets.settings, c.in-Packets.layout, means))) c.print_streams.ensures.cause
+    so_by asked (PacketsOf (said_intake c.in-Packets.intake)) means (out c.args.out.now) (out c.print_streams.new.out) c.print_streams.result
+    (Packets (said_intake c.in-Packets.intake), means) c.print_streams.ensures.cause
     (λ is. let kept = c.print_streams.ensures.memory is in (ap input kept.0, ap out kept.1)) c.print_streams.ensures.listed
 
 pub returns-in-Retired-clause-answer : goal.returns-in-Retired-clause-answer
 returns-in-Retired-clause-answer g c =
     let means = sym c.in-Ok-Some.ensures.value ∙ ap (option_map said) (c.in-Ok-Some.field-0-is ∙ ap (λ (command : Told). Some command) c.in-Retired.is) in
-    c.answer_retired.ensures.answer (texts c.args.words.now) (c.in-Retired.image.now, means)
+    c.answer_retired.ensures.answer (texts c.args.words.now) (said_program c.in-Retired.program, means)
 
 pub returns-in-Retired-clause-memory : goal.returns-in-Retired-clause-memory
 returns-in-Retired-clause-memory g c is =
     let means = sym c.in-Ok-Some.ensures.value ∙ ap (option_map said) (c.in-Ok-Some.field-0-is ∙ ap (λ (command : Told). Some command) c.in-Retired.is) in
-    inr (inl (c.in-Retired.image.now, means))
+    inr (retired_kind (texts c.args.words.now) (said_program c.in-Retired.program, means))
 
 pub returns-in-Trace-clause-answer : goal.returns-in-Trace-clause-answer
 returns-in-Trace-clause-answer g c =
     let means = sym c.in-Ok-Some.ensures.value ∙ ap (option_map said) (c.in-Ok-Some.field-0-is ∙ ap (λ (command : Told). Some command) c.in-Trace.is) in
-    c.answer_trace.ensures.answer (texts c.args.words.now) (c.in-Trace.image.now, means)
+    c.answer_trace.ensures.answer (texts c.args.words.now) (said_program c.in-Trace.program, means)
 
 pub returns-in-Trace-clause-memory : goal.returns-in-Trace-clause-memory
 returns-in-Trace-clause-memory g c is =
     let means = sym c.in-Ok-Some.ensures.value ∙ ap (option_map said) (c.in-Ok-Some.field-0-is ∙ ap (λ (command : Told). Some command) c.in-Trace.is) in
-    inr (inr (c.in-Trace.image.now, means))
+    inr (trace_kind (texts c.args.words.now) (said_program c.in-Trace.program, means))
 
 pub test_number-requires : goal.test_number-requires
 test_number-requires g c =
@@ -72,12 +73,12 @@ returns-in-Err-clause-answer g c =
 pub returns-in-Path-clause-few : goal.returns-in-Path-clause-few
 returns-in-Path-clause-few g c file =
     let means = sym c.in-Ok-Some.ensures.value ∙ ap (option_map said) (c.in-Ok-Some.field-0-is ∙ ap (λ (command : Told). Some command) c.in-Path.is) in
-    absurd (path_of_no_run_file _ _ (texts c.args.words.now) (c.in-Path.image.now, means) file)
+    absurd (path_of_no_run_file _ (texts c.args.words.now) (said_program c.in-Path.program, means) file)
 
 pub returns-in-Packets-clause-few : goal.returns-in-Packets-clause-few
 returns-in-Packets-clause-few g c file =
     let means = sym c.in-Ok-Some.ensures.value ∙ ap (option_map said) (c.in-Ok-Some.field-0-is ∙ ap (λ (command : Told). Some command) c.in-Packets.is) in
-    absurd (packets_of_no_run_file _ _ (texts c.args.words.now) means file)
+    absurd (packets_of_no_run_file _ (texts c.args.words.now) means file)
 
 pub returns-in-Packets-clause-image_few : goal.returns-in-Packets-clause-image_few
 returns-in-Packets-clause-image_few g c = none_taken (g.I.Source.state c.args.image.now) _
@@ -99,3 +100,26 @@ returns-in-Err-clause-few g c file = none_taken (g.J.Source.state c.args.input.n
 
 pub returns-in-Err-clause-image_few : goal.returns-in-Err-clause-image_few
 returns-in-Err-clause-image_few g c = none_taken (g.I.Source.state c.args.image.now) _
+
+-- ---- what was read before the input
+
+pub returns-in-Path-clause-order : goal.returns-in-Path-clause-order
+returns-in-Path-clause-order g c =
+    let means = sym c.in-Ok-Some.ensures.value ∙ ap (option_map said) (c.in-Ok-Some.field-0-is ∙ ap (λ (command : Told). Some command) c.in-Path.is) in
+    let image = g.I.Source.state in let input = g.J.Source.state in let words = texts c.args.words.now in
+    let asked = call words (image c.args.image.now) (image c.answer_path.new.image) (input c.args.input.now) (input c.answer_path.new.input) in
+    read_first asked (said_program c.in-Path.program) _ (path_program (said_intake c.in-Path.intake) words (said_program c.in-Path.program, means)) c.answer_path.ensures.order
+
+pub returns-in-Retired-clause-order : goal.returns-in-Retired-clause-order
+returns-in-Retired-clause-order g c =
+    let means = sym c.in-Ok-Some.ensures.value ∙ ap (option_map said) (c.in-Ok-Some.field-0-is ∙ ap (λ (command : Told). Some command) c.in-Retired.is) in
+    let image = g.I.Source.state in let input = g.J.Source.state in let words = texts c.args.words.now in
+    let asked = call words (image c.args.image.now) (image c.answer_retired.new.image) (input c.args.input.now) (input c.answer_retired.new.input) in
+    read_first asked (said_program c.in-Retired.program) _ (retired_program words (said_program c.in-Retired.program, means)) c.answer_retired.ensures.order
+
+pub returns-in-Trace-clause-order : goal.returns-in-Trace-clause-order
+returns-in-Trace-clause-order g c =
+    let means = sym c.in-Ok-Some.ensures.value ∙ ap (option_map said) (c.in-Ok-Some.field-0-is ∙ ap (λ (command : Told). Some command) c.in-Trace.is) in
+    let image = g.I.Source.state in let input = g.J.Source.state in let words = texts c.args.words.now in
+    let asked = call words (image c.args.image.now) (image c.answer_trace.new.image) (input c.args.input.now) (input c.answer_trace.new.input) in
+    read_first asked (said_program c.in-Trace.program) _ (trace_program words (said_program c.in-Trace.program, means)) c.answer_trace.ensures.order

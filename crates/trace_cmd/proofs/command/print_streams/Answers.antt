@@ -1,8 +1,9 @@
-use Rattle.std.proofs.Common.{ℕ, List, length, inr, sym, subst}
-use Rattle.formatter_frames.specs.Unframed.{begun_frame, unframed}
-use Rattle.stream_demux.specs.Demuxed.{raw_pairs}
+use Rattle.std.proofs.Common.{inr, sym, subst}
+use Rattle.command_words.specs.Said.{said_intake}
+use Rattle.stream_demux.specs.Laid.{frames_laid, raw_laid}
+use Rattle.stream_demux.specs.Texts.{by_sizes}
 use Rattle.input_pieces.specs.Listed.{Listed}
-use Rattle.trace_cmd.specs.Printing.{left_in, pairs_in}
+use Rattle.trace_cmd.specs.Printing.{laid_in, sizes_by}
 use Rattle.trace_cmd.proofs.command.print_streams.Goals as goal
 
 pub print_input-requires : goal.print_input-requires
@@ -13,42 +14,42 @@ print_input-requires-in-Ok-new g c = let stands = c.in-Ok-new.ensures.stands c.a
 
 pub returns-in-Ok-clause-listed : goal.returns-in-Ok-clause-listed
 returns-in-Ok-clause-listed g c =
-    let s = c.args.settings.now in let input = g.J.Source.state in let out = g.K.Sink.state in
-    inr (subst (λ l. Listed (pairs_in l) (left_in l) (g.S.Stream.listing c.args.shared.now s) (input c.args.input.now) (input c.print_input.new.input)
+    let t = sizes_by (said_intake c.args.intake.now) in let input = g.J.Source.state in let out = g.K.Sink.state in
+    inr (subst (λ l. Listed (laid_in l) (by_sizes (g.S.Stream.listing c.args.shared.now) t) (input c.args.input.now) (input c.print_input.new.input)
     (out c.args.out.now) (out c.print_input.new.out) c.print_input.result) (sym c.in-Raw.is)
-    (c.print_input.ensures.answer s (c.in-Ok.ensures.stands c.args.shared.now)))
+    (c.print_input.ensures.answer t (c.in-Ok.ensures.stands c.args.shared.now)))
 
 pub returns-in-Ok-clause-memory : goal.returns-in-Ok-clause-memory
 returns-in-Ok-clause-memory g c is =
-    let s = c.args.settings.now in let input = g.J.Source.state in let out = g.K.Sink.state in
-    let answer = c.print_input.ensures.answer s (c.in-Ok.ensures.stands c.args.shared.now) in
-    absurd (subst (Listed raw_pairs (λ (bytes : List ℕ). 0) (g.S.Stream.listing c.args.shared.now s) (input c.args.input.now) (input c.print_input.new.input)
+    let t = sizes_by (said_intake c.args.intake.now) in let input = g.J.Source.state in let out = g.K.Sink.state in
+    let answer = c.print_input.ensures.answer t (c.in-Ok.ensures.stands c.args.shared.now) in
+    absurd (subst (Listed raw_laid (by_sizes (g.S.Stream.listing c.args.shared.now) t) (input c.args.input.now) (input c.print_input.new.input)
     (out c.args.out.now) (out c.print_input.new.out)) is answer)
 
 pub returns-in-Ok-clause-no_image : goal.returns-in-Ok-clause-no_image
 returns-in-Ok-clause-no_image g c line why is =
-    let s = c.args.settings.now in let input = g.J.Source.state in let out = g.K.Sink.state in
-    let answer = c.print_input.ensures.answer s (c.in-Ok.ensures.stands c.args.shared.now) in
-    subst (Listed raw_pairs (λ (bytes : List ℕ). 0) (g.S.Stream.listing c.args.shared.now s) (input c.args.input.now) (input c.print_input.new.input)
+    let t = sizes_by (said_intake c.args.intake.now) in let input = g.J.Source.state in let out = g.K.Sink.state in
+    let answer = c.print_input.ensures.answer t (c.in-Ok.ensures.stands c.args.shared.now) in
+    subst (Listed raw_laid (by_sizes (g.S.Stream.listing c.args.shared.now) t) (input c.args.input.now) (input c.print_input.new.input)
     (out c.args.out.now) (out c.print_input.new.out)) is answer
 
 pub returns-in-Ok-new-clause-listed : goal.returns-in-Ok-new-clause-listed
 returns-in-Ok-new-clause-listed g c =
-    let s = c.args.settings.now in let input = g.J.Source.state in let out = g.K.Sink.state in
-    inr (subst (λ l. Listed (pairs_in l) (left_in l) (g.S.Stream.listing c.args.shared.now s) (input c.args.input.now) (input c.print_input-in-Ok-new.new.input)
+    let t = sizes_by (said_intake c.args.intake.now) in let input = g.J.Source.state in let out = g.K.Sink.state in
+    inr (subst (λ l. Listed (laid_in l) (by_sizes (g.S.Stream.listing c.args.shared.now) t) (input c.args.input.now) (input c.print_input-in-Ok-new.new.input)
     (out c.args.out.now) (out c.print_input-in-Ok-new.new.out) c.print_input-in-Ok-new.result) (sym c.in-Frames.is)
-    (c.print_input-in-Ok-new.ensures.answer s (c.in-Ok-new.ensures.stands c.args.shared.now)))
+    (c.print_input-in-Ok-new.ensures.answer t (c.in-Ok-new.ensures.stands c.args.shared.now)))
 
 pub returns-in-Ok-new-clause-memory : goal.returns-in-Ok-new-clause-memory
 returns-in-Ok-new-clause-memory g c is =
-    let s = c.args.settings.now in let input = g.J.Source.state in let out = g.K.Sink.state in
-    let answer = c.print_input-in-Ok-new.ensures.answer s (c.in-Ok-new.ensures.stands c.args.shared.now) in
-    absurd (subst (Listed unframed (λ (bytes : List ℕ). length (begun_frame bytes)) (g.S.Stream.listing c.args.shared.now s) (input c.args.input.now)
+    let t = sizes_by (said_intake c.args.intake.now) in let input = g.J.Source.state in let out = g.K.Sink.state in
+    let answer = c.print_input-in-Ok-new.ensures.answer t (c.in-Ok-new.ensures.stands c.args.shared.now) in
+    absurd (subst (Listed frames_laid (by_sizes (g.S.Stream.listing c.args.shared.now) t) (input c.args.input.now)
     (input c.print_input-in-Ok-new.new.input) (out c.args.out.now) (out c.print_input-in-Ok-new.new.out)) is answer)
 
 pub returns-in-Ok-new-clause-no_image : goal.returns-in-Ok-new-clause-no_image
 returns-in-Ok-new-clause-no_image g c line why is =
-    let s = c.args.settings.now in let input = g.J.Source.state in let out = g.K.Sink.state in
-    let answer = c.print_input-in-Ok-new.ensures.answer s (c.in-Ok-new.ensures.stands c.args.shared.now) in
-    subst (Listed unframed (λ (bytes : List ℕ). length (begun_frame bytes)) (g.S.Stream.listing c.args.shared.now s) (input c.args.input.now)
+    let t = sizes_by (said_intake c.args.intake.now) in let input = g.J.Source.state in let out = g.K.Sink.state in
+    let answer = c.print_input-in-Ok-new.ensures.answer t (c.in-Ok-new.ensures.stands c.args.shared.now) in
+    subst (Listed frames_laid (by_sizes (g.S.Stream.listing c.args.shared.now) t) (input c.args.input.now)
     (input c.print_input-in-Ok-new.new.input) (out c.args.out.now) (out c.print_input-in-Ok-new.new.out)) is answer

@@ -4,6 +4,7 @@ use Rattle.etm_types.specs.Settings.{Sizes}
 use Rattle.formatter_frames.specs.Unframed.{unframed}
 use Rattle.stream_demux.specs.Demuxed.{Demuxed, StandsAt}
 use Rattle.stream_demux.specs.Streams.{IsReady}
+use Rattle.stream_demux.specs.Texts.{by_sizes}
 use Rattle.stream_demux.proofs.Writing.{Gained}
 use Rattle.stream_demux.proofs.demux.Demux.take_piece.Given as goal
 use Rattle.trace_io.specs.Bytes.{ShowsAsBefore}
@@ -19,10 +20,10 @@ invariant-loop-at g l =
     record { frames = l.self-inside.frames; streams = l.self-inside.sources; taken = l.self-inside.taken; broken = l.self-inside.broken } in
     record {
       within : l.at ≤ length l.piece;
-      stands : (s : Sizes) (bytes : List ℕ) → StandsAt there g.S.Stream.sizes s l.fn.self bytes
-          → StandsAt there g.S.Stream.sizes s d (bytes ++ take l.at l.piece);
-      gained : (s : Sizes) (bytes : List ℕ) → StandsAt there g.S.Stream.sizes s l.fn.self bytes
-          → Gained unframed (g.S.Stream.listing l.shared s) bytes (take l.at l.piece) (state l.fn.sink) (state l.sink);
+      stands : (t : ℕ → Sizes) (bytes : List ℕ) → StandsAt there g.S.Stream.sizes t l.fn.self bytes
+          → StandsAt there g.S.Stream.sizes t d (bytes ++ take l.at l.piece);
+      gained : (t : ℕ → Sizes) (bytes : List ℕ) → StandsAt there g.S.Stream.sizes t l.fn.self bytes
+          → Gained unframed (by_sizes (g.S.Stream.listing l.shared) t) bytes (take l.at l.piece) (state l.fn.sink) (state l.sink);
       kept : KeepsFaults (state l.fn.sink) (state l.sink);
       shows : ShowsAsBefore (state l.fn.sink) (state l.sink);
       taken : l.self-inside.taken ≡ l.fn.self.taken + l.at;

@@ -2,6 +2,7 @@ use Rattle.std.proofs.Common.{◌≡◌, ◌+◌, ◌≤◌, ℕ, List, length}
 use Rattle.std.specs.Prelude.{All}
 use Rattle.etm_types.specs.Settings.{Sizes}
 use Rattle.stream_demux.specs.Streams.{AllStand, IsReady, StandFrom}
+use Rattle.stream_demux.specs.Texts.{by_sizes}
 use Rattle.stream_demux.proofs.Ending.{EndedTo}
 use Rattle.stream_demux.proofs.sources.Sources.finish.Given as goal
 use Rattle.trace_io.specs.Bytes.{ShowsAsBefore}
@@ -12,10 +13,10 @@ invariant-loop-stream g l =
     let state = g.K.Sink.state in
     record {
       count : l.id + length l.ring.items ≡ 112;
-      stands : (shared : g.row.S-Shared.Denot) (s : Sizes) (pairs : List (ℕ × ℕ)) → AllStand (g.S.Stream.stands shared) g.S.Stream.sizes s l.fn.self pairs
-          → StandFrom (g.S.Stream.stands shared) g.S.Stream.sizes s l.id l.ring.items pairs;
-      ended : (shared : g.row.S-Shared.Denot) (s : Sizes) (pairs : List (ℕ × ℕ)) → AllStand (g.S.Stream.stands shared) g.S.Stream.sizes s l.fn.self pairs
-          → EndedTo (g.S.Stream.listing shared s) pairs 1 l.id l.whole (state l.fn.sink) (state l.sink);
+      stands : (shared : g.row.S-Shared.Denot) (t : ℕ → Sizes) (pairs : List (ℕ × ℕ)) → AllStand (g.S.Stream.stands shared) g.S.Stream.sizes t l.fn.self pairs
+          → StandFrom (g.S.Stream.stands shared) g.S.Stream.sizes t l.id l.ring.items pairs;
+      ended : (shared : g.row.S-Shared.Denot) (t : ℕ → Sizes) (pairs : List (ℕ × ℕ)) → AllStand (g.S.Stream.stands shared) g.S.Stream.sizes t l.fn.self pairs
+          → EndedTo (by_sizes (g.S.Stream.listing shared) t) pairs 1 l.id l.whole (state l.fn.sink) (state l.sink);
       kept : KeepsFaults (state l.fn.sink) (state l.sink);
       shows : ShowsAsBefore (state l.fn.sink) (state l.sink);
       ready : (most : ℕ) × All (IsReady g.S.Stream.broken g.S.Stream.taken most) l.ring.items;

@@ -20,13 +20,13 @@ loop-stream-preserved g c =
       value = c.sum_of-sum.ensures ∙ ap (λ a. sum_of a c.ledger.result) i.value
           ∙ ap (sum_of (total no_counts (map counts (take n streams)))) c.ledger.ensures.value
           ∙ sym (total_more counts no_counts (take n streams) stream) ∙ ap (λ l. total no_counts (map counts l)) (sym more);
-      tallied = λ shared s pairs all.
-          let one = source_stands (g.S.Stream.stands shared) g.S.Stream.sizes s streams pairs (n + 1) n stream refl all (sym at) in
-          subst (λ l. TalliedFrom (g.S.Stream.tallies shared s) 1 (map counts l) pairs) (sym more)
-          (tallied_more counts (g.S.Stream.tallies shared s) 1 (take n streams) stream pairs (i.tallied shared s pairs all)
+      tallied = λ shared t pairs all.
+          let one = source_stands (g.S.Stream.stands shared) g.S.Stream.sizes t streams pairs (n + 1) n stream refl all (sym at) in
+          subst (λ l. TalliedFrom (g.S.Stream.tallies shared) t 1 (map counts l) pairs) (sym more)
+          (tallied_more counts (g.S.Stream.tallies shared) t 1 (take n streams) stream pairs (i.tallied shared t pairs all)
           (let count : 1 + length (take n streams) ≡ n + 1 = omega (arith, length-take-le n streams (omega (arith, within))) in
-          subst (λ k. g.S.Stream.tallies shared s (of k pairs) (counts stream)) (sym count)
-          (subst (λ t. g.S.Stream.tallies shared t (of (n + 1) pairs) (counts stream)) one.1
+          subst (λ k. g.S.Stream.tallies shared (t k) (of k pairs) (counts stream)) (sym count)
+          (subst (λ s. g.S.Stream.tallies shared s (of (n + 1) pairs) (counts stream)) one.1
           (subst (g.S.Stream.tallies shared (g.S.Stream.sizes stream) (of (n + 1) pairs)) c.ledger.ensures.value
           (c.ledger.ensures.tallied shared (of (n + 1) pairs) one.0)))));
       within = omega (arith, within);

@@ -8,9 +8,9 @@ abbrev pub invariant-loop-stream : goal.invariant-loop-stream
 invariant-loop-stream g l =
     record {
       value : l.sum ≡ total no_counts (map g.S.Stream.counts (take l.place l.self-inside.ring.items));
-      tallied : (shared : g.row.S-Shared.Denot) (s : Sizes) (pairs : List (ℕ × ℕ))
-          → AllStand (g.S.Stream.stands shared) g.S.Stream.sizes s l.self-inside.ring.items pairs
-          → TalliedFrom (g.S.Stream.tallies shared s) 1 (map g.S.Stream.counts (take l.place l.self-inside.ring.items)) pairs;
+      tallied : (shared : g.row.S-Shared.Denot) (t : ℕ → Sizes) (pairs : List (ℕ × ℕ))
+          → AllStand (g.S.Stream.stands shared) g.S.Stream.sizes t l.self-inside.ring.items pairs
+          → TalliedFrom (g.S.Stream.tallies shared) t 1 (map g.S.Stream.counts (take l.place l.self-inside.ring.items)) pairs;
       within : l.place ≤ length l.self-inside.ring.items;
     }
 

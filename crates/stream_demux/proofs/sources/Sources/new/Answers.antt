@@ -19,8 +19,8 @@ loop-alloc-preserved g c =
         c.loop-alloc-test.true,
       );
       stands = λ shared.
-          subst (λ l. StandFrom (g.S.Stream.stands shared) g.S.Stream.sizes c.args.settings.now 1 l []) (sym c.add.ensures.items)
-          (one_more (g.S.Stream.stands shared) g.S.Stream.sizes c.args.settings.now 1 c.loop-alloc.ring.items c.in-Ok.stream
+          subst (λ l. StandFrom (g.S.Stream.stands shared) g.S.Stream.sizes (λ id. c.args.settings.now) 1 l []) (sym c.add.ensures.items)
+          (one_more (g.S.Stream.stands shared) g.S.Stream.sizes (λ id. c.args.settings.now) 1 c.loop-alloc.ring.items c.in-Ok.stream
           (i.stands shared) (c.in-Ok.ensures.stands shared) c.in-Ok.ensures.sizes);
       ready = subst (All ready) (sym c.add.ensures.items)
           (All-append ready c.loop-alloc.ring.items (c.in-Ok.stream ∷ []) i.ready

@@ -8,7 +8,7 @@ invariant-loop-alloc g l =
     record {
       capacity : l.ring.capacity ≡ source_count;
       few : length l.ring.items ≤ source_count;
-      stands : (shared : g.row.S-Shared.Denot) → StandFrom (g.S.Stream.stands shared) g.S.Stream.sizes l.fn.settings 1 l.ring.items [];
+      stands : (shared : g.row.S-Shared.Denot) → StandFrom (g.S.Stream.stands shared) g.S.Stream.sizes (λ id. l.fn.settings) 1 l.ring.items [];
       ready : All (IsReady g.S.Stream.broken g.S.Stream.taken 0) l.ring.items;
     }
 

@@ -3,14 +3,14 @@ use Rattle.std.specs.Option.{option_copied_mut}
 use Rattle.std.specs.Prelude.{All}
 use Rattle.etm_types.specs.Id.{IsId}
 use Rattle.stream_demux.specs.Streams.{AllStand, IsReady}
-use Rattle.stream_demux.specs.Texts.{of}
+use Rattle.stream_demux.specs.Texts.{by_sizes, of}
 use Rattle.stream_demux.proofs.Standing.{is_none_of, no_source_moves, one_ready, ready_at, source_moves, source_stands, whole_where_ok}
 use Rattle.stream_demux.proofs.Runs.{no_source_adds, source_adds}
 use Rattle.stream_demux.proofs.sources.Sources.take_run.Goals as goal
 
 pub returns-in_default-clause-stands : goal.returns-in_default-clause-stands
-returns-in_default-clause-stands g c s pairs all ok =
-    no_source_moves (g.S.Stream.stands c.args.shared.now) g.S.Stream.sizes s c.args.self.now pairs c.args.id c.args.run.now
+returns-in_default-clause-stands g c t pairs all ok =
+    no_source_moves (g.S.Stream.stands c.args.shared.now) g.S.Stream.sizes t c.args.self.now pairs c.args.id c.args.run.now
     (λ is. let e : false ≡ true = c.in_default.ensures.some.1 is in cc) all
 
 pub take_run-requires-clause-whole : goal.take_run-requires-clause-whole
@@ -27,32 +27,32 @@ take_run-requires-clause-few g c =
     omega (arith, one.few, c.requires.2)
 
 pub returns-clause-stands : goal.returns-clause-stands
-returns-clause-stands g c s pairs all ok =
+returns-clause-stands g c t pairs all ok =
     let at = sym (ap option_copied_mut c.in-Some-get_mut.is) ∙ c.get_mut.follows.0 in
     let stands = g.S.Stream.stands c.args.shared.now in let sizes = g.S.Stream.sizes in
     let place : c.from.result - 1 + 1 ≡ c.args.id = omega (arith, c.from.ensures, c.get.ensures.value, c.get.ensures.within.0, c.in-Some.ensures.value) in
-    let each = subst (λ l. AllStand stands sizes s l pairs) (sym c.self.view_is) all in
-    let one = source_stands stands sizes s c.self.inside.ring.items pairs c.args.id (c.from.result - 1) c.in-Some-get_mut.stream.now place each at in
-    source_moves stands sizes s c.self.inside.ring.items pairs c.args.id (c.from.result - 1) c.args.run.now c.in-Some-get_mut.stream.now c.take_run.new.self
+    let each = subst (λ l. AllStand stands sizes t l pairs) (sym c.self.view_is) all in
+    let one = source_stands stands sizes t c.self.inside.ring.items pairs c.args.id (c.from.result - 1) c.in-Some-get_mut.stream.now place each at in
+    source_moves stands sizes t c.self.inside.ring.items pairs c.args.id (c.from.result - 1) c.args.run.now c.in-Some-get_mut.stream.now c.take_run.new.self
     place each at (c.take_run.ensures.stands ok (of c.args.id pairs) one.0) c.take_run.ensures.sizes
 
 pub returns-in_default-clause-adds : goal.returns-in_default-clause-adds
-returns-in_default-clause-adds g c s pairs all =
-    no_source_adds (g.S.Stream.listing c.args.shared.now s) c.args.id pairs c.args.run.now (g.K.Sink.state c.args.sink.now) tt
+returns-in_default-clause-adds g c t pairs all =
+    no_source_adds (by_sizes (g.S.Stream.listing c.args.shared.now) t) c.args.id pairs c.args.run.now (g.K.Sink.state c.args.sink.now) tt
     (is_none_of c.args.id (λ is. let e : false ≡ true = c.in_default.ensures.some.1 is in cc))
 
 pub returns-clause-adds : goal.returns-clause-adds
-returns-clause-adds g c s pairs all =
+returns-clause-adds g c t pairs all =
     let at = sym (ap option_copied_mut c.in-Some-get_mut.is) ∙ c.get_mut.follows.0 in
     let stands = g.S.Stream.stands c.args.shared.now in let sizes = g.S.Stream.sizes in
     let place : c.from.result - 1 + 1 ≡ c.args.id = omega (arith, c.from.ensures, c.get.ensures.value, c.get.ensures.within.0, c.in-Some.ensures.value) in
-    let each = subst (λ l. AllStand stands sizes s l pairs) (sym c.self.view_is) all in
-    let one = source_stands stands sizes s c.self.inside.ring.items pairs c.args.id (c.from.result - 1) c.in-Some-get_mut.stream.now place each at in
+    let each = subst (λ l. AllStand stands sizes t l pairs) (sym c.self.view_is) all in
+    let one = source_stands stands sizes t c.self.inside.ring.items pairs c.args.id (c.from.result - 1) c.in-Some-get_mut.stream.now place each at in
     let is : IsId c.args.id = (
       omega (arith, c.get.ensures.within.0, c.get.ensures.value, c.in-Some.ensures.value),
       omega (arith, c.get.ensures.within.1, c.get.ensures.value, c.in-Some.ensures.value),
     ) in
-    source_adds (g.S.Stream.listing c.args.shared.now) (sizes c.in-Some-get_mut.stream.now) s c.args.id c.in-Some.id pairs c.args.run.now _ _ _ is
+    source_adds (g.S.Stream.listing c.args.shared.now) (sizes c.in-Some-get_mut.stream.now) t c.args.id c.in-Some.id pairs c.args.run.now _ _ _ is
     c.in-Some.ensures.value one.1 (c.take_run.ensures.gains (of c.args.id pairs) one.0)
 
 pub returns-clause-ready : goal.returns-clause-ready

@@ -1,0 +1,140 @@
+-- What `trace` appended is the frames of a good run file, and `path` of them answers its retired paths.
+use Rattle.std.proofs.Common.{◌≡◌, ℕ, Bool, true, false, List, ◌++◌, length, Option, Some, None, Result, Ok, Err}
+use Rattle.std.proofs.Common.{refl, sym, ap, subst, ◌∙◌, inl, inr}
+use Rattle.std.proofs.lemmas.List.{append_cancel_left}
+use Rattle.std.specs.Prelude.{nat_lt, if◌then◌else◌}
+use Rattle.bench_text.proofs.Benches.{parsed_good}
+use Rattle.bench_text.specs.BenchText.{parsed}
+use Rattle.bench_text.specs.Parts.{BenchParts, IsBench}
+use Rattle.bench_text.specs.Refusals.{bench_of, most_text, refusal_among, unless, unless_refused}
+use Rattle.bench_text.specs.declared.fault.BenchWhy.{BenchWhy}
+use Rattle.bench_text.specs.declared.fault.BenchWhy.TheVariants.{TooLong}
+use Rattle.program_image.specs.ImageText.{image_of}
+use Rattle.program_image.specs.declared.image.Image.{Image}
+use Rattle.read_back.specs.ReadBack.{AsksBack, PathReadsBack, ReadsBack, Traces}
+use Rattle.std.specs.Io.KnownBytes.{Appends}
+use Rattle.trace_cmd.proofs.Complete.{paths_are_done}
+use Rattle.trace_cmd.proofs.TracedCalls.{prints_traces, taken_are}
+use Rattle.trace_cmd.specs.Answers.{Answers, Asks, Call, HasImage, IsRetired, IsTested, IsTraced}
+use Rattle.trace_cmd.specs.Complete.{IsDone, IsDoneOrFaulted}
+use Rattle.trace_cmd.specs.Printing.{PacketsOf, PathsOf, What}
+use Rattle.traced_runs.specs.Traced.{AreAccepted, trace_frames}
+use Rattle.trace_cmd.specs.TracedCalls.{IsPathOfTrace, PrintsTraces, frames_under}
+use Rattle.answer_lines.specs.declared.status.Status.{Status}
+use Rattle.answer_lines.specs.declared.status.Status.TheVariants as status
+use Rattle.trace_cmd.proofs.WordKinds.{path_kind, path_program}
+use Rattle.trace_io.specs.Bytes.{AppendsAll}
+use Rattle.trace_io.specs.State.{IoState}
+
+-- ---- a run file whose events are accepted
+
+by_refusal : (refusal : Option (ℕ × BenchWhy)) (b other : BenchParts) → unless refusal b ≡ Ok other → (b ≡ other) × (refusal ≡ None)
+by_refusal None b other is = (cc, refl)
+by_refusal (Some fault) b other is = absurd cc
+
+by_lines : (image : Image) (r : Result BenchParts (ℕ × BenchWhy)) (b : BenchParts) → unless_refused image r ≡ Ok b
+    → (r ≡ Ok b) × AreAccepted image b
+by_lines image (Err fault) b is = absurd cc
+by_lines image (Ok parts) b is =
+    let both = by_refusal (refusal_among image parts.settings.depth parts.streams) parts b is in
+    (ap Ok both.0, subst (λ (p : BenchParts). refusal_among image p.settings.depth p.streams ≡ None) both.0 both.1)
+
+by_length : (long : Bool) (image : Image) (file : List ℕ) (b : BenchParts)
+    → (if long then Err (0, TooLong) else unless_refused image (parsed file)) ≡ Ok b → (parsed file ≡ Ok b) × AreAccepted image b
+by_length true image file b is = absurd cc
+by_length false image file b is = by_lines image (parsed file) b is
+
+accepted_parts : (image : Image) (file : List ℕ) (b : BenchParts) → bench_of image file ≡ Ok b → (parsed file ≡ Ok b) × AreAccepted image b
+accepted_parts image file b is = by_length (nat_lt most_text (length file)) image file b is
+
+-- ---- what was appended
+
+appended_are : (old new : Option (List ℕ)) (before frames bytes : List ℕ) → old ≡ Some before → new ≡ Some (before ++ frames) → Appends old new bytes
+    → bytes ≡ frames
+appended_are None new before frames bytes was is appends = absurd cc
+appended_are (Some xs) None before frames bytes was is appends = absurd cc
+appended_are (Some xs) (Some ys) before frames bytes was is appends =
+    let here : xs ≡ before = cc in let there : ys ≡ before ++ frames = cc in
+    append_cancel_left before bytes frames (ap (λ (l : List ℕ). l ++ bytes) (sym here) ∙ sym appends ∙ there)
+
+-- ---- the call of `trace`
+
+module _ (t : Call) (old new : IoState) (text file frames : List ℕ) (traces : Traces t old new text file frames) where
+  not_of_input : (what : What) → Asks t what → ⊥
+  not_of_input (PathsOf image r) asked = let both : _ ≡ _ = sym asked.0.1 ∙ traces.words.1 in cc
+  not_of_input (PacketsOf r) asked = let both : _ ≡ _ = sym asked ∙ traces.words.1 in cc
+
+  not_retired : (bytes : List ℕ) → IsRetired t bytes → ⊥
+  not_retired bytes ((p, words), over) = let both : _ ≡ _ = sym words ∙ traces.words.1 in cc
+
+  not_tested : (bytes : List ℕ) → IsTested t bytes → ⊥
+  not_tested bytes (n, cut, words, summary) = let both : _ ≡ _ = sym words ∙ traces.words.1 in cc
+
+  -- image and run file are good, and these are their frames
+  record Good : Type 0 where
+    image : Image
+    bench : BenchParts
+    image_is : image_of text ≡ Ok image
+    bench_is : bench_of image file ≡ Ok bench
+    frames_are : frames ≡ trace_frames image bench
+
+  traced_good : (bytes : List ℕ) → IsTraced t bytes → AppendsAll old new bytes → Good
+  traced_good bytes (asked, (parts, (p, named, (other, taken, spells)), traced)) appends =
+      let same = taken_are t.image.bytes t.image'.bytes text other traces.image_text taken in
+      let run_file = taken_are t.input.bytes t.input'.bytes file traced.run_file traces.run_file traced.read in
+      let all = appended_are old.bytes new.bytes traces.before frames bytes traces.shown traces.appended appends in
+      record {
+        image = parts;
+        bench = traced.bench;
+        image_is = subst (λ (l : List ℕ). image_of l ≡ Ok parts) same spells;
+        bench_is = subst (λ (l : List ℕ). bench_of parts l ≡ Ok traced.bench) run_file traced.accepted;
+        frames_are = sym all ∙ traced.written;
+      }
+
+  good : Answers t old new status.Done → Good
+  good (inl (what, asked, done)) = absurd (not_of_input what asked)
+  good (inr (inl (bytes, retired, printed))) = absurd (not_retired bytes retired)
+  good (inr (inr (inl (bytes, traced, printed)))) = traced_good bytes traced printed
+  good (inr (inr (inr (bytes, tested, printed)))) = absurd (not_tested bytes tested)
+
+  -- ---- the call of `path`
+
+  module _ (g : Good) (p : Call) (out out' : IoState) (answer : Status) (asks : AsksBack p out out' text frames g.bench.settings)
+      (answers : Answers p out out' answer) where
+    is_bench : IsBench g.bench
+    is_bench = parsed_good file g.bench (accepted_parts g.image file g.bench g.bench_is).0
+
+    accepted : AreAccepted g.image g.bench
+    accepted = (accepted_parts g.image file g.bench g.bench_is).1
+
+    has_image : HasImage p g.image
+    has_image = record {
+      program = asks.words.0;
+      named = path_program (frames_under g.bench.settings) p.words asks.words;
+      bytes = text;
+      shows = asks.image_text;
+      spells = g.image_is;
+    }
+
+    of_trace : IsPathOfTrace p g.image g.bench
+    of_trace = record { words = asks.words; is_same = has_image; input = asks.input ∙ ap Some g.frames_are }
+
+    prints : PrintsTraces g.image g.bench out out' answer
+    prints = prints_traces p out out' g.image g.bench is_bench accepted of_trace answer answers
+
+    decided : IsDoneOrFaulted answer
+    decided = paths_are_done p out out' answer g.image (path_kind (frames_under g.bench.settings) p.words asks.words) has_image
+        (record { bytes = frames; shows = asks.input; few = asks.few }) asks.nothing answers
+
+    no_fault : IsDoneOrFaulted answer → IsDone answer
+    no_fault (inl is) = inl is
+    no_fault (inr (inl is)) = absurd (subst (PrintsTraces g.image g.bench out out') is prints)
+    no_fault (inr (inr is)) = inr is
+
+    back : ReadsBack g.image g.bench out out' answer
+    back = record { done = no_fault decided; printed = λ is. subst (PrintsTraces g.image g.bench out out') is prints }
+
+pub reads_back : PathReadsBack
+reads_back t old new text file frames traces =
+    let g = good t old new text file frames traces traces.answered in
+    (g.image, g.bench, g.image_is, g.bench_is, back t old new text file frames traces g)

@@ -1,0 +1,178 @@
+//! What prints an input, piece by piece, however it is laid out.
+ghost use Rattle.std.specs.Prelude.{◌≡◌, ◌<◌, ◌≤◌, ◌+◌, ◌^◌, ◌++◌, ◌↔◌, [], ℕ, List, Bool, false, not, length, IsOk, IsErr, IsTrue, IfOk};
+ghost use Rattle.etm_types.specs.Settings.{Sizes};
+ghost use Rattle.path_text.specs.Writing.{Writes};
+ghost use Rattle.stream_demux.specs.Demuxed.{Gains};
+ghost use Rattle.stream_demux.specs.Laid.{IsLaid, Laid, Rests};
+ghost use Rattle.stream_demux.specs.Texts.{IsEnding, Listing, Printed, text_of};
+ghost use Rattle.trace_io.specs.Bytes.{ShowsAsBefore};
+ghost use Rattle.trace_io.specs.Causes.{HasCause};
+
+use crate::demux::Demux;
+use crate::raw::RawStream;
+use crate::stream::Stream;
+use trace_io::{Failed, Sink};
+
+/// Takes an input by pieces, and writes the lines that they add. It has no drop: it ends by `finish` or `abandon`.
+pub trait Printer {
+    /// What all streams of the input share.
+    type Shared;
+
+    /// Whether a write failed.
+    ghost broken: { Self → Bool };
+
+    /// How many bytes were taken.
+    ghost taken: { Self → ℕ };
+
+    /// These bytes were taken, under these sizes of the trace units, by ID.
+    ghost stands: { Self.Shared → (ℕ → Sizes) → Self → List ℕ → Type 0 };
+
+    /// What is printed of streams under these sizes, each by its ID.
+    ghost listing: { Self.Shared → (ℕ → Sizes) → Listing };
+
+    /// These bytes were taken, and no more come.
+    ghost ended: { Self.Shared → (ℕ → Sizes) → Self → List ℕ → Type 0 };
+
+    /// The number of frames that come last.
+    ghost frames: { Self → ℕ };
+
+    /// How bytes become pairs of ID and byte, where so many frames come last.
+    ghost laid: { ℕ → Laid };
+
+    /// Takes the next bytes, and writes the lines that they add. The error means that a write failed.
+    fn take_piece<K: Sink>(
+        &mut self,
+        shared: &Self::Shared,
+        piece: &[u8],
+        sink: &mut K,
+    ) -> Result<(), Failed>
+        requires whole { broken self.old ≡ false }
+        requires few { taken self.old + length piece.now ≤ 2 ^ 30 }
+        ensures stands { (t : ℕ → Sizes) (bytes : List ℕ) → stands shared.now t self.old bytes → IsOk result → stands shared.now t self.new (bytes ++ piece.now) }
+        ensures gains { (t : ℕ → Sizes) (bytes : List ℕ) → stands shared.now t self.old bytes
+            → Gains (laid (frames self.old)).carried (listing shared.now t) bytes piece.now (K.state sink.old) (K.state sink.new) result }
+        ensures cause { HasCause (K.state sink.old) (K.state sink.new) result }
+        ensures shows { ShowsAsBefore (K.state sink.old) (K.state sink.new) }
+        ensures broken { IsTrue (broken self.new) ↔ IsErr result }
+        ensures taken { IsOk result → taken self.new ≡ taken self.old + length piece.now }
+        ensures frames { frames self.new ≡ frames self.old };
+
+    /// No more bytes come: writes the lines of the pairs that did not come with them. The error means that a write failed.
+    fn take_rest<K: Sink>(&mut self, shared: &Self::Shared, sink: &mut K) -> Result<(), Failed>
+        requires whole { broken self.old ≡ false }
+        requires few { taken self.old ≤ 2 ^ 30 }
+        ensures ended { (t : ℕ → Sizes) (bytes : List ℕ) → stands shared.now t self.old bytes → IsOk result → ended shared.now t self.new bytes }
+        ensures rests { (t : ℕ → Sizes) (bytes : List ℕ) → stands shared.now t self.old bytes
+            → Rests (laid (frames self.old)) (listing shared.now t) bytes (K.state sink.old) (K.state sink.new) result }
+        ensures cause { HasCause (K.state sink.old) (K.state sink.new) result }
+        ensures shows { ShowsAsBefore (K.state sink.old) (K.state sink.new) }
+        ensures broken { IsTrue (broken self.new) ↔ IsErr result }
+        ensures frames { frames self.new ≡ frames self.old };
+
+    /// Writes how the streams end, and says whether none ends with a fault and no frame is cut.
+    fn finish<K: Sink>(self, sink: &mut K) -> Result<bool, Failed>
+        requires { broken self ≡ false }
+        ensures ending { (shared : Self.Shared) (t : ℕ → Sizes) (bytes : List ℕ) → ended shared t self bytes
+            → (lines : List Printed) × (faulty : Bool) × IsEnding (listing shared t) ((laid (frames self)).whole bytes) ((laid (frames self)).left bytes) lines faulty
+            × Writes (K.state sink.old) (K.state sink.new) result (text_of lines) × IfOk result (λ whole. whole ≡ not faulty) }
+        ensures cause { HasCause (K.state sink.old) (K.state sink.new) result }
+        ensures shows { ShowsAsBefore (K.state sink.old) (K.state sink.new) };
+
+    /// Ends it without a line.
+    fn abandon(self);
+
+    /// So it is whatever their number.
+    ghost is_laid: { (k : ℕ) → IsLaid (laid k) };
+}
+
+/// Frames of many sources.
+impl<S: Stream> Printer for Demux<S> {
+    ghost use Rattle.stream_demux.specs.Demuxed.{StandsAt};
+    ghost use Rattle.stream_demux.specs.Laid.{frames_laid, frames_laid_is};
+    ghost use Rattle.stream_demux.specs.Texts.{by_sizes};
+
+    type Shared = S::Shared;
+
+    ghost broken = { λ d. d.broken };
+
+    ghost taken = { λ d. d.taken };
+
+    ghost stands = { λ shared t d bytes. StandsAt (S.stands shared) S.sizes t d bytes };
+
+    ghost listing = { λ shared t. by_sizes (S.listing shared) t };
+
+    ghost ended = { λ shared t d bytes. StandsAt (S.stands shared) S.sizes t d bytes };
+
+    ghost frames = { λ d. 0 };
+
+    ghost laid = { λ k. frames_laid };
+
+    fn take_piece<K: Sink>(
+        &mut self,
+        shared: &S::Shared,
+        piece: &[u8],
+        sink: &mut K,
+    ) -> Result<(), Failed> {
+        Demux::take_piece(self, shared, piece, sink)
+    }
+
+    fn take_rest<K: Sink>(&mut self, _shared: &S::Shared, _sink: &mut K) -> Result<(), Failed> {
+        Ok(())
+    }
+
+    fn finish<K: Sink>(self, sink: &mut K) -> Result<bool, Failed> {
+        Demux::finish(self, sink)
+    }
+
+    fn abandon(self) {
+        Demux::abandon(self);
+    }
+
+    ghost is_laid = { λ k. frames_laid_is };
+}
+
+/// One stream that is not framed.
+impl<S: Stream> Printer for RawStream<S> {
+    ghost use Rattle.stream_demux.specs.Demuxed.{RawStandsAt};
+    ghost use Rattle.stream_demux.specs.Laid.{raw_laid, raw_laid_is};
+    ghost use Rattle.stream_demux.specs.Texts.{by_sizes};
+
+    type Shared = S::Shared;
+
+    ghost broken = { S.broken };
+
+    ghost taken = { S.taken };
+
+    ghost stands = { λ shared t r bytes. RawStandsAt (S.stands shared) S.sizes S.broken S.taken t r bytes };
+
+    ghost listing = { λ shared t. by_sizes (S.listing shared) t };
+
+    ghost ended = { λ shared t r bytes. RawStandsAt (S.stands shared) S.sizes S.broken S.taken t r bytes };
+
+    ghost frames = { λ r. 0 };
+
+    ghost laid = { λ k. raw_laid };
+
+    fn take_piece<K: Sink>(
+        &mut self,
+        shared: &S::Shared,
+        piece: &[u8],
+        sink: &mut K,
+    ) -> Result<(), Failed> {
+        RawStream::take_piece(self, shared, piece, sink)
+    }
+
+    fn take_rest<K: Sink>(&mut self, _shared: &S::Shared, _sink: &mut K) -> Result<(), Failed> {
+        Ok(())
+    }
+
+    fn finish<K: Sink>(self, sink: &mut K) -> Result<bool, Failed> {
+        RawStream::finish(self, sink)
+    }
+
+    fn abandon(self) {
+        RawStream::abandon(self);
+    }
+
+    ghost is_laid = { λ k. raw_laid_is };
+}
