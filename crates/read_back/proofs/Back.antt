@@ -13,13 +13,13 @@ use Rattle.program_image.specs.ImageText.{image_of}
 use Rattle.program_image.specs.declared.image.Image.{Image}
 use Rattle.read_back.specs.ReadBack.{AsksBack, PathReadsBack, ReadsBack, Traces}
 use Rattle.std.specs.Io.KnownBytes.{Appends}
-use Rattle.trace_cmd.proofs.Complete.{paths_are_done}
-use Rattle.trace_cmd.proofs.TracedCalls.{prints_traces, taken_are}
+use Rattle.answer_laws.proofs.Complete.{paths_are_done}
+use Rattle.answer_laws.proofs.TracedCalls.{prints_traces, taken_are}
 use Rattle.trace_cmd.specs.Answers.{Answers, Asks, Call, HasImage, IsRetired, IsTested, IsTraced}
-use Rattle.trace_cmd.specs.Complete.{IsDone, IsDoneOrFaulted}
+use Rattle.answer_laws.specs.Complete.{IsDone, IsDoneOrFaulted}
 use Rattle.trace_cmd.specs.Printing.{PacketsOf, PathsOf, What}
 use Rattle.traced_runs.specs.Traced.{AreAccepted, trace_frames}
-use Rattle.trace_cmd.specs.TracedCalls.{IsPathOfTrace, PrintsTraces, frames_under}
+use Rattle.answer_laws.specs.TracedCalls.{IsPathOfTrace, PrintsTraces, frames_under}
 use Rattle.answer_lines.specs.declared.status.Status.{Status}
 use Rattle.answer_lines.specs.declared.status.Status.TheVariants as status
 use Rattle.trace_cmd.proofs.WordKinds.{path_kind, path_program}

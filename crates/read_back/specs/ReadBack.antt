@@ -7,12 +7,12 @@ use Rattle.program_image.specs.ImageText.{image_of}
 use Rattle.program_image.specs.declared.image.Image.{Image}
 use Rattle.stream_demux.specs.Texts.{Printed, text_of}
 use Rattle.trace_cmd.specs.Answers.{Answers, Call, IsPathUnder, IsTraceCall}
-use Rattle.trace_cmd.specs.Complete.{IsDone, NothingFailed}
+use Rattle.answer_laws.specs.Complete.{IsDone, NothingFailed}
 use Rattle.input_pieces.specs.Listed.{most_input}
 use Rattle.traced_runs.specs.Traced.{ShowsTraces}
 use Rattle.answer_lines.specs.declared.status.Status.{Status}
 use Rattle.answer_lines.specs.declared.status.Status.TheVariants as status
-use Rattle.trace_cmd.specs.TracedCalls.{frames_under}
+use Rattle.answer_laws.specs.TracedCalls.{frames_under}
 use Rattle.trace_io.specs.Bytes.{AppendsAll}
 use Rattle.trace_io.specs.State.{IoState}
 

@@ -1,4 +1,3 @@
+mod AnswerExamples
 pub mod AnswerLemmas
-pub mod Complete
-pub mod TracedCalls
 pub mod WordKinds

@@ -6,13 +6,11 @@
 //!
 //! What each command does stands in the crates below: the words in `command_words`, the reading of an input by pieces in
 //! `input_pieces`, `retired` in `retired_paths`, `trace` and `selftest` in `traced_runs`, the answers in `answer_lines`. Here the words
-//! are read, then the image, and then the command is done; two laws say what all answers come to.
+//! are read, then the image, and then the command is done. What all answers come to is said by the laws of `answer_laws` and `read_back`.
 #![tactic(auto)]
 
 mod command;
-mod laws;
 
 pub use answer_lines::Status;
 pub use command::run;
 pub use command_words::image_name;
-pub use laws::{good_input_is_answered, path_prints_what_was_traced};

@@ -1,5 +1,5 @@
-use Rattle.trace_cmd.proofs.Complete.{faults_are_decided, numbers_are_done, packets_are_done, paths_are_done, run_files_are_done}
-use Rattle.trace_cmd.proofs.laws.good_input_is_answered.Goals as goal
+use Rattle.answer_laws.proofs.Complete.{faults_are_decided, numbers_are_done, packets_are_done, paths_are_done, run_files_are_done}
+use Rattle.answer_laws.proofs.laws.good_input_is_answered.Goals as goal
 
 pub returns-clause-run_files : goal.returns-clause-run_files
 returns-clause-run_files c = run_files_are_done

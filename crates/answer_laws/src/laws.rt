@@ -2,9 +2,9 @@
 ghost use Rattle.bench_text.specs.Parts.{BenchParts, IsBench};
 ghost use Rattle.program_image.specs.declared.image.Image.{Image};
 ghost use Rattle.trace_cmd.specs.Answers.{Answers, Call};
-ghost use Rattle.trace_cmd.specs.Complete.{FaultsAreDecided, NumbersAreDone, PacketsAreDone, PathsAreDone, RunFilesAreDone};
+ghost use Rattle.answer_laws.specs.Complete.{FaultsAreDecided, NumbersAreDone, PacketsAreDone, PathsAreDone, RunFilesAreDone};
 ghost use Rattle.traced_runs.specs.Traced.{AreAccepted};
-ghost use Rattle.trace_cmd.specs.TracedCalls.{IsPathOfTrace, PrintsTraces};
+ghost use Rattle.answer_laws.specs.TracedCalls.{IsPathOfTrace, PrintsTraces};
 ghost use Rattle.answer_lines.specs.declared.status.Status.{Status};
 ghost use Rattle.trace_io.specs.State.{IoState};
 

@@ -15,7 +15,7 @@ use Rattle.trace_cmd.specs.Answers.{Answers, Asks, Call, IsRetired, IsTested, Is
 use Rattle.input_pieces.specs.Listed.{Completes}
 use Rattle.trace_cmd.specs.Printing.{PathsOf, PacketsOf, What, laid_in, laid_of, listing_of, sizes_by}
 use Rattle.traced_runs.specs.Traced.{AreAccepted, IsTraceText, trace_frames}
-use Rattle.trace_cmd.specs.TracedCalls.{IsPathOfTrace, PrintsTraces, frames_under}
+use Rattle.answer_laws.specs.TracedCalls.{IsPathOfTrace, PrintsTraces, frames_under}
 use Rattle.answer_lines.specs.declared.status.Status.{Status}
 use Rattle.answer_lines.specs.declared.status.Status.TheVariants as status
 use Rattle.command_words.specs.Words.{Intake}

@@ -18,13 +18,13 @@ use Rattle.program_image.specs.declared.image.Image.{Image}
 use Rattle.stream_demux.proofs.PathTexts.{one_text_of_paths}
 use Rattle.stream_demux.specs.Texts.{IsText, Printed}
 use Rattle.packet_list.proofs.PacketTexts.{one_text_of_packets}
-use Rattle.trace_cmd.proofs.TracedCalls.{one_image, taken_are}
+use Rattle.answer_laws.proofs.TracedCalls.{one_image, taken_are}
 use Rattle.command_words.proofs.WordLemmas.{within}
 use Rattle.trace_cmd.proofs.WordKinds.{no_kind, number_kind, one_kind, packets_kind, path_kind, program_kind, retired_kind, trace_kind}
 use Rattle.trace_cmd.specs.Answers.{Answers, Asks, Call, HasImage, HasRead, IsBareCall, IsBenchBad, IsImageCall, IsOfKind, IsOwnBenchBad}
 use Rattle.trace_cmd.specs.Answers.{IsOwnImageBad, IsOwnTooLong, IsPathCall, IsProgramBad, IsRunFileCall, IsSelftestCall, IsSelftestOf}
-use Rattle.trace_cmd.specs.Complete.{AreAlike, FaultsAreDecided, HasInput, HasRunFile, IsDone, IsDoneOrFaulted, NothingFailed, ShowAlike}
-use Rattle.trace_cmd.specs.Complete.{NumbersAreDone, PacketsAreDone, PathsAreDone, RunFilesAreDone}
+use Rattle.answer_laws.specs.Complete.{AreAlike, FaultsAreDecided, HasInput, HasRunFile, IsDone, IsDoneOrFaulted, NothingFailed, ShowAlike}
+use Rattle.answer_laws.specs.Complete.{NumbersAreDone, PacketsAreDone, PathsAreDone, RunFilesAreDone}
 use Rattle.trace_cmd.specs.Programs.{BadText, NoProgram, TakesNoProgram}
 use Rattle.input_pieces.specs.Listed.{Completes, Exceeds, most_input}
 use Rattle.trace_cmd.specs.Printing.{PacketsOf, PathsOf, What, laid_of, listing_of, sizes_by}

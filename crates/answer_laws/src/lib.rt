@@ -1,0 +1,9 @@
+//! What the answers of calls come to, as laws over the contract of `run`: what `path` prints of what was traced, and what is answered where
+//! image and input are good and no call failed.
+//!
+//! There is no code here. The definition of each answer stands in `specs/Answers.antt` of `trace_cmd`.
+#![tactic(auto)]
+
+mod laws;
+
+pub use laws::{good_input_is_answered, path_prints_what_was_traced};

@@ -1,0 +1,103 @@
+-- Calls with their programs, layouts, sizes and answers, and near misses.
+use Rattle.std.proofs.Common.{◌≡◌, ℕ, List, [], ◌∷◌, ◌++◌, codes, Some, None, refl}
+use Rattle.answer_lines.specs.UsageLine.{usage_line}
+use Rattle.answer_lines.specs.declared.status.Status.TheVariants as status
+use Rattle.command_words.specs.Words.{Intake, Program, meaning}
+use Rattle.command_words.specs.declared.words.Layout.{Layout}
+use Rattle.command_words.specs.declared.words.Layout.TheVariants.{Raw, Frames}
+use Rattle.path_text.specs.Lines.{in_base}
+use Rattle.program_image.specs.declared.fault.ImageWhy.TheVariants.{Unaligned}
+use Rattle.trace_cmd.specs.Answers.{Answers, call}
+use Rattle.trace_cmd.specs.Printing.{PacketsOf, laid_of, sizes_by}
+use Rattle.trace_cmd.specs.Programs.{BadText, line_of, most_taken, program_named}
+use Rattle.trace_io.specs.State.{IoState}
+
+-- ---- command lines
+
+abbrev path_words : List (List ℕ)
+path_words = codes "path" ∷ codes "--raw" ∷ codes "img" ∷ []
+
+abbrev packets_words : List (List ℕ)
+packets_words = codes "packets" ∷ []
+
+abbrev retired_words : List (List ℕ)
+retired_words = codes "retired" ∷ codes "img" ∷ []
+
+abbrev trace_words : List (List ℕ)
+trace_words = codes "trace" ∷ codes "img" ∷ []
+
+abbrev number_words : List (List ℕ)
+number_words = codes "selftest" ∷ codes "7" ∷ []
+
+abbrev unknown_words : List (List ℕ)
+unknown_words = codes "pat" ∷ codes "img" ∷ []
+
+abbrev img : Program
+img = record { name = codes "img" }
+
+-- ---- programs
+
+-- of each command that names one, and of none that does not
+pub of_path : program_named path_words ≡ Some img
+of_path = refl
+
+pub of_retired : program_named retired_words ≡ Some img
+of_retired = refl
+
+pub of_trace : program_named trace_words ≡ Some img
+of_trace = refl
+
+pub of_packets : program_named packets_words ≡ None
+of_packets = refl
+
+pub of_number : program_named number_words ≡ None
+of_number = refl
+
+-- a byte more than 64 MiB of a program, and nothing of none
+pub most_of_path : most_taken path_words ≡ 67108865
+most_of_path = refl
+
+pub most_of_packets : most_taken packets_words ≡ 0
+most_of_packets = refl
+
+-- the line of a text that spells no image
+pub line_of_unaligned : line_of (BadText 3 Unaligned) ≡ codes "image line 3: unaligned" ++ 10 ∷ []
+unfolding in_base
+line_of_unaligned = refl
+
+-- ---- inputs
+
+abbrev taken : Layout → Intake
+taken layout = record { units = record { depth = 8; vmid_bytes = 2; cid_bytes = 0 }; layout = layout }
+
+-- with `--raw` each byte is of stream 01, at once
+pub raw_bytes : (laid_of (PacketsOf (taken Raw))).carried (8 ∷ 9 ∷ []) ≡ (1, 8) ∷ (1, 9) ∷ []
+raw_bytes = refl
+
+-- and of a frame nothing, before it is whole
+pub framed_bytes : (laid_of (PacketsOf (taken Frames))).carried (8 ∷ 9 ∷ []) ≡ []
+framed_bytes = refl
+
+pub framed_left : (laid_of (PacketsOf (taken Frames))).left (8 ∷ 9 ∷ []) ≡ 2
+framed_left = refl
+
+-- each stream has the sizes that the words say
+pub sizes_of_111 : (sizes_by (taken Frames) 111).depth ≡ 8
+sizes_of_111 = refl
+
+-- ---- answers
+
+abbrev showing : List ℕ → IoState
+showing bytes = record { bytes = Some bytes; faults = 0 }
+
+-- words that mean nothing have the line of usage, behind what was written before
+pub usage_answered :
+    Answers (call unknown_words (showing []) (showing []) (showing []) (showing [])) (showing (65 ∷ [])) (showing (65 ∷ usage_line)) status.Usage
+usage_answered = (usage_line, record { meaningless = refl; printed = refl }, refl)
+
+-- and no other words have it
+pub no_usage_of_packets : (c c' i i' out out' : IoState) → Answers (call packets_words c c' i i') out out' status.Usage → ⊥
+no_usage_of_packets c c' i i' out out' (text, is, printed) = by is.meaningless
+  where
+    by : meaning packets_words ≡ None → ⊥
+    by same = absurd cc
