@@ -1,9 +1,10 @@
 #!/usr/bin/env python3
 """Adds to the stored run of branch_cases each word that differs in one bit from a branch or ISB.
 
-For one word or more of each encoding (BR, BLR, RET, ERET, ISB, B.cond, CBZ, CBNZ, TBZ, TBNZ, B, BL) the 32
-words with one bit turned are disassembled by llvm-mc, which must be installed, and what it says is the class
-that is expected. Words that the run has already are checked against llvm-mc and stay as they are.
+For one word or more of each encoding (BR, BLR, RET, ERET and those of pointer authentication, ISB, B.cond,
+CBZ, CBNZ, TBZ, TBNZ, B, BL) the 32 words with one bit turned are disassembled by llvm-mc, which must be
+installed, and what it says is the class that is expected. Words that the run has already are checked against
+llvm-mc and stay as they are.
 
     tests/branch_cases.py [FOLDER]     FOLDER: where stdin and stdout are, crates/branch_cases
 """
@@ -17,6 +18,12 @@ WORDS = [
     0xd63f0000, 0xd63f03c0,              # BLR X0, BLR X30
     0xd65f0000, 0xd65f03c0,              # RET X0, RET
     0xd69f03e0,                          # ERET
+    0xd61f081f, 0xd61f0fdf,              # BRAAZ X0, BRABZ X30
+    0xd63f081f, 0xd63f0fdf,              # BLRAAZ X0, BLRABZ X30
+    0xd65f0bff, 0xd65f0fff,              # RETAA, RETAB
+    0xd69f0bff, 0xd69f0fff,              # ERETAA, ERETAB
+    0xd71f081f, 0xd71f0fc1,              # BRAA X0, SP; BRAB X30, X1
+    0xd73f081f, 0xd73f0fc1,              # BLRAA X0, SP; BLRAB X30, X1
     0xd5033fdf, 0xd50330df,              # ISB, ISB #0
     0x54000000, 0x547fffe0, 0x5480000f,  # B.EQ to itself, the furthest ahead, and the furthest back
     0x34000000, 0xb5ffffff,              # CBZ W0, CBNZ XZR
@@ -31,10 +38,10 @@ CLASSES = [
     (r"b", "jump"),
     (r"bl", "jump-link"),
     (r"isb", "isb"),
-    (r"br|ret", "ind"),
-    (r"blr", "ind-link"),
-    (r"eret", "eret"),
-    (r"bc\.\w\w|drps|(br|blr|ret|eret)a[ab]z?", "odd"),
+    (r"br|ret|bra[ab]z?|reta[ab]", "ind"),
+    (r"blr|blra[ab]z?", "ind-link"),
+    (r"eret|ereta[ab]", "eret"),
+    (r"bc\.\w\w|drps", "odd"),
 ]
 
 

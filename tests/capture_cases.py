@@ -7,7 +7,7 @@ MODEL_DIR is as for tests/packet_cases.py. The streams are those of tests/specul
 any bytes, of one to six IDs. They are put into frames here, by docs/FORMATS.md ("Frames") and with a fixed seed: as the trace
 formatter of this project writes them, or as any other may, which repeats an ID, tells one late, or has bytes before the first.
 Bytes of the null ID and of reserved IDs stand between, some captures have frames of any bytes or barrier packets, and some end
-in a frame. The answers come from the model alone, in its profile `base`.
+in a frame. The answers come from the model alone, in its profile `low`.
 
 The file has the form of that of tests/path_cases.py, but that a block has two command lines, each with its answer behind it.
 A line `input` may end with ` x` and how often its bytes stand there.
@@ -46,7 +46,7 @@ def stream(rng, model, lines, places, sizes):
     if kind == 0:
         return rng.randbytes(rng.randrange(1, 40))
     if kind == 1:
-        return model.randoms.random_bytes(rng, model.base.Settings(*sizes), rng.randrange(1, 60), "base")
+        return model.randoms.random_bytes(rng, model.base.Settings(*sizes), rng.randrange(1, 60), "low")
     given = grown(rng, Outlook(model, lines, sizes), begun(rng, places, sizes), places, sizes)
     if kind == 2:
         return SYNC + given

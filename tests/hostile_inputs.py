@@ -99,7 +99,8 @@ class Corpus:
 
     def __init__(self):
         names = ["cases_of_packets/cases.txt", "cases_of_paths/cases.txt", "cases_of_speculation/cases.txt", "cases_of_captures/cases.txt",
-                 "cases_of_opencsd/raw.txt", "cases_of_opencsd/framed.txt", "cases_of_runs/cases.txt", "cases_of_runs/worked.txt"]
+                 "cases_of_opencsd/raw.txt", "cases_of_opencsd/framed.txt", "cases_of_opencsd/raw_at_targets.txt",
+                 "cases_of_opencsd/framed_at_targets.txt", "cases_of_runs/cases.txt", "cases_of_runs/worked.txt"]
         every = [*stored_folders(), *stored_examples(), *stored_traces()]
         every += [case for name in names for case in stored_blocks(name)]
         every = [case for case in every if 0 < len(case.given) <= MOST_INPUT]
@@ -190,8 +191,8 @@ def changed(rng, given, other, changes=None):
 
 # ---- texts that are changed ----------------------------------------------------
 
-NUMBERS = ["0", "1", "2", "3", "15", "16", "31", "32", "70", "4095", "4096", "4097", "65535", "65536", "1048576", "1048577", "4294967295",
-           "4294967296", "9999999999", "00000000001", "10000000000", "ffffffff", "100000000", "fffffffffffffffc", "ffffffffffffffff",
+NUMBERS = ["0", "1", "2", "3", "15", "16", "31", "32", "70", "4096", "4097", "16383", "16384", "16385", "65535", "65536", "1048576",
+           "1048577", "4294967295", "4294967296", "9999999999", "00000000001", "10000000000", "ffffffff", "100000000", "fffffffffffffffc", "ffffffffffffffff",
            "10000000000000000", "-1", "+1", "0x10", "1.5", "g", "ff", "01:1", "6f:1048576", "el3", "el4", "s", "ns"]
 LINES = ["", "#", "@", "@0", "@2", "@1000", "@fffffffffffffffc", "@ffffffffffffffff", "@10000000000000000", "1f2003d5", "1f2003d", "10000054",
          "etm 1", "etm 2", "depth 0", "depth 4096", "vmid 0", "cid 0", "stack 0", "stream 01", "stream 6f", "stream 70", "on 1000 el0 s 0 0",
@@ -300,7 +301,7 @@ def going_on(rng, text):
 # ---- packets in a row ------------------------------------------------------------
 
 def sizes_of(rng):
-    return speculation_cases.Sizes(rng.choice([0, 0, 1, 2, 4, 16, 64, 4096]), rng.choice([0, 1, 1, 2, 4]), rng.choice([0, 4, 4]))
+    return speculation_cases.Sizes(rng.choice([0, 0, 1, 2, 4, 16, 64, 16384]), rng.choice([0, 1, 1, 2, 4]), rng.choice([0, 4, 4]))
 
 
 def sequence(rng, places, sizes):
@@ -449,7 +450,7 @@ FEW = b"(?:-|E|EE|N)"
 FORM = b"(?:match [0-2]|(?:short1|short2|long32|long64) %b)" % HEX
 PACKET = b"%b (?:%b)" % (DECIMAL, b"|".join([
     b"async|discard|overflow|on|ignore", b"info (?:-|0)(?: -| %b){3}" % DECIMAL, b"event [1-9][0-9]?", b"time [1-9][0-9]? %b" % DECIMAL,
-    b"(?:exc|commit) %b" % DECIMAL, b"cancel %b(?: mispredict)?" % DECIMAL, b"(?:mispredict|cancel2) " + FEW, b"cancel3 [-E] [2-5]",
+    b"exc %b(?: target)?" % DECIMAL, b"commit %b" % DECIMAL, b"cancel %b(?: mispredict)?" % DECIMAL, b"(?:mispredict|cancel2) " + FEW, b"cancel3 [-E] [2-5]",
     b"ctx same", TOLD_CONTEXT, b"addr %b(?: %b)?" % (FORM, TOLD_CONTEXT), b"atoms [EN]{1,24}"]))
 PACKET_REASON = b"|".join([
     b"(?:reserved|extension|info-control|exception-two-byte|exception-form|aarch32-context) " + BYTE, b"broken-sync", b"number-too-long",

@@ -8,6 +8,7 @@ Beside each stands NAME.out, what `etm retired` prints of it.
 - `late` has 64 MiB too, and its last line is of no form.
 - `held` holds as many steps as may be, `full` one more, and `room` one more again behind a retire.
 - `whole` retires all NOPs and the branch, and in `closed` a step follows, which is lost as tracing is turned off.
+- `back` takes back as many steps as may be held, and `beyond` retires one more.
 - `streams` has every stream that there may be, and `one_more` one more.
 - `words` has a weave of a million words, and `word` a word of a million letters.
 """
@@ -48,6 +49,8 @@ def run_files():
     whole = f"step {WINDOW}\nretire {WINDOW}\nstep\ntaken\nretire 2\n"
     yield "whole", BEGUN + whole, path(NOPS + 1)
     yield "closed", BEGUN + whole + "step\noff\n", path(NOPS + 1) + "01 stop\n"
+    yield "back", BEGUN + f"step {WINDOW}\ncancel {WINDOW}\nstep\nexc 14 0 el0 ns 0 0\nretire 2\n", path(1) + "01 exc irq 4\n"
+    yield "beyond", BEGUN + f"step {WINDOW}\nretire {WINDOW + 1}\n", "bench line 5: range\n"
     streams = HEADER + "".join(f"stream {i:02x}\n{ON}" for i in range(STREAMS, 0, -1))
     yield "streams", streams, ""
     yield "one_more", streams + "stream 01\n", f"bench line {2 * STREAMS + 2}: duplicate-id\n"

@@ -1,9 +1,9 @@
 // Prints the instructions that OpenCSD finds in a capture: `ID ADDRESS` for each, as `etm path` does for an instruction.
 //
-//   opencsd_reader [--raw] [--depth N] [--vmid N] [--cid N] [--count] IMAGE <CAPTURE
+//   opencsd_reader [--raw] [--depth N] [--vmid N] [--cid N] [--no-return-stack] [--count] IMAGE <CAPTURE
 //
-// The words and IMAGE are those of `etm path` (docs/FORMATS.md). With --count only the number of instructions is printed, so
-// that a clock sees the decoder and not the printing. Ends with 1 where OpenCSD reports an error, which is then told on
+// The words and IMAGE are those of `etm path` (docs/FORMATS.md). With --no-return-stack the units have none. With --count only the
+// number of instructions is printed, so that a clock sees the decoder and not the printing. Ends with 1 where OpenCSD reports an error, which is then told on
 // standard error, and with 2 where a word, the image or a call that sets OpenCSD up is wrong.
 //
 //   c++ -O2 -o opencsd_reader opencsd_reader.cpp -lopencsd_c_api      (Debian: libopencsd-dev)
@@ -25,7 +25,7 @@ constexpr size_t kPiece = 1 << 16;
 constexpr size_t kOutput = 1 << 16;
 
 struct Words {
-  bool raw = false, count = false;
+  bool raw = false, count = false, return_stack = true;
   uint32_t depth = 16, vmid = 1, cid = 4;
   std::string image;
 };
@@ -66,6 +66,7 @@ Words words_of(int count, char** given) {
     };
     if (word == "--raw") words.raw = true;
     else if (word == "--count") words.count = true;
+    else if (word == "--no-return-stack") words.return_stack = false;
     else if (word == "--depth") words.depth = number();
     else if (word == "--vmid") words.vmid = number();
     else if (word == "--cid") words.cid = number();
@@ -95,16 +96,16 @@ std::vector<Part> parts_of(const std::string& name) {
   return parts;
 }
 
-// The registers of a unit with these sizes, with 64-bit addresses, timestamps and a return stack, and nothing else (IHI 0064).
+// The registers of a unit with these sizes, with 64-bit addresses and timestamps, mostly a return stack, and nothing else (IHI 0064).
 ocsd_etmv4_cfg unit_of(const Words& words, int id) {
   ocsd_etmv4_cfg unit{};
-  unit.reg_idr0 = 1 << 9 | 8 << 24;                           // RETSTACK; TSSIZE: 64 bits
+  unit.reg_idr0 = words.return_stack << 9 | 8 << 24;          // RETSTACK; TSSIZE: 64 bits
   unit.reg_idr1 = 4 << 8 | 3 << 4;                           // ETMv4.3; of earlier ones OpenCSD takes no ignore packet
   unit.reg_idr2 = 8 | words.cid << 5 | words.vmid << 10;      // IASIZE: 64 bits; CIDSIZE; VMIDSIZE
   unit.reg_idr8 = words.depth;                                // MAXSPEC
-  unit.reg_configr = (words.cid ? 1 << 6 : 0) | (words.vmid ? 1 << 7 : 0) | 1 << 11 | 1 << 12;  // CID, VMID, TS, RS
+  unit.reg_configr = (words.cid ? 1 << 6 : 0) | (words.vmid ? 1 << 7 : 0) | 1 << 11 | words.return_stack << 12;  // CID, VMID, TS, RS
   unit.reg_traceidr = uint32_t(id);
-  unit.arch_ver = ARCH_V8;
+  unit.arch_ver = ARCH_V8r3;                                  // of earlier ones OpenCSD reads no pointer authentication
   unit.core_prof = profile_CortexA;
   return unit;
 }

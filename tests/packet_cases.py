@@ -5,7 +5,7 @@ Usage: packet_cases.py MODEL_DIR
 
 MODEL_DIR is the folder of a slow Python model of the packet rules, with the package etm_model. It is no part of this
 repository, and so tests/run does not run this script. The streams are made here, from the table of docs/FORMATS.md
-and with a fixed seed; the answers come from the model alone, in its profile `base`, which has this table.
+and with a fixed seed; the answers come from the model alone, in its profile `low`, which has this table.
 
 The file is blocks, an empty line between two. A block is a line `case NAME`, then `words` and the words of the command
 line, then lines `input` with the bytes in hex (none where the input is empty), then `status N`, and then all the lines
@@ -89,7 +89,7 @@ SPELLINGS = [
     info,
     timestamp,
     lambda rng: b"\x04",
-    lambda rng: bytes([0x06, rng.randrange(32) << 1 | 1]),
+    lambda rng: bytes([0x06, rng.randrange(32) << 1 | rng.choice([0x01, 0x40])]),
     lambda rng: b"\x2d" + number(rng),
     lambda rng: bytes([rng.choice([0x2E, 0x2F])]) + number(rng),
     lambda rng: bytes([rng.randrange(0x30, 0x40)]),
@@ -216,7 +216,7 @@ def chosen():
     """What chance would leave out: all numbers of bytes, and all kinds."""
     yield "empty", b""
     yield "every_atom_byte", SYNC + bytes(range(0xC0, 0x100))
-    yield "every_exception", SYNC + b"".join(bytes([6, kind << 1 | 1]) for kind in range(32))
+    yield "every_exception", SYNC + b"".join(bytes([6, kind << 1 | form]) for form in (0x01, 0x40) for kind in range(32))
     yield "every_short_header", SYNC + bytes(range(0x30, 0x40)) + bytes(range(0x70, 0x81)) + b"\x90\x91\x92\x04"
     yield "every_timestamp", SYNC + b"".join(b"\x02" + b"\xff" * more + b"\x7f" for more in range(9))
     yield "every_length_of_a_number", SYNC + b"".join(
@@ -242,7 +242,7 @@ def bad_values():
         spellings[f"trace_info_of_control_{control:02x}"] = bytes([1, control])
     for mode in (b"\x01", b"\x02", b"\x10", b"\x7f", b"\x80\x01", b"\x80\x80\x80\x40", b"\xff\xff\xff\xff\x0f"):
         spellings[f"trace_info_of_mode_{mode.hex()}"] = b"\x01\x03" + mode
-    for second in (0x00, 0x02, 0x1C, 0x3E, 0x40, 0x5C, 0x7E, 0x41, 0x5D, 0x7F, 0x80, 0x81, 0x9D, 0xC0, 0xC1, 0xFF):
+    for second in (0x00, 0x02, 0x1C, 0x3E, 0x40, 0x5C, 0x7E, 0x41, 0x5D, 0x7F, 0x80, 0x81, 0x9D, 0xC0, 0xC1, 0xDC, 0xFF):
         spellings[f"exception_of_{second:02x}"] = bytes([6, second])
     for header, last in itertools.product((0x2D, 0x2E, 0x2F), (0x0F, 0x10, 0x80, 0xFF)):
         spellings[f"number_of_{header:02x}_that_ends_with_{last:02x}"] = bytes([header, 0x80, 0x80, 0x80, 0x80, last])
@@ -289,7 +289,7 @@ def forms():
         yield "info " + " ".join(("0" if place == 0 else n) if is_told else "-" for place, is_told in enumerate(told))
     yield from (f"event {event}" for event in range(1, 16))
     yield from (f"time {bits} {n}" for bits in (7, 14, 21, 28, 35, 42, 49, 56, 64))
-    yield from (f"exc {kind}" for kind in range(32))
+    yield from (f"exc {kind}{target}" for kind in range(32) for target in ("", " target"))
     yield from (f"{name} {few}" for name in ("mispredict", "cancel2") for few in ("-", "E", "EE", "N"))
     yield from (f"cancel3 {first} {count}" for first in "-E" for count in range(2, 6))
     yield from (f"atoms {run}" for run in atoms())
@@ -348,7 +348,7 @@ def answer(model, settings, given):
     """The status and the lines for an input, by the model."""
     if not given:
         return 0, []
-    found, end = model.parsed(settings, given, "base")
+    found, end = model.parsed(settings, given, "low")
     lines = [model.packet_line(1, at, packet) for at, packet in found]
     return 4 if end.name == "Fault" else 0, [*lines, model.end_line(1, end)]
 

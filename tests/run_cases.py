@@ -6,7 +6,7 @@ Usage: run_cases.py MODEL_DIR
 MODEL_DIR is as for tests/packet_cases.py. The events come from the model, which makes lists of them that a run accepts, over
 images that it makes too; all else is made here, with a fixed seed: how the lines are spelled, settings, several streams, weaves,
 and what is wrong in the files that are refused. For those an event is put into a list that is refused there for a reason chosen
-before, or a line of text that has a fault. The answers come from the model alone, in its profile `base`.
+before, or a line of text that has a fault. The answers come from the model alone, in its profile `low`.
 
 The file has the form of that of tests/path_cases.py. Most lines of a run file stand in lines `run`, each of which ends with LF;
 those of which a reader of the file would not see all stand in lines `input`, in hex, as do lines that are repeated.
@@ -143,8 +143,8 @@ def weaves_for(rng, ids):
 def draft_of(rng, model, settings=None):
     """A run file that is accepted, and whose retired path is not too long."""
     while True:
-        image = model.randoms.random_image(rng, "base")
-        sizes = settings or model.randoms.random_settings(rng, "base")
+        image = model.randoms.random_image(rng, "low")
+        sizes = settings or model.randoms.random_settings(rng, "base")  # whose depths are those of run files
         ids = rng.sample(range(1, 112), rng.choice([1, 1, 1, 2, 3]))
         length = rng.choice([4, 10, 25, 25, 60, 120]) // len(ids)
         streams = [Stream(i, events_for(rng, model, image, sizes, length) if rng.random() < 0.95 else []) for i in ids]
@@ -312,7 +312,7 @@ def wrong_text(rng, model, number):
 
 def full_window(rng, model, what):
     """A loop that is executed until as many steps are held as may be; then the run file goes on by `what`."""
-    image = model.image.Image({0x1000 + 4 * k: path_cases.NOP for k in range(16)} | {0x1040: 0x17FFFFF0}, "base")
+    image = model.image.Image({0x1000 + 4 * k: path_cases.NOP for k in range(16)} | {0x1040: 0x17FFFFF0}, "low")
     front, loop = b"etm 1\ndepth 4096\nstream 01\non 1000 el0 ns 0 0\n", b"step 16\ntaken\n"
     assert 65535 % 17 == 0
     return image, [(front, 1), (loop, 65535 // 17), (what, 1)]
@@ -370,12 +370,12 @@ EVENTS = [
     "a cancel of plain steps alone", "a cancel of all that is held", "a cancel that comes to an ISB",
     "a flip of one that was taken", "a flip of one that was not taken", "a flip behind a cancel", "a sync",
     "an overflow with steps held", "off with steps held", "an overflow with none held", "tracing turned on again",
-    "an end with steps held", "a stretch that shows nothing", "a depth of 0", "a depth of 4096"]
+    "an end with steps held", "a stretch that shows nothing", "a depth of 0", "a depth of 4096", "a branch with a key"]
 
 
 def seen(model, image, text):
     """What happens in an accepted run file, by the model."""
-    bench = model.runs.bench_of(image, text, "base")
+    bench = model.runs.bench_of(image, text, "low")
     for stream in bench.streams:
         state, before = model.runs.RunState(), None
         yield from (f"a depth of {depth}" for depth in (0, 4096) if stream.settings.depth == depth and stream.lines)
@@ -402,7 +402,9 @@ def executed(step):
 
 def seen_at(model, image, settings, state, event, before):
     if event.name in model.runs.EXECUTES:
-        return [executed(model.runs.step_of(image, state, event))]
+        step = model.runs.step_of(image, state, event)
+        has_key = step.kind in ("Ind", "Eret") and image.words[step.addr] & 0x800
+        return [executed(step), *["a branch with a key"] * bool(has_key)]
     held = state.steps[state.r:]
     gone = held[len(held) - event.n:] if event.name == "Cancel" else held[:event.n]
     is_plain = not any(step.is_p0() for step in gone)
@@ -466,7 +468,7 @@ def main(words):
         blocks.append(block(name, image_lines, pieces, status, printed))
         if status == 0:
             lines.append(printed)
-            found = model.image.image_of("".join(line + "\n" for line in image_lines).encode(), "base")
+            found = model.image.image_of("".join(line + "\n" for line in image_lines).encode(), "low")
             happened.update(seen(model, found, given))
         else:
             [(place, why)] = re.findall("^bench line ([0-9]+): ([a-z-]+)", printed[0])

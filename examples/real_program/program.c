@@ -1,5 +1,6 @@
 // A program whose path is traced, by tests/real_program and in docs/GUIDE.md ("A program of one's own"). It has loops, recursion,
-// calls by pointers, an ISB, and what the C library does to begin, to print and to end.
+// calls by pointers, an ISB, and what the C library does to begin, to print and to end; and where it is compiled with
+// -mbranch-protection=standard, branches by addresses that are signed with a key.
 #include <stdio.h>
 #include <stdlib.h>
 #include <string.h>
@@ -27,6 +28,17 @@ static int moves(int discs, int from, int to) {
 static int rising(const void *one, const void *other) { return strcmp(*(char *const *)one, *(char *const *)other); }
 static int falling(const void *one, const void *other) { return rising(other, one); }
 
+// Calls and goes on by signed addresses; the compiler itself writes none but returns.
+static void branch_by_keys(void) {
+#ifdef __ARM_FEATURE_PAC_DEFAULT
+  __asm__ volatile(
+      "adr x16, 1f; paciza x16; blraaz x16;"
+      "adr x17, 2f; pacia x17, sp; braa x17, sp;"
+      "1: hint 34; ret;"
+      "2: hint 36;" ::: "x16", "x17", "x30");
+#endif
+}
+
 int main(void) {
   int (*const orders[])(const void *, const void *) = {rising, falling};
   const char *words[WORDS] = {"trace", "unit", "atom", "frame", "branch", "path", "core", "image"};
@@ -35,6 +47,7 @@ int main(void) {
     printf("from %s to %s\n", words[0], words[WORDS - 1]);
   }
   __asm__ volatile("isb");
+  branch_by_keys();
   printf("%d primes below %d\n", primes_below(BELOW), BELOW);
   printf("%d moves of %d discs\n", moves(DISCS, 1, 3), DISCS);
   return 0;

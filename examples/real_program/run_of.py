@@ -37,6 +37,11 @@ CLASSES = [
     (0xFFFFFC1F, 0xD61F0000, "indirect", 0, 0),      # BR
     (0xFFFFFC1F, 0xD63F0000, "indirect", 0, 0),      # BLR
     (0xFFFFFC1F, 0xD65F0000, "indirect", 0, 0),      # RET
+    (0xFFFFF81F, 0xD61F081F, "indirect", 0, 0),      # BRAAZ, BRABZ
+    (0xFFFFF81F, 0xD63F081F, "indirect", 0, 0),      # BLRAAZ, BLRABZ
+    (0xFFFFFBFF, 0xD65F0BFF, "indirect", 0, 0),      # RETAA, RETAB
+    (0xFFFFF800, 0xD71F0800, "indirect", 0, 0),      # BRAA, BRAB
+    (0xFFFFF800, 0xD73F0800, "indirect", 0, 0),      # BLRAA, BLRAB
     (0xFE000000, 0xD6000000, "not read", 0, 0),      # all others, and ERET, which no program of a user executes
     (0xFC000000, 0x14000000, "branch", 0, 26),       # B
     (0xFC000000, 0x94000000, "branch", 0, 26),       # BL

@@ -49,8 +49,24 @@ to_register : map class_of (0xd61f0000 ∷ 0xd61f03e0 ∷ 0xd63f0000 ∷ 0xd63f0
 unfolding class_of
 to_register = refl
 
--- DRPS, RETAA, and the first and the last word of the group
-other_to_register : map class_of (0xd6bf03e0 ∷ 0xd65f0bff ∷ 0xd6000000 ∷ 0xd7ffffff ∷ []) ≡ Odd ∷ Odd ∷ Odd ∷ Odd ∷ []
+-- BRAAZ X0, BRABZ XZR, BLRAAZ X0, BLRABZ XZR; RETAA, RETAB
+with_key : map class_of (0xd61f081f ∷ 0xd61f0fff ∷ 0xd63f081f ∷ 0xd63f0fff ∷ 0xd65f0bff ∷ 0xd65f0fff ∷ [])
+    ≡ Ind false ∷ Ind false ∷ Ind true ∷ Ind true ∷ Ind false ∷ Ind false ∷ []
+unfolding class_of
+with_key = refl
+
+-- ERETAA, ERETAB
+exception_with_key : map class_of (0xd69f0bff ∷ 0xd69f0fff ∷ []) ≡ Eret ∷ Eret ∷ []
+unfolding class_of
+exception_with_key = refl
+
+-- BRAA X0, X0; BRAB XZR, SP; BLRAA X0, X0; BLRAB XZR, SP
+with_key_and_modifier : map class_of (0xd71f0800 ∷ 0xd71f0fff ∷ 0xd73f0800 ∷ 0xd73f0fff ∷ []) ≡ Ind false ∷ Ind false ∷ Ind true ∷ Ind true ∷ []
+unfolding class_of
+with_key_and_modifier = refl
+
+-- DRPS, and the first and the last word of the group
+other_to_register : map class_of (0xd6bf03e0 ∷ 0xd6000000 ∷ 0xd7ffffff ∷ []) ≡ Odd ∷ Odd ∷ Odd ∷ []
 unfolding class_of
 other_to_register = refl
 
@@ -96,6 +112,42 @@ ret_turned = refl
 eret_turned : turned 0xd69f03e0 0 32 ≡ replicate 23 Odd ++ (Ind false ∷ Odd ∷ of_no_register 0x160fc20)
 unfolding class_of
 eret_turned = refl
+
+-- bit 10 makes BRABZ of BRAAZ, bit 21 BLRAAZ, and bit 24 BRAA
+braaz_turned : turned 0xd61f081f 0 5 ++ turned 0xd61f081f 10 22
+    ≡ replicate 5 Odd ++ (Ind false ∷ replicate 10 Odd ++ (Ind true ∷ Odd ∷ Odd ∷ Ind false ∷ of_no_register 0x1e0f7e1))
+unfolding class_of
+braaz_turned = refl
+
+-- bit 10 makes BLRABZ of BLRAAZ, bit 21 BRAAZ, and bit 24 BLRAA
+blraaz_turned : turned 0xd63f081f 0 5 ++ turned 0xd63f081f 10 22
+    ≡ replicate 5 Odd ++ (Ind true ∷ replicate 10 Odd ++ (Ind false ∷ Odd ∷ Odd ∷ Ind true ∷ of_no_register 0x1c0f7e1))
+unfolding class_of
+blraaz_turned = refl
+
+-- bit 10 makes RETAB of RETAA, and bit 22 BRAAZ of XZR
+retaa_turned : turned 0xd65f0bff 0 32
+    ≡ replicate 10 Odd ++ (Ind false ∷ replicate 11 Odd ++ (Ind false ∷ Odd ∷ Odd ∷ of_no_register 0x1a0f401))
+unfolding class_of
+retaa_turned = refl
+
+-- bit 10 makes ERETAB of ERETAA, and bit 23 BRAAZ of XZR
+eretaa_turned : turned 0xd69f0bff 0 32
+    ≡ replicate 10 Odd ++ (Eret ∷ replicate 12 Odd ++ (Ind false ∷ Odd ∷ of_no_register 0x160f401))
+unfolding class_of
+eretaa_turned = refl
+
+-- bit 10 makes BRAB of BRAA, bit 21 BLRAA, and bit 24 BRAAZ
+braa_turned : turned 0xd71f081f 10 22
+    ≡ Ind false ∷ replicate 10 Odd ++ (Ind true ∷ Odd ∷ Odd ∷ Ind false ∷ of_no_register 0xe0f7e1)
+unfolding class_of
+braa_turned = refl
+
+-- bit 10 makes BLRAB of BLRAA, and bit 21 BRAA
+blraa_turned : turned 0xd73f0800 10 22
+    ≡ Ind true ∷ replicate 10 Odd ++ (Ind false ∷ Odd ∷ Odd ∷ Odd ∷ of_no_register 0xc0f800)
+unfolding class_of
+blraa_turned = refl
 
 -- bit 25 makes a branch to a register of ISB, and bit 30 BL
 isb_turned : turned 0xd5033fdf 0 8 ++ turned 0xd5033fdf 12 20

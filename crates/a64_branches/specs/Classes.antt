@@ -41,6 +41,18 @@ branches_to_registers =
     ∷ row 0xfffffc1f 0xd65f0000 (λ word. Ind false)
     -- ERET: 1101 0110 1001 1111 000000 11111 00000
     ∷ row 0xffffffff 0xd69f03e0 (λ word. Eret)
+    -- BRAAZ, and BRABZ where M is set: 1101 0110 0001 1111 00001M Rn 11111
+    ∷ row 0xfffff81f 0xd61f081f (λ word. Ind false)
+    -- BLRAAZ, and BLRABZ where M is set: 1101 0110 0011 1111 00001M Rn 11111
+    ∷ row 0xfffff81f 0xd63f081f (λ word. Ind true)
+    -- RETAA, and RETAB where M is set: 1101 0110 0101 1111 00001M 11111 11111
+    ∷ row 0xfffffbff 0xd65f0bff (λ word. Ind false)
+    -- ERETAA, and ERETAB where M is set: 1101 0110 1001 1111 00001M 11111 11111
+    ∷ row 0xfffffbff 0xd69f0bff (λ word. Eret)
+    -- BRAA, and BRAB where M is set: 1101 0111 0001 1111 00001M Rn Rm
+    ∷ row 0xfffff800 0xd71f0800 (λ word. Ind false)
+    -- BLRAA, and BLRAB where M is set: 1101 0111 0011 1111 00001M Rn Rm
+    ∷ row 0xfffff800 0xd73f0800 (λ word. Ind true)
     -- all others, which are not read: 1101 011
     ∷ row 0xfe000000 0xd6000000 (λ word. Odd)
     ∷ []

@@ -4,8 +4,10 @@ ghost use Rattle.a64_branches.specs.Classes.{HasWholeOffset, class_by, class_of,
 
 use crate::encoding::{
     ANY_BRANCH_TO_REGISTER, BRANCH, BRANCH_CONDITIONALLY, BRANCH_CONSISTENT, BRANCH_TO_REGISTER,
-    BRANCH_WITH_LINK, BRANCH_WITH_LINK_TO_REGISTER, BRANCHES_AND_SYSTEM, COMPARE_AND_BRANCH,
-    EXCEPTION_RETURN, RETURN, SYNCHRONIZATION_BARRIER, TEST_BIT_AND_BRANCH,
+    BRANCH_WITH_KEY, BRANCH_WITH_KEY_AND_MODIFIER, BRANCH_WITH_LINK, BRANCH_WITH_LINK_TO_REGISTER,
+    BRANCH_WITH_LINK_WITH_KEY, BRANCH_WITH_LINK_WITH_KEY_AND_MODIFIER, BRANCHES_AND_SYSTEM,
+    COMPARE_AND_BRANCH, EXCEPTION_RETURN, EXCEPTION_RETURN_WITH_KEY, RETURN, RETURN_WITH_KEY,
+    SYNCHRONIZATION_BARRIER, TEST_BIT_AND_BRANCH,
 };
 use crate::offset::{imm14, imm19, imm26};
 
@@ -15,16 +17,16 @@ pub enum Class {
     /// An instruction that is not traced: the next word is executed after it.
     Plain,
     /// B, or BL where it links.
-    Jump { off: i64, link: bool },
+    Jump { off: i32, link: bool },
     /// B.cond, CBZ, CBNZ, TBZ or TBNZ.
-    Cond { off: i64 },
+    Cond { off: i32 },
     /// ISB.
     Isb,
-    /// BR or RET, or BLR where it links.
+    /// BR or RET, or BLR where it links; those of pointer authentication too.
     Ind { link: bool },
-    /// ERET.
+    /// ERET, ERETAA or ERETAB.
     Eret,
-    /// A branch that is not read: DRPS, one of a later extension, or one that is not allocated.
+    /// A branch that is not read: BC.cond, DRPS, or one to a register that is not allocated.
     Odd,
 }
 
@@ -74,6 +76,18 @@ fn class_in_group(word: u32) -> Class
         Class::Ind { link: false }
     } else if EXCEPTION_RETURN.fits(word) {
         Class::Eret
+    } else if BRANCH_WITH_KEY.fits(word) {
+        Class::Ind { link: false }
+    } else if BRANCH_WITH_LINK_WITH_KEY.fits(word) {
+        Class::Ind { link: true }
+    } else if RETURN_WITH_KEY.fits(word) {
+        Class::Ind { link: false }
+    } else if EXCEPTION_RETURN_WITH_KEY.fits(word) {
+        Class::Eret
+    } else if BRANCH_WITH_KEY_AND_MODIFIER.fits(word) {
+        Class::Ind { link: false }
+    } else if BRANCH_WITH_LINK_WITH_KEY_AND_MODIFIER.fits(word) {
+        Class::Ind { link: true }
     } else if ANY_BRANCH_TO_REGISTER.fits(word) {
         Class::Odd
     } else {

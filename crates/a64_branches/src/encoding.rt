@@ -40,7 +40,25 @@ pub const RETURN: Encoding = Encoding(0xffff_fc1f, 0xd65f_0000);
 /// ERET: 1101 0110 1001 1111 000000 11111 00000.
 pub const EXCEPTION_RETURN: Encoding = Encoding(0xffff_ffff, 0xd69f_03e0);
 
-/// Whatever begins as the four encodings before: 1101 011.
+/// BRAAZ, and BRABZ where M is set: 1101 0110 0001 1111 00001M Rn 11111.
+pub const BRANCH_WITH_KEY: Encoding = Encoding(0xffff_f81f, 0xd61f_081f);
+
+/// BLRAAZ, and BLRABZ where M is set: 1101 0110 0011 1111 00001M Rn 11111.
+pub const BRANCH_WITH_LINK_WITH_KEY: Encoding = Encoding(0xffff_f81f, 0xd63f_081f);
+
+/// RETAA, and RETAB where M is set: 1101 0110 0101 1111 00001M 11111 11111.
+pub const RETURN_WITH_KEY: Encoding = Encoding(0xffff_fbff, 0xd65f_0bff);
+
+/// ERETAA, and ERETAB where M is set: 1101 0110 1001 1111 00001M 11111 11111.
+pub const EXCEPTION_RETURN_WITH_KEY: Encoding = Encoding(0xffff_fbff, 0xd69f_0bff);
+
+/// BRAA, and BRAB where M is set: 1101 0111 0001 1111 00001M Rn Rm.
+pub const BRANCH_WITH_KEY_AND_MODIFIER: Encoding = Encoding(0xffff_f800, 0xd71f_0800);
+
+/// BLRAA, and BLRAB where M is set: 1101 0111 0011 1111 00001M Rn Rm.
+pub const BRANCH_WITH_LINK_WITH_KEY_AND_MODIFIER: Encoding = Encoding(0xffff_f800, 0xd73f_0800);
+
+/// Whatever begins as the ten encodings before: 1101 011.
 pub const ANY_BRANCH_TO_REGISTER: Encoding = Encoding(0xfe00_0000, 0xd600_0000);
 
 /// B: 000101 imm26.

@@ -24,9 +24,26 @@ fn a_word_has_its_class(rt: HostRuntime) {
         (0xd65f_03c0, Class::Ind { link: false }),
         // ERET has one word alone.
         (0xd69f_03e0, Class::Eret),
-        // DRPS, RETAA and words that are not allocated
+        // BRAAZ, BRABZ
+        (0xd61f_081f, Class::Ind { link: false }),
+        (0xd61f_0fff, Class::Ind { link: false }),
+        // BLRAAZ, BLRABZ
+        (0xd63f_081f, Class::Ind { link: true }),
+        (0xd63f_0fff, Class::Ind { link: true }),
+        // RETAA, RETAB
+        (0xd65f_0bff, Class::Ind { link: false }),
+        (0xd65f_0fff, Class::Ind { link: false }),
+        // ERETAA, ERETAB
+        (0xd69f_0bff, Class::Eret),
+        (0xd69f_0fff, Class::Eret),
+        // BRAA, BRAB
+        (0xd71f_0800, Class::Ind { link: false }),
+        (0xd71f_0fff, Class::Ind { link: false }),
+        // BLRAA, BLRAB
+        (0xd73f_0800, Class::Ind { link: true }),
+        (0xd73f_0fff, Class::Ind { link: true }),
+        // DRPS and words that are not allocated
         (0xd6bf_03e0, Class::Odd),
-        (0xd65f_0bff, Class::Odd),
         (0xd600_1824, Class::Odd),
         (0xd7ff_eff1, Class::Odd),
         // CBZ, CBNZ
@@ -69,8 +86,8 @@ fn a_target_goes_past_both_ends(rt: HostRuntime) {
         (u64::MAX - 3, 0x7ff_fffc, 0x7ff_fff8),
         (0, -4, u64::MAX - 3),
         (4, -0x800_0000, u64::MAX - 0x7ff_fffb),
-        (0, i64::MIN, 1 << 63),
-        (u64::MAX, i64::MAX, (1 << 63) - 2),
+        (0, i32::MIN, u64::MAX - 0x7fff_ffff),
+        (u64::MAX, i32::MAX, 0x7fff_fffe),
     ] {
         assert_eq!(rt; target(addr, off), goes_to, "at {addr:x}");
     }

@@ -1,13 +1,14 @@
 -- Atom packets with their atoms, oldest first, and near misses. The atoms come from the figures of the standard (Arm IHI 0064,
 -- "Atom Format 1 packet" to "Atom Format 6 packet"), worked out apart from the definitions.
-use Rattle.std.proofs.Common.{◌≡◌, ℕ, Bool, true, false, ◌&&◌, ◌==◌, not, List, [], ◌∷◌, ◌++◌, refl, arith, eq-eqb}
+use Rattle.std.proofs.Common.{◌≡◌, ℕ, Bool, true, false, ◌&&◌, ◌==◌, not, List, [], ◌∷◌, ◌++◌, Some, None, map, refl, arith, eq-eqb}
 use Rattle.std.specs.Prelude.{replicate}
 use Rattle.std.specs.List.{list_all}
 use Rattle.std.proofs.lemmas.Bool.{both_ways, not-true}
+use Rattle.atom_formats.specs.Bytes.{byte_of, same_atoms}
 use Rattle.atom_formats.specs.Formats.{Spells, atom_formats}
 use Rattle.atom_formats.specs.Front.{SpellsFront}
 use Rattle.atom_formats.proofs.Rows.{no_other_tells}
-use Rattle.atom_formats.proofs.Table.{every_row, row_found, same_atoms, same_atoms-refl}
+use Rattle.atom_formats.proofs.Table.{every_row, row_found, same_atoms-refl}
 
 -- a branch that was taken
 abbrev e : Bool
@@ -93,6 +94,17 @@ format_6_with_n = (
   row_found atom_formats 0xe1 (e ∷ e ∷ e ∷ e ∷ n ∷ []) refl,
   row_found atom_formats 0xf4 (replicate 23 e ++ n ∷ []) refl,
 )
+
+-- ---- the byte of some atoms, where one byte tells them
+
+pub bytes_of : map byte_of ((e ∷ []) ∷ (n ∷ e ∷ []) ∷ (e ∷ e ∷ e ∷ []) ∷ (e ∷ e ∷ e ∷ e ∷ []) ∷ [])
+    ≡ Some 0xf7 ∷ Some 0xda ∷ Some 0xff ∷ Some 0xc0 ∷ []
+unfolding byte_of atom_formats
+bytes_of = refl
+
+pub no_byte_of : map byte_of ([] ∷ (n ∷ n ∷ e ∷ e ∷ []) ∷ []) ≡ None ∷ None ∷ []
+unfolding byte_of atom_formats
+no_byte_of = refl
 
 -- ---- near misses
 

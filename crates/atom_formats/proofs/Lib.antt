@@ -1,3 +1,4 @@
+pub mod Bytes
 pub mod Examples
 pub mod Longest
 pub mod LowBits

@@ -2,9 +2,10 @@
 use Rattle.std.proofs.Common.{◌≡◌, ℕ, List, [], ◌∷◌, length, Bool, true, ◌&&◌, ◌||◌, ◌==◌, not, nat_lt, nat_le, refl, arith, inl, inr, if◌then◌else◌, eq-eqb}
 use Rattle.std.specs.List.{list_all}
 use Rattle.std.proofs.lemmas.Bool.{and_parts, both_ways, eqb-true, leb-true, ltb-true, not-true, or_cases}
+use Rattle.atom_formats.specs.Bytes.{same_atoms}
 use Rattle.atom_formats.specs.Formats.{Spells, atom_formats}
 use Rattle.atom_formats.specs.Laws.{EachByteTells, NoOtherTells, OneByteARun, OneRunAByte, RunsAreShort}
-use Rattle.atom_formats.proofs.Table.{each_from, every_row, has_row, row_found, same_atoms, same_atoms-refl, same_atoms-true}
+use Rattle.atom_formats.proofs.Table.{each_from, every_row, has_row, row_found, same_atoms-refl, same_atoms-true}
 
 -- the atoms of a byte in the first row that has it
 abbrev look : List (ℕ × List Bool) → ℕ → List Bool

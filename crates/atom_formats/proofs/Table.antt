@@ -6,15 +6,9 @@ use Rattle.std.specs.List.{list_all}
 use Rattle.std.proofs.lemmas.Bool.{agree_below, agree_below_at, and_parts, eqb-true, leb-true, ltb-true, or_cases}
 use Rattle.std.proofs.lemmas.List.Sums.{AllPass-from_list_all}
 use Rattle.etm_types.specs.Atoms.{IsAtomRun, low_bits}
+use Rattle.atom_formats.specs.Bytes.{same_atoms}
 use Rattle.atom_formats.specs.Formats.{Spells, atom_formats}
 use Rattle.atom_formats.specs.declared.formats.TheConstants.{ROWS}
-
--- whether two lists have the same atoms
-abbrev pub same_atoms : List Bool → List Bool → Bool
-same_atoms [] [] = true
-same_atoms (true ∷ xs) (true ∷ ys) = same_atoms xs ys
-same_atoms (false ∷ xs) (false ∷ ys) = same_atoms xs ys
-same_atoms _ _ = false
 
 pub same_atoms-true : (xs ys : List Bool) → same_atoms xs ys ≡ true → xs ≡ ys
 same_atoms-true [] [] e = refl
@@ -37,7 +31,7 @@ abbrev pub has_row : List (ℕ × List Bool) → ℕ → List Bool → Bool
 has_row [] byte atoms = false
 has_row (row ∷ rows) byte atoms = ((row.0 == byte) && same_atoms row.1 atoms) || has_row rows byte atoms
 
-same_row : (row : ℕ × List Bool) (byte : ℕ) (atoms : List Bool) → row.0 ≡ byte → row.1 ≡ atoms → row ≡ (byte, atoms)
+pub same_row : (row : ℕ × List Bool) (byte : ℕ) (atoms : List Bool) → row.0 ≡ byte → row.1 ≡ atoms → row ≡ (byte, atoms)
 same_row (b, bits) byte atoms e f = cc
 
 pub row_found : (rows : List (ℕ × List Bool)) (byte : ℕ) (atoms : List Bool) → has_row rows byte atoms ≡ true → Contains rows (byte, atoms)

@@ -10,12 +10,12 @@ use Rattle.std.specs.Str.Lines.{lines}
 use Rattle.std.proofs.lemmas.Bool.{and_parts, leb-true}
 use Rattle.std.proofs.lemmas.Bool.Decides.{nat_tests}
 use Rattle.std.proofs.lemmas.List.Elements.{All-append, All-cons, All-head, All-nil, All-tail}
-use Rattle.etm_types.specs.Settings.{AreSettings, is_cid_size, is_vmid_size}
-use Rattle.program_image.specs.Line.{words_in}
+use Rattle.etm_types.specs.Settings.{AreSettings, is_cid_size, is_vmid_size, most_depth}
+use Rattle.line_words.specs.Line.{two_digits_of, words_in}
 use Rattle.bench_text.specs.BenchText.{Draft, add_any, add_behind, add_event, add_kind, add_line, add_lines, add_stream, add_weaves, before_streams, declare}
-use Rattle.bench_text.specs.BenchText.{finished, in_stream, is_empty, is_source, is_version, kind_of, no_lines, parsed, parts_of, set, setting_of}
+use Rattle.bench_text.specs.BenchText.{finished, in_stream, is_empty, is_source, is_version, kind_of, most_run_depth, no_lines, parsed, parts_of, set, setting_of}
 use Rattle.bench_text.specs.BenchText.{sizes_of, then_lines, weave, weaves_of, where_allowed, with_line}
-use Rattle.bench_text.specs.EventLines.{event_of, need, only_number, only_word, two_digits_of}
+use Rattle.bench_text.specs.EventLines.{event_of, need, only_number, only_word}
 use Rattle.bench_text.specs.Parts.{AreApart, BenchParts, BenchStream, IsBench, IsBenchLine, IsBenchStream, IsWeave, has_stream}
 use Rattle.bench_text.specs.declared.fault.BenchWhy.{BenchWhy}
 use Rattle.bench_text.specs.declared.fault.BenchWhy.TheVariants.{Header, IdRange, DuplicateId, Range}
@@ -192,10 +192,14 @@ add_weaves_good d (word ∷ words) h =
 truth : (b : Bool) → b ≡ true → IsTrue b
 truth b h = search rules
 
+-- a depth that a run file may give is one that settings have
+deep : (n : ℕ) → nat_le n most_run_depth ≡ true → n ≤ most_depth
+deep n ok = omega (arith, leb-true n most_run_depth ok)
+
 kind_good : (k : LineKind) (number : ℕ) (d : Draft) (word : List ℕ) (words : List (List ℕ)) → IsBenchDraft d
     → Good IsBenchDraft (add_kind k number d word words)
 kind_good kind.Depth number d word words h = set_good _ d.depth _ d words (λ n place ok.
-    set_up (record d { depth = Some n }) place (record { depth = leb-true n 4096 ok; vmid = h.settings.vmid; cid = h.settings.cid }) h.stack)
+    set_up (record d { depth = Some n }) place (record { depth = deep n ok; vmid = h.settings.vmid; cid = h.settings.cid }) h.stack)
 kind_good kind.VmidBytes number d word words h = set_good _ d.vmid_bytes _ d words (λ n place ok.
     set_up (record d { vmid_bytes = Some n }) place (record { depth = h.settings.depth; vmid = truth (is_vmid_size n) ok; cid = h.settings.cid }) h.stack)
 kind_good kind.CidBytes number d word words h = set_good _ d.cid_bytes _ d words (λ n place ok.

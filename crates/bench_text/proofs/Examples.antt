@@ -4,12 +4,11 @@ use Rattle.std.proofs.Common.{nat_eq, refl, sym, true≢false}
 use Rattle.std.specs.Prelude.{⊤, codes}
 use Rattle.std.specs.Str.{is_utf8}
 use Rattle.hex.specs.Hex.{decode_pairs}
-use Rattle.program_image.specs.Line.{decimal_of, words_in}
+use Rattle.line_words.specs.Line.{words_in}
 use Rattle.etm_types.specs.declared.context.Ctx.{Ctx}
 use Rattle.spec_run.specs.declared.event.Event.{Event}
 use Rattle.spec_run.specs.declared.event.Event.TheVariants as event
 use Rattle.bench_text.specs.BenchText.{Draft, add_any, add_lines, finished, then_lines}
-use Rattle.bench_text.specs.EventLines.{short_number_of, two_digits_of}
 use Rattle.bench_text.specs.Parts.{BenchParts, BenchStream, events_of}
 use Rattle.bench_text.specs.WhyNumbers.{why_number}
 use Rattle.bench_text.specs.declared.fault.BenchWhy.{BenchWhy}
@@ -162,38 +161,15 @@ event_behind_a_weave = refl
 
 -- ---- counts of digits
 
-ten_digits : decimal_of (codes "0000000004") ≡ Some 4
-ten_digits = refl
-
-eleven_digits : decimal_of (codes "00000000004") ≡ None
-eleven_digits = refl
-
-no_digits : decimal_of [] ≡ None
-no_digits = refl
-
-no_sign : decimal_of (codes "+4") ≡ None
-no_sign = refl
-
 depth_of_eleven_digits : said (etm (codes "depth 00000000004" ∷ [])) ≡ Err (2, Syntax)
 depth_of_eleven_digits = refl
 
 no_range_of_eleven_digits : said (etm (codes "depth 00000000004" ∷ [])) ≡ Err (2, Range) → ⊥
 no_range_of_eleven_digits = one_fault _ 2 Syntax Range depth_of_eleven_digits refl
 
-vmid_of_eight_digits : short_number_of (codes "0000000F") ≡ Some 15
-unfolding decode_pairs
-vmid_of_eight_digits = refl
-
 vmid_of_nine_digits : said (stream_01 (codes "on 1000 el0 s 000000000 0" ∷ [])) ≡ Err (3, Syntax)
 unfolding decode_pairs
 vmid_of_nine_digits = refl
-
-id_of_two_digits : two_digits_of (codes "6f") ≡ Some 111
-unfolding decode_pairs
-id_of_two_digits = refl
-
-id_of_one_digit : two_digits_of (codes "1") ≡ None
-id_of_one_digit = refl
 
 -- ---- numbers of events
 

@@ -6,8 +6,8 @@ use Rattle.std.specs.Str.{bytes_eq}
 use Rattle.std.proofs.lemmas.Bool.{and_parts, leb-true, ltb-true}
 use Rattle.etm_types.specs.Settings.{FitsSettings, Sizes}
 use Rattle.etm_types.specs.declared.context.Ctx.{Ctx}
-use Rattle.program_image.specs.Line.{decimal_of, number_of}
-use Rattle.program_image.proofs.Small.{number_fits}
+use Rattle.line_words.specs.Line.{decimal_of, number_of}
+use Rattle.line_words.proofs.Small.{number_fits}
 use Rattle.spec_run.specs.RunAfter.{IsEvent}
 use Rattle.spec_run.specs.declared.event.Event.{Event}
 use Rattle.bench_text.specs.EventLines.{address_of, alone, bare_of, context_of, count_of, described_of, event_of, exception_of, fits, fitting, in_range}

@@ -5,9 +5,9 @@ use Rattle.std.specs.List.{list_all}
 use Rattle.std.specs.Option.{option_and_then, option_map, unwrap_or}
 use Rattle.std.specs.Str.{bytes_eq, is_utf8}
 use Rattle.std.specs.Str.Lines.{lines}
-use Rattle.etm_types.specs.Settings.{Sizes, is_cid_size, is_vmid_size}
-use Rattle.program_image.specs.Line.{decimal_of, words_in}
-use Rattle.bench_text.specs.EventLines.{event_of, in_range, need, only_number, only_word, then_ok, two_digits_of}
+use Rattle.etm_types.specs.Settings.{Sizes, default_sizes, is_cid_size, is_vmid_size}
+use Rattle.line_words.specs.Line.{decimal_of, two_digits_of, words_in}
+use Rattle.bench_text.specs.EventLines.{event_of, in_range, need, only_number, only_word, then_ok}
 use Rattle.bench_text.specs.Parts.{BenchParts, BenchStream, has_stream}
 use Rattle.bench_text.specs.declared.fault.BenchWhy.{BenchWhy}
 use Rattle.bench_text.specs.declared.fault.BenchWhy.TheVariants.{Header, Syntax, IdRange, DuplicateId, Range}
@@ -31,7 +31,11 @@ no_lines = record { depth = None; vmid_bytes = None; cid_bytes = None; stack = N
 
 -- the sizes, where a setting is left out by its default
 abbrev pub sizes_of : Draft → Sizes
-sizes_of d = record { depth = unwrap_or d.depth 16; vmid_bytes = unwrap_or d.vmid_bytes 1; cid_bytes = unwrap_or d.cid_bytes 4 }
+sizes_of d = record {
+  depth = unwrap_or d.depth default_sizes.depth;
+  vmid_bytes = unwrap_or d.vmid_bytes default_sizes.vmid_bytes;
+  cid_bytes = unwrap_or d.cid_bytes default_sizes.cid_bytes;
+}
 
 abbrev pub is_empty : {X : Type 0} → List X → Bool
 is_empty [] = true
@@ -49,6 +53,10 @@ where_allowed true result = result
 where_allowed false result = Err Syntax
 
 -- ---- settings, each at most once
+
+-- the greatest depth of speculation that a run file may give
+abbrev pub most_run_depth : ℕ
+most_run_depth = 4096
 
 -- a number in range alone
 abbrev pub setting_of : (ℕ → Bool) → List (List ℕ) → Result ℕ BenchWhy
@@ -121,7 +129,7 @@ kind_of word =
     else kind.Event
 
 abbrev pub add_kind : LineKind → ℕ → Draft → List ℕ → List (List ℕ) → Result Draft BenchWhy
-add_kind kind.Depth number d word words = set (λ n. nat_le n 4096) d.depth (λ n. record d { depth = Some n }) d words
+add_kind kind.Depth number d word words = set (λ n. nat_le n most_run_depth) d.depth (λ n. record d { depth = Some n }) d words
 add_kind kind.VmidBytes number d word words = set is_vmid_size d.vmid_bytes (λ n. record d { vmid_bytes = Some n }) d words
 add_kind kind.CidBytes number d word words = set is_cid_size d.cid_bytes (λ n. record d { cid_bytes = Some n }) d words
 add_kind kind.Stack number d word words = set (λ n. nat_le n 15) d.stack (λ n. record d { stack = Some n }) d words

@@ -5,7 +5,7 @@ use Rattle.std.specs.Option.{option_and_then}
 use Rattle.std.specs.Str.{bytes_eq}
 use Rattle.etm_types.specs.Settings.{Sizes}
 use Rattle.etm_types.specs.declared.context.Ctx.{Ctx}
-use Rattle.program_image.specs.Line.{decimal_of, number_of}
+use Rattle.line_words.specs.Line.{decimal_of, number_of, short_number_of}
 use Rattle.spec_run.specs.declared.event.Event.{Event}
 use Rattle.spec_run.specs.declared.event.Event.TheVariants as event
 use Rattle.bench_text.specs.declared.fault.BenchWhy.{BenchWhy}
@@ -43,16 +43,8 @@ only_word words = None
 abbrev pub only_number : List (List ℕ) → Option ℕ
 only_number words = option_and_then decimal_of (only_word words)
 
--- 1 to 8 hex digits
-abbrev pub short_number_of : List ℕ → Option ℕ
-short_number_of word = if nat_le (length word) 8 then number_of word else None
-
 abbrev pub only_short_number : List (List ℕ) → Option ℕ
 only_short_number words = option_and_then short_number_of (only_word words)
-
--- two hex digits
-abbrev pub two_digits_of : List ℕ → Option ℕ
-two_digits_of word = if length word == 2 then number_of word else None
 
 abbrev pub level_of : List ℕ → Option ℕ
 level_of word =

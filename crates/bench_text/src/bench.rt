@@ -6,14 +6,13 @@ ghost use Rattle.bench_text.specs.Answers.{AnswersText};
 ghost use Rattle.bench_text.specs.BenchText.{add_lines, parsed};
 ghost use Rattle.bench_text.specs.Kept.{streams_in};
 ghost use Rattle.bench_text.specs.Parts.{IsBench};
-ghost use Rattle.bench_text.specs.Refusals.{most_text};
 
 use crate::draft::{Draft, with_line};
 use crate::fault::{BenchFault, BenchWhy, LineFault};
 use crate::line::{BenchLine, Weave};
 use etm_types::{Id, Settings};
 use indexmap::IndexMap;
-use program_image::text::next_line;
+use line_words::NumberedLines;
 use std::alloc::Global;
 use std::marker::Model;
 
@@ -45,7 +44,6 @@ impl Bench {
     /// `Bad` has the first line that has a fault, and which.
     #[tactic(auto, unfolding(crate::specs::BenchText::parsed))]
     pub fn read(alloc: Global, text: &[u8]) -> Result<Bench, BenchFault>
-        requires { length text.now ≤ most_text }
         ensures value { AnswersText result (parsed text.now) }
         ensures parts { IfOk result IsBench }
     {
@@ -129,21 +127,16 @@ impl Bench {
 
 /// What the lines of a text say; nothing, where none has words.
 fn draft_of(alloc: Global, text: &[u8]) -> Result<Option<Draft>, BenchFault>
-    requires { length text.now ≤ most_text }
     ensures { AnswersText result (add_lines 1 None (lines text.now)) }
 {
     let mut draft = None;
-    let mut rest = text;
-    let mut number = 1;
-    while !rest.is_empty() {
-        let (line, after) = next_line(rest);
+    let mut lines = NumberedLines::new(text);
+    while let Some((number, line)) = lines.next() {
         draft = match with_line(alloc, draft, number, line) {
             Ok(next) => next,
             Err(LineFault::Bad(why)) => return Err(BenchFault::Bad { line: number, why }),
             Err(LineFault::Memory) => return Err(BenchFault::Memory),
         };
-        rest = after;
-        number += 1;
     }
     Ok(draft)
 }

@@ -1,11 +1,11 @@
 //! What the lines of a run file say, one line after another.
 ghost use Rattle.std.specs.Prelude.{◌≡◌, nat_le, Some};
 ghost use Rattle.etm_types.specs.Settings.{is_cid_size, is_vmid_size};
-ghost use Rattle.program_image.specs.Line.{words_in};
+ghost use Rattle.line_words.specs.Line.{words_in};
 ghost use Rattle.bench_text.specs.Answers.{Answers};
 ghost use Rattle.bench_text.specs.Parts.{IsBench};
 ghost use Rattle.bench_text.specs.BenchText.{add_behind, add_event, add_line, add_stream, add_weaves, add_words};
-ghost use Rattle.bench_text.specs.BenchText.{before_streams, header, in_stream, kind_of, no_lines, parts_of, set, sizes_of};
+ghost use Rattle.bench_text.specs.BenchText.{before_streams, header, in_stream, kind_of, most_run_depth, no_lines, parts_of, set, sizes_of};
 
 use crate::bench::Bench;
 use crate::event_line::event_of;
@@ -14,24 +14,15 @@ use crate::line::{BenchLine, LineKind, Weave};
 use crate::setting_line::{cid_bytes_of, depth_of, stack_of, vmid_bytes_of};
 use crate::streams::{declare, has_stream, push_line};
 use crate::weave_line::with_weaves;
-use crate::words::{only_word, two_digits};
+use crate::words::only_word;
 use etm_types::{Id, Settings};
 use indexmap::IndexMap;
-use program_image::text::{is_utf8, next_word};
+use line_words::{is_utf8, next_word, two_digits};
 use std::alloc::Global;
 use std::marker::Model;
 
 /// A line that is of no form, or out of its place.
 const SYNTAX: LineFault = LineFault::Bad(BenchWhy::Syntax);
-
-/// The maximum speculation depth where no line gives it.
-const DEPTH: u32 = 16;
-
-/// How many bytes a VMID has where no line gives it.
-const VMID_BYTES: u8 = 1;
-
-/// How many bytes a context ID has where no line gives it.
-const CID_BYTES: u8 = 4;
 
 /// The depth of return stacks where no line gives it.
 const STACK: usize = 15;
@@ -172,7 +163,7 @@ impl Draft {
 
     fn with_depth(mut self, words: &[u8]) -> Result<Draft, LineFault>
         ensures { Answers (λ draft. draft) result
-            (set (λ n. nat_le n 4096) self.depth (λ n. record self { depth = Some n }) self (words_in words.now)) }
+            (set (λ n. nat_le n most_run_depth) self.depth (λ n. record self { depth = Some n }) self (words_in words.now)) }
     {
         if !self.before_streams() || self.depth.is_some() {
             return Err(SYNTAX);
@@ -284,9 +275,10 @@ impl Draft {
     fn sizes(&self) -> Settings
         ensures { result ≡ sizes_of self.now }
     {
-        let depth = self.depth.unwrap_or(DEPTH);
-        let vmid_bytes = self.vmid_bytes.unwrap_or(VMID_BYTES);
-        let cid_bytes = self.cid_bytes.unwrap_or(CID_BYTES);
+        let default = Settings::default();
+        let depth = self.depth.unwrap_or(default.depth());
+        let vmid_bytes = self.vmid_bytes.unwrap_or(default.vmid_bytes());
+        let cid_bytes = self.cid_bytes.unwrap_or(default.cid_bytes());
         Settings::new(depth, vmid_bytes, cid_bytes).unwrap()
     }
 

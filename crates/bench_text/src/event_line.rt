@@ -1,15 +1,15 @@
 //! The words of an event line.
 ghost use Rattle.std.specs.Prelude.{◌≡◌, ℕ};
-ghost use Rattle.program_image.specs.Line.{words_in};
+ghost use Rattle.line_words.specs.Line.{words_in};
 ghost use Rattle.bench_text.specs.EventLines.{address_of, alone, bare_of, context_of, count_of, described_of, event_of};
 ghost use Rattle.bench_text.specs.EventLines.{exception_of, fits, fitting, level_of, place_of, security_of, single_of};
 ghost use Rattle.bench_text.specs.EventLines.{steps_of, then_ok};
 
 use crate::fault::BenchWhy;
 use crate::line::Repeated;
-use crate::words::{only_number, only_short_number, only_word, short_number};
+use crate::words::{only_number, only_short_number, only_word};
 use etm_types::{Ctx, Settings};
-use program_image::text::{decimal, next_word, number};
+use line_words::{decimal, next_word, number, short_number};
 use spec_run::Event;
 
 /// How many kinds of exception there are.

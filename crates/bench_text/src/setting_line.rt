@@ -1,13 +1,13 @@
 //! The numbers of settings.
 ghost use Rattle.std.specs.Prelude.{◌≡◌, nat_le};
 ghost use Rattle.etm_types.specs.Settings.{is_cid_size, is_vmid_size};
-ghost use Rattle.program_image.specs.Line.{words_in};
-ghost use Rattle.bench_text.specs.BenchText.{setting_of};
+ghost use Rattle.line_words.specs.Line.{words_in};
+ghost use Rattle.bench_text.specs.BenchText.{most_run_depth, setting_of};
 
 use crate::fault::BenchWhy;
 use crate::words::only_number;
 
-/// The greatest depth of speculation.
+/// The greatest depth of speculation that a run file may give.
 const MOST_DEPTH: u64 = 4096;
 
 /// The greatest depth of a return stack.
@@ -15,7 +15,7 @@ const MOST_STACK: u64 = 15;
 
 /// The depth of speculation.
 pub fn depth_of(words: &[u8]) -> Result<u32, BenchWhy>
-    ensures { result ≡ setting_of (λ n. nat_le n 4096) (words_in words.now) }
+    ensures { result ≡ setting_of (λ n. nat_le n most_run_depth) (words_in words.now) }
 {
     let number = only_number(words).ok_or(BenchWhy::Syntax)?;
     if number > MOST_DEPTH {

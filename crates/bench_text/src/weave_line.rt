@@ -2,7 +2,7 @@
 ghost use Rattle.std.specs.Prelude.{◌≡◌, All};
 ghost use Rattle.std.specs.Option.{option_map};
 ghost use Rattle.etm_types.specs.Id.{IsId};
-ghost use Rattle.program_image.specs.Line.{words_in};
+ghost use Rattle.line_words.specs.Line.{words_in};
 ghost use Rattle.bench_text.specs.Answers.{Answers};
 ghost use Rattle.bench_text.specs.BenchText.{weave, weave_of, weaves_of};
 ghost use Rattle.bench_text.specs.EventLines.{need};
@@ -12,10 +12,9 @@ ghost use Rattle.bench_text.specs.OneWeave.{one_weave};
 use crate::fault::{BenchWhy, LineFault};
 use crate::line::{BenchLine, Weave};
 use crate::streams::has_stream;
-use crate::words::two_digits;
 use etm_types::Id;
 use indexmap::IndexMap;
-use program_image::text::{decimal, next_word};
+use line_words::{decimal, next_word, two_digits};
 
 /// The most bytes of one weave.
 const MOST_COUNT: u64 = 1 << 20;

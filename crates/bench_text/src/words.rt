@@ -1,16 +1,10 @@
 //! The words of a line that are read in one way wherever they stand.
 ghost use Rattle.std.specs.Prelude.{◌≡◌};
 ghost use Rattle.std.specs.Option.{option_map};
-ghost use Rattle.program_image.specs.Line.{words_in};
-ghost use Rattle.bench_text.specs.EventLines.{only_number, only_short_number, only_word, short_number_of, two_digits_of};
+ghost use Rattle.line_words.specs.Line.{words_in};
+ghost use Rattle.bench_text.specs.EventLines.{only_number, only_short_number, only_word};
 
-use program_image::text::{decimal, next_word, number};
-
-/// The digits of an ID.
-const ID_DIGITS: usize = 2;
-
-/// The most digits of a VMID or a context ID.
-const SHORT_DIGITS: usize = 8;
+use line_words::{decimal, next_word, short_number};
 
 /// The word of a line that is alone there.
 pub fn only_word(words: &[u8]) -> Option<&[u8]>
@@ -30,31 +24,9 @@ pub fn only_number(words: &[u8]) -> Option<u64>
     decimal(only_word(words)?)
 }
 
-/// The number that 1 to 8 hex digits spell.
-pub fn short_number(word: &[u8]) -> Option<u32>
-    ensures { result ≡ short_number_of word.now }
-{
-    if word.len() > SHORT_DIGITS {
-        return None;
-    }
-    let number = number(word)?;
-    Some(number as u32)
-}
-
 /// The number of 1 to 8 hex digits that is alone on a line.
 pub fn only_short_number(words: &[u8]) -> Option<u32>
     ensures { result ≡ only_short_number (words_in words.now) }
 {
     short_number(only_word(words)?)
-}
-
-/// The number that two hex digits spell.
-pub fn two_digits(word: &[u8]) -> Option<u8>
-    ensures { result ≡ two_digits_of word.now }
-{
-    if word.len() != ID_DIGITS {
-        return None;
-    }
-    let number = number(word)?;
-    Some(number as u8)
 }

@@ -27,7 +27,7 @@ fn name_of(class: Class) -> &'static str {
     }
 }
 
-fn offset_of(class: Class) -> Option<i64> {
+fn offset_of(class: Class) -> Option<i32> {
     match class {
         Class::Jump { off, .. } | Class::Cond { off } => Some(off),
         Class::Plain | Class::Isb | Class::Ind { .. } | Class::Eret | Class::Odd => None,

@@ -6,8 +6,8 @@ use Rattle.std.proofs.lemmas.List.Elements.{All-nil, All-cons, All-head, All-tai
 use Rattle.std.proofs.lemmas.Slice.Eq.{bytes_eq-Decides}
 use Rattle.std.specs.Option.{option_map, option_and_then}
 use Rattle.std.specs.Str.{bytes_eq}
-use Rattle.etm_types.specs.Settings.{Sizes, AreSettings, is_vmid_size, is_cid_size}
-use Rattle.program_image.specs.Line.{decimal_of}
+use Rattle.etm_types.specs.Settings.{Sizes, AreSettings, default_sizes, is_vmid_size, is_cid_size, most_depth}
+use Rattle.line_words.specs.Line.{decimal_of}
 use Rattle.command_words.specs.declared.words.CommandName.{CommandName}
 use Rattle.command_words.specs.declared.words.CommandName.TheVariants as name
 use Rattle.command_words.specs.declared.words.CommandOption.{CommandOption}
@@ -336,22 +336,23 @@ parts row (word ∷ words) seen end off may e =
 -- ---- numbers and sizes
 
 -- sizes that are there have these numbers, and are settings
-sized_by : (d v c : ℕ) (s : Sizes) (b : Bool) → (nat_le d 4096 && is_vmid_size v && is_cid_size c) ≡ b → sizes_of d v c ≡ Some s
+sized_by : (d v c : ℕ) (s : Sizes) (b : Bool) → (nat_le d most_depth && is_vmid_size v && is_cid_size c) ≡ b → sizes_of d v c ≡ Some s
     → record { depth = d; vmid_bytes = v; cid_bytes = c } ≡ s
 sized_by d v c s true is e = let f = simp is at e in cc
 sized_by d v c s false is e = absurd (let f = simp is at e in cc)
 
 record SizesIn (seen : Seen) (s : Sizes) : Type 0 where
-  depth_is : number_of 16 seen.depth ≡ Some s.depth
-  vmid_is : number_of 1 seen.vmid ≡ Some s.vmid_bytes
-  cid_is : number_of 4 seen.cid ≡ Some s.cid_bytes
+  depth_is : number_of default_sizes.depth seen.depth ≡ Some s.depth
+  vmid_is : number_of default_sizes.vmid_bytes seen.vmid ≡ Some s.vmid_bytes
+  cid_is : number_of default_sizes.cid_bytes seen.cid ≡ Some s.cid_bytes
   within : AreSettings s
 
 sizes_found : (seen : Seen) (s : Sizes) → sizes_in seen ≡ Some s → SizesIn seen s
 sizes_found seen s e =
-    let d = then_some (number_of 16 seen.depth) _ s e in let v = then_some (number_of 1 seen.vmid) _ s d.2 in
-    let c = then_some (number_of 4 seen.cid) _ s v.2 in
-    let same = sized_by d.0 v.0 c.0 s (nat_le d.0 4096 && is_vmid_size v.0 && is_cid_size c.0) refl c.2 in
+    let d = then_some (number_of default_sizes.depth seen.depth) _ s e in
+    let v = then_some (number_of default_sizes.vmid_bytes seen.vmid) _ s d.2 in
+    let c = then_some (number_of default_sizes.cid_bytes seen.cid) _ s v.2 in
+    let same = sized_by d.0 v.0 c.0 s (nat_le d.0 most_depth && is_vmid_size v.0 && is_cid_size c.0) refl c.2 in
     record {
       depth_is = d.1 ∙ ap (λ (t : Sizes). Some t.depth) same;
       vmid_is = v.1 ∙ ap (λ (t : Sizes). Some t.vmid_bytes) same;
@@ -361,7 +362,7 @@ sizes_found seen s e =
 
 sizes_there : (s : Sizes) → AreSettings s → sizes_of s.depth s.vmid_bytes s.cid_bytes ≡ Some s
 sizes_there s are =
-    let deep : nat_le s.depth 4096 ≡ true = grind (arith, nat_tests, are.depth) in let vmid : is_vmid_size s.vmid_bytes ≡ true = are.vmid in
+    let deep : nat_le s.depth most_depth ≡ true = grind (arith, nat_tests, are.depth) in let vmid : is_vmid_size s.vmid_bytes ≡ true = are.vmid in
     let cid : is_cid_size s.cid_bytes ≡ true = are.cid in simp (deep, vmid, cid)
 
 sizes_said : (seen : Seen) (s : Sizes) → SizesIn seen s → sizes_in seen ≡ Some s
@@ -834,9 +835,9 @@ path_of_line word words program intake b =
       line = line_of path_row word words (program.name ∷ []) (Path program intake) b p (ap listed says.0);
       layout_is = layout_values b.end intake.layout (values_of option.Raw p.pieces) says.1.layout_is (p.values option.Raw);
       no_cut = lacked path_row option.Cut (values_of option.Cut p.pieces) refl (p.has option.Cut);
-      depth_is = number_values 16 b.end.depth intake.units.depth (values_of option.Depth p.pieces) sizes.depth_is (p.values option.Depth);
-      vmid_is = number_values 1 b.end.vmid intake.units.vmid_bytes (values_of option.Vmid p.pieces) sizes.vmid_is (p.values option.Vmid);
-      cid_is = number_values 4 b.end.cid intake.units.cid_bytes (values_of option.Cid p.pieces) sizes.cid_is (p.values option.Cid);
+      depth_is = number_values default_sizes.depth b.end.depth intake.units.depth (values_of option.Depth p.pieces) sizes.depth_is (p.values option.Depth);
+      vmid_is = number_values default_sizes.vmid_bytes b.end.vmid intake.units.vmid_bytes (values_of option.Vmid p.pieces) sizes.vmid_is (p.values option.Vmid);
+      cid_is = number_values default_sizes.cid_bytes b.end.cid intake.units.cid_bytes (values_of option.Cid p.pieces) sizes.cid_is (p.values option.Cid);
       within = sizes.within;
     }
 
@@ -854,9 +855,9 @@ packets_of_line word words intake b =
       layout_is = layout_values b.end intake.layout (values_of option.Raw p.pieces) says.layout_is (p.values option.Raw);
       no_depth = none;
       no_cut = lacked packets_row option.Cut (values_of option.Cut p.pieces) refl (p.has option.Cut);
-      depth_is = number_values 16 b.end.depth intake.units.depth [] sizes.depth_is (p.values option.Depth ∙ none);
-      vmid_is = number_values 1 b.end.vmid intake.units.vmid_bytes (values_of option.Vmid p.pieces) sizes.vmid_is (p.values option.Vmid);
-      cid_is = number_values 4 b.end.cid intake.units.cid_bytes (values_of option.Cid p.pieces) sizes.cid_is (p.values option.Cid);
+      depth_is = number_values default_sizes.depth b.end.depth intake.units.depth [] sizes.depth_is (p.values option.Depth ∙ none);
+      vmid_is = number_values default_sizes.vmid_bytes b.end.vmid intake.units.vmid_bytes (values_of option.Vmid p.pieces) sizes.vmid_is (p.values option.Vmid);
+      cid_is = number_values default_sizes.cid_bytes b.end.cid intake.units.cid_bytes (values_of option.Cid p.pieces) sizes.cid_is (p.values option.Cid);
       within = sizes.within;
     }
 
@@ -995,16 +996,21 @@ layout_once (v ∷ w ∷ values) layout is = absurd is
 abbrev taken_so : Sizes → Layout → Intake
 taken_so units layout = record { units = units; layout = layout }
 
+number_listed : (default : ℕ) (value : Option (List ℕ)) (n : ℕ) (values : List (List ℕ)) → listed value ≡ values → IsNumber default values n
+    → number_of default value ≡ Some n
+number_listed default value n values same is = number_said default value n (subst (λ (l : List (List ℕ)). IsNumber default l n) (sym same) is)
+
 -- how the input is taken, by what is seen
 said_by : (end : Seen) (intake : Intake) (raw depth vmid cid : List (List ℕ)) → given option.Raw end ≡ raw → listed end.depth ≡ depth
-    → listed end.vmid ≡ vmid → listed end.cid ≡ cid → IsLayout raw intake.layout → IsNumber 16 depth intake.units.depth
-    → IsNumber 1 vmid intake.units.vmid_bytes → IsNumber 4 cid intake.units.cid_bytes → AreSettings intake.units → intake_in end ≡ Some intake
+    → listed end.vmid ≡ vmid → listed end.cid ≡ cid → IsLayout raw intake.layout → IsNumber default_sizes.depth depth intake.units.depth
+    → IsNumber default_sizes.vmid_bytes vmid intake.units.vmid_bytes → IsNumber default_sizes.cid_bytes cid intake.units.cid_bytes
+    → AreSettings intake.units → intake_in end ≡ Some intake
 said_by end intake raw depth vmid cid r d v c layout_is depth_is vmid_is cid_is within =
     let s = intake.units in
     let sizes_are = sizes_said end s (record {
-      depth_is = number_said 16 end.depth s.depth (subst (λ (l : List (List ℕ)). IsNumber 16 l s.depth) (sym d) depth_is);
-      vmid_is = number_said 1 end.vmid s.vmid_bytes (subst (λ (l : List (List ℕ)). IsNumber 1 l s.vmid_bytes) (sym v) vmid_is);
-      cid_is = number_said 4 end.cid s.cid_bytes (subst (λ (l : List (List ℕ)). IsNumber 4 l s.cid_bytes) (sym c) cid_is);
+      depth_is = number_listed default_sizes.depth end.depth s.depth depth d depth_is;
+      vmid_is = number_listed default_sizes.vmid_bytes end.vmid s.vmid_bytes vmid v vmid_is;
+      cid_is = number_listed default_sizes.cid_bytes end.cid s.cid_bytes cid c cid_is;
       within = within;
     }) in
     let layout_so = layout_said end.raw intake.layout (subst (λ (l : List (List ℕ)). IsLayout l intake.layout) (sym r) layout_is) in
@@ -1013,9 +1019,9 @@ said_by end intake raw depth vmid cid r d v c layout_is depth_is vmid_is cid_is 
 path_once : (words : List (List ℕ)) (program : Program) (intake : Intake) (l : IsPathLine words program intake) (o : CommandOption)
     → OnceAtMost (given o nothing_seen ++ values_of o l.line.pieces)
 path_once words program intake l option.Raw = layout_once (values_of option.Raw l.line.pieces) intake.layout l.layout_is
-path_once words program intake l option.Depth = number_once 16 (values_of option.Depth l.line.pieces) intake.units.depth l.depth_is
-path_once words program intake l option.Vmid = number_once 1 (values_of option.Vmid l.line.pieces) intake.units.vmid_bytes l.vmid_is
-path_once words program intake l option.Cid = number_once 4 (values_of option.Cid l.line.pieces) intake.units.cid_bytes l.cid_is
+path_once words program intake l option.Depth = number_once default_sizes.depth (values_of option.Depth l.line.pieces) intake.units.depth l.depth_is
+path_once words program intake l option.Vmid = number_once default_sizes.vmid_bytes (values_of option.Vmid l.line.pieces) intake.units.vmid_bytes l.vmid_is
+path_once words program intake l option.Cid = number_once default_sizes.cid_bytes (values_of option.Cid l.line.pieces) intake.units.cid_bytes l.cid_is
 path_once words program intake l option.Cut = subst OnceAtMost (sym l.no_cut) tt
 
 path_has : (words : List (List ℕ)) (program : Program) (intake : Intake) (l : IsPathLine words program intake) (o : CommandOption)
@@ -1083,8 +1089,8 @@ packets_once : (words : List (List ℕ)) (intake : Intake) (l : IsPacketsLine wo
     → OnceAtMost (given o nothing_seen ++ values_of o l.line.pieces)
 packets_once words intake l option.Raw = layout_once (values_of option.Raw l.line.pieces) intake.layout l.layout_is
 packets_once words intake l option.Depth = subst OnceAtMost (sym l.no_depth) tt
-packets_once words intake l option.Vmid = number_once 1 (values_of option.Vmid l.line.pieces) intake.units.vmid_bytes l.vmid_is
-packets_once words intake l option.Cid = number_once 4 (values_of option.Cid l.line.pieces) intake.units.cid_bytes l.cid_is
+packets_once words intake l option.Vmid = number_once default_sizes.vmid_bytes (values_of option.Vmid l.line.pieces) intake.units.vmid_bytes l.vmid_is
+packets_once words intake l option.Cid = number_once default_sizes.cid_bytes (values_of option.Cid l.line.pieces) intake.units.cid_bytes l.cid_is
 packets_once words intake l option.Cut = subst OnceAtMost (sym l.no_cut) tt
 
 packets_has : (words : List (List ℕ)) (intake : Intake) (l : IsPacketsLine words intake) (o : CommandOption)

@@ -506,12 +506,12 @@ eleven_digits = refl
 pub four_gibi : meaning (codes "path" ∷ codes "--depth" ∷ codes "4294967296" ∷ codes "img" ∷ []) ≡ None
 four_gibi = refl
 
--- path --depth 4096 img
-pub deepest : meaning (codes "path" ∷ codes "--depth" ∷ codes "4096" ∷ codes "img" ∷ []) ≡ Some (Path (of_image (codes "img")) (taken (sizes 4096 1 4) Frames))
+-- path --depth 16384 img
+pub deepest : meaning (codes "path" ∷ codes "--depth" ∷ codes "16384" ∷ codes "img" ∷ []) ≡ Some (Path (of_image (codes "img")) (taken (sizes 16384 1 4) Frames))
 deepest = refl
 
--- path --depth 4097 img
-pub too_deep : meaning (codes "path" ∷ codes "--depth" ∷ codes "4097" ∷ codes "img" ∷ []) ≡ None
+-- path --depth 16385 img
+pub too_deep : meaning (codes "path" ∷ codes "--depth" ∷ codes "16385" ∷ codes "img" ∷ []) ≡ None
 too_deep = refl
 
 -- path --depth +4 img
@@ -542,9 +542,14 @@ context_id_of_a_byte = refl
 pub context_id_of_two_bytes : meaning (codes "packets" ∷ codes "--cid" ∷ codes "2" ∷ []) ≡ None
 context_id_of_two_bytes = refl
 
--- path --depth 5000 img
-pub too_deep_by_far : meaning (codes "path" ∷ codes "--depth" ∷ codes "5000" ∷ codes "img" ∷ []) ≡ None
+-- path --depth 20000 img
+pub too_deep_by_far : meaning (codes "path" ∷ codes "--depth" ∷ codes "20000" ∷ codes "img" ∷ []) ≡ None
 too_deep_by_far = refl
+
+-- path --depth 5000 img
+pub deeper_than_run_files :
+    meaning (codes "path" ∷ codes "--depth" ∷ codes "5000" ∷ codes "img" ∷ []) ≡ Some (Path (of_image (codes "img")) (taken (sizes 5000 1 4) Frames))
+deeper_than_run_files = refl
 
 -- ---- the number of selftest, and how many bytes are read
 

@@ -1,8 +1,8 @@
 -- How the words of a command line stand in a row.
 use Rattle.std.specs.Prelude.{◌≡◌, ℕ, ◌≤◌, true, false, List, [], ◌∷◌, ◌++◌, codes, Option, Some, None, All, if◌then◌else◌}
 use Rattle.std.specs.Str.{bytes_eq}
-use Rattle.etm_types.specs.Settings.{AreSettings}
-use Rattle.program_image.specs.Line.{decimal_of}
+use Rattle.etm_types.specs.Settings.{AreSettings, default_sizes}
+use Rattle.line_words.specs.Line.{decimal_of}
 use Rattle.command_words.specs.Words.{Intake, Program, is_dashed, most_cut, most_number, name_of, takes_value}
 use Rattle.command_words.specs.declared.words.CommandOption.{CommandOption}
 use Rattle.command_words.specs.declared.words.CommandOption.TheVariants as option
@@ -102,9 +102,9 @@ pub record IsPathLine (words : List (List ℕ)) (program : Program) (intake : In
   pub line : IsLine (codes "path") words (program.name ∷ [])
   pub layout_is : IsLayout (values_of option.Raw line.pieces) intake.layout
   pub no_cut : values_of option.Cut line.pieces ≡ []
-  pub depth_is : IsNumber 16 (values_of option.Depth line.pieces) intake.units.depth
-  pub vmid_is : IsNumber 1 (values_of option.Vmid line.pieces) intake.units.vmid_bytes
-  pub cid_is : IsNumber 4 (values_of option.Cid line.pieces) intake.units.cid_bytes
+  pub depth_is : IsNumber default_sizes.depth (values_of option.Depth line.pieces) intake.units.depth
+  pub vmid_is : IsNumber default_sizes.vmid_bytes (values_of option.Vmid line.pieces) intake.units.vmid_bytes
+  pub cid_is : IsNumber default_sizes.cid_bytes (values_of option.Cid line.pieces) intake.units.cid_bytes
   pub within : AreSettings intake.units
 
 -- `packets`, with numbers in range and no positional; no packet depends on the depth, which is the default
@@ -113,9 +113,9 @@ pub record IsPacketsLine (words : List (List ℕ)) (intake : Intake) : Type 0 wh
   pub layout_is : IsLayout (values_of option.Raw line.pieces) intake.layout
   pub no_depth : values_of option.Depth line.pieces ≡ []
   pub no_cut : values_of option.Cut line.pieces ≡ []
-  pub depth_is : intake.units.depth ≡ 16
-  pub vmid_is : IsNumber 1 (values_of option.Vmid line.pieces) intake.units.vmid_bytes
-  pub cid_is : IsNumber 4 (values_of option.Cid line.pieces) intake.units.cid_bytes
+  pub depth_is : intake.units.depth ≡ default_sizes.depth
+  pub vmid_is : IsNumber default_sizes.vmid_bytes (values_of option.Vmid line.pieces) intake.units.vmid_bytes
+  pub cid_is : IsNumber default_sizes.cid_bytes (values_of option.Cid line.pieces) intake.units.cid_bytes
   pub within : AreSettings intake.units
 
 -- `retired`, with no option and one positional

@@ -4,8 +4,8 @@ use Rattle.std.specs.Prelude.{if◌then◌else◌, String, map, string_bytes, fi
 use Rattle.std.specs.List.{before_first, after_first, list_any}
 use Rattle.std.specs.Option.{option_map, option_and_then, option_map_or}
 use Rattle.std.specs.Str.{bytes_eq}
-use Rattle.etm_types.specs.Settings.{Sizes, is_vmid_size, is_cid_size}
-use Rattle.program_image.specs.Line.{decimal_of}
+use Rattle.etm_types.specs.Settings.{Sizes, default_sizes, is_vmid_size, is_cid_size, most_depth}
+use Rattle.line_words.specs.Line.{decimal_of}
 use Rattle.command_words.specs.declared.words.CommandName.{CommandName}
 use Rattle.command_words.specs.declared.words.CommandName.TheVariants as name
 use Rattle.command_words.specs.declared.words.CommandOption.{CommandOption}
@@ -196,10 +196,10 @@ seen_of row seen (word ∷ words) = option_and_then (λ next. seen_of row next w
 
 -- ---- the meaning
 
--- the sizes of a trace unit: a depth of at most 4096, a VMID of 0, 1, 2 or 4 bytes, a context ID of 0 or 4 bytes
+-- the sizes of a trace unit: a depth of at most `most_depth`, a VMID of 0, 1, 2 or 4 bytes, a context ID of 0 or 4 bytes
 abbrev pub sizes_of : ℕ → ℕ → ℕ → Option Sizes
 sizes_of depth vmid cid =
-    if nat_le depth 4096 && is_vmid_size vmid && is_cid_size cid then Some (record { depth = depth; vmid_bytes = vmid; cid_bytes = cid }) else None
+    if nat_le depth most_depth && is_vmid_size vmid && is_cid_size cid then Some (record { depth = depth; vmid_bytes = vmid; cid_bytes = cid }) else None
 
 -- the number of a value's text, or the default where there is no value
 abbrev pub number_of : ℕ → Option (List ℕ) → Option ℕ
@@ -209,7 +209,7 @@ number_of default (Some value) = decimal_of value
 abbrev pub sizes_in : Seen → Option Sizes
 sizes_in seen =
     option_and_then (λ depth. option_and_then (λ vmid. option_and_then (λ cid. sizes_of depth vmid cid)
-    (number_of 4 seen.cid)) (number_of 1 seen.vmid)) (number_of 16 seen.depth)
+    (number_of default_sizes.cid_bytes seen.cid)) (number_of default_sizes.vmid_bytes seen.vmid)) (number_of default_sizes.depth seen.depth)
 
 -- one stream where `--raw` stood, formatter frames where it did not
 abbrev pub layout_in : Seen → Layout

@@ -10,16 +10,7 @@ ghost use Rattle.etm_types.specs.Settings.{AreSettings};
 ghost use Rattle.command_words.specs.Said.{IsInRange, line_of, said, said_intake, said_program, seen_by};
 
 use etm_types::Settings;
-use program_image::text::decimal;
-
-/// The speculation depth where no word gives one.
-const DEPTH: u64 = 16;
-
-/// The size of a VMID in bytes, where no word gives one.
-const VMID_BYTES: u64 = 1;
-
-/// The size of a context ID in bytes, where no word gives one.
-const CID_BYTES: u64 = 4;
+use line_words::decimal;
 
 /// The highest number of which both ends are tried.
 const MOST_NUMBER: u32 = 99_999;
@@ -348,9 +339,10 @@ impl<'a> Seen<'a> {
         ensures value { result ≡ sizes_in (seen_by self.now) }
         ensures within { IfSome result AreSettings }
     {
-        let depth = number_of(self.depth, DEPTH)?;
-        let vmid_bytes = number_of(self.vmid, VMID_BYTES)?;
-        let cid_bytes = number_of(self.cid, CID_BYTES)?;
+        let default = Settings::default();
+        let depth = number_of(self.depth, u64::from(default.depth()))?;
+        let vmid_bytes = number_of(self.vmid, u64::from(default.vmid_bytes()))?;
+        let cid_bytes = number_of(self.cid, u64::from(default.cid_bytes()))?;
         settings_of(depth, vmid_bytes, cid_bytes)
     }
 

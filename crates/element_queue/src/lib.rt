@@ -1,8 +1,8 @@
 //! The P0 elements of a trace that may still be taken back (Arm IHI 0064, "Speculation").
 //!
 //! A [`Queue`] holds them up to the maximum speculation depth, with what came before each, and gives out
-//! the oldest as they are committed. Each one is an [`Uncommitted`], which can't be forgotten: it ends as
-//! committed, cancelled or lost, and a [`Ledger`] counts which.
+//! the oldest as they are committed. Each one is an [`Uncommitted`]: it ends as committed, cancelled or lost, and a
+//! [`Ledger`] counts which. Code without `unsafe` can't forget it, and only `spend_ring` has any.
 //!
 //! The layer above uses the contracts of [`Queue`]: each call is one case of the rules in
 //! `specs/Pending.antt`. What the rules make of a list of elements is in `specs/Resolved.antt`, and the

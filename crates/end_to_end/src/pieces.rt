@@ -80,7 +80,7 @@ fn no_more_is_read_behind_a_write_that_fails(rt: HostRuntime) -> Result<(), Fail
     assert_eq!(rt; status, Status::WriteFault);
     assert!(rt; sink.written().is_empty());
     match read_all(alloc, &mut input, 20_026) {
-        Ok(left) => assert!(rt; left.len() >= 15_904),
+        Ok(left) => assert_eq!(rt; left.len(), 20_026 - 4096),
         Err(_) => assert!(rt; false),
     }
     Ok(())

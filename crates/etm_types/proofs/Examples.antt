@@ -1,10 +1,14 @@
 -- Worked examples of the definitions in specs/, and near misses that they refuse.
-use Rattle.std.proofs.Common.{◌≡◌, ℕ, Bool, true, false, [], ◌∷◌, map, Option, Some, None, refl, ap, inl, inr, arith}
+use Rattle.std.proofs.Common.{◌≡◌, ℕ, Bool, true, false, List, [], ◌∷◌, map, replicate, Option, Some, None, refl, ap, inl, inr, arith}
+use Rattle.std.specs.List.{All}
+use Rattle.std.proofs.lemmas.List.Elements.{All-cons, All-head, All-replicate}
 use Rattle.etm_types.specs.AddrForm.{IsAddrForm}
 use Rattle.etm_types.specs.Atoms.{atoms_in, IsAtomRun, IsFewAtoms}
 use Rattle.etm_types.specs.CtxBits.{bits_against, context_told}
 use Rattle.etm_types.specs.Id.{IsId}
+use Rattle.etm_types.specs.SameContext.{same_context}
 use Rattle.etm_types.specs.Settings.{Sizes, AreSettings, FitsSettings}
+use Rattle.etm_types.specs.SettingsTable.{IsTable, sizes_at}
 use Rattle.etm_types.specs.Sizes.{is_vmid_size, is_cid_size}
 use Rattle.etm_types.specs.Walked.{items_of}
 use Rattle.etm_types.specs.declared.address.AddrForm.TheVariants.{Match, Short1, Short2, Long32, Long64}
@@ -38,10 +42,10 @@ cid_sizes = refl
 abbrev sizes : ℕ → ℕ → ℕ → Sizes
 sizes depth vmid_bytes cid_bytes = record { depth = depth; vmid_bytes = vmid_bytes; cid_bytes = cid_bytes }
 
-pub deepest : AreSettings (sizes 4096 2 4)
+pub deepest : AreSettings (sizes 16384 2 4)
 deepest = record { depth = omega arith; vmid = refl; cid = refl }
 
-pub too_deep : AreSettings (sizes 4097 2 4) → ⊥
+pub too_deep : AreSettings (sizes 16385 2 4) → ⊥
 too_deep are = omega (arith, are.depth)
 
 pub vmid_of_3_bytes : AreSettings (sizes 16 3 4) → ⊥
@@ -49,6 +53,51 @@ vmid_of_3_bytes are = let e = are.vmid in cc
 
 pub cid_of_2_bytes : AreSettings (sizes 16 4 2) → ⊥
 cid_of_2_bytes are = let e = are.cid in cc
+
+-- ---- settings of each ID
+
+abbrev usual : ℕ → List Sizes
+usual n = replicate n (sizes 16 1 4)
+
+-- all IDs have the same, and ID 2 others
+abbrev of_2 : List Sizes
+of_2 = sizes 16384 0 0 ∷ usual 109
+
+abbrev with_2 : List Sizes
+with_2 = sizes 16 1 4 ∷ of_2
+
+are_usual : AreSettings (sizes 16 1 4)
+are_usual = record { depth = omega arith; vmid = refl; cid = refl }
+
+are_of_2 : All AreSettings of_2
+are_of_2 =
+    All-cons AreSettings (sizes 16384 0 0) (usual 109) (record { depth = omega arith; vmid = refl; cid = refl })
+    (All-replicate AreSettings 109 (sizes 16 1 4) are_usual)
+
+pub tables : IsTable (usual 111) × IsTable with_2
+tables = (
+  record { ids = refl; settings = All-replicate AreSettings 111 (sizes 16 1 4) are_usual },
+  record { ids = refl; settings = All-cons AreSettings (sizes 16 1 4) of_2 are_usual are_of_2 },
+)
+
+pub of_one_table : map (sizes_at (usual 111)) (1 ∷ 2 ∷ 111 ∷ []) ≡ sizes 16 1 4 ∷ sizes 16 1 4 ∷ sizes 16 1 4 ∷ []
+of_one_table = refl
+
+-- ID 2 has its own, and its neighbours those of all others
+pub of_neighbours : map (sizes_at with_2) (1 ∷ 2 ∷ 3 ∷ 111 ∷ []) ≡ sizes 16 1 4 ∷ sizes 16384 0 0 ∷ sizes 16 1 4 ∷ sizes 16 1 4 ∷ []
+of_neighbours = refl
+
+pub of_the_next_id : sizes_at with_2 1 ≡ sizes 16384 0 0 → ⊥
+of_the_next_id e = omega (arith, ap (λ (s : Sizes). s.depth) e)
+
+pub of_no_id : sizes_at (usual 111) 112 ≡ sizes 0 0 0
+of_no_id = refl
+
+pub of_110_ids : IsTable (usual 110) → ⊥
+of_110_ids is = omega (arith, is.ids)
+
+pub one_too_deep : IsTable (sizes 16385 1 4 ∷ usual 110) → ⊥
+one_too_deep is = omega (arith, (All-head AreSettings (sizes 16385 1 4) (usual 110) is.settings).depth)
 
 -- ---- contexts that fit
 
@@ -105,6 +154,11 @@ pub after_last :
     ≡ last ∷ ctx 2 false 7 0x1234 ∷ ctx 1 true 8 0x1234 ∷ ctx 1 true 7 0 ∷ []
 after_last = refl
 
+pub same_as_last :
+    map (λ c. same_context c last) (last ∷ ctx 2 true 7 0x1234 ∷ ctx 1 false 7 0x1234 ∷ ctx 1 true 8 0x1234 ∷ ctx 1 true 7 0 ∷ [])
+    ≡ true ∷ false ∷ false ∷ false ∷ false ∷ []
+same_as_last = refl
+
 -- ---- forms of an address
 
 pub forms : IsAddrForm (Match 2) × IsAddrForm (Short1 0x1fc) × IsAddrForm (Short2 0x1fffc) × IsAddrForm (Long32 0xfffffffc)
@@ -159,12 +213,13 @@ abbrev irq : ExcMark
 irq = record { kind = 14; ret = 0x1008 }
 
 abbrev walked : Bool → Bool → ℕ → ℕ → Option ExcMark → Walked
-walked on unknown start count exc = record { on = on; unknown = unknown; ctx = last; start = start; count = count; exc = exc }
+walked on unknown start count exc = record
+    { on = on; unknown = unknown; ctx = last; start = start; count = count; took = false; exc = exc }
 
 pub nothing_shown : items_of (walked false false 0x1000 0 None) ≡ []
 nothing_shown = refl
 
-pub all_shown : items_of (walked true false 0x1000 2 (Some irq)) ≡ On ∷ Instr 0x1000 last ∷ Instr 0x1004 last ∷ Exc 14 0x1008 ∷ []
+pub all_shown : items_of (walked true false 0x1000 2 (Some irq)) ≡ On ∷ Instr 0x1000 last false ∷ Instr 0x1004 last false ∷ Exc 14 0x1008 ∷ []
 all_shown = refl
 
 pub unknown_shown : items_of (walked true true 0 0 (Some irq)) ≡ On ∷ Unknown ∷ Exc 14 0x1008 ∷ []
@@ -172,5 +227,25 @@ unknown_shown = refl
 
 -- the address after the last one is 0
 pub address_wraps :
-    items_of (walked false false 0xfffffffffffffff8 3 None) ≡ Instr 0xfffffffffffffff8 last ∷ Instr 0xfffffffffffffffc last ∷ Instr 0 last ∷ []
+    items_of (walked false false 0xfffffffffffffff8 3 None)
+    ≡ Instr 0xfffffffffffffff8 last false ∷ Instr 0xfffffffffffffffc last false ∷ Instr 0 last false ∷ []
 address_wraps = refl
+
+-- a conditional branch that was taken is the last instruction, and no other
+abbrev branched : ℕ → Walked
+branched count = record (walked false false 0x1000 count None) { took = true }
+
+pub branch_shown : items_of (branched 3) ≡ Instr 0x1000 last false ∷ Instr 0x1004 last false ∷ Instr 0x1008 last true ∷ []
+branch_shown = refl
+
+pub branch_alone : items_of (branched 1) ≡ Instr 0x1000 last true ∷ []
+branch_alone = refl
+
+pub not_the_first : items_of (branched 2) ≡ Instr 0x1000 last true ∷ Instr 0x1004 last false ∷ [] → ⊥
+not_the_first e = cc
+
+pub not_each : items_of (branched 2) ≡ Instr 0x1000 last true ∷ Instr 0x1004 last true ∷ [] → ⊥
+not_each e = cc
+
+pub not_forgotten : items_of (branched 2) ≡ Instr 0x1000 last false ∷ Instr 0x1004 last false ∷ [] → ⊥
+not_forgotten e = cc

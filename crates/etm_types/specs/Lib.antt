@@ -4,6 +4,8 @@ pub mod Context
 pub mod CtxBits
 pub mod Id
 pub mod Pre
+pub mod SameContext
 pub mod Settings
+pub mod SettingsTable
 pub mod Sizes
 pub mod Walked

@@ -9,8 +9,16 @@ pub record Sizes : Type 0 where
   pub vmid_bytes : ℕ
   pub cid_bytes : ℕ
 
+-- those of a trace unit of which nothing else is told
+abbrev pub default_sizes : Sizes
+default_sizes = record { depth = 16; vmid_bytes = 1; cid_bytes = 4 }
+
+-- the greatest speculation depth, in P0 elements
+abbrev pub most_depth : ℕ
+most_depth = 16384
+
 pub record AreSettings (s : Sizes) : Type 0 where
-  pub depth : s.depth ≤ 4096
+  pub depth : s.depth ≤ most_depth
   pub vmid : IsTrue (is_vmid_size s.vmid_bytes)
   pub cid : IsTrue (is_cid_size s.cid_bytes)
 

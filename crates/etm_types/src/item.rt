@@ -13,8 +13,9 @@ pub enum Item {
     Stop,
     /// Instructions were executed at addresses that are not known.
     Unknown,
-    /// The instruction at this address was executed in this context.
-    Instr { addr: u64, ctx: Ctx },
+    /// The instruction at this address was executed in this context. `took` says whether it is a
+    /// conditional branch, and was taken; no line shows it.
+    Instr { addr: u64, ctx: Ctx, took: bool },
     /// An exception of this kind was taken, with this return address.
     Exc { kind: u8, ret: u64 },
 }

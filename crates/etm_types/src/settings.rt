@@ -9,14 +9,14 @@ use thiserror::Error;
 /// Why numbers are no settings.
 #[derive(Clone, Copy, Debug, PartialEq, Eq, Error)]
 pub enum SettingsFault {
-    #[error("a speculation depth of {0} is above 4096")]
+    #[error("a speculation depth of {0} is above 16384")]
     DepthRange(u32),
     #[error("{0} is no size of the field")]
     SizeRange(u8),
 }
 
 /// The greatest speculation depth, in P0 elements.
-const MAX_DEPTH: u32 = 4096;
+const MOST_DEPTH: u32 = 16384;
 
 /// The maximum speculation depth in P0 elements, and the sizes of a context's VMID and context ID in
 /// bytes. Contracts see it as the record of the three numbers.
@@ -40,20 +40,20 @@ impl Model for Settings {
 }
 
 impl Settings {
-    ghost use Rattle.etm_types.specs.Settings.{AreSettings, is_vmid_size, is_cid_size, FitsSettings};
+    ghost use Rattle.etm_types.specs.Settings.{AreSettings, FitsSettings, is_cid_size, is_vmid_size, most_depth};
 
     /// The settings of these numbers. The depth is tested first, then the VMID's size, then the
     /// context ID's.
     pub fn new(depth: u32, vmid_bytes: u8, cid_bytes: u8) -> Result<Settings, SettingsFault>
-        ensures ok { depth ≤ 4096 → is_vmid_size vmid_bytes ≡ true → is_cid_size cid_bytes ≡ true
+        ensures ok { depth ≤ most_depth → is_vmid_size vmid_bytes ≡ true → is_cid_size cid_bytes ≡ true
             → result ≡ Ok (record { depth = depth; vmid_bytes = vmid_bytes; cid_bytes = cid_bytes }) }
-        ensures depth { 4096 < depth → result ≡ Err (SettingsFault.DepthRange depth) }
-        ensures vmid { depth ≤ 4096 → is_vmid_size vmid_bytes ≡ false
+        ensures depth { most_depth < depth → result ≡ Err (SettingsFault.DepthRange depth) }
+        ensures vmid { depth ≤ most_depth → is_vmid_size vmid_bytes ≡ false
             → result ≡ Err (SettingsFault.SizeRange vmid_bytes) }
-        ensures cid { depth ≤ 4096 → is_vmid_size vmid_bytes ≡ true → is_cid_size cid_bytes ≡ false
+        ensures cid { depth ≤ most_depth → is_vmid_size vmid_bytes ≡ true → is_cid_size cid_bytes ≡ false
             → result ≡ Err (SettingsFault.SizeRange cid_bytes) }
     {
-        if depth > MAX_DEPTH {
+        if depth > MOST_DEPTH {
             return Err(SettingsFault::DepthRange(depth));
         }
         if !is_vmid_size(vmid_bytes) {
@@ -99,6 +99,21 @@ impl Settings {
         ensures { IsTrue result ↔ FitsSettings self.now ctx.now }
     {
         ctx.el <= 3 && fits_bytes(ctx.vmid, self.vmid_bytes) && fits_bytes(ctx.cid, self.cid_bytes)
+    }
+}
+
+impl Default for Settings {
+    ghost use Rattle.etm_types.specs.Settings.{default_sizes};
+
+    /// Those of a trace unit of which nothing else is told.
+    fn default() -> Settings
+        ensures { result ≡ default_sizes }
+    {
+        Settings {
+            depth: 16,
+            vmid_bytes: 1,
+            cid_bytes: 4,
+        }
     }
 }
 

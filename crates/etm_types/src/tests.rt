@@ -4,14 +4,14 @@ use std::test::Fail;
 
 #[test]
 fn settings_have_their_ranges(rt: HostRuntime) -> Result<(), Fail> {
-    let settings = Settings::new(4096, 1, 4).ok().ok_or("these are settings")?;
+    let settings = Settings::new(16384, 1, 4).ok().ok_or("these are settings")?;
     assert_eq!(rt;
         (
             settings.depth(),
             settings.vmid_bytes(),
             settings.cid_bytes()
         ),
-        (4096, 1, 4)
+        (16384, 1, 4)
     );
     let ctx = Ctx {
         el: 3,
@@ -22,11 +22,26 @@ fn settings_have_their_ranges(rt: HostRuntime) -> Result<(), Fail> {
     assert!(rt; settings.fits(&ctx));
     assert!(rt; !settings.fits(&Ctx { vmid: 0x100, ..ctx }));
     assert_eq!(rt;
-        Settings::new(5000, 3, 4),
-        Err(SettingsFault::DepthRange(5000))
+        Settings::new(16385, 3, 4),
+        Err(SettingsFault::DepthRange(16385))
     );
     assert_eq!(rt; Settings::new(16, 3, 5), Err(SettingsFault::SizeRange(3)));
     assert_eq!(rt; Settings::new(16, 2, 5), Err(SettingsFault::SizeRange(5)));
+    assert_eq!(rt; Settings::new(16, 1, 4), Ok(Settings::default()));
+    Ok(())
+}
+
+#[test]
+fn each_id_has_its_settings(rt: HostRuntime) -> Result<(), Fail> {
+    let all = Settings::new(16, 1, 4).ok().ok_or("these are settings")?;
+    let other = Settings::new(16384, 0, 0).ok().ok_or("these are settings")?;
+    let mut table = SettingsTable::new(all);
+    let id = |n: u8| Id::new(n).ok_or("this is an ID");
+    table.set(id(1)?, other);
+    table.set(id(111)?, other);
+    for (n, settings) in [(1, other), (2, all), (110, all), (111, other)] {
+        assert_eq!(rt; table.get(id(n)?), settings, "at {n}");
+    }
     Ok(())
 }
 

@@ -9,7 +9,8 @@ use crate::Ctx;
 pub struct Walked {
     /// Whether trace on is shown first.
     pub on: bool,
-    /// Whether the instructions stand at addresses that are not known. `start` and `count` are 0 then.
+    /// Whether the instructions stand at addresses that are not known. `start` and `count` are 0 then,
+    /// and `took` is false.
     pub unknown: bool,
     /// The context of the instructions.
     pub ctx: Ctx,
@@ -17,6 +18,8 @@ pub struct Walked {
     pub start: u64,
     /// How many instructions there are, each 4 bytes after the one before, modulo 2^64.
     pub count: u64,
+    /// Whether the last instruction is a conditional branch, and was taken.
+    pub took: bool,
     /// The exception that was taken after them, where one was.
     pub exc: Option<ExcMark>,
 }

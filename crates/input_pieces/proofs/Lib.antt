@@ -1,2 +1,3 @@
 pub mod Interrupts
+mod ListedExamples
 pub mod Pieces

@@ -1,5 +1,5 @@
 -- An input that is read by pieces.
-use Rattle.std.proofs.Common.{◌≡◌, ◌⊎◌, ℕ, Bool, true, false, not, List, [], ◌++◌, Result, Ok, Err, refl, sym, ap, subst, ◌∙◌, inl, inr}
+use Rattle.std.proofs.Common.{◌≡◌, ◌⊎◌, ℕ, Bool, true, false, List, [], ◌++◌, Result, Ok, Err, refl, sym, ap, subst, ◌∙◌, inl, inr}
 use Rattle.std.proofs.Common.{append-nil, append_assoc}
 use Rattle.std.proofs.KnownBytes.{Appends-trans, Consumes-trans}
 use Rattle.path_text.specs.Writing.{Writes}
@@ -8,8 +8,10 @@ use Rattle.stream_demux.specs.Texts.{BodyFrom, IsEnding, IsText, Listing, Printe
 use Rattle.stream_demux.proofs.Bodies.{body-append, text_of-append}
 use Rattle.stream_demux.proofs.Writing.{Gained, Written, added, more_gained}
 use Rattle.stream_demux.specs.Laid.{Grow, IsLaid, Laid, Rests}
-use Rattle.input_pieces.specs.Listed.{Completes, Interrupts, PrintsBody, Takes}
-use Rattle.input_pieces.specs.Reading.{StopsSo, TookUpTo}
+use Rattle.answer_lines.specs.declared.status.Status.{Status}
+use Rattle.answer_lines.specs.declared.status.Status.TheVariants as status
+use Rattle.input_pieces.specs.Listed.{Completes, Interrupts, Listed, PrintsBody, Takes}
+use Rattle.input_pieces.specs.Reading.{Closes, StopsSo, TookUpTo}
 use Rattle.input_pieces.specs.declared.input.Stop.{Stop}
 use Rattle.input_pieces.specs.declared.input.Stop.TheVariants.{End, TooLong, ReadFault}
 use Rattle.input_pieces.proofs.Interrupts.{cut_front, cut_rest}
@@ -106,19 +108,24 @@ pub gains_by : {T E : Type 0} (laid : ℕ → Laid) (k n : ℕ) → k ≡ n → 
     → Gains (laid k).carried g bytes piece old new r → Gains (laid n).carried g bytes piece old new r
 gains_by laid k n same g bytes piece old new r gains = subst (λ (m : ℕ). Gains (laid m).carried g bytes piece old new r) same gains
 
-pub rests_by : {T E : Type 0} (laid : ℕ → Laid) (k n : ℕ) → k ≡ n → (g : Listing) (bytes : List ℕ) (old new : IoState) (r : Result T E)
-    → Rests (laid k) g bytes old new r → Rests (laid n) g bytes old new r
-rests_by laid k n same g bytes old new r rests = subst (λ (m : ℕ). Rests (laid m) g bytes old new r) same rests
+pub closes_by : (laid : ℕ → Laid) (k n : ℕ) → k ≡ n → (g : Listing) (bytes : List ℕ) (old new : IoState) (r : Result Status Failed)
+    → Closes (laid k) g bytes old new r → Closes (laid n) g bytes old new r
+closes_by laid k n same g bytes old new r closes = subst (λ (m : ℕ). Closes (laid m) g bytes old new r) same closes
 
-pub ending_by : (laid : ℕ → Laid) (k n : ℕ) → k ≡ n → (g : Listing) (bytes : List ℕ) (lines : List Printed) (faulty : Bool)
-    → IsEnding g ((laid k).whole bytes) ((laid k).left bytes) lines faulty → IsEnding g ((laid n).whole bytes) ((laid n).left bytes) lines faulty
-ending_by laid k n same g bytes lines faulty ended =
-    subst (λ (m : ℕ). IsEnding g ((laid m).whole bytes) ((laid m).left bytes) lines faulty) same ended
-
-pub by_true : (x faulty : Bool) → x ≡ not faulty → x ≡ true → faulty ≡ false
-by_true x false same is = refl
-by_true x true same is = absurd cc
-
-pub by_false : (x faulty : Bool) → x ≡ not faulty → x ≡ false → faulty ≡ true
-by_false x true same is = refl
-by_false x false same is = absurd cc
+-- an input that was taken to its end, and what it shows there
+pub closed : (laid : Laid) → IsLaid laid → (g : Listing) (stands : List ℕ → Type 0) (a c old here new : IoState) (took : TookUpTo stands laid g a c old here End)
+    (r : Result Status Failed) → Closes laid g took.1 here new r → Listed laid g a c old new r
+closed laid is_laid g stands a c old here new took (Ok status.Done) ends =
+    completes laid is_laid g stands a c old here took ends.between new tt ends.rests ends.ending false ends.ended true ends.writes
+closed laid is_laid g stands a c old here new took (Ok status.Faulted) ends =
+    completes laid is_laid g stands a c old here took ends.between new tt ends.rests ends.ending true ends.ended false ends.writes
+closed laid is_laid g stands a c old here new took (Ok status.Usage) ends = absurd ends
+closed laid is_laid g stands a c old here new took (Ok (status.ImageBad _ _)) ends = absurd ends
+closed laid is_laid g stands a c old here new took (Ok (status.BenchBad _ _)) ends = absurd ends
+closed laid is_laid g stands a c old here new took (Ok status.ReadFault) ends = absurd ends
+closed laid is_laid g stands a c old here new took (Ok status.WriteFault) ends = absurd ends
+closed laid is_laid g stands a c old here new took (Ok status.NoMemory) ends = absurd ends
+closed laid is_laid g stands a c old here new took (Ok status.InputTooLong) ends = absurd ends
+closed laid is_laid g stands a c old here new took (Err failed) (inl rests) = rest_fails laid is_laid g stands a c old here took new failed rests
+closed laid is_laid g stands a c old here new took (Err failed) (inr (faulty, ends)) =
+    ending_fails laid is_laid g stands a c old here took ends.between new tt ends.rests ends.ending faulty ends.ended failed ends.writes

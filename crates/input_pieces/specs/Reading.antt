@@ -1,8 +1,11 @@
 -- The reading of an input by pieces.
-use Rattle.std.specs.Prelude.{◌≡◌, ℕ, ◌+◌, ◌<◌, ◌≤◌, List, [], ◌∷◌, length, take, Result, Ok, Err}
+use Rattle.std.specs.Prelude.{◌≡◌, ◌⊎◌, ℕ, ◌+◌, ◌<◌, ◌≤◌, Bool, true, false, List, [], ◌∷◌, length, take, Result, Ok, Err}
 use Rattle.std.specs.Io.KnownBytes.{IsAtEnd}
-use Rattle.stream_demux.specs.Laid.{Laid}
-use Rattle.stream_demux.specs.Texts.{Listing}
+use Rattle.answer_lines.specs.declared.status.Status.{Status}
+use Rattle.answer_lines.specs.declared.status.Status.TheVariants as status
+use Rattle.path_text.specs.Writing.{Writes}
+use Rattle.stream_demux.specs.Laid.{Laid, Rests}
+use Rattle.stream_demux.specs.Texts.{IsEnding, Listing, Printed, text_of}
 use Rattle.input_pieces.specs.Listed.{Interrupts, PrintsBody, Takes, most_at_once, most_input}
 use Rattle.input_pieces.specs.declared.input.Stop.{Stop}
 use Rattle.input_pieces.specs.declared.input.Stop.TheVariants.{End, TooLong, ReadFault}
@@ -34,3 +37,20 @@ TookUpTo stands laid g input input' out out' stop =
 abbrev pub Took : (List ℕ → Type 0) → Laid → Listing → IoState → IoState → IoState → IoState → Result Stop Failed → Type 0
 Took stands laid g input input' out out' (Ok stop) = TookUpTo stands laid g input input' out out' stop
 Took stands laid g input input' out out' (Err failed) = Interrupts laid g input input' out out'
+
+-- What an input shows at its end was written: the lines of the pairs that did not come with its bytes, and then how its streams end.
+-- Where a write of these failed, a front of them is written.
+pub record Ends (laid : Laid) (g : Listing) (bytes : List ℕ) (old new : IoState) (faulty : Bool) (result : Result Bool Failed) : Type 0 where
+  pub between : IoState
+  pub rests : Rests {T = Unit {0}} {E = Failed} laid g bytes old between (Ok tt)
+  pub ending : List Printed
+  pub ended : IsEnding g (laid.whole bytes) (laid.left bytes) ending faulty
+  pub writes : Writes between new result (text_of ending)
+
+-- the answer of an input at its end; an error where the lines of these pairs, or of the ends behind them, could not be written
+abbrev pub Closes : Laid → Listing → List ℕ → IoState → IoState → Result Status Failed → Type 0
+Closes laid g bytes old new (Ok status.Done) = Ends laid g bytes old new false (Ok true)
+Closes laid g bytes old new (Ok status.Faulted) = Ends laid g bytes old new true (Ok false)
+Closes laid g bytes old new (Ok status) = ⊥
+Closes laid g bytes old new (Err failed) =
+    Rests {T = Unit {0}} laid g bytes old new (Err failed) ⊎ ((faulty : Bool) × Ends laid g bytes old new faulty (Err failed))

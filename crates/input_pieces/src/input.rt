@@ -3,7 +3,7 @@ ghost use Rattle.std.specs.Prelude.{◌≡◌, ◌⊎◌, ◌<◌, ◌≤◌, �
 ghost use Rattle.etm_types.specs.Settings.{Sizes};
 ghost use Rattle.stream_demux.specs.Demuxed.{Gains};
 ghost use Rattle.input_pieces.specs.Listed.{Listed, most_input};
-ghost use Rattle.input_pieces.specs.Reading.{GivesBytes, StopsSo, Took};
+ghost use Rattle.input_pieces.specs.Reading.{Closes, GivesBytes, StopsSo, Took};
 ghost use Rattle.trace_io.specs.Bytes.{ShowsAsBefore};
 ghost use Rattle.trace_io.specs.Causes.{HasCause, KeepsFaults};
 
@@ -64,7 +64,8 @@ fn take_input<P: Printer, J: Source, K: Sink>(
     out: &mut K,
 ) -> Result<Stop, Failed>
     requires fresh { (P.broken printer.old ≡ false) × (P.taken printer.old ≡ 0) }
-    ensures took { (t : ℕ → Sizes) → P.stands shared.now t printer.old [] → Took (P.stands shared.now t printer.new) (P.laid (P.frames printer.old)) (P.listing shared.now t)
+    ensures took { (t : ℕ → Sizes) → P.stands shared.now t printer.old []
+        → Took (P.stands shared.now t printer.new) (P.laid (P.frames printer.old)) (P.listing shared.now t)
         (J.state input.old) (J.state input.new) (K.state out.old) (K.state out.new) result }
     ensures whole { (stop : Stop) → result ≡ Ok stop → (P.broken printer.new ≡ false) × (P.taken printer.new ≤ most_input) }
     ensures frames { P.frames printer.new ≡ P.frames printer.old }
@@ -104,17 +105,7 @@ pub fn print_input<P: Printer, J: Source, K: Sink>(
     ensures input_later { (J.state input.old).faults ≤ (J.state input.new).faults }
 {
     match take_input(&mut printer, shared, input, out) {
-        Ok(Stop::End) => match printer.take_rest(shared, out) {
-            Ok(()) => match printer.finish(out) {
-                Ok(true) => Ok(Status::Done),
-                Ok(false) => Ok(Status::Faulted),
-                Err(failed) => Err(failed),
-            },
-            Err(failed) => {
-                printer.abandon();
-                Err(failed)
-            }
-        },
+        Ok(Stop::End) => print_end(printer, shared, out),
         Ok(Stop::TooLong) => {
             printer.abandon();
             Ok(Status::InputTooLong)
@@ -127,6 +118,30 @@ pub fn print_input<P: Printer, J: Source, K: Sink>(
             printer.abandon();
             Err(failed)
         }
+    }
+}
+
+/// Prints what an input shows at its end, and says how its streams end. The error means that a write failed.
+fn print_end<P: Printer, K: Sink>(
+    mut printer: P,
+    shared: &P::Shared,
+    out: &mut K,
+) -> Result<Status, Failed>
+    requires whole { P.broken printer ≡ false }
+    requires few { P.taken printer ≤ 2 ^ 30 }
+    ensures closes { (t : ℕ → Sizes) (bytes : List ℕ) → P.stands shared.now t printer bytes
+        → Closes (P.laid (P.frames printer)) (P.listing shared.now t) bytes (K.state out.old) (K.state out.new) result }
+    ensures cause { HasCause (K.state out.old) (K.state out.new) result }
+    ensures shows { ShowsAsBefore (K.state out.old) (K.state out.new) }
+{
+    if let Err(failed) = printer.take_rest(shared, out) {
+        printer.abandon();
+        return Err(failed);
+    }
+    if printer.finish(out)? {
+        Ok(Status::Done)
+    } else {
+        Ok(Status::Faulted)
     }
 }
 

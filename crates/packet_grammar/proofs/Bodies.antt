@@ -1,19 +1,19 @@
 -- Each part of the grammar is a code.
-use Rattle.std.proofs.Common.{ℕ, zero, suc, ◌+◌, ◌-◌, ◌*◌, ◌≤◌, ◌^◌, ◌/◌, ◌%◌, ◌==◌, ◌&&◌}
+use Rattle.std.proofs.Common.{ℕ, zero, suc, ◌+◌, ◌-◌, ◌*◌, ◌≤◌, ◌^◌, ◌%◌, ◌==◌, ◌&&◌}
 use Rattle.std.proofs.Common.{◌||◌, not, Bool, Some, None, Ok, Err, inl, inr, arith, IsTrue, nat_lt}
 use Rattle.std.specs.Prelude.{if◌then◌else◌}
 use Rattle.std.proofs.lemmas.Bool.{eqb-true, or_cases}
 use Rattle.etm_types.specs.Settings.{Sizes, AreSettings, is_vmid_size, is_cid_size}
 use Rattle.etm_types.specs.declared.address.AddrForm.TheVariants.{Short1, Short2, Long32, Long64}
 use Rattle.packet_grammar.specs.declared.packet.Packet.{Packet}
-use Rattle.packet_grammar.specs.declared.packet.Packet.TheVariants.{Info, Exc}
-use Rattle.packet_grammar.specs.declared.fault.PacketFault.TheVariants.{NumberTooLong, InfoControl, InfoMode, ExceptionTwoByte, ExceptionForm, Aarch32Context}
+use Rattle.packet_grammar.specs.declared.packet.Packet.TheVariants.{Info}
+use Rattle.packet_grammar.specs.declared.fault.PacketFault.TheVariants.{NumberTooLong, InfoControl, InfoMode, Aarch32Context}
 use Rattle.packet_grammar.specs.Parts.{Outcome, Part, Known, Byte, Bytes, Where, Then, As}
 use Rattle.packet_grammar.specs.Numbers.{NumberWithin, Number, StampWithin, TimeStamp, little}
 use Rattle.packet_grammar.specs.Fields.{bit}
 use Rattle.packet_grammar.specs.Contexts.{Field, Context, ShortAddress, LongAddress32, LongAddress64, address_of}
 use Rattle.packet_grammar.specs.Spelling.{Section, Mode, TraceInfo}
-use Rattle.packet_grammar.proofs.Table.{Exception}
+use Rattle.packet_grammar.proofs.Table.{Exception, exception_by}
 use Rattle.packet_grammar.proofs.Codes.{Code, loosen, known_code, byte_code, where_code, then_code, as_code, bytes_code}
 
 -- the same, where it matters not how short it is
@@ -129,7 +129,7 @@ info_code =
     (λ control. where_code 20 (nat_lt control 16) (sections_code control) (known_within 20 (Err (InfoControl control))))
 
 exception_of : ℕ → Outcome Packet
-exception_of b = if bit 7 b then Err (ExceptionTwoByte b) else if bit 0 b && not (bit 6 b) then Ok (Exc (b / 2 % 32)) else Err (ExceptionForm b)
+exception_of b = exception_by (bit 7 b) (bit 6 b) (bit 0 b) b
 
 pub exception_code : Code 1 Exception
 unfolding exception_of

@@ -213,21 +213,34 @@ long_mode s = (
   ),
 )
 
--- Exception packet: a second byte, whatever E1 and E0 are; and E1 E0 of 0 0, 1 0 and 1 1
+-- Exception instruction trace packet: a second byte, whatever E1 and E0 are; and E1 E0 of 0 0 and 1 1, of the least type, 14 and
+-- the greatest
 pub two_byte : (s : Sizes) → Spells s (Err (ExceptionTwoByte 0x9d)) (0x06 ∷ 0x9d ∷ [])
 two_byte s = (in_exception, (0x9d, refl, refl, refl))
 
 pub two_byte_of_another_form : (s : Sizes) → Spells s (Err (ExceptionTwoByte 0x9c)) (0x06 ∷ 0x9c ∷ [])
 two_byte_of_another_form s = (in_exception, (0x9c, refl, refl, refl))
 
+pub two_byte_at_its_target : (s : Sizes) → Spells s (Err (ExceptionTwoByte 0xdc)) (0x06 ∷ 0xdc ∷ [])
+two_byte_at_its_target s = (in_exception, (0xdc, refl, refl, refl))
+
 pub form_00 : (s : Sizes) → Spells s (Err (ExceptionForm 0x1c)) (0x06 ∷ 0x1c ∷ [])
 form_00 s = (in_exception, (0x1c, refl, refl, refl))
 
-pub form_10 : (s : Sizes) → Spells s (Err (ExceptionForm 0x5c)) (0x06 ∷ 0x5c ∷ [])
-form_10 s = (in_exception, (0x5c, refl, refl, refl))
+pub form_00_of_type_0 : (s : Sizes) → Spells s (Err (ExceptionForm 0x00)) (0x06 ∷ 0x00 ∷ [])
+form_00_of_type_0 s = (in_exception, (0x00, refl, refl, refl))
+
+pub form_00_of_type_31 : (s : Sizes) → Spells s (Err (ExceptionForm 0x3e)) (0x06 ∷ 0x3e ∷ [])
+form_00_of_type_31 s = (in_exception, (0x3e, refl, refl, refl))
 
 pub form_11 : (s : Sizes) → Spells s (Err (ExceptionForm 0x5d)) (0x06 ∷ 0x5d ∷ [])
 form_11 s = (in_exception, (0x5d, refl, refl, refl))
+
+pub form_11_of_type_0 : (s : Sizes) → Spells s (Err (ExceptionForm 0x41)) (0x06 ∷ 0x41 ∷ [])
+form_11_of_type_0 s = (in_exception, (0x41, refl, refl, refl))
+
+pub form_11_of_type_31 : (s : Sizes) → Spells s (Err (ExceptionForm 0x7f)) (0x06 ∷ 0x7f ∷ [])
+form_11_of_type_31 s = (in_exception, (0x7f, refl, refl, refl))
 
 -- numbers that are too long
 pub long_commit : (s : Sizes) → Spells s (Err NumberTooLong) (0x2d ∷ 0xff ∷ 0xff ∷ 0xff ∷ 0xff ∷ 0x10 ∷ [])

@@ -195,7 +195,7 @@ packet_fits s (Time bits low) bytes small (rest, e, is) =
     let fits = stamp_fits 8 (record { bits = bits; low = low }) rest (small_rest bytes 2 rest e small) is in
     (stamp_size (record { bits = bits; low = low }) fits, fits.0)
 packet_fits s On bytes small is = tt
-packet_fits s (Exc kind) bytes small (b, e, b7, b6, b0, k) = omega (arith, k, mod_below (b / 2) 32 (omega arith))
+packet_fits s (Exc kind target) bytes small (b, e, b7, b6, b0, k) = omega (arith, k, mod_below (b / 2) 32 (omega arith))
 packet_fits s (Commit n) bytes small (rest, e, is) = number_below n rest (small_rest bytes 45 rest e small) is
 packet_fits s (Cancel n flip) bytes small (rest, e, is) = number_below n rest (small_rest bytes (if flip then 47 else 46) rest e small) is
 packet_fits s (Mispredict few) bytes small (h, one, f) = subst IsFewAtoms (sym f) (few_fits h)

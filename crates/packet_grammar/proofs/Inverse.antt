@@ -24,9 +24,9 @@ use Rattle.packet_grammar.specs.Contexts.{Context, ShortAddress, LongAddress32, 
 use Rattle.packet_grammar.specs.Headers.{few_atoms, refused_headers, fault_in}
 use Rattle.packet_grammar.proofs.Table.{Body, alone, atoms, extension, trace_info, time_stamp, exception, commit, cancel, context, short_address, long_32}
 use Rattle.packet_grammar.proofs.Table.{long_64, long_32_with_context, long_64_with_context, headers, body_in}
-use Rattle.packet_grammar.proofs.Table.{body_of, pick, whole, Follows, Told, AfterZero, AtomsOf, Exception}
+use Rattle.packet_grammar.proofs.Table.{body_of, pick, whole, Follows, Told, AfterZero, AtomsOf, Exception, exception_by}
 use Rattle.packet_grammar.specs.Spelling.{Section, Mode, TraceInfo, SpellsPacket, OneOf}
-use Rattle.packet_grammar.specs.Faults.{SpellsFault, ShowsAt, Place, in_header, in_sync}
+use Rattle.packet_grammar.specs.Faults.{SpellsFault, ShowsAt, Place, same, in_header, in_sync}
 use Rattle.packet_grammar.specs.Faults.{in_info, in_exception, in_number, in_context, in_context_of_32, in_context_of_64}
 use Rattle.packet_grammar.specs.Parsed.{Spells}
 
@@ -65,12 +65,15 @@ event_row : (h : ℕ) → 113 ≤ h → h ≤ 127 → body_of h ≡ Some (whole 
 unfolding headers
 event_row h least most = in_row 12 h (each_from 113 14 (λ (b : ℕ). index_in headers b == 12) refl h least most)
 
-exc_known : (x7 x6 x0 : Bool) (b kind : ℕ) → x7 ≡ false → x6 ≡ false → x0 ≡ true → kind ≡ b / 2 % 32
-    → ◌≡◌ {A = Outcome Packet} (Ok (Exc kind)) (if x7 then Err (ExceptionTwoByte b) else if x0 && not x6 then Ok (Exc (b / 2 % 32)) else Err (ExceptionForm b))
-exc_known false false true b kind a c d e = ap (λ k. Ok (Exc k)) e
-exc_known true x6 x0 b kind a c d e = absurd cc
-exc_known false true x0 b kind a c d e = absurd cc
-exc_known false false false b kind a c d e = absurd cc
+exc_known : (x7 x6 x0 target : Bool) (b kind : ℕ) → x7 ≡ false → x6 ≡ target → x0 ≡ not target → kind ≡ b / 2 % 32
+    → ◌≡◌ {A = Outcome Packet} (Ok (Exc kind target)) (exception_by x7 x6 x0 b)
+exc_known false false true false b kind a c d e = ap (λ k. Ok (Exc k false)) e
+exc_known false true false true b kind a c d e = ap (λ k. Ok (Exc k true)) e
+exc_known true x6 x0 target b kind a c d e = absurd cc
+exc_known false true x0 false b kind a c d e = absurd cc
+exc_known false false x0 true b kind a c d e = absurd cc
+exc_known false false false false b kind a c d e = absurd cc
+exc_known false true true true b kind a c d e = absurd cc
 
 pub packet_back : (s : Sizes) (p : Packet) (bytes : List ℕ) → SpellsPacket s p bytes → Told s (Ok p) bytes
 unfolding headers refused_headers
@@ -89,8 +92,14 @@ packet_back s (Time bits low) bytes (rest, e, is) =
           (record { bits = bits; low = low }) rest is;
     }
 packet_back s On bytes is = record { header = 4; rest = []; body = whole On; whole = is; says = refl; follows = refl }
-packet_back s (Exc kind) bytes (b, e, b7, b6, b0, k) =
-    record { header = 6; rest = b ∷ []; body = exception; whole = e; says = refl; follows = exc_known (bit 7 b) (bit 6 b) (bit 0 b) b kind b7 b6 b0 k }
+packet_back s (Exc kind target) bytes (b, e, b7, b6, b0, k) = record {
+  header = 6;
+  rest = b ∷ [];
+  body = exception;
+  whole = e;
+  says = refl;
+  follows = exc_known (bit 7 b) (bit 6 b) (bit 0 b) target b kind b7 b6 b0 k;
+}
 packet_back s (Commit n) bytes (rest, e, is) = record
     { header = 45; rest = rest; body = commit; whole = e; says = refl; follows = as_back Number (λ m. Commit m) n rest is }
 packet_back s (Cancel n true) bytes (rest, e, is) =
@@ -367,12 +376,14 @@ info_to p [] is = absurd is
 info_to p (control ∷ bytes) is = control_to control p bytes (nat_lt control 16) is
 
 exc_to : (s : Sizes) (x7 x6 x0 : Bool) (b : ℕ) (p : Packet) → bit 7 b ≡ x7 → bit 6 b ≡ x6 → bit 0 b ≡ x0
-    → ◌≡◌ {A = Outcome Packet} (Ok p) (if x7 then Err (ExceptionTwoByte b) else if x0 && not x6 then Ok (Exc (b / 2 % 32)) else Err (ExceptionForm b))
-    → SpellsPacket s p (6 ∷ b ∷ [])
-exc_to s false false true b p b7 b6 b0 e = by_packet s p (Exc (b / 2 % 32)) (6 ∷ b ∷ []) (same_packet p (Exc (b / 2 % 32)) e) (b, refl, b7, b6, b0, refl)
+    → ◌≡◌ {A = Outcome Packet} (Ok p) (exception_by x7 x6 x0 b) → SpellsPacket s p (6 ∷ b ∷ [])
+exc_to s false false true b p b7 b6 b0 e =
+    by_packet s p (Exc (b / 2 % 32) false) (6 ∷ b ∷ []) (same_packet p (Exc (b / 2 % 32) false) e) (b, refl, b7, b6, b0, refl)
+exc_to s false true false b p b7 b6 b0 e =
+    by_packet s p (Exc (b / 2 % 32) true) (6 ∷ b ∷ []) (same_packet p (Exc (b / 2 % 32) true) e) (b, refl, b7, b6, b0, refl)
 exc_to s true x6 x0 b p b7 b6 b0 e = absurd cc
 exc_to s false true true b p b7 b6 b0 e = absurd cc
-exc_to s false x6 false b p b7 b6 b0 e = absurd cc
+exc_to s false false false b p b7 b6 b0 e = absurd cc
 
 exception_to : (s : Sizes) (p : Packet) (h : ℕ) (rest : List ℕ) → h ≡ 6 → Exception (Ok p) rest → SpellsPacket s p (h ∷ rest)
 exception_to s p h [] z is = absurd is
@@ -546,19 +557,21 @@ short_fault f [] is = absurd is
 short_fault f (a ∷ bytes) is = short_more f a bytes (nat_lt a 128) is
 
 exc_fault : (s : Sizes) (x7 x6 x0 : Bool) (b : ℕ) (f : PacketFault) → bit 7 b ≡ x7 → bit 6 b ≡ x6 → bit 0 b ≡ x0
-    → ◌≡◌ {A = Outcome Packet} (Err f) (if x7 then Err (ExceptionTwoByte b) else if x0 && not x6 then Ok (Exc (b / 2 % 32)) else Err (ExceptionForm b))
-    → ((x7 || not (x0 && not x6)) ≡ true) × (f ≡ (if x7 then ExceptionTwoByte b else ExceptionForm b))
+    → ◌≡◌ {A = Outcome Packet} (Err f) (exception_by x7 x6 x0 b)
+    → ((x7 || same x6 x0) ≡ true) × (f ≡ (if x7 then ExceptionTwoByte b else ExceptionForm b))
 exc_fault s false false true b f b7 b6 b0 e = absurd cc
+exc_fault s false true false b f b7 b6 b0 e = absurd cc
 exc_fault s true x6 x0 b f b7 b6 b0 e = (refl, cc)
 exc_fault s false true true b f b7 b6 b0 e = (refl, cc)
-exc_fault s false x6 false b f b7 b6 b0 e = (refl, cc)
+exc_fault s false false false b f b7 b6 b0 e = (refl, cc)
 
-exc_shown : (x7 x6 x0 : Bool) (b : ℕ) (f : PacketFault) → (x7 || not (x0 && not x6)) ≡ true → f ≡ (if x7 then ExceptionTwoByte b else ExceptionForm b)
-    → ◌≡◌ {A = Outcome Packet} (Err f) (if x7 then Err (ExceptionTwoByte b) else if x0 && not x6 then Ok (Exc (b / 2 % 32)) else Err (ExceptionForm b))
+exc_shown : (x7 x6 x0 : Bool) (b : ℕ) (f : PacketFault) → (x7 || same x6 x0) ≡ true → f ≡ (if x7 then ExceptionTwoByte b else ExceptionForm b)
+    → ◌≡◌ {A = Outcome Packet} (Err f) (exception_by x7 x6 x0 b)
 exc_shown false false true b f wrong e = absurd cc
+exc_shown false true false b f wrong e = absurd cc
 exc_shown true x6 x0 b f wrong e = ap (λ k. Err k) e
 exc_shown false true true b f wrong e = ap (λ k. Err k) e
-exc_shown false x6 false b f wrong e = ap (λ k. Err k) e
+exc_shown false false false b f wrong e = ap (λ k. Err k) e
 
 exception_fault : (s : Sizes) (f : PacketFault) (h : ℕ) (rest : List ℕ) → h ≡ 6 → Exception (Err f) rest → SpellsFault s f (h ∷ rest)
 exception_fault s f h [] z is = absurd is

@@ -10,9 +10,13 @@ pub mod AllLaws
 pub mod Streams
 pub mod GoesOn
 pub mod Longer
+pub mod Zeros
+pub mod Tame
+pub mod Found
 pub mod Examples
 pub mod PacketExamples
 pub mod FaultExamples
 pub mod StreamExamples
+pub mod EnteringExamples
 pub mod Fitting
 pub mod InRange

@@ -1,6 +1,6 @@
 -- Packets with bytes that spell them. The values come from the standard's tables, worked out apart from the definitions. No
 -- bytes spell two packets, so each of these says too what its bytes do not spell.
-use Rattle.std.proofs.Common.{ℕ, List, [], ◌∷◌, Bool, true, false, Some, None, Ok, refl, inl, inr, arith}
+use Rattle.std.proofs.Common.{◌≡◌, ℕ, List, [], ◌∷◌, Bool, true, false, Some, None, Ok, refl, sym, ap, ◌∙◌, inl, inr, arith}
 use Rattle.etm_types.specs.Settings.{Sizes}
 use Rattle.etm_types.specs.Atoms.{low_bits}
 use Rattle.etm_types.specs.declared.address.AddrForm.TheVariants.{Match, Short1, Short2, Long32, Long64}
@@ -9,6 +9,7 @@ use Rattle.atom_formats.specs.Formats.{atom_formats}
 use Rattle.atom_formats.proofs.Table.{row_found}
 use Rattle.packet_grammar.specs.declared.packet.Packet.TheVariants.{Async, Discard, Overflow, Info, On, Ignore, Event, Time, Exc}
 use Rattle.packet_grammar.specs.declared.packet.Packet.TheVariants.{Commit, Cancel, Mispredict, Cancel2, Cancel3, CtxSame, CtxInfo, Addr, Atoms}
+use Rattle.packet_grammar.specs.Fields.{bit, field}
 use Rattle.packet_grammar.specs.Numbers.{Number}
 use Rattle.packet_grammar.specs.Ranges.{IsPacket}
 use Rattle.packet_grammar.specs.Parsed.{Spells}
@@ -254,15 +255,48 @@ time_64 s = (
   ),
 )
 
--- Exception packet: the least type, 14 and the greatest
-pub reset : (s : Sizes) → Spells s (Ok (Exc 0)) (0x06 ∷ 0x01 ∷ [])
+-- Exception instruction trace packet, with E1 E0 of 0 1 and of 1 0: the least type, 14 and the greatest
+pub reset : (s : Sizes) → Spells s (Ok (Exc 0 false)) (0x06 ∷ 0x01 ∷ [])
 reset s = (0x01, refl, refl, refl, refl, refl)
 
-pub irq : (s : Sizes) → Spells s (Ok (Exc 14)) (0x06 ∷ 0x1d ∷ [])
+pub irq : (s : Sizes) → Spells s (Ok (Exc 14 false)) (0x06 ∷ 0x1d ∷ [])
 irq s = (0x1d, refl, refl, refl, refl, refl)
 
-pub last_type : (s : Sizes) → Spells s (Ok (Exc 31)) (0x06 ∷ 0x3f ∷ [])
+pub last_type : (s : Sizes) → Spells s (Ok (Exc 31 false)) (0x06 ∷ 0x3f ∷ [])
 last_type s = (0x3f, refl, refl, refl, refl, refl)
+
+pub reset_at_its_target : (s : Sizes) → Spells s (Ok (Exc 0 true)) (0x06 ∷ 0x40 ∷ [])
+reset_at_its_target s = (0x40, refl, refl, refl, refl, refl)
+
+pub irq_at_its_target : (s : Sizes) → Spells s (Ok (Exc 14 true)) (0x06 ∷ 0x5c ∷ [])
+irq_at_its_target s = (0x5c, refl, refl, refl, refl, refl)
+
+pub last_type_at_its_target : (s : Sizes) → Spells s (Ok (Exc 31 true)) (0x06 ∷ 0x7e ∷ [])
+last_type_at_its_target s = (0x7e, refl, refl, refl, refl, refl)
+
+-- near misses: each of E1 E0 taken for the other, bit 6 taken for one of the type, E1 E0 of 0 0 and 1 1, and another byte
+byte_is : (b c : ℕ) → ◌≡◌ {A = List ℕ} (0x06 ∷ b ∷ []) (0x06 ∷ c ∷ []) → b ≡ c
+byte_is b c e = cc
+
+pub no_target_at_0_1 : (s : Sizes) → Spells s (Ok (Exc 14 true)) (0x06 ∷ 0x1d ∷ []) → ⊥
+no_target_at_0_1 s (b, e, b7, b6, b0, k) = let off : bit 6 0x1d ≡ true = ap (bit 6) (byte_is 0x1d b e) ∙ b6 in absurd cc
+
+pub a_target_at_1_0 : (s : Sizes) → Spells s (Ok (Exc 14 false)) (0x06 ∷ 0x5c ∷ []) → ⊥
+a_target_at_1_0 s (b, e, b7, b6, b0, k) = let on : bit 6 0x5c ≡ false = ap (bit 6) (byte_is 0x5c b e) ∙ b6 in absurd cc
+
+pub no_bit_6_of_a_type : (s : Sizes) → Spells s (Ok (Exc 46 true)) (0x06 ∷ 0x5c ∷ []) → ⊥
+no_bit_6_of_a_type s (b, e, b7, b6, b0, k) = let type : 46 ≡ 14 = k ∙ ap (field 5 1) (sym (byte_is 0x5c b e)) in absurd (omega (arith, type))
+
+pub no_packet_at_0_0 : (s : Sizes) (kind : ℕ) (target : Bool) → Spells s (Ok (Exc kind target)) (0x06 ∷ 0x1c ∷ []) → ⊥
+no_packet_at_0_0 s kind true (b, e, b7, b6, b0, k) = let off : bit 6 0x1c ≡ true = ap (bit 6) (byte_is 0x1c b e) ∙ b6 in absurd cc
+no_packet_at_0_0 s kind false (b, e, b7, b6, b0, k) = let off : bit 0 0x1c ≡ true = ap (bit 0) (byte_is 0x1c b e) ∙ b0 in absurd cc
+
+pub no_packet_at_1_1 : (s : Sizes) (kind : ℕ) (target : Bool) → Spells s (Ok (Exc kind target)) (0x06 ∷ 0x5d ∷ []) → ⊥
+no_packet_at_1_1 s kind true (b, e, b7, b6, b0, k) = let on : bit 0 0x5d ≡ false = ap (bit 0) (byte_is 0x5d b e) ∙ b0 in absurd cc
+no_packet_at_1_1 s kind false (b, e, b7, b6, b0, k) = let on : bit 6 0x5d ≡ false = ap (bit 6) (byte_is 0x5d b e) ∙ b6 in absurd cc
+
+pub no_packet_of_two_bytes : (s : Sizes) (kind : ℕ) (target : Bool) → Spells s (Ok (Exc kind target)) (0x06 ∷ 0xdc ∷ []) → ⊥
+no_packet_of_two_bytes s kind target (b, e, b7, b6, b0, k) = let on : bit 7 0xdc ≡ false = ap (bit 7) (byte_is 0xdc b e) ∙ b7 in absurd cc
 
 -- Commit packet and Cancel Format 1 packet: of one byte, of two, and the greatest number
 pub commit : (s : Sizes) → Spells s (Ok (Commit 2)) (0x2d ∷ 0x02 ∷ [])
@@ -703,8 +737,8 @@ no_stamp_of_63_bits s (inr (groups, some, most, bits), low) = absurd (omega (ari
 pub no_stamp_above_its_bits : (s : Sizes) → IsPacket s (Time 7 128) → ⊥
 no_stamp_above_its_bits s is = absurd (omega (arith, is.1))
 
-pub no_type_32 : (s : Sizes) → IsPacket s (Exc 32) → ⊥
-no_type_32 s is = absurd (omega (arith, is))
+pub no_type_32 : (s : Sizes) (target : Bool) → IsPacket s (Exc 32 target) → ⊥
+no_type_32 s target is = absurd (omega (arith, is))
 
 pub no_large_cancel : (s : Sizes) (flip : Bool) → IsPacket s (Cancel 4294967296 flip) → ⊥
 no_large_cancel s flip is = absurd (omega (arith, is))

@@ -113,7 +113,7 @@ module _ (s : Sizes) (are : AreSettings s) where
   parsed zero at (b ∷ bytes) fits bounded = absurd (omega (arith, fits))
   parsed (suc room) at (b ∷ bytes) fits bounded = step room at b bytes fits bounded (parsed room)
 
-none_in : (at : ℕ) → SyncAt at [] → ⊥
+pub none_in : (at : ℕ) → SyncAt at [] → ⊥
 none_in zero here = absurd cc
 none_in (suc at) here = absurd cc
 
@@ -168,7 +168,7 @@ one_stream s are bytes packets others ending other (inr (none, nothing, unsynced
     (nothing ∙ sym nothing', unsynced ∙ sym unsynced')
 
 -- an A-sync at the front, and what is behind it
-split_sync : (bytes : List ℕ) → IsTrue (starts_with nat_eq bytes sync) → bytes ≡ sync ++ drop 12 bytes
+pub split_sync : (bytes : List ℕ) → IsTrue (starts_with nat_eq bytes sync) → bytes ≡ sync ++ drop 12 bytes
 split_sync bytes here = (starts_is Decides-eqb bytes sync (starts_with nat_eq bytes sync) refl).0 here
 
 pub sync_spells : (s : Sizes) → Spells s (Ok Async) sync

@@ -1,5 +1,5 @@
 -- The spellings by their headers: what each header says of the bytes behind it.
-use Rattle.std.specs.Prelude.{◌≡◌, ◌+◌, ◌-◌, replicate, ℕ, ◌/◌, ◌%◌, ◌==◌, ◌&&◌, not, Bool, true}
+use Rattle.std.specs.Prelude.{◌≡◌, ◌+◌, ◌-◌, replicate, ℕ, ◌/◌, ◌%◌, ◌==◌, ◌&&◌, Bool, true}
 use Rattle.std.specs.Prelude.{false, List, [], ◌∷◌, ◌++◌, Option, Some, None, Ok, Err, nat_le, if◌then◌else◌}
 use Rattle.etm_types.specs.Settings.{Sizes}
 use Rattle.etm_types.specs.Atoms.{IsAtomRun, atoms_in}
@@ -107,13 +107,17 @@ AfterZero (Ok Overflow) bytes = bytes ≡ 0x05 ∷ []
 AfterZero (Ok packet) bytes = ⊥
 AfterZero (Err fault) bytes = BadSync fault bytes
 
--- bit 7 says that another byte follows, bits 6 and 0 (E1 and E0) how the address is told, and bits 5 to 1 the type
+-- bits 7, 6 and 0 of the byte behind an exception's header: another byte follows, E1, and E0
+abbrev pub exception_by : Bool → Bool → Bool → ℕ → Outcome Packet
+exception_by more e1 e0 b =
+    if more then Err (ExceptionTwoByte b)
+    else if e1 then (if e0 then Err (ExceptionForm b) else Ok (Exc (b / 2 % 32) true))
+    else if e0 then Ok (Exc (b / 2 % 32) false)
+    else Err (ExceptionForm b)
+
+-- bits 5 to 1 are the type
 abbrev pub Exception : Part Packet
-Exception =
-    Byte (λ b. Known
-    (if bit 7 b then Err (ExceptionTwoByte b)
-    else if bit 0 b && not (bit 6 b) then Ok (Exc (b / 2 % 32))
-    else Err (ExceptionForm b)))
+Exception = Byte (λ b. Known (exception_by (bit 7 b) (bit 6 b) (bit 0 b) b))
 
 -- a run of atoms, in the header
 abbrev pub AtomsOf : ℕ → Part Packet

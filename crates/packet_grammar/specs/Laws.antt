@@ -1,5 +1,5 @@
 -- What holds of the spellings as a whole, under any settings (Arm IHI 0064, "Descriptions of Trace Packets").
-use Rattle.std.specs.Prelude.{◌≡◌, ◌⊎◌, ℕ, ◌<◌, ◌≤◌, All, List, [], ◌∷◌, ◌++◌, length, Ok, Err}
+use Rattle.std.specs.Prelude.{◌≡◌, ◌⊎◌, ℕ, ◌<◌, ◌≤◌, All, Contains, List, [], ◌∷◌, ◌++◌, length, drop, Ok, Err}
 use Rattle.etm_types.specs.Settings.{Sizes, AreSettings}
 use Rattle.packet_grammar.specs.declared.packet.Packet.{Packet}
 use Rattle.packet_grammar.specs.declared.packet.Packet.TheVariants.{Async}
@@ -7,7 +7,8 @@ use Rattle.packet_grammar.specs.Parts.{Outcome}
 use Rattle.packet_grammar.specs.Ranges.{IsPacket}
 use Rattle.packet_grammar.specs.Spelling.{SpellsPacket}
 use Rattle.packet_grammar.specs.declared.fault.PacketFault.{PacketFault}
-use Rattle.packet_grammar.specs.Parsed.{Begins, Ending, clean, fault, FirstSync, IsStream, Spells}
+use Rattle.packet_grammar.specs.Entering.{EntersAt}
+use Rattle.packet_grammar.specs.Parsed.{Begins, Ending, clean, fault, FirstSync, IsStream, Spells, SyncAt}
 
 -- a spelling that stands at the front of a spelling is all of it
 abbrev pub NoneBeginsAnother : Type 0
@@ -96,6 +97,18 @@ abbrev pub FaultEndsBoth : Type 0
 FaultEndsBoth =
     (s : Sizes) → AreSettings s → (bytes more : List ℕ) (packets others : List (ℕ × Packet)) (at : ℕ) (f : PacketFault) (other : Ending)
     → IsStream s bytes packets (fault at f) → IsStream s (bytes ++ more) others other → (others ≡ packets) × (other ≡ fault at f)
+
+-- an A-sync anywhere in the bytes of a stream that ends behind a packet is one of its packets: no other packets have such bytes in them
+abbrev pub EachSyncIsAPacket : Type 0
+EachSyncIsAPacket =
+    (s : Sizes) → AreSettings s → (bytes : List ℕ) (packets : List (ℕ × Packet)) (at : ℕ)
+    → IsStream s bytes packets clean → SyncAt at bytes → Contains packets (at, Async)
+
+-- so a reader of its last bytes alone reads the packets from the first A-sync in them on
+abbrev pub LastBytesAreAStream : Type 0
+LastBytesAreAStream =
+    (s : Sizes) → AreSettings s → (bytes : List ℕ) (packets : List (ℕ × Packet)) (missing offset : ℕ)
+    → IsStream s bytes packets clean → FirstSync offset (drop missing bytes) → EntersAt s bytes packets missing offset
 
 -- the values of a packet that bytes spell are in their ranges
 abbrev pub ValuesFit : Type 0

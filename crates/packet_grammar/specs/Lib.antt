@@ -7,5 +7,6 @@ pub mod Spelling
 pub mod Faults
 pub mod Ranges
 pub mod Parsed
+pub mod Entering
 pub mod Laws
 pub mod Ends

@@ -24,7 +24,7 @@ IsPacket s (Info info key spec cyct) =
     IfSome info (λ n. n ≡ 0) × IfSome key (λ n. n < 2 ^ 32) × IfSome spec (λ n. n < 2 ^ 32) × IfSome cyct (λ n. n < 2 ^ 32)
 IsPacket s (Event n) = (1 ≤ n) × (n ≤ 15)
 IsPacket s (Time bits low) = IsStampSize bits × (low < 2 ^ bits)
-IsPacket s (Exc kind) = kind < 32
+IsPacket s (Exc kind target) = kind < 32
 IsPacket s (Commit n) = n < 2 ^ 32
 IsPacket s (Cancel n flip) = n < 2 ^ 32
 IsPacket s (Mispredict few) = IsFewAtoms few

@@ -1,5 +1,5 @@
 -- Which bytes spell which packet (Arm IHI 0064, "Descriptions of Trace Packets").
-use Rattle.std.specs.Prelude.{◌≡◌, ◌≤◌, ℕ, ◌+◌, ◌-◌, ◌^◌, ◌==◌, replicate, Bool, true, false, List, [], ◌∷◌, ◌++◌, Option, Some, None, Ok, Err, nat_lt}
+use Rattle.std.specs.Prelude.{◌≡◌, ◌≤◌, ℕ, ◌+◌, ◌-◌, ◌^◌, ◌==◌, not, replicate, Bool, false, List, [], ◌∷◌, ◌++◌, Option, Some, None, Ok, Err, nat_lt}
 use Rattle.std.specs.Prelude.{if◌then◌else◌}
 use Rattle.etm_types.specs.Settings.{Sizes}
 use Rattle.etm_types.specs.Atoms.{IsAtomRun, atoms_in}
@@ -49,10 +49,11 @@ SpellsPacket s (Info info key spec cyct) bytes = (rest : List ℕ) × (bytes ≡
 SpellsPacket s (Time bits low) bytes = (rest : List ℕ) × (bytes ≡ 0x02 ∷ rest) × TimeStamp (Ok (record { bits = bits; low = low })) rest
 -- Trace On packet
 SpellsPacket s On bytes = bytes ≡ 0x04 ∷ []
--- Exception packet: bits 6 and 0 (E1 and E0) say how the address follows, bits 5 to 1 are the type (TYPE), and bit 7 (C) says
+-- Exception instruction trace packet: bits 6 and 0 (E1 and E0) are 0 1 where the address that follows is the preferred return
+-- address alone, and 1 0 where it is the target of the P0 element before too; bits 5 to 1 are the type (TYPE), and bit 7 (C) says
 -- that another byte follows
-SpellsPacket s (Exc kind) bytes =
-    (b : ℕ) × (bytes ≡ 0x06 ∷ b ∷ []) × (bit 7 b ≡ false) × (bit 6 b ≡ false) × (bit 0 b ≡ true) × (kind ≡ field 5 1 b)
+SpellsPacket s (Exc kind target) bytes =
+    (b : ℕ) × (bytes ≡ 0x06 ∷ b ∷ []) × (bit 7 b ≡ false) × (bit 6 b ≡ target) × (bit 0 b ≡ not target) × (kind ≡ field 5 1 b)
 -- Commit packet
 SpellsPacket s (Commit n) bytes = (rest : List ℕ) × (bytes ≡ 0x2d ∷ rest) × Number (Ok n) rest
 -- Cancel Format 1 packet: bit 0 (M) says that a prediction was wrong

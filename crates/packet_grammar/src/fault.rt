@@ -20,7 +20,7 @@ pub enum PacketFault {
     NumberTooLong,
     /// An exception packet that has a second byte of information.
     ExceptionTwoByte(u8),
-    /// An exception packet whose address is not told as the profile asks.
+    /// An exception packet whose E1 and E0 are the same.
     ExceptionForm(u8),
     /// An info byte of a context in AArch32 state.
     Aarch32Context(u8),

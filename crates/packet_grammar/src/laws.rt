@@ -1,6 +1,6 @@
 //! What holds of the spellings as a whole, under any settings (Arm IHI 0064, "Descriptions of Trace Packets").
-ghost use Rattle.packet_grammar.specs.Laws.{AtMost, BeginsAlike, EachIsAStream, FaultEndsBoth, FaultStays, GoesOnByAFault, GoesOnByAPacket};
-ghost use Rattle.packet_grammar.specs.Laws.{NoneBeginsAnother, NotBoth, OneOutcome};
+ghost use Rattle.packet_grammar.specs.Laws.{AtMost, BeginsAlike, EachIsAStream, EachSyncIsAPacket, FaultEndsBoth, FaultStays};
+ghost use Rattle.packet_grammar.specs.Laws.{GoesOnByAFault, GoesOnByAPacket, LastBytesAreAStream, NoneBeginsAnother, NotBoth, OneOutcome};
 ghost use Rattle.packet_grammar.specs.Laws.{OneStream, SpelledOrBegun, StartsWithSync, ValuesFit, longest_packet};
 
 /// A reader that goes from left to right knows a spelling by its last byte, and what it spells.
@@ -40,6 +40,13 @@ pub fn a_stream_goes_on_by_one_spelling()
 pub fn a_longer_stream_begins_alike()
     ensures packets { BeginsAlike }
     ensures fault { FaultEndsBoth }
+{}
+
+/// A reader may begin anywhere in a stream that ends behind a packet, as in a buffer whose oldest bytes were written over:
+/// what it finds as an A-sync is one.
+pub fn each_sync_is_a_packet()
+    ensures packet { EachSyncIsAPacket }
+    ensures last_bytes { LastBytesAreAStream }
 {}
 
 /// A reader can keep the values of a packet in the fields that a packet has.

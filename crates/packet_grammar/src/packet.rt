@@ -35,10 +35,12 @@ pub enum Packet {
         /// Their value.
         low: u64,
     },
-    /// Exception packet: an address packet follows.
+    /// Exception packet: an address packet follows, with the preferred return address.
     Exc {
         /// TYPE, the exception's type, 0 to 31.
         kind: u8,
+        /// E1 and E0: whether that address is the target of the P0 element before it too.
+        target: bool,
     },
     /// Commit packet: so many P0 elements, the oldest ones, are resolved as committed.
     Commit(u32),

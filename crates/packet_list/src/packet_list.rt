@@ -1,7 +1,6 @@
 //! The packets of a stream: a line each, and then the line of how it ends.
 ghost use Rattle.std.specs.Prelude.{◌≡◌, ◌⊎◌, ◌<◌, ◌≤◌, ◌+◌, ◌^◌, ◌++◌, ◌∷◌, ℕ, List, [], length, None, Ok, IsOk, IfOk, IfSome};
 ghost use Rattle.std.specs.List.{concat};
-ghost use Rattle.etm_types.specs.Settings.{AreSettings};
 ghost use Rattle.packet_grammar.specs.declared.packet.Packet.{Packet};
 ghost use Rattle.packet_grammar.specs.Ends.{end_of};
 ghost use Rattle.packet_reader.specs.Answered.{told, fault_after};
@@ -55,7 +54,6 @@ impl PacketStream {
         ensures settings { result.reader.settings ≡ settings.now }
         ensures stands { ListedAt result [] }
     {
-        are_settings(settings);
         let id = first_id();
         PacketStream {
             reader: PacketReader::new(settings),
@@ -79,6 +77,8 @@ impl Stream for PacketStream {
     ghost broken = { λ p. p.broken };
 
     ghost taken = { λ p. p.reader.taken };
+
+    ghost held = { λ p. 0 };
 
     ghost counts = { λ p. no_counts };
 
@@ -144,22 +144,13 @@ impl Stream for PacketStream {
         if self.reader.taken() == 0 {
             return Ok(true);
         }
-        match write_end(id, &end_at(&self.reader, self.fault), sink) {
-            Ok(()) => Ok(self.fault.is_none()),
-            Err(failed) => Err(failed),
-        }
+        write_end(id, &end_at(&self.reader, self.fault), sink)?;
+        Ok(self.fault.is_none())
     }
 
     fn abandon(self) -> Ledger {
         Ledger::new()
     }
-}
-
-/// The numbers of settings are such as a trace unit has. Only the contract is asked for.
-fn are_settings(settings: &Settings)
-    ensures { AreSettings settings.now }
-{
-    settings.depth();
 }
 
 /// The ID of a line that is not used yet.

@@ -1,5 +1,5 @@
 -- The tree of each body reads what follows the header.
-use Rattle.std.proofs.Common.{◌≡◌, ℕ, zero, suc, ◌+◌, ◌-◌, ◌*◌, ◌/◌, ◌%◌, ◌^◌, ◌==◌, ◌&&◌, not, Bool, true, false, List, []}
+use Rattle.std.proofs.Common.{◌≡◌, ℕ, zero, suc, ◌+◌, ◌-◌, ◌*◌, ◌%◌, ◌^◌, ◌==◌, ◌&&◌, not, Bool, true, false, List, []}
 use Rattle.std.proofs.Common.{◌∷◌, ◌++◌, length, Option, Some, None, Ok, Err, refl, sym, ap, subst, add-one, ◌∙◌, inl, inr, arith, nat_lt}
 use Rattle.std.specs.Prelude.{if◌then◌else◌}
 use Rattle.std.proofs.Math.Nat.{pow-suc}
@@ -8,8 +8,8 @@ use Rattle.etm_types.specs.declared.address.AddrForm.{AddrForm}
 use Rattle.etm_types.specs.declared.address.AddrForm.TheVariants.{Short1, Short2}
 use Rattle.etm_types.specs.declared.context.CtxBits.{CtxBits}
 use Rattle.packet_grammar.specs.declared.packet.Packet.{Packet}
-use Rattle.packet_grammar.specs.declared.packet.Packet.TheVariants.{Time, Info, Exc, Addr}
-use Rattle.packet_grammar.specs.declared.fault.PacketFault.TheVariants.{NumberTooLong, InfoControl, InfoMode, ExceptionTwoByte, ExceptionForm, Aarch32Context}
+use Rattle.packet_grammar.specs.declared.packet.Packet.TheVariants.{Time, Info, Addr}
+use Rattle.packet_grammar.specs.declared.fault.PacketFault.TheVariants.{NumberTooLong, InfoControl, InfoMode, Aarch32Context}
 use Rattle.packet_grammar.specs.Parts.{Outcome, Part, Known, Byte, Bytes, Where, Then, As}
 use Rattle.packet_grammar.specs.Numbers.{NumberWithin, Number, Stamp, StampWithin, TimeStamp, little}
 use Rattle.packet_grammar.specs.Fields.{bit}
@@ -18,7 +18,7 @@ use Rattle.packet_grammar.specs.Spelling.{Section, Mode, TraceInfo}
 use Rattle.packet_grammar.proofs.Table.{Exception}
 use Rattle.packet_reader.specs.Trees.{Tree, known, byte, Leads, number_tree, stamp_tree, bytes_tree, field_tree}
 use Rattle.packet_reader.specs.States.{cycles_tree, spec_tree, key_tree, mode_tree, info_tree, control_tree}
-use Rattle.packet_reader.specs.States.{exception_tree, context_of, context_tree, vmid_tree, with_context, short_high_tree, short_tree}
+use Rattle.packet_reader.specs.States.{exception_form, exception_tree, context_of, context_tree, vmid_tree, with_context, short_high_tree, short_tree}
 use Rattle.packet_reader.proofs.Meets.{Meets, meets_ok, meets_err, meets_byte, meets_where, meets_then, meets_as}
 
 higher : (b high groups value : ℕ) → value + b * 128 ^ groups + high * 128 ^ (groups + 1) ≡ value + (b + 128 * high) * 128 ^ groups
@@ -217,11 +217,8 @@ pub meets_known : (outcome : Outcome Packet) → Meets (Known outcome) End (know
 meets_known (Ok packet) = meets_ok packet End
 meets_known (Err f) = meets_err f End
 
-abbrev exception_of : ℕ → Outcome Packet
-exception_of b = if bit 7 b then Err (ExceptionTwoByte b) else if bit 0 b && not (bit 6 b) then Ok (Exc (b / 2 % 32)) else Err (ExceptionForm b)
-
 pub meets_exception : Meets Exception End exception_tree
-meets_exception = meets_byte (λ b. Known (exception_of b)) End (λ b. known (exception_of b)) (λ b. meets_known (exception_of b))
+meets_exception = meets_byte (λ b. Known (exception_form b)) End (λ b. known (exception_form b)) (λ b. meets_known (exception_form b))
 
 pub meets_short : Meets ShortAddress (λ form. End (Addr form None)) short_tree
 meets_short =

@@ -1,5 +1,5 @@
 -- The end of a commit packet whose number has one byte.
-use Rattle.std.proofs.Common.{◌≡◌, ℕ, ◌+◌, ◌*◌, ◌^◌, ◌<◌, true, List, [], ◌∷◌, ◌++◌, Ok, length, refl, arith, length-append}
+use Rattle.std.proofs.Common.{◌≡◌, ℕ, ◌+◌, ◌*◌, ◌^◌, ◌<◌, true, [], ◌∷◌, Ok, refl, arith, length-append}
 use Rattle.etm_types.specs.Settings.{Sizes}
 use Rattle.packet_grammar.specs.Fields.{is_last}
 use Rattle.packet_grammar.specs.declared.packet.Packet.TheVariants.{Commit}

@@ -1,12 +1,11 @@
 -- The bytes of a packet, each with its answer.
-use Rattle.std.proofs.Common.{◌≡◌, ℕ, suc, ◌+◌, ◌-◌, ◌<◌, List, [], ◌∷◌, ◌++◌, length, Ok}
+use Rattle.std.proofs.Common.{◌≡◌, ℕ, suc, ◌-◌, ◌<◌, List, [], ◌∷◌, ◌++◌, length, Ok}
 use Rattle.std.proofs.Common.{refl, sym, ap, subst, ◌∙◌, arith, append_assoc, append-nil, length-append}
 use Rattle.std.specs.Prelude.{All, replicate}
 use Rattle.std.proofs.lemmas.List.Elements.{All-tail}
 use Rattle.etm_types.specs.Settings.{Sizes, AreSettings}
 use Rattle.packet_grammar.specs.declared.packet.Packet.{Packet}
 use Rattle.packet_grammar.specs.Parsed.{Ending, clean, cut, Spells, Begins, IsStream}
-use Rattle.packet_grammar.specs.Spelling.{SpellsPacket}
 use Rattle.packet_grammar.proofs.Inverse.{packet_back}
 use Rattle.packet_grammar.proofs.GoesOn.{stream_on, goes_on_by_a_packet}
 use Rattle.packet_reader.specs.declared.step.Step.{Step}

@@ -1,5 +1,5 @@
 -- What may follow in each state of a reader (Arm IHI 0064, "Descriptions of Trace Packets").
-use Rattle.std.specs.Prelude.{◌≡◌, ◌↔◌, List, ◌∷◌, ℕ, ◌+◌, ◌-◌, ◌^◌, ◌<◌, ◌≤◌, ◌==◌, ◌&&◌, not, Option, Some, None, Ok, Err, nat_lt, if◌then◌else◌}
+use Rattle.std.specs.Prelude.{◌≡◌, ◌↔◌, List, ◌∷◌, ℕ, ◌+◌, ◌-◌, ◌^◌, ◌<◌, ◌≤◌, ◌==◌, true, false, Option, Some, None, Ok, Err, nat_lt, if◌then◌else◌}
 use Rattle.etm_types.specs.Settings.{Sizes}
 use Rattle.etm_types.specs.Atoms.{IsAtomRun, atoms_in}
 use Rattle.etm_types.specs.declared.address.AddrForm.{AddrForm}
@@ -60,10 +60,16 @@ behind_number (Key control info) n = spec_tree control info (Some n)
 behind_number (Spec control info key) n = cycles_tree control info key (Some n)
 behind_number (Cycles info key spec) n = known (Ok (Info info key spec (Some n)))
 
--- Exception packet
+-- Exception instruction trace packet: bit 7 (C), then bits 6 and 0 (E1 and E0)
+abbrev pub exception_form : ℕ → Outcome Packet
+exception_form b =
+    if bit 7 b then Err (ExceptionTwoByte b)
+    else if bit 6 b then (if bit 0 b then Err (ExceptionForm b) else Ok (Exc (field_in 5 1 b) true))
+    else if bit 0 b then Ok (Exc (field_in 5 1 b) false)
+    else Err (ExceptionForm b)
+
 abbrev pub exception_tree : Tree
-exception_tree =
-    byte (λ b. known (if bit 7 b then Err (ExceptionTwoByte b) else if bit 0 b && not (bit 6 b) then Ok (Exc (field_in 5 1 b)) else Err (ExceptionForm b)))
+exception_tree = byte (λ b. known (exception_form b))
 
 -- Context packet, Address with Context packet: a context, alone or after an address
 abbrev pub with_context : Option AddrForm → CtxBits → Outcome Packet

@@ -12,8 +12,9 @@ use crate::fields::{CONTINUES, bit, field, is_last, lowest};
 use crate::groups::{with_byte, with_group};
 use crate::part::{byte_goes_on, group_goes_on, zero_goes_on};
 use crate::state::{Field, Long, Progress, Purpose, State};
-use crate::sync::{LAST_OF_SYNC, ZEROS_OF_SYNC};
+use crate::sync::ZEROS_OF_SYNC;
 use etm_types::{AddrForm, CtxBits, Settings};
+use packet_grammar::headers::{DISCARD, END_OF_SYNC, OVERFLOW};
 use packet_grammar::{Packet, PacketFault};
 
 /// The last of five groups of a number has so many values: it is the number's bits 31 to 28.
@@ -86,8 +87,8 @@ fn extension(byte: u8) -> Progress
         0x00 => Progress::Next(State::Zeros {
             left: ZEROS_OF_SYNC - 2,
         }),
-        0x03 => Progress::Done(Ok(Packet::Discard)),
-        0x05 => Progress::Done(Ok(Packet::Overflow)),
+        DISCARD => Progress::Done(Ok(Packet::Discard)),
+        OVERFLOW => Progress::Done(Ok(Packet::Overflow)),
         _ => Progress::Done(Err(PacketFault::Extension(byte))),
     }
 }
@@ -101,7 +102,7 @@ fn zeros(left: &mut u8, byte: u8) -> Option<Progress>
     if zero_goes_on(left, byte) {
         return None;
     }
-    if *left == 0 && byte == LAST_OF_SYNC {
+    if *left == 0 && byte == END_OF_SYNC {
         return Some(Progress::Done(Ok(Packet::Async)));
     }
     Some(Progress::Done(Err(PacketFault::BrokenSync)))
@@ -114,9 +115,11 @@ fn exception(byte: u8) -> Result<Packet, PacketFault>
     if bit(byte, 7) {
         return Err(PacketFault::ExceptionTwoByte(byte));
     }
-    if bit(byte, 0) && !bit(byte, 6) {
+    let target = bit(byte, 6);
+    if bit(byte, 0) != target {
         return Ok(Packet::Exc {
             kind: field(5, 1, byte),
+            target,
         });
     }
     Err(PacketFault::ExceptionForm(byte))

@@ -11,16 +11,7 @@ pub fn bit(byte: u8, place: u8) -> bool
     requires { place ≤ 7 }
     ensures { result ≡ bit place byte }
 {
-    match place {
-        0 => byte % 2 == 1,
-        1 => byte / 2 % 2 == 1,
-        2 => byte / 4 % 2 == 1,
-        3 => byte / 8 % 2 == 1,
-        4 => byte / 16 % 2 == 1,
-        5 => byte / 32 % 2 == 1,
-        6 => byte / 64 % 2 == 1,
-        _ => byte / 128 % 2 == 1,
-    }
+    (byte >> place) % 2 == 1
 }
 
 /// The number in bits high to low of a byte.

@@ -14,6 +14,10 @@ use crate::fields::{CONTINUES, bit, is_last, lowest};
 use crate::groups::BYTE;
 use etm_types::{AddrForm, CtxBits, Settings};
 use packet_grammar::Packet;
+use packet_grammar::headers::{
+    ADDRESS_32_WITH_CONTEXT, ADDRESS_64_WITH_CONTEXT, COMMIT, EXACT_MATCH, LAST_EXACT_MATCH,
+    LONG_ADDRESS_32, LONG_ADDRESS_64, SHORT_ADDRESS,
+};
 
 /// Where the bits of an address packet's first byte stand in the address.
 const FIRST: u32 = 2;
@@ -23,9 +27,6 @@ const SECOND: u32 = FIRST + 7;
 
 /// Where those of the third byte stand. From there on the bytes are whole.
 const THIRD: u32 = 2 * BYTE;
-
-/// The header of a commit packet.
-const COMMIT: u8 = 0x2d;
 
 /// An address packet.
 #[derive(Clone, Copy, Debug, PartialEq, Eq)]
@@ -51,32 +52,32 @@ pub fn address_at<'a>(settings: &Settings, bytes: &'a [u8]) -> Option<(Address, 
 {
     let (header, rest) = bytes.split_first()?;
     match *header {
-        0x82 => {
+        ADDRESS_32_WITH_CONTEXT => {
             let (value, rest) = long_32_at(rest)?;
             let (ctx, rest) = context_at(settings, rest)?;
             let (form, ctx) = (AddrForm::Long32(value), Some(ctx));
             Some((Address { form, ctx }, rest))
         }
-        0x85 => {
+        ADDRESS_64_WITH_CONTEXT => {
             let (value, rest) = long_64_at(rest)?;
             let (ctx, rest) = context_at(settings, rest)?;
             let (form, ctx) = (AddrForm::Long64(value), Some(ctx));
             Some((Address { form, ctx }, rest))
         }
-        0x90..=0x92 => {
-            let form = AddrForm::Match(*header - 0x90);
+        EXACT_MATCH..=LAST_EXACT_MATCH => {
+            let form = AddrForm::Match(*header - EXACT_MATCH);
             Some((Address { form, ctx: None }, rest))
         }
-        0x95 => {
+        SHORT_ADDRESS => {
             let (form, rest) = short_at(rest)?;
             Some((Address { form, ctx: None }, rest))
         }
-        0x9a => {
+        LONG_ADDRESS_32 => {
             let (value, rest) = long_32_at(rest)?;
             let form = AddrForm::Long32(value);
             Some((Address { form, ctx: None }, rest))
         }
-        0x9d => {
+        LONG_ADDRESS_64 => {
             let (value, rest) = long_64_at(rest)?;
             let form = AddrForm::Long64(value);
             Some((Address { form, ctx: None }, rest))

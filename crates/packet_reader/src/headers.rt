@@ -1,5 +1,5 @@
 //! What a header makes of a packet, in the order of the headers (Arm IHI 0064, "Descriptions of Trace
-//! Packets").
+//! Packets"). Headers of packets that are read have names; those that are refused stand by their numbers, which the fault tells.
 ghost use Rattle.std.specs.Prelude.{◌≡◌, ◌<◌, ◌≤◌};
 ghost use Rattle.packet_reader.specs.States.{HeadsBy, IsRun, FitsAfter};
 
@@ -7,6 +7,13 @@ use crate::fields::{field, lowest};
 use crate::state::{Long, Progress, Purpose, State};
 use atom_formats::atoms_of;
 use etm_types::{AddrForm, AtomRun, FewAtoms};
+use packet_grammar::headers::{
+    ADDRESS_32_WITH_CONTEXT, ADDRESS_64_WITH_CONTEXT, ATOMS, CANCEL_FORMAT_1,
+    CANCEL_FORMAT_1_MISPREDICT, CANCEL_FORMAT_2, CANCEL_FORMAT_3, COMMIT, CONTEXT, CONTEXT_INFO,
+    EVENT, EXACT_MATCH, EXCEPTION, EXTENSION, IGNORE, LAST_ATOMS, LAST_CANCEL_FORMAT_2,
+    LAST_CANCEL_FORMAT_3, LAST_EVENT, LAST_EXACT_MATCH, LAST_MISPREDICT, LONG_ADDRESS_32,
+    LONG_ADDRESS_64, MISPREDICT, SHORT_ADDRESS, TIMESTAMP, TRACE_INFO, TRACE_ON,
+};
 use packet_grammar::{Packet, PacketFault, RefusedKind};
 
 /// What a header makes of a packet. Most headers are those of atom packets, so these come first.
@@ -15,7 +22,7 @@ pub fn header(h: u8) -> Progress
     ensures fits { FitsAfter result }
 {
     match h {
-        0xc0..=0xff => whole(Packet::Atoms(run_of(h))),
+        ATOMS..=LAST_ATOMS => whole(Packet::Atoms(run_of(h))),
         0x00..=0x3f => first_headers(h),
         0x40..=0x7f => middle_headers(h),
         0x80..=0x9f => address_headers(h),
@@ -30,23 +37,23 @@ fn first_headers(h: u8) -> Progress
     ensures fits { FitsAfter result }
 {
     match h {
-        0x00 => Progress::Next(State::Extension),
-        0x01 => Progress::Next(State::Control),
-        0x02 => time_stamp(),
+        EXTENSION => Progress::Next(State::Extension),
+        TRACE_INFO => Progress::Next(State::Control),
+        TIMESTAMP => time_stamp(),
         0x03 => refused(RefusedKind::TimeCycle, h),
-        0x04 => whole(Packet::On),
+        TRACE_ON => whole(Packet::On),
         0x05 => refused(RefusedKind::MProfile, h),
-        0x06 => Progress::Next(State::Exception),
+        EXCEPTION => Progress::Next(State::Exception),
         0x07 => refused(RefusedKind::MProfile, h),
         0x08..=0x0b => reserved(h),
         0x0c..=0x1f => refused(RefusedKind::CycleCount, h),
         0x20..=0x2c => refused(RefusedKind::DataSync, h),
-        0x2d => number(Purpose::Commit),
-        0x2e => number(Purpose::Cancel { flip: false }),
-        0x2f => number(Purpose::Cancel { flip: true }),
-        0x30..=0x33 => whole(Packet::Mispredict(few_atoms(h))),
-        0x34..=0x37 => whole(Packet::Cancel2(few_atoms(h))),
-        0x38..=0x3f => whole(cancel_3(h)),
+        COMMIT => number(Purpose::Commit),
+        CANCEL_FORMAT_1 => number(Purpose::Cancel { flip: false }),
+        CANCEL_FORMAT_1_MISPREDICT => number(Purpose::Cancel { flip: true }),
+        MISPREDICT..=LAST_MISPREDICT => whole(Packet::Mispredict(few_atoms(h))),
+        CANCEL_FORMAT_2..=LAST_CANCEL_FORMAT_2 => whole(Packet::Cancel2(few_atoms(h))),
+        CANCEL_FORMAT_3..=LAST_CANCEL_FORMAT_3 => whole(cancel_3(h)),
         _ => unreachable!(),
     }
 }
@@ -67,8 +74,8 @@ fn middle_headers(h: u8) -> Progress
         0x50..=0x5f => refused(RefusedKind::Conditional, h),
         0x60..=0x67 => reserved(h),
         0x68..=0x6f => refused(RefusedKind::Conditional, h),
-        0x70 => whole(Packet::Ignore),
-        0x71..=0x7f => whole(event(h)),
+        IGNORE => whole(Packet::Ignore),
+        EVENT..=LAST_EVENT => whole(event(h)),
         _ => unreachable!(),
     }
 }
@@ -80,23 +87,23 @@ fn address_headers(h: u8) -> Progress
     ensures fits { FitsAfter result }
 {
     match h {
-        0x80 => whole(Packet::CtxSame),
-        0x81 => Progress::Next(State::Context { form: None }),
-        0x82 => long(false, true),
+        CONTEXT => whole(Packet::CtxSame),
+        CONTEXT_INFO => Progress::Next(State::Context { form: None }),
+        ADDRESS_32_WITH_CONTEXT => long(false, true),
         0x83 => refused(RefusedKind::Aarch32Address, h),
         0x84 => reserved(h),
-        0x85 => long(true, true),
+        ADDRESS_64_WITH_CONTEXT => long(true, true),
         0x86 => refused(RefusedKind::Aarch32Address, h),
         0x87..=0x8f => reserved(h),
-        0x90..=0x92 => whole(match_address(h)),
+        EXACT_MATCH..=LAST_EXACT_MATCH => whole(match_address(h)),
         0x93..=0x94 => reserved(h),
-        0x95 => Progress::Next(State::Short),
+        SHORT_ADDRESS => Progress::Next(State::Short),
         0x96 => refused(RefusedKind::Aarch32Address, h),
         0x97..=0x99 => reserved(h),
-        0x9a => long(false, false),
+        LONG_ADDRESS_32 => long(false, false),
         0x9b => refused(RefusedKind::Aarch32Address, h),
         0x9c => reserved(h),
-        0x9d => long(true, false),
+        LONG_ADDRESS_64 => long(true, false),
         0x9e => refused(RefusedKind::Aarch32Address, h),
         0x9f => reserved(h),
         _ => unreachable!(),
@@ -206,7 +213,7 @@ fn match_address(h: u8) -> Packet
     ensures { result ≡ Packet.Addr (AddrForm.Match (h - 0x90)) None }
 {
     Packet::Addr {
-        form: AddrForm::Match(h - 0x90),
+        form: AddrForm::Match(h - EXACT_MATCH),
         ctx: None,
     }
 }
@@ -228,9 +235,6 @@ fn time_stamp() -> Progress
         low: 0,
     })
 }
-
-/// The first header of an atom packet. All from here on are such headers.
-pub const FIRST_OF_ATOMS: u8 = 0xc0;
 
 /// The atoms of an atom packet, which its header alone holds.
 #[inline(always)]

@@ -9,12 +9,13 @@ ghost use Rattle.packet_reader.specs.Stands.{FitsPhase, Moved, Moves, settled, z
 use crate::advance::advance;
 use crate::fields::CONTINUES;
 use crate::front::{Address, address_at, commit_at};
-use crate::headers::{FIRST_OF_ATOMS, header, run_of};
+use crate::headers::{header, run_of};
 use crate::phase::Phase;
 use crate::state::{Progress, Purpose, State};
 use crate::step::Step;
 use crate::sync::{LENGTH_OF_SYNC, ends_sync};
 use etm_types::{AtomRun, Settings};
+use packet_grammar::headers::ATOMS;
 use packet_grammar::{End, Packet, PacketFault};
 use std::marker::Model;
 
@@ -32,13 +33,14 @@ pub struct PacketReader {
 
 impl Model for PacketReader {
     ghost use Rattle.std.specs.Prelude.{◌≤◌};
+    ghost use Rattle.etm_types.specs.Settings.{AreSettings};
     ghost use Rattle.packet_reader.specs.Stands.{Standing, FitsPhase, zeros_in};
 
     ghost Value = { Standing };
 
     ghost view = { λ r. record { settings = r.settings; phase = r.phase; start = r.start; taken = r.taken } };
 
-    ghost invariant = { λ r. FitsPhase r.phase × (r.start ≤ r.taken) × (zeros_in r.phase ≤ r.taken) };
+    ghost invariant = { λ r. FitsPhase r.phase × (r.start ≤ r.taken) × (zeros_in r.phase ≤ r.taken) × AreSettings r.settings };
 }
 
 impl PacketReader {
@@ -51,8 +53,10 @@ impl PacketReader {
     /// A reader that has taken nothing.
     pub fn new(settings: &Settings) -> PacketReader
         ensures settings { result.settings ≡ settings.now }
+        ensures within { AreSettings result.settings }
         ensures stands { StandsAt result [] }
     {
+        let _ = settings.depth();
         PacketReader {
             settings: *settings,
             phase: Phase::Hunting { zeros: 0 },
@@ -94,7 +98,7 @@ impl PacketReader {
         ensures takes { IfSome result (λ atoms. TakesPacket self.old self.new (byte ∷ []) atoms.0 (Packet.Atoms atoms.1)) }
     {
         match &self.phase {
-            Phase::Between if byte >= FIRST_OF_ATOMS => {
+            Phase::Between if byte >= ATOMS => {
                 let (at, after) = (self.start, self.taken + 1);
                 (self.start, self.taken) = (after, after);
                 Some((at, run_of(byte)))
@@ -203,10 +207,10 @@ impl PacketReader {
 
     /// How the stream ends if no byte more comes, where its bytes showed no fault.
     pub fn end_without_fault(&self) -> End
-        requires { AreSettings self.now.settings }
         ensures { (bytes : List ℕ) (packets : List (ℕ × Packet)) (ending : Ending) → StandsAt self.now bytes
             → IsStream self.now.settings bytes packets ending → fault_of ending ≡ None → result ≡ end_of ending }
     {
+        let _ = &self.settings;
         let count = self.rest();
         if !self.synced() {
             End::NoSync
@@ -245,7 +249,7 @@ fn step(settings: &Settings, phase: &mut Phase, start: &mut u64, taken: u64, byt
     ensures fits { FitsPhase phase.new × (start.new ≤ taken) × (zeros_in phase.new ≤ taken) }
 {
     match phase {
-        Phase::Between if byte >= FIRST_OF_ATOMS => {
+        Phase::Between if byte >= ATOMS => {
             let at = *start;
             *start = taken;
             Step::Whole {

@@ -2,11 +2,10 @@
 ghost use Rattle.std.specs.Prelude.{◌≡◌, ◌≤◌, ◌+◌, ◌==◌, ◌&&◌, false, nat_lt, if◌then◌else◌};
 ghost use Rattle.packet_reader.specs.Stands.{zeros_after, zeros_of_sync};
 
+use packet_grammar::headers::END_OF_SYNC;
+
 /// How many 00 an A-sync has.
 pub const ZEROS_OF_SYNC: u8 = 11;
-
-/// The byte at the end of an A-sync.
-pub const LAST_OF_SYNC: u8 = 0x80;
 
 /// How many bytes an A-sync has.
 pub const LENGTH_OF_SYNC: u64 = ZEROS_OF_SYNC as u64 + 1;
@@ -18,7 +17,7 @@ pub fn ends_sync(zeros: &mut u8, byte: u8) -> bool
     ensures counted { result ≡ false → zeros.new ≡ zeros_after zeros.old byte }
     ensures fits { (zeros.new ≤ zeros_of_sync) × (zeros.new ≤ zeros.old + 1) }
 {
-    if *zeros == ZEROS_OF_SYNC && byte == LAST_OF_SYNC {
+    if *zeros == ZEROS_OF_SYNC && byte == END_OF_SYNC {
         return true;
     }
     *zeros = zeros_after(*zeros, byte);

@@ -1,19 +1,19 @@
 -- Packets with the bytes that are written for them, and near misses. The bytes come from the standard's tables, worked out apart from
 -- the definitions.
-use Rattle.std.proofs.Common.{◌≡◌, ℕ, List, [], ◌∷◌, ◌++◌, Bool, true, false, not, Some, None, refl, inl, arith}
+use Rattle.std.proofs.Common.{◌≡◌, ℕ, List, [], ◌∷◌, ◌++◌, Bool, true, false, Some, None, refl, inl, arith}
 use Rattle.std.specs.List.{flat_map}
 use Rattle.std.specs.Cmp.Lexicographic.{other_text}
 use Rattle.etm_types.specs.Settings.{Sizes}
 use Rattle.etm_types.specs.declared.address.AddrForm.TheVariants.{Match, Short1, Short2, Long32, Long64}
 use Rattle.etm_types.specs.declared.atoms.FewAtoms.{FewAtoms}
 use Rattle.etm_types.specs.declared.context.CtxBits.{CtxBits}
+use Rattle.atom_formats.specs.Bytes.{byte_of}
 use Rattle.atom_formats.specs.Formats.{atom_formats}
-use Rattle.atom_formats.proofs.Table.{every_row}
+use Rattle.atom_formats.proofs.Bytes.{byte_found}
 use Rattle.packet_grammar.specs.Spelling.{SpellsPacket}
 use Rattle.packet_grammar.specs.declared.packet.Packet.{Packet}
 use Rattle.packet_grammar.specs.declared.packet.Packet.TheVariants.{Async, Discard, Overflow, Info, On, Ignore, Event, Time, Exc}
 use Rattle.packet_grammar.specs.declared.packet.Packet.TheVariants.{Commit, Cancel, Mispredict, Cancel2, Cancel3, CtxSame, CtxInfo, Addr, Atoms}
-use Rattle.packet_writer.specs.Atoms.{same_atoms}
 use Rattle.packet_writer.specs.Fitting.{HasSpelling}
 use Rattle.packet_writer.specs.Laws.{placed}
 use Rattle.packet_writer.specs.Spelling.{spelling}
@@ -90,15 +90,24 @@ time_of_56_bits = refl
 pub time_of_64_bits : spelling none (Time 64 0x123456789abcdef) ≡ 0x02 ∷ 0xef ∷ 0x9b ∷ 0xaf ∷ 0xcd ∷ 0xf8 ∷ 0xac ∷ 0xd1 ∷ 0x91 ∷ 0x01 ∷ []
 time_of_64_bits = refl
 
--- Exception packet
-pub first_exception : spelling none (Exc 0) ≡ 0x06 ∷ 0x01 ∷ []
+-- Exception instruction trace packet: E0 alone, and E1 alone
+pub first_exception : spelling none (Exc 0 false) ≡ 0x06 ∷ 0x01 ∷ []
 first_exception = refl
 
-pub irq : spelling none (Exc 14) ≡ 0x06 ∷ 0x1d ∷ []
+pub irq : spelling none (Exc 14 false) ≡ 0x06 ∷ 0x1d ∷ []
 irq = refl
 
-pub last_exception : spelling none (Exc 31) ≡ 0x06 ∷ 0x3f ∷ []
+pub last_exception : spelling none (Exc 31 false) ≡ 0x06 ∷ 0x3f ∷ []
 last_exception = refl
+
+pub first_exception_at_its_target : spelling none (Exc 0 true) ≡ 0x06 ∷ 0x40 ∷ []
+first_exception_at_its_target = refl
+
+pub irq_at_its_target : spelling none (Exc 14 true) ≡ 0x06 ∷ 0x5c ∷ []
+irq_at_its_target = refl
+
+pub last_exception_at_its_target : spelling none (Exc 31 true) ≡ 0x06 ∷ 0x7e ∷ []
+last_exception_at_its_target = refl
 
 -- Commit packet: no group of zeros at the end
 pub commit_0 : spelling none (Commit 0) ≡ 0x2d ∷ 0x00 ∷ []
@@ -224,31 +233,31 @@ last_address = refl
 
 -- Atom Format 1 to 6 packets
 pub atom_e : spelling none (Atoms (record { count = 1; bits = 1 })) ≡ 0xf7 ∷ []
-unfolding atom_formats
+unfolding atom_formats byte_of
 atom_e = refl
 
 pub atoms_ne : spelling none (Atoms (record { count = 2; bits = 2 })) ≡ 0xda ∷ []
-unfolding atom_formats
+unfolding atom_formats byte_of
 atoms_ne = refl
 
 pub atoms_een : spelling none (Atoms (record { count = 3; bits = 3 })) ≡ 0xfb ∷ []
-unfolding atom_formats
+unfolding atom_formats byte_of
 atoms_een = refl
 
 pub atoms_neee : spelling none (Atoms (record { count = 4; bits = 0xe })) ≡ 0xdc ∷ []
-unfolding atom_formats
+unfolding atom_formats byte_of
 atoms_neee = refl
 
 pub atoms_nenen : spelling none (Atoms (record { count = 5; bits = 0xa })) ≡ 0xd6 ∷ []
-unfolding atom_formats
+unfolding atom_formats byte_of
 atoms_nenen = refl
 
 pub atoms_24_e : spelling none (Atoms (record { count = 24; bits = 0xffffff })) ≡ 0xd4 ∷ []
-unfolding atom_formats
+unfolding atom_formats byte_of
 atoms_24_e = refl
 
 pub atoms_23_e_and_n : spelling none (Atoms (record { count = 24; bits = 0x7fffff })) ≡ 0xf4 ∷ []
-unfolding atom_formats
+unfolding atom_formats byte_of
 atoms_23_e_and_n = refl
 
 -- ---- other spellings, which are not written
@@ -291,7 +300,19 @@ not_the_high_byte_first e =
 pub not_without_the_info_number : spelling none (Info (Some 0) None (Some 1) None) ≡ 0x01 ∷ 0x05 ∷ 0x01 ∷ [] → ⊥
 not_without_the_info_number e = other_text (spelling none (Info (Some 0) None (Some 1) None)) (0x01 ∷ 0x05 ∷ 0x01 ∷ []) refl e
 
+pub not_e1_beside_e0 : spelling none (Exc 14 true) ≡ 0x06 ∷ 0x5d ∷ [] → ⊥
+not_e1_beside_e0 e = other_text (spelling none (Exc 14 true)) (0x06 ∷ 0x5d ∷ []) refl e
+
+pub not_e0_at_a_target : spelling none (Exc 14 true) ≡ 0x06 ∷ 0x1d ∷ [] → ⊥
+not_e0_at_a_target e = other_text (spelling none (Exc 14 true)) (0x06 ∷ 0x1d ∷ []) refl e
+
+pub not_e1_alone_without_one : spelling none (Exc 14 false) ≡ 0x06 ∷ 0x5c ∷ [] → ⊥
+not_e1_alone_without_one e = other_text (spelling none (Exc 14 false)) (0x06 ∷ 0x5c ∷ []) refl e
+
 -- ---- packets that have no spelling
+
+pub no_exception_of_type_32 : (target : Bool) → HasSpelling none (Exc 32 target) → ⊥
+no_exception_of_type_32 target has = let fits = spelled_fits none (Exc 32 target) has in omega (arith, fits.0)
 
 pub no_event : HasSpelling none (Event 0) → ⊥
 no_event has = let fits = spelled_fits none (Event 0) has in omega (arith, fits.0.0)
@@ -305,12 +326,10 @@ no_context_with_an_entry has = let fits = spelled_fits none (Addr (Match 0) (Som
 
 -- no byte tells N N E E
 pub no_byte_of_nnee : HasSpelling none (Atoms (record { count = 4; bits = 0xc })) → ⊥
-unfolding atom_formats
+unfolding atom_formats byte_of
 no_byte_of_nnee has =
     let fits = spelled_fits none (Atoms (record { count = 4; bits = 0xc })) has in
-    let nnee : List Bool = false ∷ false ∷ true ∷ true ∷ [] in
-    let other : not (same_atoms nnee nnee) ≡ true =
-    every_row (λ (b : ℕ) (xs : List Bool). not (same_atoms xs (false ∷ false ∷ true ∷ true ∷ []))) refl fits.1.0 nnee fits.1.1 in
+    let told : byte_of (false ∷ false ∷ true ∷ true ∷ []) ≡ Some fits.1.0 = byte_found (false ∷ false ∷ true ∷ true ∷ []) fits.1.0 fits.1.1 in
     absurd cc
 
 -- 15 bits are not told by two bytes ..
@@ -344,18 +363,18 @@ six_zeros = 0x00 ∷ 0x00 ∷ 0x00 ∷ 0x00 ∷ 0x00 ∷ 0x00 ∷ []
 pub bytes_of_turned : flat_map (spelling none) turned
     ≡ sync ++ (0x01 ∷ 0x01 ∷ 0x00 ∷ 0x04 ∷ 0x85 ∷ 0x00 ∷ 0x08 ∷ six_zeros) ++ (0x10 ∷ 0xf7 ∷ sync)
     ++ (0x01 ∷ 0x05 ∷ 0x00 ∷ 0x01 ∷ 0x85 ∷ 0x03 ∷ 0x08 ∷ six_zeros) ++ (0x10 ∷ 0x30 ∷ 0xf7 ∷ 0x2d ∷ 0x02 ∷ [])
-unfolding atom_formats
+unfolding atom_formats byte_of
 bytes_of_turned = refl
 
 pub offsets_of_turned : placed none 0 turned
     ≡ (0, Async) ∷ (12, Info (Some 0) None None None) ∷ (15, On) ∷ (16, Addr (Long64 0x1000) (Some el_0)) ∷ (26, branch) ∷ (27, Async)
     ∷ (39, Info (Some 0) None (Some 1) None) ∷ (43, Addr (Long64 0x100c) (Some el_0)) ∷ (53, Mispredict no_atom) ∷ (54, branch) ∷ (55, Commit 2) ∷ []
-unfolding atom_formats
+unfolding atom_formats byte_of
 offsets_of_turned = refl
 
 -- two atoms and a commit of both, behind the head of a trace
 pub bytes_of_two_branches : flat_map (spelling none)
     (Async ∷ Info (Some 0) None None None ∷ On ∷ Addr (Long64 0x1000) (Some el_1) ∷ Atoms (record { count = 2; bits = 2 }) ∷ Commit 2 ∷ [])
     ≡ sync ++ (0x01 ∷ 0x01 ∷ 0x00 ∷ 0x04 ∷ 0x85 ∷ 0x00 ∷ 0x08 ∷ six_zeros) ++ (0x31 ∷ 0xda ∷ 0x2d ∷ 0x02 ∷ [])
-unfolding atom_formats
+unfolding atom_formats byte_of
 bytes_of_two_branches = refl

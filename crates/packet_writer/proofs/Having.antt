@@ -11,7 +11,6 @@ use Rattle.etm_types.specs.Settings.{Sizes}
 use Rattle.etm_types.specs.Atoms.{atoms_in}
 use Rattle.etm_types.specs.declared.address.AddrForm.TheVariants.{Match, Short1, Short2, Long32, Long64}
 use Rattle.etm_types.specs.declared.context.CtxBits.{CtxBits}
-use Rattle.atom_formats.specs.Formats.{atom_formats}
 use Rattle.atom_formats.proofs.Rows.{no_other_tells}
 use Rattle.packet_grammar.specs.Fields.{from_bit}
 use Rattle.packet_grammar.specs.Parts.{Bytes}
@@ -27,7 +26,7 @@ use Rattle.packet_grammar.proofs.InRange.{values_fit}
 use Rattle.packet_grammar.proofs.Inverse.{as_ok}
 use Rattle.packet_writer.specs.Numbers.{number_within, number, groups, time_stamp, low_bytes}
 use Rattle.packet_writer.specs.Contexts.{bit_where, sized, info_byte, context, long}
-use Rattle.packet_writer.specs.Atoms.{few, byte_in}
+use Rattle.packet_writer.specs.Atoms.{few, run_byte}
 use Rattle.packet_writer.specs.Spelling.{section, control, spelling}
 use Rattle.packet_writer.specs.Fitting.{Fits, HasForm, HasSpelling}
 use Rattle.packet_writer.specs.Laws.{ItSpells, OfBytes, SpelledWhereFits}
@@ -57,7 +56,7 @@ has_form s Overflow bytes small is = tt
 has_form s (Info info key spec cyct) bytes small is = tt
 has_form s (Time bits low) bytes small is = tt
 has_form s On bytes small is = tt
-has_form s (Exc kind) bytes small is = tt
+has_form s (Exc kind target) bytes small is = tt
 has_form s (Commit n) bytes small is = tt
 has_form s (Cancel n flip) bytes small is = tt
 has_form s (Mispredict atoms) bytes small is = tt
@@ -194,7 +193,8 @@ bytes_of s (Info info key spec cyct) (is, form) =
     (both (section spec) (section cyct) (section_bytes spec is.2) (section_bytes cyct is.3)))))
 bytes_of s (Time bits low) (is, form) = then_bytes 2 (time_stamp bits low) (omega arith) (groups_bytes (bits / 7 - 1) low (stamp_room bits low is.0 is.1))
 bytes_of s On (is, form) = one 4 (omega arith)
-bytes_of s (Exc kind) (is, form) = then_bytes 6 ((from_bit 1 kind + 1) ∷ []) (omega arith) (one (from_bit 1 kind + 1) (omega (arith, is)))
+bytes_of s (Exc kind true) (is, form) = then_bytes 6 ((from_bit 1 kind + 0x40 + 0) ∷ []) (omega arith) (one (from_bit 1 kind + 0x40 + 0) (omega (arith, is)))
+bytes_of s (Exc kind false) (is, form) = then_bytes 6 ((from_bit 1 kind + 0 + 1) ∷ []) (omega arith) (one (from_bit 1 kind + 0 + 1) (omega (arith, is)))
 bytes_of s (Commit n) (is, form) = then_bytes 0x2d (number n) (omega arith) (number_is_bytes n is)
 bytes_of s (Cancel n flip) (is, form) = then_bytes (if flip then 0x2f else 0x2e) (number n) (flip_below flip) (number_is_bytes n is)
 bytes_of s (Mispredict atoms) (is, form) = one (0x30 + few atoms) (omega (arith, (few_is atoms is).most))
@@ -219,8 +219,7 @@ bytes_of s (Addr (Long32 a) (Some ctx)) (is, form) =
 bytes_of s (Addr (Long64 a) (Some ctx)) (is, form) =
     then_bytes 0x85 (long 6 a ++ context s ctx) (omega arith) (both (long 6 a) (context s ctx) (long_bytes 6 a) (context_bytes s ctx is.1))
 bytes_of s (Atoms run) (is, (byte, tells)) =
-    let found = byte_told byte (atoms_in run) tells in
-    one (byte_in atom_formats (atoms_in run)) (no_other_tells (byte_in atom_formats (atoms_in run)) (atoms_in run) found).1
+    let within = no_other_tells byte (atoms_in run) tells in one (run_byte run) (omega (arith, byte_told byte run tells, within.1))
 
 pub of_bytes : OfBytes
 of_bytes s p has = bytes_of s p (spelled_fits s p has)

@@ -4,10 +4,10 @@ use Rattle.std.specs.Prelude.{◌↔◌, IsTrue}
 use Rattle.std.proofs.lemmas.Bool.{cases_lt}
 use Rattle.etm_types.specs.Atoms.{IsAtomRun, atoms_in}
 use Rattle.etm_types.specs.declared.atoms.AtomRun.{AtomRun}
-use Rattle.atom_formats.specs.Formats.{atom_formats, Spells as TellsAtoms}
+use Rattle.atom_formats.specs.Formats.{Spells as TellsAtoms}
 use Rattle.atom_formats.proofs.LowBits.{runs_differ}
-use Rattle.atom_formats.proofs.Rows.{no_other_tells, one_byte_a_run, one_run_a_byte}
-use Rattle.packet_writer.specs.Atoms.{byte_in}
+use Rattle.atom_formats.proofs.Rows.{no_other_tells, one_run_a_byte}
+use Rattle.packet_writer.specs.Atoms.{run_byte}
 use Rattle.packet_writer.proofs.Spelled.{byte_told}
 
 -- no byte below this one tells the run
@@ -28,8 +28,8 @@ none_next byte run other none b below is =
 pub not_none : (byte : ℕ) (run : AtomRun) → 255 < byte → (b : ℕ) × TellsAtoms b (atoms_in run) → NoneBelow byte run → ⊥
 not_none byte run last (b, tells) none = none b (let within = no_other_tells b (atoms_in run) tells in omega (arith, within.1, last)) tells
 
-pub found_byte : (byte : ℕ) (run : AtomRun) → TellsAtoms byte (atoms_in run) → byte ≡ byte_in atom_formats (atoms_in run)
-found_byte byte run tells = one_byte_a_run byte (byte_in atom_formats (atoms_in run)) (atoms_in run) tells (byte_told byte (atoms_in run) tells)
+pub found_byte : (byte : ℕ) (run : AtomRun) → TellsAtoms byte (atoms_in run) → byte ≡ run_byte run
+found_byte byte run tells = sym (byte_told byte run tells)
 
 -- a byte tells one run alone
 pub same_run : (byte : ℕ) (found run : AtomRun) → IsAtomRun found → IsAtomRun run → TellsAtoms byte (atoms_in found) → TellsAtoms byte (atoms_in run)

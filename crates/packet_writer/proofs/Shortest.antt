@@ -195,7 +195,7 @@ none_is_shorter s (Info info key spec cyct) bytes small (rest, e, is) =
     let some = info_shortest (Info info key spec cyct) rest (rest_small 1 bytes rest e small) is in omega (arith, ap length e, some)
 none_is_shorter s (Time bits low) bytes small (rest, e, is) = let some = stamp_shortest bits low rest is in omega (arith, ap length e, some)
 none_is_shorter s On bytes small is = omega (arith, ap length is)
-none_is_shorter s (Exc kind) bytes small (b, e, b7, b6, b0, is) = omega (arith, ap length e)
+none_is_shorter s (Exc kind target) bytes small (b, e, b7, b6, b0, is) = omega (arith, ap length e)
 none_is_shorter s (Commit n) bytes small (rest, e, is) =
     let some = number_shortest n rest (rest_small 0x2d bytes rest e small) is in omega (arith, ap length e, some)
 none_is_shorter s (Cancel n flip) bytes small (rest, e, is) =

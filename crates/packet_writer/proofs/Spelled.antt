@@ -1,16 +1,17 @@
 -- The bytes that are written for a packet spell it.
-use Rattle.std.proofs.Common.{◌≡◌, ℕ, ◌+◌, ◌-◌, ◌*◌, ◌/◌, ◌%◌, ◌^◌, ◌<◌, ◌≤◌, Bool, true, false, List, [], ◌∷◌, ◌++◌, Option, Some, None}
+use Rattle.std.proofs.Common.{◌≡◌, ℕ, ◌+◌, ◌-◌, ◌*◌, ◌/◌, ◌%◌, ◌^◌, ◌<◌, ◌≤◌, Bool, true, false, [], ◌∷◌, ◌++◌, Option, Some, None}
 use Rattle.std.proofs.Common.{Ok, nat_lt, refl, sym, ap, subst, ◌∙◌, inl, inr, arith, append-nil}
 use Rattle.std.specs.Prelude.{IfSome}
-use Rattle.std.specs.Option.{is_some}
+use Rattle.std.specs.Option.{is_some, unwrap_or}
 use Rattle.std.proofs.lemmas.Bool.{lt-ltb, le-ltb, eq-eqb, ne_eqb}
 use Rattle.etm_types.specs.Settings.{Sizes}
 use Rattle.etm_types.specs.Atoms.{IsFewAtoms, atoms_in}
+use Rattle.etm_types.specs.declared.atoms.AtomRun.{AtomRun}
 use Rattle.etm_types.specs.declared.atoms.FewAtoms.{FewAtoms}
 use Rattle.etm_types.specs.declared.address.AddrForm.TheVariants.{Match, Short1, Short2, Long32, Long64}
 use Rattle.etm_types.specs.declared.context.CtxBits.{CtxBits}
-use Rattle.atom_formats.specs.Formats.{atom_formats, Spells as TellsAtoms}
-use Rattle.atom_formats.proofs.Table.{every_row, has_row, row_found}
+use Rattle.atom_formats.specs.Formats.{Spells as TellsAtoms}
+use Rattle.atom_formats.proofs.Bytes.{byte_found}
 use Rattle.atom_formats.proofs.Rows.{no_other_tells}
 use Rattle.packet_grammar.specs.Fields.{bit, from_bit}
 use Rattle.packet_grammar.specs.Headers.{few_atoms}
@@ -24,7 +25,7 @@ use Rattle.packet_grammar.specs.declared.packet.Packet.TheVariants.{Async, Disca
 use Rattle.packet_grammar.specs.declared.packet.Packet.TheVariants.{Cancel2, Cancel3, CtxSame, CtxInfo, Addr, Atoms}
 use Rattle.packet_writer.specs.Numbers.{number, time_stamp, low_bytes}
 use Rattle.packet_writer.specs.Contexts.{bit_where, sized, context, short_1, short_2, long, long_32, long_64}
-use Rattle.packet_writer.specs.Atoms.{few, byte_in}
+use Rattle.packet_writer.specs.Atoms.{few, run_byte}
 use Rattle.packet_writer.specs.Spelling.{section, control, spelling}
 use Rattle.packet_writer.specs.Fitting.{Fits}
 use Rattle.packet_writer.proofs.Digits.{number_is, stamp_is, length-low_bytes, little-low_bytes}
@@ -223,12 +224,9 @@ few_is atoms (inr (inl e)) = subst FewIs (sym e) (record { most = omega arith; m
 few_is atoms (inr (inr (inl e))) = subst FewIs (sym e) (record { most = omega arith; mispredict = refl; cancel = refl })
 few_is atoms (inr (inr (inr e))) = subst FewIs (sym e) (record { most = omega arith; mispredict = refl; cancel = refl })
 
--- the byte that is found is one of these atoms
-pub byte_told : (byte : ℕ) (atoms : List Bool) → TellsAtoms byte atoms → TellsAtoms (byte_in atom_formats atoms) atoms
-unfolding atom_formats
-byte_told byte atoms tells =
-    row_found atom_formats (byte_in atom_formats atoms) atoms
-    (every_row (λ (b : ℕ) (xs : List Bool). has_row atom_formats (byte_in atom_formats xs) xs) refl byte atoms tells)
+-- the byte that is written for a run is the one that tells it
+pub byte_told : (byte : ℕ) (run : AtomRun) → TellsAtoms byte (atoms_in run) → run_byte run ≡ byte
+byte_told byte run tells = ap (λ (found : Option ℕ). unwrap_or found 0) (byte_found (atoms_in run) byte tells)
 
 -- ---- packets
 
@@ -254,8 +252,17 @@ fits_spelled s (Info info key spec cyct) (is, form) = (
 )
 fits_spelled s (Time bits low) (is, form) = (time_stamp bits low, refl, stamp_is bits low is.0 is.1)
 fits_spelled s On (is, form) = refl
-fits_spelled s (Exc kind) (is, form) =
-    let b : ℕ = from_bit 1 kind + 1 in (
+fits_spelled s (Exc kind true) (is, form) =
+    let b : ℕ = from_bit 1 kind + 0x40 + 0 in (
+      b,
+      refl,
+      bit_is b 7 false (omega (arith, is)),
+      bit_is b 6 true (omega (arith, is)),
+      bit_is b 0 false (omega (arith, is)),
+      omega (arith, is),
+    )
+fits_spelled s (Exc kind false) (is, form) =
+    let b : ℕ = from_bit 1 kind + 0 + 1 in (
       b,
       refl,
       bit_is b 7 false (omega (arith, is)),
@@ -285,6 +292,6 @@ fits_spelled s (Addr (Short2 a) (Some ctx)) (is, form) = absurd form
 fits_spelled s (Addr (Long32 a) (Some ctx)) (is, form) = (long_32 a, context s ctx, refl, long_32_is a is.0.1 is.0.0, context_is s ctx is.1)
 fits_spelled s (Addr (Long64 a) (Some ctx)) (is, form) = (long_64 a, context s ctx, refl, long_64_is a is.0 form, context_is s ctx is.1)
 fits_spelled s (Atoms run) (is, (byte, tells)) =
-    let found = byte_told byte (atoms_in run) tells in
-    let within = no_other_tells (byte_in atom_formats (atoms_in run)) (atoms_in run) found in
-    (byte_in atom_formats (atoms_in run), (within.0, omega (arith, within.1), refl), is, found)
+    let found : TellsAtoms (run_byte run) (atoms_in run) = subst (λ b. TellsAtoms b (atoms_in run)) (sym (byte_told byte run tells)) tells in
+    let within = no_other_tells (run_byte run) (atoms_in run) found in
+    (run_byte run, (within.0, omega (arith, within.1), refl), is, found)

@@ -1,17 +1,15 @@
 -- The bytes that are written for a packet (Arm IHI 0064, "Descriptions of Trace Packets").
-use Rattle.std.specs.Prelude.{ℕ, ◌+◌, ◌-◌, replicate, if◌then◌else◌, List, [], ◌∷◌, ◌++◌, Option, Some, None}
+use Rattle.std.specs.Prelude.{ℕ, ◌+◌, ◌-◌, not, replicate, if◌then◌else◌, List, [], ◌∷◌, ◌++◌, Option, Some, None}
 use Rattle.std.specs.Option.{is_some}
 use Rattle.etm_types.specs.Settings.{Sizes}
-use Rattle.etm_types.specs.Atoms.{atoms_in}
 use Rattle.etm_types.specs.declared.address.AddrForm.TheVariants.{Match, Short1, Short2, Long32, Long64}
-use Rattle.atom_formats.specs.Formats.{atom_formats}
 use Rattle.packet_grammar.specs.Fields.{from_bit}
 use Rattle.packet_grammar.specs.declared.packet.Packet.{Packet}
 use Rattle.packet_grammar.specs.declared.packet.Packet.TheVariants.{Async, Discard, Overflow, Info, On, Ignore, Event, Time, Exc, Commit, Cancel, Mispredict}
 use Rattle.packet_grammar.specs.declared.packet.Packet.TheVariants.{Cancel2, Cancel3, CtxSame, CtxInfo, Addr, Atoms}
 use Rattle.packet_writer.specs.Numbers.{number, time_stamp}
 use Rattle.packet_writer.specs.Contexts.{bit_where, context, short_1, short_2, long_32, long_64}
-use Rattle.packet_writer.specs.Atoms.{few, byte_in}
+use Rattle.packet_writer.specs.Atoms.{few, run_byte}
 
 -- a section of a trace info packet
 abbrev pub section : Option ℕ → List ℕ
@@ -36,8 +34,8 @@ spelling s (Info info key spec cyct) = 0x01 ∷ control info key spec cyct ∷ s
 spelling s (Time bits low) = 0x02 ∷ time_stamp bits low
 -- Trace On packet
 spelling s On = 0x04 ∷ []
--- Exception packet: bit 0 (E0) and bits 5 to 1 (TYPE)
-spelling s (Exc kind) = 0x06 ∷ (from_bit 1 kind + 1) ∷ []
+-- Exception instruction trace packet: bits 5 to 1 (TYPE), and bit 6 (E1) where the address is the target too, else bit 0 (E0)
+spelling s (Exc kind target) = 0x06 ∷ (from_bit 1 kind + bit_where 6 target + bit_where 0 (not target)) ∷ []
 -- Commit packet
 spelling s (Commit n) = 0x2d ∷ number n
 -- Cancel Format 1 packet: bit 0 (M)
@@ -68,4 +66,4 @@ spelling s (Addr (Short2 a) None) = 0x95 ∷ short_2 a
 spelling s (Addr (Long32 a) None) = 0x9a ∷ long_32 a
 spelling s (Addr (Long64 a) None) = 0x9d ∷ long_64 a
 -- Atom Format 1 to 6 packets
-spelling s (Atoms run) = byte_in atom_formats (atoms_in run) ∷ []
+spelling s (Atoms run) = run_byte run ∷ []

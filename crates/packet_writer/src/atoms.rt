@@ -1,11 +1,12 @@
 //! Atoms (Arm IHI 0064, "Mispredict packet", "Cancel Format 2 packet", "Atom Format 1 packet" to "Atom Format 6 packet").
 ghost use Rattle.std.specs.Prelude.{◌≡◌, ◌↔◌, ◌≤◌, ℕ, IsTrue};
 ghost use Rattle.etm_types.specs.Atoms.{IsAtomRun, IsFewAtoms, atoms_in};
-ghost use Rattle.atom_formats.specs.Formats.{atom_formats, Spells};
-ghost use Rattle.packet_writer.specs.Atoms.{few, byte_in};
+ghost use Rattle.atom_formats.specs.Formats.{Spells};
+ghost use Rattle.packet_writer.specs.Atoms.{few, run_byte};
 
 use atom_formats::atoms_of;
 use etm_types::{AtomRun, FewAtoms};
+use packet_grammar::headers::{ATOMS, LAST_ATOMS};
 
 /// Bits 1 and 0 (A) of a header: no atom, E, EE, N.
 pub fn few(atoms: &FewAtoms) -> u8
@@ -24,9 +25,9 @@ pub fn few(atoms: &FewAtoms) -> u8
 pub fn byte_of(run: &AtomRun) -> u8
     requires fits { IsAtomRun run.now }
     requires told { (byte : ℕ) × Spells byte (atoms_in run.now) }
-    ensures { result ≡ byte_in atom_formats (atoms_in run.now) }
+    ensures { result ≡ run_byte run.now }
 {
-    for byte in 0xc0..=0xff {
+    for byte in ATOMS..=LAST_ATOMS {
         if tells(byte, run) {
             return byte;
         }

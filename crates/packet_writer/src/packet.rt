@@ -1,5 +1,5 @@
 //! Packets in the order of the standard (Arm IHI 0064, "Descriptions of Trace Packets").
-ghost use Rattle.std.specs.Prelude.{◌≡◌, ◌+◌, ◌<◌, ◌≤◌, ◌∷◌, ◌++◌, All, List, [], ℕ, length, take};
+ghost use Rattle.std.specs.Prelude.{◌≡◌, ◌+◌, ◌<◌, ◌≤◌, ◌∷◌, ◌++◌, All, List, [], ℕ, length, take, if◌then◌else◌};
 ghost use Rattle.etm_types.specs.AddrForm.{IsAddrForm};
 ghost use Rattle.etm_types.specs.Settings.{Sizes};
 ghost use Rattle.packet_grammar.specs.Spelling.{SpellsPacket};
@@ -14,6 +14,12 @@ use crate::contexts::{bit_where, put_context, put_long, put_short_1, put_short_2
 use crate::numbers::{put_number, put_time_stamp};
 use etm_types::{AddrForm, CtxBits, Settings};
 use packet_grammar::Packet;
+use packet_grammar::headers::{
+    ADDRESS_32_WITH_CONTEXT, ADDRESS_64_WITH_CONTEXT, CANCEL_FORMAT_1, CANCEL_FORMAT_1_MISPREDICT,
+    CANCEL_FORMAT_2, CANCEL_FORMAT_3, COMMIT, CONTEXT, CONTEXT_INFO, DISCARD, END_OF_SYNC,
+    EXACT_MATCH, EXCEPTION, EXTENSION, IGNORE, LONG_ADDRESS_32, LONG_ADDRESS_64, MISPREDICT,
+    OVERFLOW, SHORT_ADDRESS, TIMESTAMP, TRACE_INFO, TRACE_ON,
+};
 
 /// How many whole bytes a 32-bit and a 64-bit long address have from bit 16 on.
 const HIGH_32: usize = 2;
@@ -43,9 +49,9 @@ fn put_packet(out: &mut Buffer, packet: &Packet, settings: &Settings)
     ensures { out.new ≡ spelling settings.now packet.now }
 {
     match *packet {
-        Packet::Async => out.put_all(&[0, 0, 0, 0, 0, 0, 0, 0, 0, 0, 0, 0x80]),
-        Packet::Discard => out.put_all(&[0x00, 0x03]),
-        Packet::Overflow => out.put_all(&[0x00, 0x05]),
+        Packet::Async => out.put_all(&[0, 0, 0, 0, 0, 0, 0, 0, 0, 0, 0, END_OF_SYNC]),
+        Packet::Discard => out.put_all(&[EXTENSION, DISCARD]),
+        Packet::Overflow => out.put_all(&[EXTENSION, OVERFLOW]),
         Packet::Info {
             info,
             key,
@@ -53,26 +59,46 @@ fn put_packet(out: &mut Buffer, packet: &Packet, settings: &Settings)
             cyct,
         } => put_info(out, info, key, spec, cyct),
         Packet::Time { bits, low } => {
-            out.put(0x02);
+            out.put(TIMESTAMP);
             put_time_stamp(out, bits, low);
         }
-        Packet::On => out.put(0x04),
-        Packet::Exc { kind } => out.put_all(&[0x06, kind * 2 + 1]),
-        Packet::Commit(n) => put_counted(out, 0x2d, n),
-        Packet::Cancel { n, flip } => put_counted(out, if flip { 0x2f } else { 0x2e }, n),
-        Packet::Mispredict(atoms) => out.put(0x30 + few(&atoms)),
-        Packet::Cancel2(atoms) => out.put(0x34 + few(&atoms)),
-        Packet::Cancel3 { e, n } => out.put(0x38 + (n - 2) * 2 + bit_where(0, e)),
-        Packet::Ignore => out.put(0x70),
-        Packet::Event(n) => out.put(0x70 + n),
-        Packet::CtxSame => out.put(0x80),
+        Packet::On => out.put(TRACE_ON),
+        Packet::Exc { kind, target } => put_exception(out, kind, target),
+        Packet::Commit(n) => put_counted(out, COMMIT, n),
+        Packet::Cancel { n, flip } => put_counted(out, cancel_format_1(flip), n),
+        Packet::Mispredict(atoms) => out.put(MISPREDICT + few(&atoms)),
+        Packet::Cancel2(atoms) => out.put(CANCEL_FORMAT_2 + few(&atoms)),
+        Packet::Cancel3 { e, n } => out.put(CANCEL_FORMAT_3 + (n - 2) * 2 + bit_where(0, e)),
+        Packet::Ignore => out.put(IGNORE),
+        Packet::Event(n) => out.put(IGNORE + n),
+        Packet::CtxSame => out.put(CONTEXT),
         Packet::CtxInfo(ctx) => {
-            out.put(0x81);
+            out.put(CONTEXT_INFO);
             put_context(out, settings, &ctx);
         }
         Packet::Addr { form, ctx } => put_address(out, settings, &form, &ctx),
         Packet::Atoms(run) => out.put(byte_of(&run)),
     }
+}
+
+/// The header of a Cancel Format 1 packet.
+fn cancel_format_1(flip: bool) -> u8
+    ensures { result ≡ (if flip then 0x2f else 0x2e) }
+{
+    if flip {
+        return CANCEL_FORMAT_1_MISPREDICT;
+    }
+    CANCEL_FORMAT_1
+}
+
+/// Puts an exception packet.
+fn put_exception(out: &mut Buffer, kind: u8, target: bool)
+    requires nothing { out.old ≡ [] }
+    requires type_fits { kind < 32 }
+    ensures { (settings : Sizes) → out.new ≡ spelling settings (Packet.Exc kind target) }
+{
+    out.put(EXCEPTION);
+    out.put(kind * 2 + bit_where(6, target) + bit_where(0, !target));
 }
 
 /// Puts a trace info packet.
@@ -86,7 +112,7 @@ fn put_info(
     requires { length out.old + 22 ≤ 24 }
     ensures { out.new ≡ out.old ++ 0x01 ∷ control info key spec cyct ∷ section info ++ (section key ++ (section spec ++ section cyct)) }
 {
-    out.put(0x01);
+    out.put(TRACE_INFO);
     out.put(
         bit_where(0, info.is_some())
             + bit_where(1, key.is_some())
@@ -138,21 +164,21 @@ fn put_address_alone(out: &mut Buffer, form: &AddrForm)
     ensures { (settings : Sizes) → out.new ≡ spelling settings (Packet.Addr form.now None) }
 {
     match *form {
-        AddrForm::Match(index) => out.put(0x90 + index),
+        AddrForm::Match(index) => out.put(EXACT_MATCH + index),
         AddrForm::Short1(address) => {
-            out.put(0x95);
+            out.put(SHORT_ADDRESS);
             put_short_1(out, address);
         }
         AddrForm::Short2(address) => {
-            out.put(0x95);
+            out.put(SHORT_ADDRESS);
             put_short_2(out, address);
         }
         AddrForm::Long32(address) => {
-            out.put(0x9a);
+            out.put(LONG_ADDRESS_32);
             put_long(out, address, HIGH_32);
         }
         AddrForm::Long64(address) => {
-            out.put(0x9d);
+            out.put(LONG_ADDRESS_64);
             put_long(out, address, HIGH_64);
         }
     }
@@ -166,11 +192,11 @@ fn put_address_with_context(out: &mut Buffer, settings: &Settings, form: &AddrFo
 {
     match *form {
         AddrForm::Long32(address) => {
-            out.put(0x82);
+            out.put(ADDRESS_32_WITH_CONTEXT);
             put_long(out, address, HIGH_32);
         }
         AddrForm::Long64(address) => {
-            out.put(0x85);
+            out.put(ADDRESS_64_WITH_CONTEXT);
             put_long(out, address, HIGH_64);
         }
         _ => unreachable!(),

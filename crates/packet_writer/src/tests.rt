@@ -34,6 +34,16 @@ fn a_packet_is_written_in_its_fewest_bytes(rt: HostRuntime) {
     };
     assert!(rt; are_written(Packet::Commit(128), &[0x2d, 0x80, 0x01]));
     assert!(rt; are_written(Packet::Cancel { n: 3, flip: true }, &[0x2f, 0x03]));
+    let irq = Packet::Exc {
+        kind: 14,
+        target: false,
+    };
+    let irq_at_its_target = Packet::Exc {
+        kind: 14,
+        target: true,
+    };
+    assert!(rt; are_written(irq, &[0x06, 0x1d]));
+    assert!(rt; are_written(irq_at_its_target, &[0x06, 0x5c]));
     assert!(rt;
         are_written(
             Packet::Mispredict(FewAtoms {
@@ -61,10 +71,6 @@ fn a_packet_is_written_in_its_fewest_bytes(rt: HostRuntime) {
             ]
         )
     );
-}
-
-#[test]
-fn the_laws_are_public() {
     each_packet_has_its_bytes();
     written_packets_are_read();
 }

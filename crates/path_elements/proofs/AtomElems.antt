@@ -63,3 +63,7 @@ no_atom_behind (rest.One k) values (suc i) taken is = cc
 no_atom_behind (rest.Two j k) values zero taken is = no_atom values j taken cc
 no_atom_behind (rest.Two j k) values (suc zero) taken is = no_atom values k taken cc
 no_atom_behind (rest.Two j k) values (suc (suc i)) taken is = cc
+no_atom_behind (rest.Three i j k) values zero taken is = no_atom values i taken cc
+no_atom_behind (rest.Three i j k) values (suc zero) taken is = no_atom values j taken cc
+no_atom_behind (rest.Three i j k) values (suc (suc zero)) taken is = no_atom values k taken cc
+no_atom_behind (rest.Three i j k) values (suc (suc (suc n))) taken is = cc

@@ -1,5 +1,5 @@
 -- Lists of packets with their elements, worked out by hand from the standard's descriptions.
-use Rattle.std.proofs.Common.{◌≡◌, List, [], ◌∷◌, map, true, false, Some, None, refl}
+use Rattle.std.proofs.Common.{◌≡◌, Bool, List, [], ◌∷◌, map, true, false, Some, None, refl}
 use Rattle.etm_types.specs.declared.atoms.FewAtoms.{FewAtoms}
 use Rattle.etm_types.specs.declared.context.Ctx.{Ctx}
 use Rattle.etm_types.specs.declared.context.CtxBits.{CtxBits}
@@ -26,7 +26,7 @@ begun = record { history = 0 ∷ 0 ∷ 0 ∷ []; context = secure; informed = tr
 -- Before the first trace info nothing is told, and no exception awaits an address. From there on each packet has its
 -- elements, with its offset, and an A-sync has none. A trace info forgets the addresses.
 pub a_trace_with_two_syncs :
-    all_elements untold ((0, packet.Async) ∷ (12, packet.On) ∷ (13, packet.Exc 1) ∷ (15, info) ∷ (18, packet.On)
+    all_elements untold ((0, packet.Async) ∷ (12, packet.On) ∷ (13, packet.Exc 1 false) ∷ (15, info) ∷ (18, packet.On)
     ∷ (19, packet.Addr (Long64 0x1000) (Some no_field)) ∷ (29, packet.Atoms (record { count = 1; bits = 1 })) ∷ (30, packet.Async)
     ∷ (42, packet.Info (Some 0) None (Some 1) None) ∷ (46, packet.Addr (Long64 0x100c) (Some no_field))
     ∷ (56, packet.Mispredict (record { count = 0; first = false })) ∷ (57, packet.Commit 2) ∷ [])
@@ -67,7 +67,7 @@ addresses_are_pushed = refl
 -- The address after an exception is its preferred return address, and is put first like any other. A context may stand
 -- between them.
 pub an_exception_has_its_address :
-    all_elements begun ((0, packet.Exc 14) ∷ (2, packet.Event 1) ∷ (3, packet.CtxSame) ∷ (4, packet.Addr (Long32 0x1004) None)
+    all_elements begun ((0, packet.Exc 14 false) ∷ (2, packet.Event 1) ∷ (3, packet.CtxSame) ∷ (4, packet.Addr (Long32 0x1004) None)
     ∷ (9, packet.Addr (Match 0) None) ∷ [])
     ≡ record {
       elements = (3, elem.Ctx secure) ∷ (4, elem.P0 (p0.Exc 14 0x1004)) ∷ (9, elem.Addr 0x1004) ∷ [];
@@ -76,9 +76,23 @@ pub an_exception_has_its_address :
     }
 an_exception_has_its_address = refl
 
+-- Where it is the target of what stood before too, it is an element of its own, before the exception and behind the context that
+-- comes with it. It is put first once. The next exception is of either form by itself.
+pub an_exception_at_its_target :
+    all_elements begun ((0, packet.Exc 14 true) ∷ (2, packet.Addr (Long32 0x1004) (Some no_field)) ∷ (8, packet.Exc 3 true) ∷ (10, packet.Event 1)
+    ∷ (11, packet.Addr (Short1 0x10) None) ∷ (13, packet.Exc 3 false) ∷ (15, packet.Addr (Match 1) None) ∷ [])
+    ≡ record {
+      elements = (2, elem.Ctx secure) ∷ (2, elem.Addr 0x1004) ∷ (2, elem.P0 (p0.Exc 14 0x1004)) ∷ (11, elem.Addr 0x1010)
+          ∷ (11, elem.P0 (p0.Exc 3 0x1010)) ∷ (15, elem.P0 (p0.Exc 3 0x1004)) ∷ [];
+      awaited = None;
+      told = record begun { history = 0x1004 ∷ 0x1010 ∷ 0x1004 ∷ [] };
+    }
+an_exception_at_its_target = refl
+
 -- An overflow and a discard drop it, and keep addresses and context.
 pub an_exception_is_dropped :
-    all_elements begun ((0, packet.Exc 3) ∷ (2, packet.Overflow) ∷ (4, packet.Commit 1) ∷ (6, packet.Exc 4) ∷ (8, packet.Discard) ∷ (10, packet.On) ∷ [])
+    all_elements begun ((0, packet.Exc 3 false) ∷ (2, packet.Overflow) ∷ (4, packet.Commit 1) ∷ (6, packet.Exc 4 false) ∷ (8, packet.Discard)
+    ∷ (10, packet.On) ∷ [])
     ≡ record {
       elements = (2, elem.Overflow) ∷ (4, elem.Commit 1) ∷ (8, elem.Discard) ∷ (10, elem.On) ∷ [];
       awaited = None;
@@ -86,10 +100,21 @@ pub an_exception_is_dropped :
     }
 an_exception_is_dropped = refl
 
+-- With it goes that its address is a target: the next address is an element alone.
+pub a_target_is_dropped :
+    all_elements begun ((0, packet.Exc 3 true) ∷ (2, packet.Overflow) ∷ (4, packet.Addr (Long32 0x1000) None) ∷ (9, packet.Exc 4 true)
+    ∷ (11, packet.Discard) ∷ (13, packet.Exc 4 false) ∷ (15, packet.Addr (Match 0) None) ∷ [])
+    ≡ record {
+      elements = (2, elem.Overflow) ∷ (4, elem.Addr 0x1000) ∷ (11, elem.Discard) ∷ (15, elem.P0 (p0.Exc 4 0x1000)) ∷ [];
+      awaited = None;
+      told = record begun { history = 0x1000 ∷ 0x1000 ∷ 0 ∷ [] };
+    }
+a_target_is_dropped = refl
+
 -- Any other packet before its address ends the elements there.
 pub a_packet_comes_too_early :
-    all_elements begun ((0, packet.On) ∷ (1, packet.Exc 3) ∷ (3, packet.Ignore) ∷ (4, packet.Commit 1) ∷ (6, packet.Overflow) ∷ [])
-    ≡ record { elements = (0, elem.On) ∷ []; awaited = Some 4; told = record begun { awaiting = Some 3 } }
+    all_elements begun ((0, packet.On) ∷ (1, packet.Exc 3 true) ∷ (3, packet.Ignore) ∷ (4, packet.Commit 1) ∷ (6, packet.Overflow) ∷ [])
+    ≡ record { elements = (0, elem.On) ∷ []; awaited = Some 4; told = record begun { awaiting = Some (record { kind = 3; target = true }) } }
 a_packet_comes_too_early = refl
 
 -- Atoms come first, the oldest of them before the others; then what is cancelled; then the wrong prediction.
@@ -115,18 +140,18 @@ no_atom = record { count = 0; first = false }
 abbrev kinds : List Packet
 kinds =
     packet.Async ∷ packet.Discard ∷ packet.Overflow ∷ info ∷ packet.On ∷ packet.Ignore
-    ∷ packet.Event 1 ∷ packet.Time 7 0 ∷ packet.Exc 3 ∷ packet.Commit 1 ∷ packet.Cancel 1 false ∷ packet.Mispredict no_atom
+    ∷ packet.Event 1 ∷ packet.Time 7 0 ∷ packet.Exc 3 false ∷ packet.Commit 1 ∷ packet.Cancel 1 false ∷ packet.Mispredict no_atom
     ∷ packet.Cancel2 no_atom ∷ packet.Cancel3 false 2 ∷ packet.CtxSame ∷ packet.CtxInfo no_field ∷ packet.Addr (Match 0) None
     ∷ packet.Atoms (record { count = 1; bits = 1 }) ∷ []
 
 -- Between an exception and its address no trace info, trace on, exception, commit, cancel, mispredict or atom may come.
 pub before_the_address_of_an_exception :
-    map (is_misplaced (record begun { awaiting = Some 3 })) kinds
+    (target : Bool) → map (is_misplaced (record begun { awaiting = Some (record { kind = 3; target = target }) })) kinds
     ≡ false ∷ false ∷ false ∷ true ∷ true ∷ false
     ∷ false ∷ false ∷ true ∷ true ∷ true ∷ true
     ∷ true ∷ true ∷ false ∷ false ∷ false
     ∷ true ∷ []
-before_the_address_of_an_exception = refl
+before_the_address_of_an_exception target = refl
 
 -- Where no exception awaits its address, every packet may come.
 pub before_an_exception :
@@ -153,7 +178,7 @@ handler = record { el = 1; ns = true; vmid = 5; cid = 7 }
 
 -- addresses, a context, and an exception whose address is still to come
 abbrev under_way : Told
-under_way = record { history = 0x3000 ∷ 0x2000 ∷ 0x1000 ∷ []; context = handler; informed = true; awaiting = Some 3 }
+under_way = record { history = 0x3000 ∷ 0x2000 ∷ 0x1000 ∷ []; context = handler; informed = true; awaiting = Some (record { kind = 3; target = true }) }
 
 pub after_an_overflow : told_after under_way packet.Overflow ≡ record under_way { awaiting = None }
 after_an_overflow = refl

@@ -18,6 +18,7 @@ use Rattle.path_elements.specs.Elements.{Told, Gained, untold, atoms, with_addre
 use Rattle.path_elements.specs.Elements.{is_misplaced, placed, with_gained, all_elements}
 use Rattle.path_elements.specs.Held.{CanBeTaken, IsElem}
 use Rattle.path_elements.specs.Standing.{ArePlacedElems}
+use Rattle.path_elements.specs.declared.maker.Interrupt.{Interrupt}
 use Rattle.path_elements.proofs.Taken.{spelled}
 
 -- ---- what was told
@@ -30,7 +31,7 @@ AreAligned (a ∷ addresses) = (a % 4 ≡ 0) × AreAligned addresses
 record IsToldSo (told : Told) : Type 0 where
   history : AreAligned told.history
   level : told.context.el ≤ 3
-  exception : IfSome told.awaiting (λ kind. kind < 32)
+  exception : IfSome told.awaiting (λ e. e.kind < 32)
 
 aligned_at : (addresses : List ℕ) (i : ℕ) → AreAligned addresses → slice_index addresses i % 4 ≡ 0
 aligned_at [] i are = refl
@@ -65,7 +66,7 @@ told_kept told packet.On can is = is
 told_kept told packet.Ignore can is = is
 told_kept told (packet.Event n) can is = is
 told_kept told (packet.Time bits low) can is = is
-told_kept told (packet.Exc kind) can is = record { history = is.history; level = is.level; exception = can }
+told_kept told (packet.Exc kind target) can is = record { history = is.history; level = is.level; exception = can }
 told_kept told (packet.Commit n) can is = is
 told_kept told (packet.Cancel n flip) can is = is
 told_kept told (packet.Mispredict few) can is = is
@@ -108,11 +109,17 @@ flip_fits : (flip : Bool) → All IsElem (if flip then elem.Flip ∷ [] else [])
 flip_fits true = one_fits elem.Flip tt
 flip_fits false = none_fit
 
-place_fits : (awaiting : Option ℕ) (address : ℕ) → IfSome awaiting (λ kind. kind < 32) → address % 4 ≡ 0 → IsElem (with_address awaiting address)
-place_fits None address exception is = is
-place_fits (Some kind) address exception is = (exception, is)
+exception_fits : (target : Bool) (kind address : ℕ) → kind < 32 → address % 4 ≡ 0
+    → All IsElem (if target then elem.Addr address ∷ elem.P0 (p0.Exc kind address) ∷ [] else elem.P0 (p0.Exc kind address) ∷ [])
+exception_fits true kind address below is = two_fit (elem.Addr address) (elem.P0 (p0.Exc kind address)) is (below, is)
+exception_fits false kind address below is = one_fits (elem.P0 (p0.Exc kind address)) (below, is)
 
-address_fits : (told : Told) (form : AddrForm) → IsToldSo told → IsElem (with_address told.awaiting (address_told told.history form))
+place_fits : (awaiting : Option Interrupt) (address : ℕ) → IfSome awaiting (λ e. e.kind < 32) → address % 4 ≡ 0
+    → All IsElem (with_address awaiting address)
+place_fits None address exception is = one_fits (elem.Addr address) is
+place_fits (Some e) address exception is = exception_fits e.target e.kind address exception is
+
+address_fits : (told : Told) (form : AddrForm) → IsToldSo told → All IsElem (with_address told.awaiting (address_told told.history form))
 address_fits told form is = place_fits told.awaiting _ is.exception (address_aligned told.history form is.history)
 
 elements_fit : (told : Told) (p : Packet) → CanBeTaken p → IsToldSo told → All IsElem (elements_in told p)
@@ -124,7 +131,7 @@ elements_fit told packet.On can is = one_fits elem.On tt
 elements_fit told packet.Ignore can is = none_fit
 elements_fit told (packet.Event n) can is = none_fit
 elements_fit told (packet.Time bits low) can is = none_fit
-elements_fit told (packet.Exc kind) can is = none_fit
+elements_fit told (packet.Exc kind target) can is = none_fit
 elements_fit told (packet.Commit n) can is = one_fits (elem.Commit n) tt
 elements_fit told (packet.Cancel n flip) can is = All-cons IsElem (elem.Cancel n) _ tt (flip_fits flip)
 elements_fit told (packet.Mispredict few) can is = atoms_fit (replicate few.count few.first) _ (one_fits elem.Flip tt)
@@ -132,8 +139,8 @@ elements_fit told (packet.Cancel2 few) can is = atoms_fit (replicate few.count f
 elements_fit told (packet.Cancel3 e n) can is = atoms_fit (if e then true ∷ [] else []) _ (two_fit (elem.Cancel n) elem.Flip tt tt)
 elements_fit told packet.CtxSame can is = one_fits (elem.Ctx told.context) is.level
 elements_fit told (packet.CtxInfo bits) can is = one_fits _ can
-elements_fit told (packet.Addr form None) can is = one_fits _ (address_fits told form is)
-elements_fit told (packet.Addr form (Some bits)) can is = two_fit _ _ can.1 (address_fits told form is)
+elements_fit told (packet.Addr form None) can is = address_fits told form is
+elements_fit told (packet.Addr form (Some bits)) can is = All-cons IsElem _ _ can.1 (address_fits told form is)
 elements_fit told (packet.Atoms run) can is = all_atoms_fit _
 
 chosen_elements : (b : Bool) (es : List Elem) → All IsElem es → All IsElem (if b then es else [])

@@ -94,10 +94,13 @@ abbrev at : ℕ → State
 at address = record { pc = Known address; stack = []; ctx = secure }
 
 abbrev ran : Bool → ℕ → ℕ → Walked
-ran on start count = record { on = on; unknown = false; ctx = secure; start = start; count = count; exc = None }
+ran on start count = record { on = on; unknown = false; ctx = secure; start = start; count = count; took = false; exc = None }
+
+abbrev ran_taken : Bool → ℕ → ℕ → Walked
+ran_taken on start count = record (ran on start count) { took = true }
 
 -- the first atom: B.EQ branches, or it does not
-taken_first : Shows code first_state (atom begin true) (ran true 0x1000 2) (at 0x100c)
+taken_first : Shows code first_state (atom begin true) (ran_taken true 0x1000 2) (at 0x100c)
 unfolding class_of
 taken_first = record {
   agrees = refl;
@@ -109,6 +112,7 @@ taken_first = record {
   ctx = refl;
   kept = refl;
   exc = refl;
+  took = refl;
 }
 
 passed_first : Shows code first_state (atom begin false) (ran true 0x1000 2) (at 0x1008)
@@ -123,6 +127,7 @@ passed_first = record {
   ctx = refl;
   kept = refl;
   exc = refl;
+  took = refl;
 }
 
 -- an E atom at 100c is B
@@ -138,6 +143,7 @@ jumped = record {
   ctx = refl;
   kept = refl;
   exc = refl;
+  took = refl;
 }
 
 -- an N atom from 1008 on comes to B, which always branches
@@ -146,21 +152,24 @@ unfolding class_of
 not_b = inr (refl, (1, one_plain 0x1008 refl, (refl, refl)))
 
 abbrev first_block : List Item
-first_block = item.On ∷ item.Instr 0x1000 secure ∷ item.Instr 0x1004 secure ∷ []
+first_block = item.On ∷ item.Instr 0x1000 secure false ∷ item.Instr 0x1004 secure true ∷ []
+
+abbrev passed_block : List Item
+passed_block = item.On ∷ item.Instr 0x1000 secure false ∷ item.Instr 0x1004 secure false ∷ []
 
 abbrev both_blocks : List Item
-both_blocks = item.On ∷ item.Instr 0x1000 secure ∷ item.Instr 0x1004 secure ∷ item.Instr 0x100c secure ∷ []
+both_blocks = item.On ∷ item.Instr 0x1000 secure false ∷ item.Instr 0x1004 secure true ∷ item.Instr 0x100c secure false ∷ []
 
 one_block : Walks code first_state (Seen (atom begin true) ∷ []) first_block (Ok (at 0x100c))
-one_block = inl (first_block, [], at 0x100c, (ran true 0x1000 2, taken_first, refl), (refl, refl), refl)
+one_block = inl (first_block, [], at 0x100c, (ran_taken true 0x1000 2, taken_first, refl), (refl, refl), refl)
 
 two_blocks : Walks code first_state (Seen (atom begin true) ∷ Seen (atom nothing_told true) ∷ []) both_blocks (Ok (at 0x1000))
 two_blocks = inl (
   first_block,
-  item.Instr 0x100c secure ∷ [],
+  item.Instr 0x100c secure false ∷ [],
   at 0x100c,
-  (ran true 0x1000 2, taken_first, refl),
-  inl (item.Instr 0x100c secure ∷ [], [], at 0x1000, (ran false 0x100c 1, jumped, refl), (refl, refl), refl),
+  (ran_taken true 0x1000 2, taken_first, refl),
+  inl (item.Instr 0x100c secure false ∷ [], [], at 0x1000, (ran false 0x100c 1, jumped, refl), (refl, refl), refl),
   refl,
 )
 
@@ -195,6 +204,10 @@ held_is_not_shown other = absurd (omega (arith, ap length (only 2 two_atoms comm
 
 pub committed_is_shown : IsPathOfPackets code 2 two_atoms clean [] end.Clean two_taken → ⊥
 committed_is_shown other = absurd (omega (arith, ap length (only 2 two_atoms committed other).0))
+
+-- and the branch of the E atom is shown as taken
+pub committed_is_taken : IsPathOfPackets code 2 two_atoms clean passed_block end.Clean two_taken → ⊥
+committed_is_taken other = absurd (let same = (only 2 two_atoms committed other).0 in cc)
 
 -- at depth 1 the newer atom commits the older one, and the commit commits the newer one
 abbrev none_held : Resolved
@@ -249,39 +262,39 @@ after_three = record {
   pending = record { held = Seen (atom nothing_told false) ∷ []; pre = nothing_told; informed = true };
 }
 
-pub stopped_inside : IsPathOfPackets code 1 four_atoms clean first_block (end.Fault 26 (Walk (BadAtom 0x100c))) three_taken
+pub stopped_inside : IsPathOfPackets code 1 four_atoms clean passed_block (end.Fault 26 (Walk (BadAtom 0x100c))) three_taken
 stopped_inside = inr (record {
   count = 6;
   at = 26;
   element = n;
   fault = Walk (BadAtom 0x100c);
-  before = first_block;
+  before = passed_block;
   there = refl;
   none_before = record {
     resolved = after_two;
     after = at 0x1008;
     commits = refl;
-    walks = inl (first_block, [], at 0x1008, (ran true 0x1000 2, passed_first, refl), (refl, refl), refl);
+    walks = inl (passed_block, [], at 0x1008, (ran true 0x1000 2, passed_first, refl), (refl, refl), refl);
   };
   takes = refl;
   stops = (
     after_three,
     refl,
-    inl (first_block, [], at 0x1008, (ran true 0x1000 2, passed_first, refl), inr (BadAtom 0x100c, not_b, refl, refl), refl),
+    inl (passed_block, [], at 0x1008, (ran true 0x1000 2, passed_first, refl), inr (BadAtom 0x100c, not_b, refl, refl), refl),
   );
   ends = refl;
 })
 
 -- what stands behind the fault is not taken, the word before B is not shown, and the stream does not end well
-pub none_taken_behind : IsPathOfPackets code 1 four_atoms clean first_block (end.Fault 26 (Walk (BadAtom 0x100c)))
+pub none_taken_behind : IsPathOfPackets code 1 four_atoms clean passed_block (end.Fault 26 (Walk (BadAtom 0x100c)))
     (three_taken ++ (26, n) ∷ []) → ⊥
 none_taken_behind other = absurd (omega (arith, ap length (only 1 four_atoms stopped_inside other).2))
 
-pub none_shown_behind : IsPathOfPackets code 1 four_atoms clean (first_block ++ item.Instr 0x1008 secure ∷ [])
+pub none_shown_behind : IsPathOfPackets code 1 four_atoms clean (passed_block ++ item.Instr 0x1008 secure false ∷ [])
     (end.Fault 26 (Walk (BadAtom 0x100c))) three_taken → ⊥
 none_shown_behind other = absurd (omega (arith, ap length (only 1 four_atoms stopped_inside other).0))
 
-pub not_clean : IsPathOfPackets code 1 four_atoms clean first_block end.Clean three_taken → ⊥
+pub not_clean : IsPathOfPackets code 1 four_atoms clean passed_block end.Clean three_taken → ⊥
 not_clean other = absurd (let same = (only 1 four_atoms stopped_inside other).1 in cc)
 
 -- ---- a fault of what is held inside a packet: its E atom commits the one before it and is taken back, so that none is left to flip
@@ -325,7 +338,7 @@ told_there other = absurd (omega (arith, ap offset_of (only 1 no_atom_left none_
 -- ---- a packet that may not come: an atom between an exception and its address is not taken, and the path ends there
 
 abbrev awaited : List (ℕ × Packet)
-awaited = head ++ (26, e_atom) ∷ (27, packet.Exc 14) ∷ (29, e_atom) ∷ []
+awaited = head ++ (26, e_atom) ∷ (27, packet.Exc 14 false) ∷ (29, e_atom) ∷ []
 
 abbrev one_done : Resolved
 one_done = record { done = Seen (atom begin true) ∷ []; pending = record { held = []; pre = nothing_told; informed = true } }

@@ -12,6 +12,7 @@ use Rattle.etm_types.specs.CtxBits.{context_told}
 use Rattle.address_history.specs.Forms.{address_told, no_address, put_first}
 use Rattle.packet_grammar.specs.declared.packet.Packet.{Packet}
 use Rattle.packet_grammar.specs.declared.packet.Packet.TheVariants as packet
+use Rattle.path_elements.specs.declared.maker.Interrupt.{Interrupt}
 
 -- what packets so far gave
 pub record Told : Type 0 where
@@ -21,8 +22,8 @@ pub record Told : Type 0 where
   pub context : Ctx
   -- whether a trace info packet came
   pub informed : Bool
-  -- the type of an exception whose address is still to come
-  pub awaiting : Option ℕ
+  -- an exception whose address is still to come
+  pub awaiting : Option Interrupt
 
 -- before the first packet
 abbrev pub untold : Told
@@ -32,10 +33,12 @@ untold = record { history = no_address; context = initial_context; informed = fa
 abbrev pub atoms : List Bool → List Elem
 atoms taken = map (λ t. elem.P0 (p0.Atom t)) taken
 
--- the element of an address: that of the next instruction, or the preferred return address of an exception that came before it
-abbrev pub with_address : Option ℕ → ℕ → Elem
-with_address None addr = elem.Addr addr
-with_address (Some kind) addr = elem.P0 (p0.Exc kind addr)
+-- The elements of an address: it is that of the next instruction, or the preferred return address of an exception that came before
+-- it, or both, and then the address stands before the exception.
+abbrev pub with_address : Option Interrupt → ℕ → List Elem
+with_address None addr = elem.Addr addr ∷ []
+with_address (Some e) addr =
+    if e.target then elem.Addr addr ∷ elem.P0 (p0.Exc e.kind addr) ∷ [] else elem.P0 (p0.Exc e.kind addr) ∷ []
 
 -- the elements of a packet, by what came before it; a mispredict stands after the atoms
 abbrev pub elements_in : Told → Packet → List Elem
@@ -47,7 +50,7 @@ elements_in told packet.On = elem.On ∷ []
 elements_in told packet.Ignore = []
 elements_in told (packet.Event n) = []
 elements_in told (packet.Time bits low) = []
-elements_in told (packet.Exc kind) = []
+elements_in told (packet.Exc kind target) = []
 elements_in told (packet.Commit n) = elem.Commit n ∷ []
 elements_in told (packet.Cancel n flip) = elem.Cancel n ∷ (if flip then elem.Flip ∷ [] else [])
 elements_in told (packet.Mispredict few) = atoms (replicate few.count few.first) ++ elem.Flip ∷ []
@@ -55,9 +58,9 @@ elements_in told (packet.Cancel2 few) = atoms (replicate few.count few.first) ++
 elements_in told (packet.Cancel3 e n) = atoms (if e then true ∷ [] else []) ++ elem.Cancel n ∷ elem.Flip ∷ []
 elements_in told packet.CtxSame = elem.Ctx told.context ∷ []
 elements_in told (packet.CtxInfo bits) = elem.Ctx (context_told bits told.context) ∷ []
-elements_in told (packet.Addr form None) = with_address told.awaiting (address_told told.history form) ∷ []
+elements_in told (packet.Addr form None) = with_address told.awaiting (address_told told.history form)
 elements_in told (packet.Addr form (Some bits)) =
-    elem.Ctx (context_told bits told.context) ∷ with_address told.awaiting (address_told told.history form) ∷ []
+    elem.Ctx (context_told bits told.context) ∷ with_address told.awaiting (address_told told.history form)
 elements_in told (packet.Atoms run) = atoms (atoms_in run)
 
 -- An address of whatever form is put first in the address history. No exception awaits it any more.
@@ -69,7 +72,7 @@ abbrev pub told_by : Told → Packet → Told
 told_by told (packet.Info info key spec cyct) = record told { history = no_address; context = initial_context; informed = true }
 told_by told packet.Discard = record told { awaiting = None }
 told_by told packet.Overflow = record told { awaiting = None }
-told_by told (packet.Exc kind) = record told { awaiting = Some kind }
+told_by told (packet.Exc kind target) = record told { awaiting = Some (record { kind = kind; target = target }) }
 told_by told (packet.CtxInfo bits) = record told { context = context_told bits told.context }
 told_by told (packet.Addr form None) = after_address told form
 told_by told (packet.Addr form (Some bits)) = after_address (record told { context = context_told bits told.context }) form

@@ -33,6 +33,7 @@ enum Rest {
     Nothing,
     One(Kind),
     Two(Kind, Kind),
+    Three(Kind, Kind, Kind),
 }
 
 /// The kind of an element that is no atom.
@@ -142,12 +143,13 @@ impl Elems {
 impl Rest {
     fn len(self) -> usize
         ensures value { (values : Values) → result ≡ length (rest_in self values) }
-        ensures most { result ≤ 2 }
+        ensures most { result ≤ 3 }
     {
         match self {
             Rest::Nothing => 0,
             Rest::One(_) => 1,
             Rest::Two(_, _) => 2,
+            Rest::Three(_, _, _) => 3,
         }
     }
 
@@ -158,6 +160,9 @@ impl Rest {
             Rest::One(only) if i == 0 => Some(values.elem(only)),
             Rest::Two(first, _) if i == 0 => Some(values.elem(first)),
             Rest::Two(_, second) if i == 1 => Some(values.elem(second)),
+            Rest::Three(first, _, _) if i == 0 => Some(values.elem(first)),
+            Rest::Three(_, second, _) if i == 1 => Some(values.elem(second)),
+            Rest::Three(_, _, third) if i == 2 => Some(values.elem(third)),
             _ => None,
         }
     }
@@ -231,6 +236,17 @@ impl Elems {
         Elems {
             atoms: NO_ATOMS,
             rest: Rest::Two(first, second),
+            values,
+        }
+    }
+
+    pub(crate) fn three(first: Kind, second: Kind, third: Kind, values: Values) -> Elems
+        requires { IsElem (elem_of values first) × IsElem (elem_of values second) × IsElem (elem_of values third) }
+        ensures { result ≡ elem_of values first ∷ elem_of values second ∷ elem_of values third ∷ [] }
+    {
+        Elems {
+            atoms: NO_ATOMS,
+            rest: Rest::Three(first, second, third),
             values,
         }
     }

@@ -1,8 +1,9 @@
 //! From packets to elements, one packet after the other.
 ghost use Rattle.std.specs.Prelude.{◌≡◌, ◌≤◌, ◌<◌, ◌∷◌, ◌++◌, ◌↔◌, [], false, true, Some, None, IfOk, IfSome, IsSome, OnErr, if◌then◌else◌};
-ghost use Rattle.path_elements.specs.Elements.{untold, elements_of, told_after, is_misplaced, may_follow_exception, tells};
-ghost use Rattle.path_elements.specs.Held.{AreElems, CanBeTaken, IsTold, elem_of, numbered};
+ghost use Rattle.path_elements.specs.Elements.{untold, elements_of, told_after, is_misplaced, may_follow_exception, tells, with_address};
+ghost use Rattle.path_elements.specs.Held.{AreElems, CanBeTaken, CanStand, IsTold, elem_of, numbered};
 ghost use Rattle.etm_types.specs.Atoms.{most_atoms};
+ghost use Rattle.etm_types.specs.declared.element.Elem.TheVariants as elem;
 
 use crate::elems::{Elems, Kind, Values};
 use address_history::History;
@@ -14,13 +15,22 @@ use std::marker::Model;
 #[derive(Clone, Copy, Debug, PartialEq, Eq)]
 pub struct Awaited;
 
+/// An exception whose address is still to come.
+#[derive(Clone, Copy, Debug, PartialEq, Eq)]
+pub(crate) struct Interrupt {
+    /// Its type.
+    pub kind: u8,
+    /// Whether that address is the target of the P0 element before it too.
+    pub target: bool,
+}
+
 /// Makes elements of packets. Contracts see the record of what the packets so far gave.
 #[derive(Clone, Copy, Debug, PartialEq, Eq)]
 pub struct ElemMaker {
     history: History,
     context: Ctx,
     informed: bool,
-    awaiting: Option<u8>,
+    awaiting: Option<Interrupt>,
 }
 
 impl Model for ElemMaker {
@@ -38,9 +48,8 @@ impl Model for ElemMaker {
 
 impl ElemMaker {
     ghost use Rattle.etm_types.specs.CtxBits.{context_told};
-    ghost use Rattle.etm_types.specs.declared.element.Elem.TheVariants as elem;
     ghost use Rattle.address_history.specs.Forms.{HasEntry, address_told};
-    ghost use Rattle.path_elements.specs.Elements.{after_address, elements_in, told_by, with_address};
+    ghost use Rattle.path_elements.specs.Elements.{after_address, elements_in, told_by};
     ghost use Rattle.packet_grammar.specs.declared.packet.Packet.TheVariants as packet;
     ghost use Rattle.path_elements.specs.Held.{IsElem};
 
@@ -145,7 +154,7 @@ impl ElemMaker {
             }
             Packet::Info { spec, .. } => self.begin(spec.unwrap_or(0)),
             Packet::On => Elems::one(Kind::On, Values::number(0)),
-            Packet::Exc { kind } => self.await_address(kind),
+            Packet::Exc { kind, target } => self.await_address(Interrupt { kind, target }),
             Packet::Overflow => self.lose(Kind::Overflow),
             Packet::Discard => self.lose(Kind::Discard),
             Packet::Commit(n) => Elems::one(Kind::Commit, Values::number(n)),
@@ -176,13 +185,13 @@ impl ElemMaker {
         Elems::one(Kind::Info, Values::number(spec))
     }
 
-    /// An exception of a type was taken. Its address is still to come.
-    fn await_address(&mut self, kind: u8) -> Elems
-        requires { kind < 32 }
-        ensures told { self.new ≡ record (self.old) { awaiting = Some kind } }
+    /// An exception was taken. Its address is still to come.
+    fn await_address(&mut self, exception: Interrupt) -> Elems
+        requires { exception.kind < 32 }
+        ensures told { self.new ≡ record (self.old) { awaiting = Some exception } }
         ensures none { result ≡ [] }
     {
-        self.awaiting = Some(kind);
+        self.awaiting = Some(exception);
         Elems::none()
     }
 
@@ -205,13 +214,13 @@ impl ElemMaker {
     {
         match *ctx {
             None => {
-                let (place, values) = self.take_address(form);
-                Elems::one(place, values)
+                let (exception, values) = self.take_address(form);
+                place_alone(exception, values)
             }
             Some(ref bits) => {
                 self.take_context(bits);
-                let (place, values) = self.take_address(form);
-                Elems::two(Kind::Ctx, place, values)
+                let (exception, values) = self.take_address(form);
+                place_in_context(exception, values)
             }
         }
     }
@@ -235,14 +244,14 @@ impl ElemMaker {
         Elems::one(Kind::Ctx, values)
     }
 
-    /// Takes an address, and gives its element and the context. An exception that awaits the address has
-    /// it as its preferred return address.
-    fn take_address(&mut self, form: &AddrForm) -> (Kind, Values)
+    /// Takes an address, and gives the exception that awaited it, where one did, and the address with the context.
+    fn take_address(&mut self, form: &AddrForm) -> (Option<Interrupt>, Values)
         requires { HasEntry form.now }
         ensures told { self.new ≡ after_address self.old form.now }
-        ensures element { elem_of result.1 result.0 ≡ with_address self.old.awaiting (address_told self.old.history form.now) }
+        ensures exception { result.0 ≡ self.old.awaiting }
+        ensures address { result.1.addr ≡ address_told self.old.history form.now }
         ensures context { result.1.ctx ≡ self.old.context }
-        ensures within { IsElem (elem_of result.1 result.0) }
+        ensures within { CanStand result.0 result.1 }
     {
         let addr = self.history.apply(form);
         self.history.push(addr);
@@ -251,16 +260,45 @@ impl ElemMaker {
             ctx: self.context,
             ..Values::number(0)
         };
-        match self.awaiting.take() {
-            None => (Kind::Addr, values),
-            Some(exception) => (
-                Kind::Exc,
-                Values {
-                    exception,
-                    ..values
-                },
-            ),
-        }
+        (self.awaiting.take(), values)
+    }
+}
+
+/// The elements of an address, where no context comes with it.
+fn place_alone(exception: Option<Interrupt>, values: Values) -> Elems
+    requires { CanStand exception values }
+    ensures { result ≡ with_address exception values.addr }
+{
+    let Some(Interrupt { kind, target }) = exception else {
+        return Elems::one(Kind::Addr, values);
+    };
+    let values = Values {
+        exception: kind,
+        ..values
+    };
+    if target {
+        Elems::two(Kind::Addr, Kind::Exc, values)
+    } else {
+        Elems::one(Kind::Exc, values)
+    }
+}
+
+/// The elements of an address, and before them the context that comes with it.
+fn place_in_context(exception: Option<Interrupt>, values: Values) -> Elems
+    requires { CanStand exception values }
+    ensures { result ≡ elem.Ctx values.ctx ∷ with_address exception values.addr }
+{
+    let Some(Interrupt { kind, target }) = exception else {
+        return Elems::two(Kind::Ctx, Kind::Addr, values);
+    };
+    let values = Values {
+        exception: kind,
+        ..values
+    };
+    if target {
+        Elems::three(Kind::Ctx, Kind::Addr, Kind::Exc, values)
+    } else {
+        Elems::two(Kind::Ctx, Kind::Exc, values)
     }
 }
 

@@ -19,6 +19,10 @@ kernel = record { el = 1; ns = true; vmid = 0; cid = 0 }
 abbrev user : Ctx
 user = record { el = 0; ns = true; vmid = 0; cid = 0 }
 
+-- an instruction that is no conditional branch, or not taken
+abbrev ran : ℕ → Ctx → Item
+ran address ctx = item.Instr address ctx false
+
 -- ---- numbers
 
 pub numbers_in_hex : (hex 0 ≡ codes "0") × (hex 9 ≡ codes "9") × (hex 10 ≡ codes "a") × (hex 0xa5f0 ≡ codes "a5f0")
@@ -40,15 +44,14 @@ no_byte_of_one_digit e = let first : 48 ≡ 53 = ap (λ t. get_or t 0 0) e in ab
 
 -- Trace on and a loop that is run once and entered again: the context is printed once.
 pub a_loop :
-    lines_of 1 None (item.On ∷ item.Instr 0x1000 kernel ∷ item.Instr 0x1004 kernel ∷ item.Instr 0x100c kernel ∷ item.Instr 0x1000 kernel
-    ∷ item.Instr 0x1004 kernel ∷ [])
+    lines_of 1 None (item.On ∷ ran 0x1000 kernel ∷ ran 0x1004 kernel ∷ ran 0x100c kernel ∷ ran 0x1000 kernel ∷ ran 0x1004 kernel ∷ [])
     ≡ lines (codes "01 on" ∷ codes "01 ctx el1 ns 0 0" ∷ codes "01 1000" ∷ codes "01 1004" ∷ codes "01 100c" ∷ codes "01 1000" ∷ codes "01 1004" ∷ [])
 unfolding in_base
 a_loop = refl
 
 -- An interrupt and its return: the line of an exception is no reason to print a context, and the next instruction may be.
 pub an_interrupt :
-    lines_of 1 None (item.On ∷ item.Instr 0x1000 user ∷ item.Exc 14 0x1004 ∷ item.Instr 0x8000 kernel ∷ item.Instr 0x8004 kernel ∷ item.Instr 0x1004 user ∷ [])
+    lines_of 1 None (item.On ∷ ran 0x1000 user ∷ item.Exc 14 0x1004 ∷ ran 0x8000 kernel ∷ ran 0x8004 kernel ∷ ran 0x1004 user ∷ [])
     ≡ lines (codes "01 on" ∷ codes "01 ctx el0 ns 0 0" ∷ codes "01 1000" ∷ codes "01 exc irq 1004" ∷ codes "01 ctx el1 ns 0 0" ∷ codes "01 8000"
     ∷ codes "01 8004" ∷ codes "01 ctx el0 ns 0 0" ∷ codes "01 1004" ∷ [])
 unfolding in_base
@@ -56,7 +59,7 @@ an_interrupt = refl
 
 -- Trace that was lost: after it the context is the one that was printed last.
 pub a_gap :
-    lines_of 1 (Some user) (item.Instr 0x1004 user ∷ item.Gap ∷ item.On ∷ item.Instr 0x1008 user ∷ item.Instr 0x100c user ∷ [])
+    lines_of 1 (Some user) (ran 0x1004 user ∷ item.Gap ∷ item.On ∷ ran 0x1008 user ∷ ran 0x100c user ∷ [])
     ≡ lines (codes "01 1004" ∷ codes "01 gap" ∷ codes "01 on" ∷ codes "01 1008" ∷ codes "01 100c" ∷ [])
 unfolding in_base
 a_gap = refl
@@ -69,10 +72,16 @@ pub an_unknown_stretch : lines_of 1 None (item.Unknown ∷ item.Exc 2 0x2000 ∷
 unfolding in_base
 an_unknown_stretch = refl
 
+-- No line tells whether a branch was taken.
+pub a_taken_branch : lines_of 1 (Some user) (ran 0x1000 user ∷ item.Instr 0x1004 user true ∷ ran 0x100c user ∷ [])
+    ≡ lines (codes "01 1000" ∷ codes "01 1004" ∷ codes "01 100c" ∷ [])
+unfolding in_base
+a_taken_branch = refl
+
 pub nothing_is_shown_by_it : shown_after_all (Some user) (item.On ∷ item.Unknown ∷ item.Exc 14 0x1004 ∷ item.Gap ∷ item.Stop ∷ []) ≡ Some user
 nothing_is_shown_by_it = refl
 
-pub the_last_is_shown : shown_after_all (Some user) (item.Instr 0x1000 user ∷ item.Instr 0x8000 kernel ∷ []) ≡ Some kernel
+pub the_last_is_shown : shown_after_all (Some user) (ran 0x1000 user ∷ ran 0x8000 kernel ∷ []) ≡ Some kernel
 the_last_is_shown = refl
 
 -- ---- the lines one by one: a context has a line of its own, and is printed once
@@ -82,7 +91,7 @@ abbrev each : List (List ℕ) → List (List ℕ)
 each texts = map (λ text. text ++ 10 ∷ []) texts
 
 abbrev two_instructions : List Item
-two_instructions = item.On ∷ item.Instr 0x1000 user ∷ item.Exc 14 0x1004 ∷ item.Instr 0x8000 kernel ∷ item.Instr 0x8004 kernel ∷ []
+two_instructions = item.On ∷ ran 0x1000 user ∷ item.Exc 14 0x1004 ∷ ran 0x8000 kernel ∷ ran 0x8004 kernel ∷ []
 
 pub one_by_one :
     line_list 1 (Some user) two_instructions
@@ -92,11 +101,11 @@ one_by_one = refl
 
 -- the line of a context and that of its instruction are not one line, and no line is empty
 pub not_in_one :
-    line_list 1 None (item.Instr 0x1000 user ∷ []) ≡ (codes "01 ctx el0 ns 0 0" ++ 10 ∷ codes "01 1000" ++ 10 ∷ []) ∷ [] → ⊥
+    line_list 1 None (ran 0x1000 user ∷ []) ≡ (codes "01 ctx el0 ns 0 0" ++ 10 ∷ codes "01 1000" ++ 10 ∷ []) ∷ [] → ⊥
 unfolding in_base
 not_in_one e = absurd (omega (arith, ap length e))
 
-pub none_empty : line_list 1 (Some user) (item.Instr 0x1000 user ∷ []) ≡ [] ∷ each (codes "01 1000" ∷ []) → ⊥
+pub none_empty : line_list 1 (Some user) (ran 0x1000 user ∷ []) ≡ [] ∷ each (codes "01 1000" ∷ []) → ⊥
 unfolding in_base
 none_empty e = absurd (omega (arith, ap length e))
 
@@ -120,7 +129,7 @@ before = Some (record { el = 1; ns = true; vmid = 2; cid = 0x1f })
 
 -- one instruction after that context
 abbrev after : Ctx → List ℕ
-after ctx = lines_of 1 before (item.Instr 0x1000 ctx ∷ [])
+after ctx = lines_of 1 before (ran 0x1000 ctx ∷ [])
 
 pub the_same_context : after (record { el = 1; ns = true; vmid = 2; cid = 0x1f }) ≡ lines (codes "01 1000" ∷ [])
 unfolding in_base
@@ -144,7 +153,7 @@ another_context_id = refl
 
 -- Secure after Secure is the same
 pub secure_again :
-    lines_of 1 (Some (record { el = 0; ns = false; vmid = 0; cid = 0 })) (item.Instr 0x1000 (record { el = 0; ns = false; vmid = 0; cid = 0 }) ∷ [])
+    lines_of 1 (Some (record { el = 0; ns = false; vmid = 0; cid = 0 })) (ran 0x1000 (record { el = 0; ns = false; vmid = 0; cid = 0 }) ∷ [])
     ≡ lines (codes "01 1000" ∷ [])
 unfolding in_base
 secure_again = refl

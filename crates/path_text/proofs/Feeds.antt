@@ -27,7 +27,7 @@ use Rattle.packet_grammar.specs.declared.stream_fault.Fault.{Fault}
 use Rattle.packet_grammar.specs.declared.stream_fault.Fault.TheVariants as fault
 use Rattle.path_text.specs.EndLines.{refused_text, packet_fault_text, queue_fault_text, walk_fault_text, fault_text, end_text, end_line, frame_cut_line}
 use Rattle.path_text.specs.Lines.{digit, in_base, hex, decimal, number_or_dash, byte_text, security, line_start, line_of, IsLine}
-use Rattle.path_text.specs.PacketLines.{atoms_text, carried_text, few_text, form_text, letter, mispredict_text, packet_line, packet_text, told_context_text}
+use Rattle.path_text.specs.PacketLines.{atoms_text, carried_text, few_text, form_text, letter, mispredict_text, packet_line, packet_text, target_text, told_context_text}
 use Rattle.path_text.specs.PathLines.{whole_context_text, exception_names, name_among, exception_text}
 
 abbrev IsOther : ℕ → Type 0
@@ -240,7 +240,9 @@ packet_other packet.Ignore = written (codes "ignore") refl
 packet_other (packet.Info info key spec cyct) = info_other info key spec cyct
 packet_other (packet.Event n) = words_and (codes "event ") 10 n refl
 packet_other (packet.Time bits low) = words_and_both (codes "time ") 10 bits low refl
-packet_other (packet.Exc type) = words_and (codes "exc ") 10 type refl
+packet_other (packet.Exc type target) =
+    both (codes "exc " ++ decimal type) (target_text target) (words_and (codes "exc ") 10 type refl)
+    (chosen target (codes " target") (codes "") (written (codes " target") refl) (All-nil IsOther))
 packet_other (packet.Commit n) = words_and (codes "commit ") 10 n refl
 packet_other (packet.Cancel n flip) =
     both (codes "cancel " ++ decimal n) (mispredict_text flip) (words_and (codes "cancel ") 10 n refl)

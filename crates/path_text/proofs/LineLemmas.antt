@@ -3,7 +3,7 @@ use Rattle.std.proofs.Common.{◌≡◌, ℕ, zero, suc, ◌+◌, ◌-◌, ◌*�
 use Rattle.std.proofs.Math.Nat.{mod-add-mod}
 use Rattle.std.proofs.Common.{List, [], ◌∷◌, ◌++◌, Option, Some, None, refl, sym, ap, ◌∙◌, arith, append_assoc}
 use Rattle.std.specs.Prelude.{if◌then◌else◌}
-use Rattle.std.proofs.lemmas.Bool.{eq-eqb}
+use Rattle.etm_types.proofs.SameContexts.{same_context-refl}
 use Rattle.etm_types.specs.Walked.{instructions, exception, items_of}
 use Rattle.etm_types.specs.declared.context.Ctx.{Ctx}
 use Rattle.etm_types.specs.declared.item.Item.{Item}
@@ -11,8 +11,8 @@ use Rattle.etm_types.specs.declared.item.Item.TheVariants.{On}
 use Rattle.etm_types.specs.declared.walked.ExcMark.{ExcMark}
 use Rattle.etm_types.specs.declared.walked.Walked.{Walked}
 use Rattle.path_text.specs.Lines.{line_of, hex}
-use Rattle.path_text.specs.PathLines.{instruction_lines, lines_of, item_lines, context_line, same_context}
-use Rattle.path_text.specs.PathLines.{same_security, shown_after, shown_after_all, on_line, block_items}
+use Rattle.path_text.specs.PathLines.{instruction_lines, lines_of, item_lines, context_line}
+use Rattle.path_text.specs.PathLines.{shown_after, shown_after_all, on_line, block_items}
 
 -- some lines, and the others behind them
 pub instruction_lines-add : (id address k left : ℕ)
@@ -39,29 +39,23 @@ instruction_lines-parts id address (suc k) left some few =
 
 -- ---- contexts that are printed once
 
-same_security-refl : (b : Bool) → same_security b b ≡ true
-same_security-refl true = refl
-same_security-refl false = refl
-
-same_context-refl : (ctx : Ctx) → same_context ctx ctx ≡ true
-same_context-refl ctx = simp (eq-eqb ctx.el ctx.el refl, same_security-refl ctx.ns, eq-eqb ctx.vmid ctx.vmid refl, eq-eqb ctx.cid ctx.cid refl)
-
 context_line-again : (id : ℕ) (ctx : Ctx) → context_line id (Some ctx) ctx ≡ []
 context_line-again id ctx = simp (same_context-refl ctx)
 
 -- the lines of instructions whose context was printed
-lines_of-instructions : (id address : ℕ) (ctx : Ctx) (n : ℕ) → lines_of id (Some ctx) (instructions ctx address n) ≡ instruction_lines id address n
-lines_of-instructions id address ctx zero = refl
-lines_of-instructions id address ctx (suc n) =
-    ap (λ t. (t ++ line_of id (hex address)) ++ lines_of id (Some ctx) (instructions ctx ((address + 4) % 2 ^ 64) n)) (context_line-again id ctx)
-    ∙ ap (λ t. line_of id (hex address) ++ t) (lines_of-instructions id ((address + 4) % 2 ^ 64) ctx n)
+lines_of-instructions : (id address : ℕ) (ctx : Ctx) (n : ℕ) (took : Bool)
+    → lines_of id (Some ctx) (instructions ctx address n took) ≡ instruction_lines id address n
+lines_of-instructions id address ctx zero took = refl
+lines_of-instructions id address ctx (suc n) took =
+    ap (λ t. (t ++ line_of id (hex address)) ++ lines_of id (Some ctx) (instructions ctx ((address + 4) % 2 ^ 64) n took)) (context_line-again id ctx)
+    ∙ ap (λ t. line_of id (hex address) ++ t) (lines_of-instructions id ((address + 4) % 2 ^ 64) ctx n took)
 
 -- a context, where it was not printed last, and then instructions
-pub lines_of-run : (id : ℕ) (shown : Option Ctx) (ctx : Ctx) (address n : ℕ) → 0 < n
-    → lines_of id shown (instructions ctx address n) ≡ context_line id shown ctx ++ instruction_lines id address n
-lines_of-run id shown ctx address zero some = absurd (omega arith)
-lines_of-run id shown ctx address (suc n) some =
-    ap (λ t. (context_line id shown ctx ++ line_of id (hex address)) ++ t) (lines_of-instructions id ((address + 4) % 2 ^ 64) ctx n)
+pub lines_of-run : (id : ℕ) (shown : Option Ctx) (ctx : Ctx) (address n : ℕ) (took : Bool) → 0 < n
+    → lines_of id shown (instructions ctx address n took) ≡ context_line id shown ctx ++ instruction_lines id address n
+lines_of-run id shown ctx address zero took some = absurd (omega arith)
+lines_of-run id shown ctx address (suc n) took some =
+    ap (λ t. (context_line id shown ctx ++ line_of id (hex address)) ++ t) (lines_of-instructions id ((address + 4) % 2 ^ 64) ctx n took)
     ∙ append_assoc (context_line id shown ctx) (line_of id (hex address)) (instruction_lines id ((address + 4) % 2 ^ 64) n)
 
 -- ---- lines of items, one list after another
@@ -77,10 +71,12 @@ pub shown_after_all-append : (shown : Option Ctx) (xs ys : List Item) → shown_
 shown_after_all-append shown [] ys = refl
 shown_after_all-append shown (x ∷ xs) ys = shown_after_all-append (shown_after shown x) xs ys
 
-pub shown_after_all-run : (shown : Option Ctx) (ctx : Ctx) (address n : ℕ) → 0 < n → shown_after_all shown (instructions ctx address n) ≡ Some ctx
-shown_after_all-run shown ctx address zero some = absurd (omega arith)
-shown_after_all-run shown ctx address (suc zero) some = refl
-shown_after_all-run shown ctx address (suc (suc n)) some = shown_after_all-run (Some ctx) ctx ((address + 4) % 2 ^ 64) (suc n) (omega arith)
+pub shown_after_all-run : (shown : Option Ctx) (ctx : Ctx) (address n : ℕ) (took : Bool) → 0 < n
+    → shown_after_all shown (instructions ctx address n took) ≡ Some ctx
+shown_after_all-run shown ctx address zero took some = absurd (omega arith)
+shown_after_all-run shown ctx address (suc zero) took some = refl
+shown_after_all-run shown ctx address (suc (suc n)) took some =
+    shown_after_all-run (Some ctx) ctx ((address + 4) % 2 ^ 64) (suc n) took (omega arith)
 
 -- ---- exceptions, whose line no context changes
 

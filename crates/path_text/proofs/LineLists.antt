@@ -5,11 +5,12 @@ use Rattle.std.specs.Prelude.{All, codes}
 use Rattle.std.specs.List.{concat}
 use Rattle.std.proofs.lemmas.List.Elements.{All-nil, All-cons, All-append}
 use Rattle.std.proofs.lemmas.List.Folds.{concat-append}
+use Rattle.etm_types.specs.SameContext.{same_context}
 use Rattle.etm_types.specs.declared.context.Ctx.{Ctx}
 use Rattle.etm_types.specs.declared.item.Item.{Item}
 use Rattle.etm_types.specs.declared.item.Item.TheVariants as item
 use Rattle.path_text.specs.Lines.{IsLine, hex, line_of}
-use Rattle.path_text.specs.PathLines.{context_line, exception_text, item_line_list, item_lines, line_list, lines_of, same_context, shown_after, shown_after_all}
+use Rattle.path_text.specs.PathLines.{context_line, exception_text, item_line_list, item_lines, line_list, lines_of, shown_after, shown_after_all}
 use Rattle.path_text.specs.PathLines.{where_any, whole_context_text}
 use Rattle.path_text.proofs.Feeds.{address_other, context_other, exception_other, line_is, written}
 
@@ -24,7 +25,7 @@ item_joined id shown item.On = append-nil (item_lines id shown item.On)
 item_joined id shown item.Gap = append-nil (item_lines id shown item.Gap)
 item_joined id shown item.Stop = append-nil (item_lines id shown item.Stop)
 item_joined id shown item.Unknown = append-nil (item_lines id shown item.Unknown)
-item_joined id shown (item.Instr address ctx) =
+item_joined id shown (item.Instr address ctx took) =
     let own = line_of id (hex address) in
     concat-append (where_any (context_line id shown ctx)) (own ∷ []) ∙ ap (λ l. l ++ (own ++ [])) (any_alone (context_line id shown ctx))
     ∙ ap (λ l. context_line id shown ctx ++ l) (append-nil own)
@@ -69,7 +70,7 @@ item_each id shown item.On = one_line (line_of id (codes "on")) (line_is id (cod
 item_each id shown item.Gap = one_line (line_of id (codes "gap")) (line_is id (codes "gap") (written (codes "gap") refl))
 item_each id shown item.Stop = one_line (line_of id (codes "stop")) (line_is id (codes "stop") (written (codes "stop") refl))
 item_each id shown item.Unknown = one_line (line_of id (codes "?")) (line_is id (codes "?") (written (codes "?") refl))
-item_each id shown (item.Instr address ctx) =
+item_each id shown (item.Instr address ctx took) =
     All-append IsLine (where_any (context_line id shown ctx)) (line_of id (hex address) ∷ []) (context_once id shown ctx)
     (one_line (line_of id (hex address)) (line_is id (hex address) (address_other address)))
 item_each id shown (item.Exc kind ret) =

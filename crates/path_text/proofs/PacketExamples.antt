@@ -62,9 +62,13 @@ pub long_time : HasLine 12 (packet.Time 14 9999) (codes "01 12 time 14 9999")
 unfolding in_base
 long_time = refl
 
-pub exc : HasLine 26 (packet.Exc 14) (codes "01 26 exc 14")
+pub exc : HasLine 26 (packet.Exc 14 false) (codes "01 26 exc 14")
 unfolding in_base
 exc = refl
+
+pub exc_at_its_target : HasLine 12 (packet.Exc 14 true) (codes "01 12 exc 14 target")
+unfolding in_base
+exc_at_its_target = refl
 
 pub commit : HasLine 55 (packet.Commit 2) (codes "01 55 commit 2")
 unfolding in_base

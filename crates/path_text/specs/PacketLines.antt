@@ -44,6 +44,10 @@ carried_text (Some ctx) = codes " " ++ told_context_text ctx
 abbrev pub mispredict_text : Bool → List ℕ
 mispredict_text flip = if flip then codes " mispredict" else codes ""
 
+-- an exception whose address is the target of what stood before it too
+abbrev pub target_text : Bool → List ℕ
+target_text target = if target then codes " target" else codes ""
+
 abbrev pub packet_text : Packet → List ℕ
 packet_text packet.Async = codes "async"
 packet_text packet.Discard = codes "discard"
@@ -55,7 +59,7 @@ packet_text (packet.Info info key spec cyct) =
     ++ number_or_dash decimal spec ++ codes " " ++ number_or_dash decimal cyct
 packet_text (packet.Event n) = codes "event " ++ decimal n
 packet_text (packet.Time bits low) = codes "time " ++ decimal bits ++ codes " " ++ decimal low
-packet_text (packet.Exc kind) = codes "exc " ++ decimal kind
+packet_text (packet.Exc kind target) = codes "exc " ++ decimal kind ++ target_text target
 packet_text (packet.Commit n) = codes "commit " ++ decimal n
 packet_text (packet.Cancel n flip) = codes "cancel " ++ decimal n ++ mispredict_text flip
 packet_text (packet.Mispredict few) = codes "mispredict " ++ few_text few

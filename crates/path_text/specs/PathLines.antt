@@ -1,5 +1,6 @@
 -- The lines of a path.
-use Rattle.std.specs.Prelude.{ℕ, zero, suc, ◌+◌, ◌%◌, ◌^◌, Bool, true, false, if◌then◌else◌, ◌==◌, ◌&&◌, not, List, [], ◌∷◌, ◌++◌, codes, Option, Some, None}
+use Rattle.std.specs.Prelude.{ℕ, zero, suc, ◌+◌, ◌%◌, ◌^◌, Bool, if◌then◌else◌, ◌==◌, List, [], ◌∷◌, ◌++◌, codes, Option, Some, None}
+use Rattle.etm_types.specs.SameContext.{same_context}
 use Rattle.etm_types.specs.Walked.{instructions}
 use Rattle.etm_types.specs.declared.context.Ctx.{Ctx}
 use Rattle.etm_types.specs.declared.item.Item.{Item}
@@ -26,13 +27,6 @@ name_among (n ∷ names) kind = if n.0 == kind then n.1 else name_among names ki
 abbrev pub exception_text : ℕ → ℕ → List ℕ
 exception_text kind ret = codes "exc " ++ name_among exception_names kind ++ codes " " ++ hex ret
 
-abbrev pub same_security : Bool → Bool → Bool
-same_security true b = b
-same_security false b = not b
-
-abbrev pub same_context : Ctx → Ctx → Bool
-same_context a b = (a.el == b.el) && same_security a.ns b.ns && (a.vmid == b.vmid) && (a.cid == b.cid)
-
 -- the line of a context, unless it was printed last
 abbrev pub context_line : ℕ → Option Ctx → Ctx → List ℕ
 context_line id None ctx = line_of id (whole_context_text ctx)
@@ -44,12 +38,12 @@ item_lines id shown item.On = line_of id (codes "on")
 item_lines id shown item.Gap = line_of id (codes "gap")
 item_lines id shown item.Stop = line_of id (codes "stop")
 item_lines id shown item.Unknown = line_of id (codes "?")
-item_lines id shown (item.Instr address ctx) = context_line id shown ctx ++ line_of id (hex address)
+item_lines id shown (item.Instr address ctx took) = context_line id shown ctx ++ line_of id (hex address)
 item_lines id shown (item.Exc kind ret) = line_of id (exception_text kind ret)
 
 -- the context that was printed last, after an item
 abbrev pub shown_after : Option Ctx → Item → Option Ctx
-shown_after shown (item.Instr address ctx) = Some ctx
+shown_after shown (item.Instr address ctx took) = Some ctx
 shown_after shown _ = shown
 
 abbrev pub lines_of : ℕ → Option Ctx → List Item → List ℕ
@@ -67,7 +61,7 @@ where_any (b ∷ line) = (b ∷ line) ∷ []
 
 -- the lines of an item one by one: an instruction may have one for its context before its own
 abbrev pub item_line_list : ℕ → Option Ctx → Item → List (List ℕ)
-item_line_list id shown (item.Instr address ctx) = where_any (context_line id shown ctx) ++ line_of id (hex address) ∷ []
+item_line_list id shown (item.Instr address ctx took) = where_any (context_line id shown ctx) ++ line_of id (hex address) ∷ []
 item_line_list id shown i = item_lines id shown i ∷ []
 
 -- the lines of items one by one
@@ -86,11 +80,11 @@ on_line id on = if on then line_of id (codes "on") else []
 
 -- what is shown between trace on and the exception: one unknown stretch, or instructions
 abbrev pub block_items : Walked → List Item
-block_items w = if w.unknown then item.Unknown ∷ [] else instructions w.ctx w.start w.count
+block_items w = if w.unknown then item.Unknown ∷ [] else instructions w.ctx w.start w.count w.took
 
 -- the lines of the instructions of a walk, and the context that was printed last after them
 abbrev pub run_lines : ℕ → Option Ctx → Walked → List ℕ
-run_lines id shown w = lines_of id shown (instructions w.ctx w.start w.count)
+run_lines id shown w = lines_of id shown (instructions w.ctx w.start w.count w.took)
 
 abbrev pub run_shown : Option Ctx → Walked → Option Ctx
-run_shown shown w = shown_after_all shown (instructions w.ctx w.start w.count)
+run_shown shown w = shown_after_all shown (instructions w.ctx w.start w.count w.took)

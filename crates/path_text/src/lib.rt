@@ -7,7 +7,7 @@
 //!
 //! The texts are this project's own (`docs/FORMATS.md`, "Lines"); the names of exceptions are of Arm IHI 0064, exception types.
 //!
-//! [`Line`] is public because `trace_cmd` writes with it the lines of a bad image, of a bad run file and of a number.
+//! [`Line`] is public because `answer_lines` writes with it the lines of a bad image, of a bad run file and of a number.
 #![tactic(auto)]
 
 mod address_line;

@@ -3,7 +3,7 @@ ghost use Rattle.std.specs.Prelude.{◌≡◌, ◌+◌, ◌++◌, ◌≤◌, len
 ghost use Rattle.etm_types.specs.Atoms.{IsFewAtoms, most_atoms};
 ghost use Rattle.path_text.specs.Lines.{HasRoom, AddsAtMost, hex, decimal, number_or_dash};
 ghost use Rattle.path_text.specs.PacketLines.{HasText, atoms_text, few_text, form_text};
-ghost use Rattle.path_text.specs.PacketLines.{told_context_text, carried_text, mispredict_text, packet_text};
+ghost use Rattle.path_text.specs.PacketLines.{told_context_text, carried_text, mispredict_text, packet_text, target_text};
 
 use crate::line::Line;
 use etm_types::{AddrForm, AtomRun, CtxBits, FewAtoms};
@@ -77,14 +77,26 @@ fn add_time(line: &mut Line, bits: u8, low: u64)
     line.decimal(low);
 }
 
-/// Adds an exception packet.
-fn add_exception(line: &mut Line, kind: u8)
+/// Adds that the address of an exception is a target too, where it is.
+fn add_target(line: &mut Line, target: bool)
     requires { HasRoom 7 line.old }
-    ensures value { line.new ≡ line.old ++ packet_text (Packet.Exc kind) }
+    ensures value { line.new ≡ line.old ++ target_text target }
     ensures short { AddsAtMost 7 line.old line.new }
+{
+    if target {
+        line.text(b" target");
+    }
+}
+
+/// Adds an exception packet.
+fn add_exception(line: &mut Line, kind: u8, target: bool)
+    requires { HasRoom 14 line.old }
+    ensures value { line.new ≡ line.old ++ packet_text (Packet.Exc kind target) }
+    ensures short { AddsAtMost 14 line.old line.new }
 {
     line.text(b"exc ");
     line.decimal_u8(kind);
+    add_target(line, target);
 }
 
 /// Adds a commit packet.
@@ -245,7 +257,7 @@ pub fn add_packet(line: &mut Line, packet: &Packet)
         } => add_info(line, *info, *key, *spec, *cyct),
         Packet::Event(n) => add_event(line, *n),
         Packet::Time { bits, low } => add_time(line, *bits, *low),
-        Packet::Exc { kind } => add_exception(line, *kind),
+        Packet::Exc { kind, target } => add_exception(line, *kind, *target),
         Packet::Commit(n) => add_commit(line, *n),
         Packet::Cancel { n, flip } => add_cancel(line, *n, *flip),
         Packet::Mispredict(few) => add_few(line, b"mispredict ", few),

@@ -2,7 +2,7 @@
 ghost use Rattle.std.specs.Prelude.{◌≡◌, ◌+◌, ◌-◌, ◌*◌, ◌%◌, ◌++◌, ◌≤◌, ◌<◌, length, codes, IfOk, Some, None};
 ghost use Rattle.etm_types.specs.Walked.{exception, items_of};
 ghost use Rattle.path_text.specs.Lines.{HasRoom, AddsAtMost, line_of, hex};
-ghost use Rattle.path_text.specs.PathLines.{whole_context_text, exception_names, name_among, exception_text, same_context, context_line};
+ghost use Rattle.path_text.specs.PathLines.{whole_context_text, exception_names, name_among, exception_text, context_line};
 ghost use Rattle.path_text.specs.PathLines.{instruction_lines, lines_of, shown_after_all, on_line, block_items, run_lines, run_shown};
 ghost use Rattle.path_text.specs.Writing.{Writes};
 
@@ -40,13 +40,6 @@ fn write_context<K: Sink>(id: Id, ctx: &Ctx, sink: &mut K) -> Result<(), Failed>
     line.write(sink)
 }
 
-/// Whether two contexts are the same.
-fn same_context(a: &Ctx, b: &Ctx) -> bool
-    ensures { result ≡ same_context a.now b.now }
-{
-    a.el == b.el && a.ns == b.ns && a.vmid == b.vmid && a.cid == b.cid
-}
-
 /// Writes the line of a context, unless it was printed last.
 fn write_context_once<K: Sink>(
     id: Id,
@@ -58,7 +51,7 @@ fn write_context_once<K: Sink>(
     ensures shown { IfOk result (λ _. shown.new ≡ Some ctx.now) }
 {
     match shown {
-        Some(last) if same_context(last, ctx) => Ok(()),
+        Some(last) if *last == *ctx => Ok(()),
         _ => {
             *shown = Some(*ctx);
             write_context(id, ctx, sink)

@@ -1,7 +1,7 @@
 -- Walks that were worked out by hand: what is shown and where the walk goes on, or with which fault it stops.
 use Rattle.std.proofs.Common.{◌≡◌, ◌≢◌, ℕ, zero, suc, ◌+◌, Bool, true, false, List, [], ◌∷◌, ◌++◌}
 use Rattle.std.proofs.Common.{map, length, Option, Some, None, is_none, Ok, Err, refl, ap, inl, inr, arith}
-use Rattle.std.specs.Prelude.{pos, take}
+use Rattle.std.specs.Prelude.{neg_ℤ, pos, take}
 use Rattle.std.specs.Option.{unwrap_or}
 use Rattle.a64_branches.specs.Classes.{class_of}
 use Rattle.a64_branches.specs.declared.class.Class.{Class}
@@ -24,7 +24,7 @@ use Rattle.path_walker.specs.declared.pc.Pc.TheVariants.{Known, Awaited, Lost}
 use Rattle.path_walker.specs.State.{State, first_state}
 use Rattle.path_walker.specs.Start.{context_of, mismatch_of, pc_before, start_of}
 use Rattle.path_walker.specs.Steps.{next_of, stack_after}
-use Rattle.path_walker.specs.Walk.{GoesOn, IsRunBefore, Leads, Shows, Stops, mark_of}
+use Rattle.path_walker.specs.Walk.{GoesOn, IsRunBefore, Leads, Shows, Stops, mark_of, takes}
 use Rattle.path_walker.specs.Things.{Walks}
 use Rattle.path_walker.proofs.OneWalk.{Walk, one_walk}
 
@@ -88,22 +88,18 @@ at pc stack ctx = record { pc = pc; stack = stack; ctx = ctx }
 
 -- so many instructions from an address on
 abbrev ran : Bool → Ctx → ℕ → ℕ → Walked
-ran on ctx start count = record { on = on; unknown = false; ctx = ctx; start = start; count = count; exc = None }
+ran on ctx start count = record { on = on; unknown = false; ctx = ctx; start = start; count = count; took = false; exc = None }
 
--- the same, begun by a trace on, and an interrupt after them
+-- the last of them is a conditional branch, and is taken
+abbrev ran_taken : Bool → Ctx → ℕ → ℕ → Walked
+ran_taken on ctx start count = record (ran on ctx start count) { took = true }
+
+-- none is, and they are begun by a trace on, and an interrupt comes after them
 abbrev ran_to : Ctx → ℕ → ℕ → ℕ → Walked
-ran_to ctx start count address = record {
-  on = true;
-  unknown = false;
-  ctx = ctx;
-  start = start;
-  count = count;
-  exc = Some
-      (record { kind = 14; ret = address });
-}
+ran_to ctx start count address = record (ran true ctx start count) { exc = Some (record { kind = 14; ret = address }) }
 
 abbrev unknown : Ctx → Option ExcMark → Walked
-unknown ctx exc = record { on = false; unknown = true; ctx = ctx; start = 0; count = 0; exc = exc }
+unknown ctx exc = record { on = false; unknown = true; ctx = ctx; start = 0; count = 0; took = false; exc = exc }
 
 -- ---- how it is shown
 
@@ -137,11 +133,12 @@ shows : (image : Image) (s : State) (entry : Entry) (count : ℕ) (pc : Pc) (sta
       ctx = context_of s entry.pre;
       start = unwrap_or (start_of s entry.pre).at 0;
       count = count;
+      took = takes image (start_of s entry.pre).at entry.p0 count;
       exc = mark_of entry.p0;
     })
     (at pc stack (context_of s entry.pre))
 shows image s entry count pc stack agrees leads = record
-    { agrees = agrees; leads = leads; on = refl; unknown = refl; start = refl; ctx = refl; kept = refl; exc = refl }
+    { agrees = agrees; leads = leads; on = refl; unknown = refl; start = refl; ctx = refl; kept = refl; exc = refl; took = refl }
 
 -- ---- how instructions go on
 
@@ -168,7 +165,7 @@ stacks_after = refl
 -- ---- addresses
 
 -- Trace begins at 1000, and an E atom says that B.EQ branches.
-begins : Shows code first_state (atom (begin 0x1000 kernel) true) (ran true kernel 0x1000 2) (at (Known 0x100c) [] kernel)
+begins : Shows code first_state (atom (begin 0x1000 kernel) true) (ran_taken true kernel 0x1000 2) (at (Known 0x100c) [] kernel)
 unfolding class_of
 begins = shows code _ _ 2 (Known 0x100c) [] refl (goes code 0x1000 [] true 1 (Cond (pos 8)) (Known 0x100c) (one_plain code 0x1000 refl) refl refl)
 
@@ -200,6 +197,44 @@ nowhere = inr (refl, (0, none_plain code 0x9000, refl))
 not_read : Stops calls first_state (atom (begin 0x5000 kernel) true) (fault.Odd 0x5000)
 unfolding class_of
 not_read = inr (refl, (0, none_plain calls 0x5000, refl))
+
+-- ---- conditional branches that are taken
+
+-- B.EQ branches by an E atom. By an N atom it does not.
+branched : Shows code (at (Known 0x1000) [] user) (atom nothing_told true) (ran_taken false user 0x1000 2) (at (Known 0x100c) [] user)
+unfolding class_of
+branched = shows code _ _ 2 (Known 0x100c) [] refl (goes code 0x1000 [] true 1 (Cond (pos 8)) (Known 0x100c) (one_plain code 0x1000 refl) refl refl)
+
+passed : Shows code (at (Known 0x1000) [] user) (atom nothing_told false) (ran false user 0x1000 2) (at (Known 0x1008) [] user)
+unfolding class_of
+passed = shows code _ _ 2 (Known 0x1008) [] refl (goes code 0x1000 [] false 1 (Cond (pos 8)) (Known 0x1008) (one_plain code 0x1000 refl) refl refl)
+
+-- An E atom says no more of B, BR, ISB and ERET than that they were executed: they have no condition.
+jumped : Shows code (at (Known 0x1008) [] user) (atom nothing_told true) (ran false user 0x1008 2) (at (Known 0x1000) [] user)
+unfolding class_of
+jumped =
+    shows code _ _ 2 (Known 0x1000) [] refl
+    (goes code 0x1008 [] true 1 (Jump (neg_ℤ (pos 12)) false) (Known 0x1000) (one_plain code 0x1008 refl) refl refl)
+
+indirect : Shows always (at (Known 0xb000) [] user) (atom nothing_told true) (ran false user 0xb000 1) (at (Awaited true) [] user)
+unfolding class_of
+indirect = shows always _ _ 1 (Awaited true) [] refl (goes always 0xb000 [] true 0 (Ind false) (Awaited true) (none_plain always 0xb000) refl refl)
+
+-- So the one E atom is a taken branch, and the other atoms are none.
+branched_unmarked : (after : State) → Shows code (at (Known 0x1000) [] user) (atom nothing_told true) (ran false user 0x1000 2) after → ⊥
+unfolding class_of
+branched_unmarked after other = let e : false ≡ true = other.took in cc
+
+passed_marked : (after : State) → Shows code (at (Known 0x1000) [] user) (atom nothing_told false) (ran_taken false user 0x1000 2) after → ⊥
+passed_marked after other = let e : true ≡ false = other.took in cc
+
+jumped_marked : (after : State) → Shows code (at (Known 0x1008) [] user) (atom nothing_told true) (ran_taken false user 0x1008 2) after → ⊥
+unfolding class_of
+jumped_marked after other = let e : true ≡ false = other.took in cc
+
+indirect_marked : (after : State) → Shows always (at (Known 0xb000) [] user) (atom nothing_told true) (ran_taken false user 0xb000 1) after → ⊥
+unfolding class_of
+indirect_marked after other = let e : true ≡ false = other.took in cc
 
 -- ---- exceptions
 
@@ -343,18 +378,18 @@ handled : Shows code (at (Awaited false) [] user) (atom (given (Some kernel) 0x8
 unfolding class_of
 handled = shows code _ _ 2 (Awaited false) [] refl (goes code 0x8000 [] true 1 Eret (Awaited false) (one_plain code 0x8000 refl) refl refl)
 
-back : Shows code (at (Awaited false) [] kernel) (atom (given (Some user) 0x1004) true) (ran false user 0x1004 1) (at (Known 0x100c) [] user)
+back : Shows code (at (Awaited false) [] kernel) (atom (given (Some user) 0x1004) true) (ran_taken false user 0x1004 1) (at (Known 0x100c) [] user)
 unfolding class_of
 back = shows code _ _ 1 (Known 0x100c) [] refl (goes code 0x1004 [] true 0 (Cond (pos 8)) (Known 0x100c) (none_plain code 0x1004) refl refl)
 
 abbrev before : List Item
-before = item.On ∷ item.Instr 0x1000 user ∷ item.Exc 14 0x1004 ∷ []
+before = item.On ∷ item.Instr 0x1000 user false ∷ item.Exc 14 0x1004 ∷ []
 
 abbrev handler : List Item
-handler = item.Instr 0x8000 kernel ∷ item.Instr 0x8004 kernel ∷ []
+handler = item.Instr 0x8000 kernel false ∷ item.Instr 0x8004 kernel false ∷ []
 
 abbrev after : List Item
-after = item.Instr 0x1004 user ∷ []
+after = item.Instr 0x1004 user true ∷ []
 
 interrupted : Walks code first_state (Seen (irq (begin 0x1000 user) 0x1004)
     ∷ Gap

@@ -20,7 +20,7 @@ use Rattle.path_walker.specs.declared.pc.Pc.TheVariants.{Awaited, Lost}
 use Rattle.path_walker.specs.State.{State}
 use Rattle.path_walker.specs.Start.{start_of, pc_before, mismatch_of, context_of}
 use Rattle.path_walker.specs.Steps.{next_of, stack_after}
-use Rattle.path_walker.specs.Walk.{Refuses, IsRunBefore, Misses, Leads, Halts, IsWalk, mark_of}
+use Rattle.path_walker.specs.Walk.{Refuses, IsRunBefore, Misses, Leads, Halts, IsWalk, mark_of, takes}
 use Rattle.path_walker.proofs.Search.{cases, same_first}
 
 -- ---- where a P0 element leads, as one outcome
@@ -191,31 +191,37 @@ one_led image (Some address) stack p0 a b p q = one_known image address stack p0
 abbrev pub Walk : Type 0
 Walk = Result (Walked × State) WalkFault
 
-abbrev walk_by : ℕ → Pc → List ℕ → Bool → Bool → ℕ → Option ExcMark → Ctx → Ctx → Walk
-walk_by count pc stack on unknown start exc ctx after =
-    Ok (record { on = on; unknown = unknown; ctx = ctx; start = start; count = count; exc = exc }, record { pc = pc; stack = stack; ctx = after })
+abbrev walk_by : ℕ → Pc → List ℕ → Bool → Bool → ℕ → Option ExcMark → Ctx → Ctx → Bool → Walk
+walk_by count pc stack on unknown start exc ctx after took =
+    Ok (
+      record { on = on; unknown = unknown; ctx = ctx; start = start; count = count; took = took; exc = exc },
+      record { pc = pc; stack = stack; ctx = after },
+    )
 
-same_walk : (w : Walked) (a : State) (on unknown : Bool) (start : ℕ) (exc : Option ExcMark) (ctx : Ctx) → w.on ≡ on → w.unknown ≡ unknown → w.start ≡ start
-    → w.exc ≡ exc → w.ctx ≡ ctx → a.ctx ≡ ctx
-    → walk_by w.count a.pc a.stack w.on w.unknown w.start w.exc w.ctx a.ctx ≡ walk_by w.count a.pc a.stack on unknown start exc ctx ctx
-same_walk w a on unknown start exc ctx e f g h i j =
+same_walk : (w : Walked) (a : State) (on unknown : Bool) (start : ℕ) (exc : Option ExcMark) (ctx : Ctx) (took : Bool)
+    → w.on ≡ on → w.unknown ≡ unknown → w.start ≡ start → w.exc ≡ exc → w.ctx ≡ ctx → a.ctx ≡ ctx → w.took ≡ took
+    → walk_by w.count a.pc a.stack w.on w.unknown w.start w.exc w.ctx a.ctx w.took ≡ walk_by w.count a.pc a.stack on unknown start exc ctx ctx took
+same_walk w a on unknown start exc ctx took e f g h i j k =
     let by = walk_by w.count a.pc a.stack in
-    ap (λ x. by x w.unknown w.start w.exc w.ctx a.ctx) e ∙ ap (λ x. by on x w.start w.exc w.ctx a.ctx) f ∙ ap (λ x. by on unknown x w.exc w.ctx a.ctx) g
-    ∙ ap (λ x. by on unknown start x w.ctx a.ctx) h ∙ ap (λ x. by on unknown start exc x a.ctx) i ∙ ap (λ x. by on unknown start exc ctx x) j
+    ap (λ x. by x w.unknown w.start w.exc w.ctx a.ctx w.took) e ∙ ap (λ x. by on x w.start w.exc w.ctx a.ctx w.took) f
+    ∙ ap (λ x. by on unknown x w.exc w.ctx a.ctx w.took) g ∙ ap (λ x. by on unknown start x w.ctx a.ctx w.took) h
+    ∙ ap (λ x. by on unknown start exc x a.ctx w.took) i ∙ ap (λ x. by on unknown start exc ctx x w.took) j
+    ∙ ap (by on unknown start exc ctx ctx) k
 
 -- what is shown, and the state after it, by where the element leads
-abbrev pub shown : State → Entry → Led → Walk
-shown s entry (Err f) = Err f
-shown s entry (Ok o) =
+abbrev pub shown : Image → State → Entry → Led → Walk
+shown image s entry (Err f) = Err f
+shown image s entry (Ok o) =
     let start = start_of s entry.pre in let ctx = context_of s entry.pre in
     walk_by o.0 o.1 o.2 entry.pre.on (is_none start.at) (unwrap_or start.at 0) (mark_of entry.p0) ctx ctx
+    (takes image start.at entry.p0 o.0)
 
 -- an entry that is not refused at once is walked as its element leads
 record ByLed (image : Image) (s : State) (entry : Entry) (walk : Walk) : Type 0 where
   agrees : mismatch_of (pc_before s entry.pre) entry.pre.addr ≡ None
   led : Led
   is : IsLed image (start_of s entry.pre).at (start_of s entry.pre).stack entry.p0 led
-  same : walk ≡ shown s entry led
+  same : walk ≡ shown image s entry led
 
 by_led : (image : Image) (s : State) (entry : Entry) (walk : Walk) → IsWalk image s entry walk
     → ((f : WalkFault) × (mismatch_of (pc_before s entry.pre) entry.pre.addr ≡ Some f) × (walk ≡ Err f)) ⊎ ByLed image s entry walk
@@ -224,7 +230,7 @@ by_led image s entry (Ok w) p =
       agrees = p.agrees;
       led = Led-of w.0.count w.1.pc w.1.stack;
       is = p.leads;
-      same = same_walk w.0 w.1 _ _ _ _ _ p.on p.unknown p.start p.exc p.ctx p.kept;
+      same = same_walk w.0 w.1 _ _ _ _ _ _ p.on p.unknown p.start p.exc p.ctx p.kept p.took;
     })
 by_led image s entry (Err f) (inl p) = inl (f, p, refl)
 by_led image s entry (Err f) (inr p) = inr (record { agrees = p.0; led = Err f; is = p.1; same = refl })
@@ -238,6 +244,6 @@ one_walk image s entry walk other p q =
       ]
       | inr a ↦ elim (by_led image s entry other q) [
         | inl b ↦ absurd (let x = sym b.1 ∙ a.agrees in cc)
-        | inr b ↦ a.same ∙ ap (shown s entry) (one_led image _ _ entry.p0 a.led b.led a.is b.is) ∙ sym b.same
+        | inr b ↦ a.same ∙ ap (shown image s entry) (one_led image _ _ entry.p0 a.led b.led a.is b.is) ∙ sym b.same
       ]
     ]

@@ -166,9 +166,9 @@ start_is s pre state aligned =
 -- ---- one entry
 
 is_shown : (image : Image) (s : State) (entry : Entry) (led : Led) → mismatch_of (pc_before s entry.pre) entry.pre.addr ≡ None
-    → IsLed image (start_of s entry.pre).at (start_of s entry.pre).stack entry.p0 led → IsWalk image s entry (shown s entry led)
+    → IsLed image (start_of s entry.pre).at (start_of s entry.pre).stack entry.p0 led → IsWalk image s entry (shown image s entry led)
 is_shown image s entry (Ok o) agrees led = record
-    { agrees = agrees; leads = led; on = refl; unknown = refl; start = refl; ctx = refl; kept = refl; exc = refl }
+    { agrees = agrees; leads = led; on = refl; unknown = refl; start = refl; ctx = refl; kept = refl; exc = refl; took = refl }
 is_shown image s entry (Err f) agrees led = inr (agrees, led)
 
 pub some_walk : (image : Image) (s : State) (entry : Entry) → HasGap image → IsState s → HasAlignedAddresses entry → (walk : Walk) × IsWalk image s entry walk
@@ -178,5 +178,5 @@ some_walk image s entry gap state aligned =
       | inr agrees ↦
           let start = start_of s entry.pre in
           let led = some_led image start.at start.stack entry.p0 gap (start_is s entry.pre state aligned.0).at in
-          (shown s entry led.0, is_shown image s entry led.0 agrees led.1)
+          (shown image s entry led.0, is_shown image s entry led.0 agrees led.1)
     ]

@@ -1,9 +1,10 @@
 -- The walk of one entry over an image: what it shows and the state after it, or the fault with which it stops (Arm IHI 0064,
 -- "Descriptions of Trace Elements": the atom and exception elements). Which faults there are is this project's own choice.
-use Rattle.std.specs.Prelude.{◌≡◌, ◌≢◌, ◌⊎◌, ℕ, ◌+◌, ◌<◌, Bool, false, List, Option, Some, None, is_none, Result, Ok, Err, ⊤}
+use Rattle.std.specs.Prelude.{◌≡◌, ◌≢◌, ◌⊎◌, ℕ, ◌+◌, ◌-◌, ◌<◌, Bool, true, false, ◌&&◌}
+use Rattle.std.specs.Prelude.{List, Option, Some, None, is_none, Result, Ok, Err, ⊤}
 use Rattle.std.specs.Option.{unwrap_or}
 use Rattle.a64_branches.specs.declared.class.Class.{Class}
-use Rattle.a64_branches.specs.declared.class.Class.TheVariants.{Plain, Odd}
+use Rattle.a64_branches.specs.declared.class.Class.TheVariants.{Cond, Plain, Odd}
 use Rattle.program_image.specs.Blocks.{class_at, behind, IsPlainRun}
 use Rattle.program_image.specs.declared.image.Image.{Image}
 use Rattle.etm_types.specs.declared.element.P0.{P0}
@@ -79,13 +80,30 @@ abbrev pub mark_of : P0 → Option ExcMark
 mark_of (Atom taken) = None
 mark_of (Exc kind ret) = Some (record { kind = kind; ret = ret })
 
+abbrev pub is_cond : Option Class → Bool
+is_cond (Some (Cond offset)) = true
+is_cond class = false
+
+-- of so many instructions from an address on the element takes the last: it is an atom E, and that one is a conditional branch
+abbrev pub takes : Image → Option ℕ → P0 → ℕ → Bool
+takes image (Some address) (Atom taken) count = taken && is_cond (class_at image (behind address (count - 1)))
+takes image at p0 count = false
+
 -- an atom before which nothing was given but, where there is one, an address
 abbrev pub atom_at : Option ℕ → Bool → Entry
 atom_at addr taken = record { pre = record nothing_told { addr = addr }; p0 = Atom taken }
 
 -- the instructions of an atom that shows nothing else, in a context
 abbrev pub walked_in : Ctx → Stretch → Walked
-walked_in ctx stretch = record { on = false; unknown = false; ctx = ctx; start = stretch.start; count = stretch.count; exc = None }
+walked_in ctx stretch = record {
+  on = false;
+  unknown = false;
+  ctx = ctx;
+  start = stretch.start;
+  count = stretch.count;
+  took = stretch.took;
+  exc = None;
+}
 
 -- the entry is walked
 pub record Shows (image : Image) (s : State) (entry : Entry) (walked : Walked) (after : State) : Type 0 where
@@ -97,6 +115,7 @@ pub record Shows (image : Image) (s : State) (entry : Entry) (walked : Walked) (
   pub ctx : walked.ctx ≡ context_of s entry.pre
   pub kept : after.ctx ≡ context_of s entry.pre
   pub exc : walked.exc ≡ mark_of entry.p0
+  pub took : walked.took ≡ takes image (start_of s entry.pre).at entry.p0 walked.count
 
 -- the entry stops
 abbrev pub Stops : Image → State → Entry → WalkFault → Type 0

@@ -9,7 +9,7 @@ ghost use Rattle.return_stack.specs.Stack.{most_addresses};
 ghost use Rattle.path_walker.specs.State.{IsAligned, IsPc};
 ghost use Rattle.path_walker.specs.Steps.{next_of, stack_after, linked};
 ghost use Rattle.path_walker.specs.Leg.{IsLeg, IsAlignedLeg};
-ghost use Rattle.path_walker.specs.Walk.{Halts, ToldIsAligned, ReturnIsAligned};
+ghost use Rattle.path_walker.specs.Walk.{Halts, takes, ToldIsAligned, ReturnIsAligned};
 
 use crate::pc::Pc;
 use a64_branches::{Class, INSTRUCTION_BYTES, target};
@@ -22,6 +22,8 @@ use return_stack::ReturnStack;
 pub struct Leg {
     /// How many instructions are shown.
     pub count: u64,
+    /// Whether the last of them is a conditional branch, and is taken.
+    pub took: bool,
     pub next: Pc,
     /// The address that is put on the return stack, where one is.
     pub link: Option<u64>,
@@ -30,10 +32,11 @@ pub struct Leg {
 impl Leg {
     /// So many plain words, and an exception after them.
     fn to_exception(count: u64) -> Leg
-        ensures { result ≡ record { count = count; next = Awaited false; link = None } }
+        ensures { result ≡ record { count = count; took = false; next = Awaited false; link = None } }
     {
         Leg {
             count,
+            took: false,
             next: Pc::Awaited { pops: false },
             link: None,
         }
@@ -88,6 +91,7 @@ fn link_of(class: Class, addr: u64) -> Option<u64>
 pub fn leg_of_atom(image: &Image, pc: u64, taken: bool) -> Result<Leg, WalkFault>
     requires { pc % 4 ≡ 0 }
     ensures leads { IfOk result (IsLeg image.now (Some pc) (p0.Atom taken)) }
+    ensures took { IfOk result (λ leg. leg.took ≡ takes image.now (Some pc) (p0.Atom taken) leg.count) }
     ensures halts { (fault : WalkFault) → result ≡ Err fault → Halts image.now (Some pc) (p0.Atom taken) fault }
     ensures aligned { IfOk result IsAlignedLeg }
 {
@@ -99,6 +103,7 @@ pub fn leg_of_atom(image: &Image, pc: u64, taken: bool) -> Result<Leg, WalkFault
             None => Err(WalkFault::BadAtom(addr)),
             Some(next) => Ok(Leg {
                 count: block.plain + 1,
+                took: taken && matches!(class, Class::Cond { .. }),
                 next,
                 link: link_of(class, addr),
             }),
@@ -111,6 +116,7 @@ fn leg_of_exception(image: &Image, pc: u64, kind: u8, ret: u64) -> Result<Leg, W
     requires start { pc % 4 ≡ 0 }
     requires ret { ret % 4 ≡ 0 }
     ensures leads { IfOk result (IsLeg image.now (Some pc) (p0.Exc kind ret)) }
+    ensures took { IfOk result (λ leg. leg.took ≡ false) }
     ensures halts { (fault : WalkFault) → result ≡ Err fault → Halts image.now (Some pc) (p0.Exc kind ret) fault }
     ensures aligned { IfOk result IsAlignedLeg }
 {
@@ -131,6 +137,7 @@ pub fn leg_of(image: &Image, at: Option<u64>, p0: P0) -> Result<Leg, WalkFault>
     requires start { ToldIsAligned at }
     requires ret { ReturnIsAligned p0 }
     ensures leads { IfOk result (IsLeg image.now at p0) }
+    ensures took { IfOk result (λ leg. leg.took ≡ takes image.now at p0 leg.count) }
     ensures halts { (fault : WalkFault) → result ≡ Err fault → Halts image.now at p0 fault }
     ensures aligned { IfOk result IsAlignedLeg }
 {
@@ -139,6 +146,7 @@ pub fn leg_of(image: &Image, at: Option<u64>, p0: P0) -> Result<Leg, WalkFault>
         (Some(pc), P0::Exc { kind, ret }) => leg_of_exception(image, pc, kind, ret),
         (None, P0::Atom(_)) => Ok(Leg {
             count: 0,
+            took: false,
             next: Pc::Lost,
             link: None,
         }),

@@ -11,6 +11,8 @@ pub struct Stretch {
     pub start: u64,
     /// How many instructions there are, each 4 bytes after the one before, modulo 2^64.
     pub count: u64,
+    /// Whether the last one is a conditional branch, and was taken.
+    pub took: bool,
 }
 
 impl Stretch {
@@ -25,6 +27,7 @@ impl Stretch {
             ctx,
             start: self.start,
             count: self.count,
+            took: self.took,
             exc: None,
         }
     }

@@ -74,6 +74,7 @@ impl Walker {
             ctx,
             start: start.at.unwrap_or(0),
             count: leg.count,
+            took: leg.took,
             exc: mark_of(entry.p0),
         })
     }
@@ -102,6 +103,7 @@ impl Walker {
         Some(Stretch {
             start,
             count: leg.count,
+            took: leg.took,
         })
     }
 

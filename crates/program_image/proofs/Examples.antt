@@ -4,9 +4,10 @@ use Rattle.std.specs.Prelude.{codes, replicate}
 use Rattle.a64_branches.specs.declared.class.Class.TheVariants.{Plain}
 use Rattle.std.specs.Str.{is_utf8}
 use Rattle.a64_branches.specs.Classes.{class_of}
+use Rattle.hex.specs.Hex.{decode_pairs}
 use Rattle.program_image.specs.Part.{Part, word_of}
-use Rattle.program_image.specs.Line.{bytes_of, number_of, words_in}
-use Rattle.program_image.specs.ImageText.{add_bytes, add_line, add_lines, add_words, begin_part, by_address, growth_fault, has_between}
+use Rattle.line_words.specs.Line.{words_in}
+use Rattle.program_image.specs.ImageText.{add_bytes, add_line, add_lines, add_words, bytes_of, begin_part, by_address, growth_fault, has_between, image_of}
 use Rattle.program_image.specs.Blocks.{behind, class_at}
 use Rattle.program_image.specs.Runs.{IsRunLength, runs_of}
 use Rattle.program_image.specs.declared.fault.ImageWhy.TheVariants.{Syntax, Unaligned, Overlap, Wraps, TooLarge}
@@ -95,18 +96,9 @@ empty_shares_none = refl
 
 -- ---- lines
 
-seventeen_digits : number_of (codes "00000000000000004") ≡ None
-seventeen_digits = refl
-
-no_digits : number_of [] ≡ None
-no_digits = refl
-
 -- each word has whole bytes
 half_bytes : bytes_of (codes "1f2" ∷ codes "003" ∷ []) ≡ None
 half_bytes = refl
-
-words_by_spaces_and_tabs : words_in (9 ∷ 97 ∷ 32 ∷ 32 ∷ 98 ∷ 99 ∷ 32 ∷ []) ≡ (97 ∷ []) ∷ (98 ∷ 99 ∷ []) ∷ []
-words_by_spaces_and_tabs = refl
 
 -- a comment begins its line, but for spaces
 comment : add_words [] (words_in (codes "  #@2")) ≡ Ok []
@@ -128,6 +120,18 @@ in_order = refl
 
 put_before : by_address (part 0x2000 (here []) ∷ part 0x1000 (nop []) ∷ []) ≡ part 0x1000 (nop []) ∷ part 0x2000 (here []) ∷ []
 put_before = refl
+
+-- ---- texts
+
+-- two lines are a part of one word
+text_of_one_word : is_utf8 (codes "@1000") ≡ true → is_utf8 (codes "1f2003d5") ≡ true → image_of (codes "@1000\n1f2003d5\n") ≡ Ok (part 0x1000 (nop []) ∷ [])
+unfolding image_of decode_pairs
+text_of_one_word address word = rw (address, word) refl
+
+-- half a word
+text_of_half_a_word : is_utf8 (codes "@1000") ≡ true → is_utf8 (codes "1f20") ≡ true → image_of (codes "@1000\n1f20") ≡ Err (2, Unaligned)
+unfolding image_of decode_pairs
+text_of_half_a_word address half = rw (address, half) refl
 
 -- ---- words and runs
 

@@ -1,9 +1,5 @@
 pub mod Lists
-pub mod Cuts
-pub mod Utf8
 pub mod Digits
-pub mod Decimals
-pub mod Small
 pub mod TooLong
 pub mod Told
 pub mod Placed

@@ -19,28 +19,28 @@ use Rattle.hex.proofs.HexLemmas.{decode_of-encode_lower, decode_sized-encode_low
 use Rattle.byteorder.specs.Endian.{big_bytes, big_number}
 use Rattle.byteorder.specs.Numbers.{big_number-reads_back, length-bytes_high_first}
 use Rattle.program_image.specs.Part.{InOrder, IsImage, IsPart, Part, end_of, most_bytes, most_parts, total}
-use Rattle.program_image.specs.Line.{bytes_of, is_blank, number_of, padded, words_in}
-use Rattle.program_image.specs.ImageText.{◌>>=◌, add_bytes, add_line, add_lines, add_words, growth_fault}
+use Rattle.line_words.specs.Line.{is_blank, number_of, padded, words_in}
+use Rattle.program_image.specs.ImageText.{◌>>=◌, add_bytes, add_line, add_lines, add_words, bytes_of, growth_fault}
 use Rattle.program_image.specs.ImageText.{has_between, image_of, most_text, placed, sorted, unless}
 use Rattle.program_image.specs.Spelling.{address_line, bytes_line, text_of}
 use Rattle.program_image.specs.declared.fault.ImageWhy.{ImageWhy}
 use Rattle.program_image.specs.declared.fault.ImageWhy.TheVariants.{Syntax}
-use Rattle.program_image.proofs.Cuts.{before_parts, kept}
+use Rattle.line_words.proofs.Cuts.{before_parts, kept}
 use Rattle.program_image.proofs.Told.{IsByte}
 
 -- ---- the characters
 
-abbrev is_digit : ℕ → Bool
+abbrev pub is_digit : ℕ → Bool
 is_digit c = (nat_le 48 c && nat_le c 57) || (nat_le 97 c && nat_le c 102)
 
-abbrev IsDigit : ℕ → Type 0
+abbrev pub IsDigit : ℕ → Type 0
 IsDigit c = is_digit c ≡ true
 
 -- a character of a word: none of LF, CR, tab and space, and ASCII
-abbrev IsOfWord : ℕ → Type 0
+abbrev pub IsOfWord : ℕ → Type 0
 IsOfWord c = (33 ≤ c) × (c < 128)
 
-digit_of_word : (c : ℕ) → IsDigit c → IsOfWord c
+pub digit_of_word : (c : ℕ) → IsDigit c → IsOfWord c
 digit_of_word c digit =
     elim (or_cases (nat_le 48 c && nat_le c 57) (nat_le 97 c && nat_le c 102) digit) [
       | inl low ↦ let p = and_parts (nat_le 48 c) (nat_le c 57) low in let a = leb-true 48 c p.0 in let b = leb-true c 57 p.1 in (omega arith, omega arith)
@@ -54,7 +54,7 @@ digit_is_no c mark digit other = ne_eqb c mark (λ e. let same : true ≡ false 
 digit_at : (d : ℕ) → d < 16 → IsDigit (slice_index lower_digits d)
 digit_at d small = All-get_or IsDigit lower_digits d 0 small (AllPass-from_list_all is_digit lower_digits refl)
 
-digits_of : (bytes : List ℕ) → All IsByte bytes → All IsDigit (encode_lower bytes)
+pub digits_of : (bytes : List ℕ) → All IsByte bytes → All IsDigit (encode_lower bytes)
 unfolding encode_with
 digits_of [] fit = All-nil IsDigit
 digits_of (b ∷ rest) fit =
@@ -108,7 +108,7 @@ no_return : (line : List ℕ) → All IsOfWord line → strip_carriage_return li
 no_return line all = let test = ne_eqb (slice_index line (length line - 1)) 13 (last_or_zero line all) in rw test refl
 
 -- the first line of a text
-line_first : (line rest : List ℕ) → All IsOfWord line → lines (line ++ 10 ∷ rest) ≡ line ∷ lines rest
+pub line_first : (line rest : List ℕ) → All IsOfWord line → lines (line ++ 10 ∷ rest) ≡ line ∷ lines rest
 line_first line rest all =
     let cut = slice_split_at is_end line 10 rest (All-weaker IsOfWord (λ c. is_end c ≡ false) not_end line all) refl in
     ap lines_of_parts cut ∙ before_parts line is_end rest ∙ ap (λ (l : List ℕ). l ∷ lines rest) (no_return line all)
@@ -118,7 +118,7 @@ one_word line all some =
     ap (filter (λ word. nat_lt 0 (length word))) (slice_split_none is_blank line (All-weaker IsOfWord (λ c. is_blank c ≡ false) not_blank line all))
     ∙ kept line [] some
 
-line_of_word : (parts : List Part) (line : List ℕ) → All IsOfWord line → 0 < length line → add_line parts line ≡ add_words parts (line ∷ [])
+pub line_of_word : (parts : List Part) (line : List ℕ) → All IsOfWord line → 0 < length line → add_line parts line ≡ add_words parts (line ∷ [])
 line_of_word parts line all some =
     let utf8 = word_utf8 line all in
     rw utf8 (ap (add_words parts) (one_word line all some))
@@ -151,16 +151,16 @@ number_back start fits =
     let number : big_number 8 bytes ≡ start = ap (big_number 8) (sym (append-nil bytes)) ∙ big_number-reads_back 8 start [] fits in
     number_spelled (encode_lower bytes) bytes (omega (arith, len, digits)) decoded ∙ ap Some number
 
-address_chars : (part : Part) → All IsOfWord (address_line part)
+pub address_chars : (part : Part) → All IsOfWord (address_line part)
 address_chars part =
     let digits = digits_of (big_bytes 8 part.start) (bytes_fit 8 part.start) in
     All-cons IsOfWord 64 (encode_lower (big_bytes 8 part.start)) (omega arith, omega arith)
     (All-weaker IsDigit IsOfWord digit_of_word (encode_lower (big_bytes 8 part.start)) digits)
 
-abbrev begun : Part → Part
+abbrev pub begun : Part → Part
 begun part = record { start = part.start; bytes = [] }
 
-begins : (parts : List Part) (part : Part) → IsPart part → length parts < most_parts → add_line parts (address_line part) ≡ Ok (begun part ∷ parts)
+pub begins : (parts : List Part) (part : Part) → IsPart part → length parts < most_parts → add_line parts (address_line part) ≡ Ok (begun part ∷ parts)
 begins parts part is room =
     let fits : part.start < 2 ^ 64 = omega (arith, is.within, is.some) in
     let number = number_back part.start fits in
@@ -203,12 +203,12 @@ first_digit : (byte : ℕ) (bytes : List ℕ) → All IsByte (byte ∷ bytes) �
 unfolding encode_with
 first_digit byte bytes fit = let small : byte < 256 = All-head IsByte byte bytes fit in digit_at (byte / 16) (omega arith)
 
-first_of : (bytes : List ℕ) → 0 < length bytes → All IsByte bytes → IsDigit (slice_index (encode_lower bytes) 0)
+pub first_of : (bytes : List ℕ) → 0 < length bytes → All IsByte bytes → IsDigit (slice_index (encode_lower bytes) 0)
 first_of [] some fit = absurd (omega arith)
 first_of (byte ∷ bytes) some fit = first_digit byte bytes fit
 
 -- a word of digits is no comment and no address
-words_of_bytes : (parts : List Part) (word bytes : List ℕ) → IsDigit (slice_index word 0) → bytes_of (word ∷ []) ≡ Some bytes
+pub words_of_bytes : (parts : List Part) (word bytes : List ℕ) → IsDigit (slice_index word 0) → bytes_of (word ∷ []) ≡ Some bytes
     → add_words parts (word ∷ []) ≡ add_bytes parts bytes
 words_of_bytes parts word bytes first read =
     let comment = digit_is_no (slice_index word 0) 35 first refl in

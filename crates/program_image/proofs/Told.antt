@@ -13,8 +13,8 @@ use Rattle.hex.specs.Hex.{IsBytes, decode_of}
 use Rattle.hex.specs.declared.error.FromHexError.{FromHexError}
 use Rattle.hex.proofs.HexLemmas.{decode_of-ok}
 use Rattle.program_image.specs.Part.{Part, end_of, most_bytes, most_parts, total}
-use Rattle.program_image.specs.Line.{bytes_of, words_in}
-use Rattle.program_image.specs.ImageText.{◌>>=◌, add_bytes, add_line, add_lines, add_words}
+use Rattle.line_words.specs.Line.{words_in}
+use Rattle.program_image.specs.ImageText.{◌>>=◌, add_bytes, add_line, add_lines, add_words, bytes_of}
 use Rattle.program_image.specs.ImageText.{address_of, begin_part, growth_fault, has_between, then_lines, unless}
 use Rattle.program_image.specs.declared.fault.ImageWhy.{ImageWhy}
 use Rattle.program_image.specs.declared.fault.ImageWhy.TheVariants.{Syntax, Unaligned, Overlap, Wraps, TooLarge}

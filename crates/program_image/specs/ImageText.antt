@@ -2,11 +2,13 @@
 use Rattle.std.specs.Prelude.{ℕ, ◌+◌, ◌%◌, ◌^◌, ◌==◌, nat_le, nat_lt, min, max, not, Bool, List, []}
 use Rattle.std.specs.Prelude.{◌∷◌, ◌++◌, length, drop, fold, Option, Some, None, Result, Ok, Err, slice_index, if◌then◌else◌}
 use Rattle.std.specs.List.{insert, list_any, position_or_len}
-use Rattle.std.specs.Option.{ok_or}
+use Rattle.std.specs.Option.{ok_or, option_and_then, option_map}
+use Rattle.std.specs.Result.{result_ok}
 use Rattle.std.specs.Str.{is_utf8}
 use Rattle.std.specs.Str.Lines.{lines}
 use Rattle.program_image.specs.Part.{Part, end_of, total, most_bytes, most_parts}
-use Rattle.program_image.specs.Line.{bytes_of, number_of, words_in}
+use Rattle.hex.specs.Hex.{decode_of}
+use Rattle.line_words.specs.Line.{number_of, words_in}
 use Rattle.program_image.specs.declared.fault.ImageWhy.{ImageWhy}
 use Rattle.program_image.specs.declared.fault.ImageWhy.TheVariants.{Syntax, Unaligned, Overlap, Wraps, TooLarge, TooLong}
 
@@ -19,6 +21,11 @@ infixl 10 ◌>>=◌
 abbrev pub ◌>>=◌ : {A B : Type 0} → Result A ImageWhy → (A → Result B ImageWhy) → Result B ImageWhy
 Ok x >>= f = f x
 Err why >>= f = Err why
+
+-- the bytes that words of an even number of hex digits spell, two digits a byte
+abbrev pub bytes_of : List (List ℕ) → Option (List ℕ)
+bytes_of [] = Some []
+bytes_of (word ∷ words) = option_and_then (λ front. option_map (λ bytes. front ++ bytes) (bytes_of words)) (result_ok (decode_of word))
 
 -- The parts that lines began so far stand last first: bytes belong to the first of them.
 

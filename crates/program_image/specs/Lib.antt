@@ -1,5 +1,4 @@
 pub mod Part
-pub mod Line
 pub mod Faults
 pub mod ImageText
 pub mod FirstFault

@@ -2,14 +2,15 @@
 ghost use Rattle.std.specs.Prelude.{◌≡◌, ◌≤◌, ◌+◌, ◌∷◌, ◌++◌, [], length, reverse, nat_lt, IfOk};
 ghost use Rattle.std.specs.List.{list_any, position};
 ghost use Rattle.program_image.specs.Part.{total};
-ghost use Rattle.program_image.specs.Line.{words_in};
+ghost use Rattle.line_words.specs.Line.{words_in};
 ghost use Rattle.program_image.specs.ImageText.{add_bytes, add_line, address_of, begin_part, by_address, growth_fault, has_between, placed};
 ghost use Rattle.program_image.specs.Answers.{Answers};
 
 use crate::fault::{ImageWhy, LineFault};
+use crate::line_bytes::{SYNTAX, line_bytes};
 use crate::part::{ADDRESSES, Part};
-use crate::text::{SYNTAX, is_utf8, line_bytes, next_word, number};
 use a64_branches::INSTRUCTION_BYTES;
+use line_words::{is_utf8, next_word, number};
 use std::alloc::{AllocError, Global};
 use std::marker::Model;
 

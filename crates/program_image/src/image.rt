@@ -15,14 +15,20 @@ use crate::fault::{ImageFault, ImageWhy, LineFault};
 use crate::lookup::{part_at, word_at};
 use crate::part::Part;
 use crate::run_table::{Runs, table};
-use crate::text::next_line;
 use a64_branches::INSTRUCTION_BYTES;
+use line_words::NumberedLines;
 use std::alloc::Global;
 use std::marker::Model;
 use trace_io::{ReadAllFault, Source, read_all};
 
 /// The longest text that is read, in bytes: 64 MiB.
 const MOST_TEXT: usize = 64 << 20;
+
+/// A longer text; line 0 stands for the whole.
+const TOO_LONG: ImageFault = ImageFault::Bad {
+    line: 0,
+    why: ImageWhy::TooLong,
+};
 
 /// What a core's memory holds of its program.
 #[derive(Drop)]
@@ -65,15 +71,28 @@ impl Image {
         let text = match read_all(alloc, source, MOST_TEXT) {
             Ok(text) => text,
             Err(ReadAllFault::Failed) => return Err(ImageFault::ReadFault),
-            Err(ReadAllFault::TooLong) => {
-                return Err(ImageFault::Bad {
-                    line: 0,
-                    why: ImageWhy::TooLong,
-                });
-            }
+            Err(ReadAllFault::TooLong) => return Err(TOO_LONG),
             Err(ReadAllFault::Memory) => return Err(ImageFault::Memory),
         };
-        parse(alloc, &text)
+        Image::of_text(alloc, &text)
+    }
+
+    /// The image that a text spells.
+    ///
+    /// `Bad` has the first line that has a fault, and a text of more than 64 MiB is `TooLong` at line 0. `ReadFault` never
+    /// comes.
+    #[tactic(auto, unfolding(crate::specs::ImageText::image_of))]
+    pub fn of_text(alloc: Global, text: &[u8]) -> Result<Image, ImageFault>
+        ensures value { AnswersText (λ image. image) result (image_of text.now) }
+        ensures parts { IfOk result IsImage }
+    {
+        if text.len() > MOST_TEXT {
+            return Err(TOO_LONG);
+        }
+        let draft = draft_of(alloc, text)?;
+        let parts = draft.by_address(alloc).map_err(|_| ImageFault::Memory)?;
+        let table = table(alloc, &parts).map_err(|_| ImageFault::Memory)?;
+        Ok(Image { parts, table })
     }
 
     /// The instruction word at an address: none where no word begins there.
@@ -120,35 +139,18 @@ impl Image {
     }
 }
 
-/// The image that a text spells.
-#[tactic(auto, unfolding(crate::specs::ImageText::image_of))]
-fn parse(alloc: Global, text: &[u8]) -> Result<Image, ImageFault>
-    requires { length text.now ≤ MOST_TEXT }
-    ensures { AnswersText (λ image. image) result (image_of text.now) }
-{
-    let draft = draft_of(alloc, text)?;
-    let parts = draft.by_address(alloc).map_err(|_| ImageFault::Memory)?;
-    let table = table(alloc, &parts).map_err(|_| ImageFault::Memory)?;
-    Ok(Image { parts, table })
-}
-
 /// The parts that the lines of a text spell, in their order.
 fn draft_of(alloc: Global, text: &[u8]) -> Result<Draft, ImageFault>
-    requires { length text.now ≤ MOST_TEXT }
     ensures { AnswersText (λ draft. draft) result (add_lines 1 [] (lines text.now)) }
 {
     let mut draft = Draft::new(alloc);
-    let mut rest = text;
-    let mut number = 1;
-    while !rest.is_empty() {
-        let (line, after) = next_line(rest);
+    let mut lines = NumberedLines::new(text);
+    while let Some((number, line)) = lines.next() {
         draft = match draft.with_line(alloc, line) {
             Ok(next) => next,
             Err(LineFault::Bad(why)) => return Err(ImageFault::Bad { line: number, why }),
             Err(LineFault::Memory) => return Err(ImageFault::Memory),
         };
-        rest = after;
-        number += 1;
     }
     Ok(draft)
 }

@@ -6,10 +6,10 @@
 //! Lines without words, and those that begin with `#`, are passed over.
 //!
 //! The layer above uses these contracts:
-//! - [`Image::read`]: the image that a text spells, or the first line that has a fault, and which.
+//! - [`Image::of_text`]: the image that a text spells, or the first line that has a fault, and which.
+//! - [`Image::read`]: the same of the text that a source has left.
 //! - [`Image::word_at`]: the instruction word at an address.
 //! - [`Image::block`]: the plain words from an address on, and what stands after them.
-//! - [`text`]: the lines of a text, the words of a line, and the numbers of words.
 //! - the laws: what a text spells, and what holds of every image.
 #![tactic(auto)]
 
@@ -18,10 +18,10 @@ mod draft;
 mod fault;
 mod image;
 mod laws;
+mod line_bytes;
 mod lookup;
 mod part;
 mod run_table;
-pub mod text;
 
 pub use block::{Block, BlockEnd};
 pub use fault::{ImageFault, ImageWhy};

@@ -1,5 +1,4 @@
 //! Texts of images and what is read of them.
-use crate::text::{decimal, number};
 use crate::{Block, BlockEnd, Image, ImageFault, ImageWhy};
 use a64_branches::Class;
 use std::alloc::Global;
@@ -37,6 +36,21 @@ fn each_word_stands_at_its_address(rt: HostRuntime) -> Result<(), Fail> {
     for (addr, word) in words {
         assert_eq!(rt; image.word_at(addr), word);
     }
+    Ok(())
+}
+
+#[test]
+fn a_text_in_memory_is_read_as_from_a_source(rt: HostRuntime) -> Result<(), Fail> {
+    let alloc = rt.alloc();
+    let image = Image::of_text(alloc, b"@1000\n1f2003d5\n")?;
+    assert_eq!(rt; image.word_at(0x1000), Some(0xd503_201f));
+    let unaligned = ImageFault::Bad {
+        line: 2,
+        why: ImageWhy::Unaligned,
+    };
+    let refused = Image::of_text(alloc, b"@1000\n1f20\n");
+    assert!(rt; matches!(refused, Err(fault) if fault == unaligned));
+    assert!(rt; Image::of_text(alloc, b"").is_ok());
     Ok(())
 }
 
@@ -163,21 +177,4 @@ fn a_fault_has_its_number_and_its_word(rt: HostRuntime) {
     assert_eq!(rt; why.text(), "too-long");
     assert_eq!(rt; ImageFault::Bad { line: 0, why }.number(), 6);
     assert_eq!(rt; ImageFault::Memory.number(), 8);
-}
-
-#[test]
-fn a_word_spells_its_number(rt: HostRuntime) {
-    let words: [(&[u8], Option<u64>, Option<u64>); 7] = [
-        (b"0", Some(0), Some(0)),
-        (b"0000000012", Some(12), Some(0x12)),
-        (b"00000000012", None, Some(0x12)),
-        (b"9999999999", Some(9_999_999_999), Some(0x99_9999_9999)),
-        (b"fF", None, Some(0xff)),
-        (b"+1", None, None),
-        (b"", None, None),
-    ];
-    for (word, by_ten, by_sixteen) in words {
-        assert_eq!(rt; decimal(word), by_ten);
-        assert_eq!(rt; number(word), by_sixteen);
-    }
 }

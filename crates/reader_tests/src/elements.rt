@@ -1,5 +1,5 @@
 //! The packets of hand-made streams, with their elements worked out by hand.
-ghost use Rattle.std.specs.Prelude.{◌≤◌};
+ghost use Rattle.std.specs.Prelude.{◌<◌, ◌≤◌};
 ghost use Rattle.path_elements.specs.Held.{CanBeTaken};
 
 use etm_types::{AddrForm, AtomRun, Ctx, CtxBits, Elem, FewAtoms, P0};
@@ -42,6 +42,14 @@ fn taken() -> Packet
     ensures { CanBeTaken result }
 {
     Packet::Atoms(AtomRun { count: 1, bits: 1 })
+}
+
+/// An exception of a type, and whether its address is the target of what stood before too.
+fn exception(kind: u8, target: bool) -> Packet
+    requires { kind < 32 }
+    ensures { CanBeTaken result }
+{
+    Packet::Exc { kind, target }
 }
 
 /// An address in the 64-bit form, with its context.
@@ -136,7 +144,7 @@ fn an_exception_and_its_return(rt: HostRuntime) -> Result<(), Fail> {
         &start(0x1000, 0, true),
         &[Elem::Ctx(PROGRAM), Elem::Addr(0x1000)],
     )?;
-    gives(&rt, &mut maker, &Packet::Exc { kind: 14 }, &[])?;
+    gives(&rt, &mut maker, &exception(14, false), &[])?;
     gives(&rt, &mut maker, &short, &[Elem::P0(irq)])?;
     gives(
         &rt,
@@ -152,13 +160,42 @@ fn an_exception_and_its_return(rt: HostRuntime) -> Result<(), Fail> {
 }
 
 #[test]
+fn an_exception_at_its_target(rt: HostRuntime) -> Result<(), Fail> {
+    let mut maker = ElemMaker::new();
+    let newest = Packet::Addr {
+        form: AddrForm::Match(0),
+        ctx: None,
+    };
+    let irq = Elem::P0(P0::Exc {
+        kind: 14,
+        ret: 0x1000,
+    });
+    let place = Elem::Addr(0x1000);
+    gives(&rt, &mut maker, &info(None), &[NO_SPEC])?;
+    gives(&rt, &mut maker, &exception(14, true), &[])?;
+    gives(
+        &rt,
+        &mut maker,
+        &start(0x1000, 0, true),
+        &[Elem::Ctx(PROGRAM), place, irq],
+    )?;
+    gives(&rt, &mut maker, &exception(14, true), &[])?;
+    gives(&rt, &mut maker, &newest, &[place, irq])?;
+    gives(&rt, &mut maker, &exception(14, false), &[])?;
+    gives(&rt, &mut maker, &newest, &[irq])?;
+    gives(&rt, &mut maker, &exception(3, true), &[])?;
+    gives(&rt, &mut maker, &Packet::Discard, &[Elem::Discard])?;
+    gives(&rt, &mut maker, &newest, &[place])
+}
+
+#[test]
 fn an_exception_awaits_its_address(rt: HostRuntime) -> Result<(), Fail> {
     let mut maker = ElemMaker::new();
     gives(&rt, &mut maker, &info(None), &[NO_SPEC])?;
-    gives(&rt, &mut maker, &Packet::Exc { kind: 1 }, &[])?;
+    gives(&rt, &mut maker, &exception(1, false), &[])?;
     refuses(&rt, &mut maker, &info(None));
     refuses(&rt, &mut maker, &taken());
-    refuses(&rt, &mut maker, &Packet::Exc { kind: 1 });
+    refuses(&rt, &mut maker, &exception(1, false));
     gives(&rt, &mut maker, &Packet::Ignore, &[])?;
     gives(&rt, &mut maker, &Packet::Overflow, &[Elem::Overflow])?;
     gives(&rt, &mut maker, &taken(), &[TAKEN])

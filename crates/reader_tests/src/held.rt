@@ -77,12 +77,12 @@ fn the_oldest_are_committed(rt: HostRuntime) -> Result<(), Fail> {
 
 #[test]
 fn the_newest_are_taken_back(rt: HostRuntime) -> Result<(), Fail> {
-    let mut queue = Queue::new(rt.alloc(), 4096)?;
+    let mut queue = Queue::new(rt.alloc(), 16384)?;
     assert_eq!(rt; queue.flip(), Err(QueueFault::NoAtomToFlip { held: 0 }));
-    queue.push(TAKEN);
+    assert_eq!(rt; queue.push(TAKEN), None);
     queue.note(PreElem::Addr(0x3000));
-    queue.push(NOT_TAKEN);
-    queue.push(INTERRUPT);
+    assert_eq!(rt; queue.push(NOT_TAKEN), None);
+    assert_eq!(rt; queue.push(INTERRUPT), None);
     queue.note(PreElem::Addr(0x4000));
     assert_eq!(rt; queue.flip(), Err(QueueFault::NoAtomToFlip { held: 3 }));
     assert_eq!(rt;
@@ -95,10 +95,18 @@ fn the_newest_are_taken_back(rt: HostRuntime) -> Result<(), Fail> {
     queue.note(PreElem::Addr(0x5000));
     assert_eq!(rt; queue.flip(), Ok(()));
     assert_eq!(rt; queue.push(TAKEN), None);
-    queue.commit_one();
+    assert_eq!(rt; queue.commit_one(), seen(Pre::trace_missing(), TAKEN));
     assert_eq!(rt; queue.commit_one(), seen(given(Some(0x3000)), NOT_TAKEN));
     assert_eq!(rt; queue.commit_one(), seen(given(None), TAKEN));
-    queue.close();
+    assert_eq!(rt;
+        queue.close().counts(),
+        Counts {
+            made: 5,
+            committed: 3,
+            cancelled: 2,
+            lost: 0,
+        }
+    );
     Ok(())
 }
 
@@ -109,12 +117,12 @@ fn trace_is_missing_behind_what_was_not_seen(rt: HostRuntime) -> Result<(), Fail
     queue.note(PreElem::Addr(0x1000));
     assert_eq!(rt; queue.flip(), Ok(()));
     assert_eq!(rt; queue.cancel(1), Ok(()));
-    queue.push(TAKEN);
+    assert_eq!(rt; queue.push(TAKEN), None);
     queue.discard();
     assert_eq!(rt; queue.held(), 0);
-    queue.push(NOT_TAKEN);
+    assert_eq!(rt; queue.push(NOT_TAKEN), None);
     assert_eq!(rt; queue.commit_one(), seen(Pre::trace_missing(), NOT_TAKEN));
-    queue.push(TAKEN);
+    assert_eq!(rt; queue.push(TAKEN), None);
     assert_eq!(rt;
         queue.ledger(),
         Counts {
@@ -131,11 +139,11 @@ fn trace_is_missing_behind_what_was_not_seen(rt: HostRuntime) -> Result<(), Fail
 #[test]
 fn the_atom_that_is_committed_next_is_told(rt: HostRuntime) -> Result<(), Fail> {
     let mut queue = Queue::new(rt.alloc(), 2)?;
-    queue.push(INTERRUPT);
+    assert_eq!(rt; queue.push(INTERRUPT), None);
     assert_eq!(rt; queue.oldest_atom(), None);
-    queue.commit_one();
+    assert_eq!(rt; queue.commit_one(), seen(Pre::trace_missing(), INTERRUPT));
     queue.note(PreElem::Addr(0x1000));
-    queue.push(TAKEN);
+    assert_eq!(rt; queue.push(TAKEN), None);
     let oldest = Some(AtomEntry {
         addr: Some(0x1000),
         taken: true,
@@ -143,10 +151,10 @@ fn the_atom_that_is_committed_next_is_told(rt: HostRuntime) -> Result<(), Fail> 
     assert_eq!(rt; queue.oldest_atom(), oldest);
     assert_eq!(rt; queue.next_committed(false), None);
     assert!(rt; queue.has_room());
-    queue.push(NOT_TAKEN);
+    assert_eq!(rt; queue.push(NOT_TAKEN), None);
     assert!(rt; !queue.has_room());
     assert_eq!(rt; queue.next_committed(false), oldest);
-    queue.close();
+    assert_eq!(rt; queue.close().counts().lost, 2);
     Ok(())
 }
 

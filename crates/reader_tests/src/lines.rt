@@ -36,6 +36,7 @@ fn block(start: u64, count: u64) -> Walked {
         ctx: user(),
         start,
         count,
+        took: false,
         exc: None,
     }
 }

@@ -52,6 +52,13 @@ fn packets_end_with_their_last_byte(rt: HostRuntime) {
                 low: 0xffff_ffff_ffff_ffff,
             },
         ),
+        (
+            &[0x06, 0x5c][..],
+            Packet::Exc {
+                kind: 14,
+                target: true,
+            },
+        ),
         (&[0xf7][..], Packet::Atoms(AtomRun { count: 1, bits: 1 })),
     ] {
         assert_eq!(rt; last_answer(bytes), Some(Step::Whole { at: 12, packet }));
@@ -68,6 +75,7 @@ fn faults_come_with_the_byte_that_shows_them(rt: HostRuntime) {
         ),
         (&[0x01, 0x01, 0x85, 0x01][..], PacketFault::InfoMode(133)),
         (&[0x00, 0x00, 0x01][..], PacketFault::BrokenSync),
+        (&[0x06, 0x5d][..], PacketFault::ExceptionForm(0x5d)),
     ] {
         assert_eq!(rt; last_answer(bytes), Some(Step::Bad { at: 12, fault }));
     }

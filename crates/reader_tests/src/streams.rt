@@ -3,9 +3,10 @@ use element_queue::Counts;
 use etm_types::{Id, Settings};
 use program_image::Image;
 use std::alloc::Global;
+use std::process::Abort;
 use std::test::Fail;
 use stream_decoder::*;
-use trace_io::{MemSink, SafeSource};
+use trace_io::{Failed, MemSink, SafeSource};
 
 /// A NOP, a conditional branch to 100c, a NOP, and a branch to 1000.
 const IMAGE: &[u8] = b"@1000\n1f2003d5 40000054 1f2003d5 fdffff17\n";
@@ -22,23 +23,26 @@ const MOST_BYTES: u64 = 100;
 /// What is printed of `HEAD` and two atoms E.
 const LINES: &[u8] = b"01 on\n01 ctx el0 s 0 0\n01 1000\n01 1004\n";
 
-/// A decoder of a depth that took these bytes behind `HEAD`.
+fn code(alloc: Global) -> Result<Image, Fail> {
+    let mut text = SafeSource::new(IMAGE.to_vec(alloc)?, 4096);
+    Ok(Image::read(alloc, &mut text).ok().ok_or("it is an image")?)
+}
+
+/// A decoder of a depth that took these bytes behind `HEAD`, where no write failed.
 fn decoder_at(
+    rt: &impl Abort,
     alloc: Global,
     depth: u32,
     bytes: &[u8],
     sink: &mut MemSink,
 ) -> Result<StreamDecoder, Fail> {
     let settings = Settings::new(depth, 1, 4).ok().ok_or("they are settings")?;
-    let image = Image::read(alloc, &mut SafeSource::new(IMAGE.to_vec(alloc)?, 4096))
-        .ok()
-        .ok_or("it is an image")?;
+    let image = code(alloc)?;
     let id = Id::new(1).ok_or("it is an ID")?;
     let mut decoder = StreamDecoder::new(alloc, &settings)?;
     for byte in HEAD.iter().chain(bytes) {
-        if !decoder.broken() && decoder.taken() < MOST_BYTES {
-            let _ = decoder.take(&image, id, *byte, sink);
-        }
+        assert!(rt; !decoder.broken() && decoder.taken() < MOST_BYTES);
+        assert_eq!(rt; decoder.take(&image, id, *byte, sink), Ok(()));
     }
     Ok(decoder)
 }
@@ -52,7 +56,13 @@ fn counts_of(decoder: StreamDecoder) -> (Counts, Counts) {
 #[test]
 fn a_walk_fault_within_a_commit(rt: HostRuntime) -> Result<(), Fail> {
     let mut sink = MemSink::new(rt.alloc(), Vec::new(rt.alloc()));
-    let decoder = decoder_at(rt.alloc(), 4, &[0xf7, 0xf6, 0xf7, 0x2d, 0x03], &mut sink)?;
+    let decoder = decoder_at(
+        &rt,
+        rt.alloc(),
+        4,
+        &[0xf7, 0xf6, 0xf7, 0x2d, 0x03],
+        &mut sink,
+    )?;
     assert_eq!(rt; decoder.taken(), 31);
     assert_eq!(rt; sink.written(), LINES);
     let (before, after) = counts_of(decoder);
@@ -65,14 +75,9 @@ fn a_walk_fault_within_a_commit(rt: HostRuntime) -> Result<(), Fail> {
 fn a_stream_that_ends_with_a_fault(rt: HostRuntime) -> Result<(), Fail> {
     let mut sink = MemSink::new(rt.alloc(), Vec::new(rt.alloc()));
     let id = Id::new(1).ok_or("it is an ID")?;
-    let decoder = decoder_at(rt.alloc(), 4, &[0xf7, 0xf7, 0x2d, 0x03], &mut sink)?;
-    let whole = if decoder.broken() {
-        decoder.abandon();
-        None
-    } else {
-        decoder.finish(id, &mut sink).ok()
-    };
-    assert_eq!(rt; whole, Some(false));
+    let decoder = decoder_at(&rt, rt.alloc(), 4, &[0xf7, 0xf7, 0x2d, 0x03], &mut sink)?;
+    assert!(rt; !decoder.broken());
+    assert_eq!(rt; decoder.finish(id, &mut sink), Ok(false));
     assert_eq!(rt;
         sink.written(),
         b"01 fault 28 commit-overrun 3 2\n".as_slice()
@@ -84,6 +89,7 @@ fn a_stream_that_ends_with_a_fault(rt: HostRuntime) -> Result<(), Fail> {
 fn atoms_that_are_cancelled_or_lost(rt: HostRuntime) -> Result<(), Fail> {
     let mut sink = MemSink::new(rt.alloc(), Vec::new(rt.alloc()));
     let cancelled = decoder_at(
+        &rt,
         rt.alloc(),
         4,
         &[0xf7, 0xf7, 0xf7, 0x2e, 0x02, 0xf7],
@@ -95,7 +101,7 @@ fn atoms_that_are_cancelled_or_lost(rt: HostRuntime) -> Result<(), Fail> {
         (4, 0, 2, 0)
     );
     assert_eq!(rt; last.lost, 2);
-    let lost = decoder_at(rt.alloc(), 4, &[0xf7, 0xf7, 0x00, 0x05], &mut sink)?;
+    let lost = decoder_at(&rt, rt.alloc(), 4, &[0xf7, 0xf7, 0x00, 0x05], &mut sink)?;
     let (counts, _) = counts_of(lost);
     assert_eq!(rt;
         (counts.made, counts.committed, counts.cancelled, counts.lost),
@@ -108,7 +114,7 @@ fn atoms_that_are_cancelled_or_lost(rt: HostRuntime) -> Result<(), Fail> {
 #[test]
 fn what_a_fault_leaves_is_counted(rt: HostRuntime) -> Result<(), Fail> {
     let mut sink = MemSink::new(rt.alloc(), Vec::new(rt.alloc()));
-    let walk = decoder_at(rt.alloc(), 0, &[0xf9], &mut sink)?;
+    let walk = decoder_at(&rt, rt.alloc(), 0, &[0xf9], &mut sink)?;
     assert_eq!(rt;
         sink.written(),
         b"01 on\n01 ctx el0 s 0 0\n01 1000\n01 1004\n".as_slice()
@@ -120,7 +126,7 @@ fn what_a_fault_leaves_is_counted(rt: HostRuntime) -> Result<(), Fail> {
     );
     assert_eq!(rt; (last.made, last.committed, last.lost), (2, 2, 0));
     for bytes in [[0xf7, 0xf7, 0xa0].as_slice(), &[0xf7, 0xf7, 0x2d, 0x03]] {
-        let decoder = decoder_at(rt.alloc(), 4, bytes, &mut sink)?;
+        let decoder = decoder_at(&rt, rt.alloc(), 4, bytes, &mut sink)?;
         let (counts, last) = counts_of(decoder);
         assert_eq!(rt;
             (counts.made, counts.committed, counts.cancelled, counts.lost),
@@ -136,9 +142,14 @@ fn a_write_that_fails(rt: HostRuntime) -> Result<(), Fail> {
     let mut fails = Vec::new(rt.alloc());
     fails.push(true)?;
     let mut sink = MemSink::new(rt.alloc(), fails);
-    let decoder = decoder_at(rt.alloc(), 0, &[0xf7], &mut sink)?;
+    let image = code(rt.alloc())?;
+    let id = Id::new(1).ok_or("it is an ID")?;
+    let mut decoder = decoder_at(&rt, rt.alloc(), 0, &[], &mut sink)?;
+    assert!(rt; !decoder.broken() && decoder.taken() < MOST_BYTES);
+    assert_eq!(rt; decoder.take(&image, id, 0xf7, &mut sink), Err(Failed));
     assert!(rt; decoder.broken());
     let (_, last) = counts_of(decoder);
     assert_eq!(rt; (last.made, last.committed), (1, 1));
+    assert!(rt; sink.written().is_empty());
     Ok(())
 }

@@ -98,7 +98,16 @@ fn run(ctx: Ctx, start: u64, count: u64) -> Walked {
         ctx,
         start,
         count,
+        took: false,
         exc: None,
+    }
+}
+
+/// The last of them is a conditional branch, and was taken.
+fn taken(walked: Walked) -> Walked {
+    Walked {
+        took: true,
+        ..walked
     }
 }
 
@@ -147,7 +156,7 @@ fn an_exception_comes_back(rt: HostRuntime) -> Result<(), Fail> {
     };
     assert_eq!(rt;
         walk(&rt, &mut walker, &code, pre, TAKEN),
-        Ok(run(user, 0x1004, 1))
+        Ok(taken(run(user, 0x1004, 1)))
     );
     Ok(())
 }
@@ -208,7 +217,7 @@ fn a_fault_leaves_a_known_place_as_it_was(rt: HostRuntime) -> Result<(), Fail> {
     let pre = begin(0x1000, EL0);
     assert_eq!(rt;
         walk(&rt, &mut walker, &image, pre, TAKEN),
-        Ok(first(run(EL0, 0x1000, 2)))
+        Ok(first(taken(run(EL0, 0x1000, 2))))
     );
     let mismatch = WalkFault::AddressMismatch {
         known: 0x100c,
@@ -237,7 +246,10 @@ fn fifteen_return_addresses_are_kept(rt: HostRuntime) -> Result<(), Fail> {
     for _ in 0..16 {
         let p0 = P0::Atom(false);
         assert!(rt;
-            matches!(walk(&rt, &mut walker, &image, pre, p0), Ok(walked) if walked.start == 0x7000)
+            matches!(
+                walk(&rt, &mut walker, &image, pre, p0),
+                Ok(walked) if walked.start == 0x7000 && !walked.took
+            )
         );
         pre = nothing;
         assert_eq!(rt;
@@ -247,7 +259,7 @@ fn fifteen_return_addresses_are_kept(rt: HostRuntime) -> Result<(), Fail> {
     }
     assert_eq!(rt;
         walk(&rt, &mut walker, &image, pre, TAKEN),
-        Ok(run(EL0, 0x7000, 1))
+        Ok(taken(run(EL0, 0x7000, 1)))
     );
     for _ in 0..16 {
         assert_eq!(rt;

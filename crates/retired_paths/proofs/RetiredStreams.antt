@@ -17,7 +17,6 @@ use Rattle.program_image.specs.declared.image.Image.{Image}
 use Rattle.spec_run.proofs.EventsJoined.{events_front}
 use Rattle.spec_run.specs.RunAfter.{AreEvents, IsEvent, run_after}
 use Rattle.spec_run.specs.Runs.{Execution}
-use Rattle.spec_run.specs.Stands.{Kept, StandsAt}
 use Rattle.spec_run.specs.declared.event.Event.{Event}
 use Rattle.spec_run.specs.declared.run_fault.RunFault.{RunFault}
 use Rattle.retired_paths.proofs.Refused.{all_lines, dropped_next, events_next, events_whole, not_below}
@@ -165,16 +164,6 @@ stream_behind image depth streams k stream text all e is =
     ∙ stream_between image depth streams k stream text all e is
 
 -- ---- the answer
-
--- a run of these settings has their depth
-pub depth_of_run : (image : Image) (given settings : Sizes) (run : Kept) → ((image : Image) → StandsAt image given run []) → given ≡ settings
-    → run.depth ≡ settings.depth
-depth_of_run image given settings run stands same = (stands image).depth ∙ ap (λ (s : Sizes). s.depth) same
-
--- what is found first of a run of this depth
-pub found_first : (image : Image) (b : BenchParts) (depth : ℕ) (found : Option (ℕ × BenchWhy)) → found ≡ refusal_among image depth b.streams
-    → depth ≡ b.settings.depth → refusal_among image b.settings.depth b.streams ≡ found
-found_first image b depth found is same = sym (is ∙ ap (λ d. refusal_among image d b.streams) same)
 
 pub bench_refused : (image : Image) (text : List ℕ) (b : BenchParts) (fault : ℕ × BenchWhy) → length text ≤ most_text → parsed text ≡ Ok b
     → refusal_among image b.settings.depth b.streams ≡ Some fault → bench_of image text ≡ Err fault

@@ -27,7 +27,6 @@ fn run_line(run: &mut Run, image: &Image, line: &BenchLine) -> Result<(), RunFau
         → StandsAt image.now s run.new (events_with events line.now.times line.now.event) }
     ensures refused { (s : Sizes) (events : List Event) → StandsAt image.now s run.old events
         → (fault : RunFault) → result ≡ Err fault → RefusesLine image.now s events line.now fault }
-    ensures depth { run.new.depth ≡ run.old.depth }
 {
     for _ in 0..line.times {
         run.apply(image, &line.event)?;
@@ -37,9 +36,8 @@ fn run_line(run: &mut Run, image: &Image, line: &BenchLine) -> Result<(), RunFau
 
 /// The first line of a stream whose event is refused, and why.
 fn stream_refusal(run: &mut Run, image: &Image, bench: &Bench, s: usize) -> Option<(u64, RunFault)>
-    ensures value { (sizes : Sizes) (stream : BenchStream) → slice_get bench.now.streams s ≡ Some stream
+    ensures { (sizes : Sizes) (stream : BenchStream) → slice_get bench.now.streams s ≡ Some stream
         → StandsAt image.now sizes run.old [] → bad_line result ≡ stream_refusal image.now sizes.depth stream }
-    ensures depth { run.new.depth ≡ run.old.depth }
 {
     let mut k = 0;
     while let Some(line) = bench.line_at(s, k) {
@@ -53,11 +51,10 @@ fn stream_refusal(run: &mut Run, image: &Image, bench: &Bench, s: usize) -> Opti
 
 /// The first line whose event is refused, and why.
 fn first_refusal(run: &mut Run, image: &Image, bench: &Bench) -> Option<(u64, RunFault)>
-    ensures value { bad_line result ≡ refusal_among image.now run.old.depth bench.now.streams }
-    ensures depth { run.new.depth ≡ run.old.depth }
+    ensures { bad_line result ≡ refusal_among image.now bench.now.settings.depth bench.now.streams }
 {
     for s in 0..bench.streams() {
-        run.restart();
+        run.restart(bench.settings());
         let refusal = stream_refusal(run, image, bench, s);
         if refusal.is_some() {
             return refusal;
@@ -76,10 +73,9 @@ fn print_stream<K: Sink>(
 ) -> Result<(), Failed>
     requires { (sizes : Sizes) × (stream : BenchStream) × (slice_get bench.now.streams s ≡ Some stream)
         × CanGoOn image.now sizes retiring.old [] (events_of stream.lines) }
-    ensures prints { (sizes : Sizes) (stream : BenchStream) → slice_get bench.now.streams s ≡ Some stream
+    ensures { (sizes : Sizes) (stream : BenchStream) → slice_get bench.now.streams s ≡ Some stream
         → CanGoOn image.now sizes retiring.old [] (events_of stream.lines)
         → Writes (K.state out.old) (K.state out.new) result (stream_text image.now sizes.depth stream) }
-    ensures depth { (retiring.new.run.depth ≡ retiring.old.run.depth) × (retiring.new.depth ≡ retiring.old.depth) }
 {
     let Some(id) = bench.id_at(s) else {
         unreachable!()
@@ -102,11 +98,10 @@ fn print_retired<K: Sink>(
     requires gap { HasGap image.now }
     requires parts { IsBench bench.now }
     requires accepted { refusal_among image.now bench.now.settings.depth bench.now.streams ≡ None }
-    requires depth { (retiring.old.run.depth ≡ bench.now.settings.depth) × (retiring.old.depth ≡ bench.now.settings.depth) }
     ensures { Writes (K.state out.old) (K.state out.new) result (retired_text image.now bench.now) }
 {
     for s in 0..bench.streams() {
-        retiring.restart();
+        retiring.restart(bench.settings());
         print_stream(retiring, image, bench, s, out)?;
     }
     Ok(())
@@ -141,11 +136,6 @@ pub fn retire_input<J: Source, K: Sink>(
     }
     // No image has a word at each address, as the contract of this call tells: no block of it is without end.
     let _block = image.block(0);
-    print_retired(
-        &mut Retiring::new(run, bench.settings().depth()),
-        image,
-        &bench,
-        out,
-    )?;
+    print_retired(&mut Retiring::new(run), image, &bench, out)?;
     Ok(Status::Done)
 }

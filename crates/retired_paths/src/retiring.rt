@@ -12,7 +12,7 @@ ghost use Rattle.retired_paths.specs.Retiring.{CanGoOn, CanRetire, CanShow, IsRe
 ghost use Rattle.retired_paths.specs.Retiring.{asked, events_with, items_done};
 
 use bench_text::BenchLine;
-use etm_types::{Ctx, Id};
+use etm_types::{Ctx, Id, Settings};
 use path_text::{write_gap, write_stop, write_walked};
 use program_image::Image;
 use spec_run::{Done, Event, RetiredPath, Run, RunStep};
@@ -30,25 +30,24 @@ pub struct Retiring {
 }
 
 impl Retiring {
-    /// Nothing is printed yet.
-    pub fn new(run: Run, depth: u32) -> Retiring
-        ensures { (result.run ≡ run) × (result.depth ≡ depth) }
+    /// What prints the retired paths of streams, one after the other: `restart` begins each.
+    pub fn new(run: Run) -> Retiring
+        ensures { result.run ≡ run }
     {
         Retiring {
             run,
-            depth,
+            depth: 0,
             path: RetiredPath::new(),
             shown: None,
         }
     }
 
-    /// Forgets what was run and printed.
-    pub fn restart(&mut self)
-        ensures stands { (image : List Part) (s : Sizes) → self.old.run.depth ≡ s.depth → self.old.depth ≡ s.depth
-            → IsRetiring image s self.new [] }
-        ensures depth { (self.new.run.depth ≡ self.old.run.depth) × (self.new.depth ≡ self.old.depth) }
+    /// Forgets what was run and printed, and begins a stream of these settings.
+    pub fn restart(&mut self, settings: &Settings)
+        ensures { (image : List Part) → IsRetiring image settings.now self.new [] }
     {
-        self.run.restart();
+        self.run.restart(settings);
+        self.depth = settings.depth();
         self.path.begin();
         self.shown = None;
     }
@@ -63,11 +62,10 @@ impl Retiring {
     ) -> Result<(), Failed>
         requires { (s : Sizes) × (events : List Event)
             × CanGoOn image.now s self.old events (events_with events line.now.times line.now.event) }
-        ensures prints { (s : Sizes) (events : List Event)
+        ensures { (s : Sizes) (events : List Event)
             → CanGoOn image.now s self.old events (events_with events line.now.times line.now.event)
             → PrintsRetired image.now s id self.old events self.new (events_with events line.now.times line.now.event)
             (K.state out.old) (K.state out.new) result }
-        ensures depth { (self.new.run.depth ≡ self.old.run.depth) × (self.new.depth ≡ self.old.depth) }
     {
         for _ in 0..line.times {
             self.print_event(image, id, &line.event, out)?;
@@ -84,10 +82,9 @@ impl Retiring {
         out: &mut K,
     ) -> Result<(), Failed>
         requires { (s : Sizes) × (events : List Event) × CanGoOn image.now s self.old events (events ++ event.now ∷ []) }
-        ensures prints { (s : Sizes) (events : List Event) → CanGoOn image.now s self.old events (events ++ event.now ∷ [])
+        ensures { (s : Sizes) (events : List Event) → CanGoOn image.now s self.old events (events ++ event.now ∷ [])
             → PrintsRetired image.now s id self.old events self.new (events ++ event.now ∷ [])
             (K.state out.old) (K.state out.new) result }
-        ensures depth { (self.new.run.depth ≡ self.old.run.depth) × (self.new.depth ≡ self.old.depth) }
     {
         self.print_oldest(id, asked(event), out)?;
         let Ok(done) = self.run.apply(image, event) else {

@@ -38,7 +38,17 @@ fn block(on: bool, ctx: Ctx, start: u64, count: u64) -> Option<Walked> {
         ctx,
         start,
         count,
+        took: false,
         exc: None,
+    })
+}
+
+/// A block whose last instruction is a conditional branch, and was taken.
+fn taken(block: Option<Walked>) -> Option<Walked> {
+    let walked = block?;
+    Some(Walked {
+        took: true,
+        ..walked
     })
 }
 
@@ -65,7 +75,7 @@ fn two_blocks_and_a_plain_step(rt: HostRuntime) {
     );
     assert_eq!(rt;
         path.retire(&step(0x1008, PROGRAM, StepKind::Cond { taken: true }, 0x1010)),
-        block(true, PROGRAM, 0x1000, 3)
+        taken(block(true, PROGRAM, 0x1000, 3))
     );
     assert_eq!(rt;
         path.retire(&step(0x1010, PROGRAM, StepKind::Plain, 0x1014)),
@@ -84,6 +94,10 @@ fn two_blocks_and_a_plain_step(rt: HostRuntime) {
     assert_eq!(rt;
         path.retire(&step(0x2000, PROGRAM, StepKind::Jump, 0x2000)),
         block(true, PROGRAM, 0x2000, 1)
+    );
+    assert_eq!(rt;
+        path.retire(&step(0x2000, PROGRAM, StepKind::Cond { taken: false }, 0x2004)),
+        block(false, PROGRAM, 0x2000, 1)
     );
 }
 

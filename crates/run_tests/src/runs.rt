@@ -235,3 +235,20 @@ fn at_depth_0_each_step_is_retired_at_once(rt: HostRuntime) -> Result<(), Fail> 
     assert_eq!(rt; run.check(&image, &Event::Cancel(1)), Err(cancel));
     Ok(())
 }
+
+#[test]
+fn a_run_begins_anew_with_other_settings(rt: HostRuntime) -> Result<(), Fail> {
+    let image = read(rt.alloc(), CODE)?;
+    let mut run = run_of(rt.alloc(), 4)?;
+    let deep = Err(RunFault::TooDeep { p0: 2, depth: 1 });
+    for (depth, unretired, answer) in [(1, 1, deep), (2, 1, Ok(())), (0, 0, Ok(())), (1, 1, deep)] {
+        let settings = Settings::new(depth, 4, 4).ok().ok_or("these are settings")?;
+        run.restart(&settings);
+        assert_eq!(rt; (run.pc(), run.unretired()), (None, 0));
+        assert!(rt; run.apply(&image, &on(0x1008, EL0)).is_ok());
+        assert!(rt; run.apply(&image, &Event::NotTaken).is_ok());
+        assert_eq!(rt; run.unretired(), unretired);
+        assert_eq!(rt; run.check(&image, &Event::Taken), answer);
+    }
+    Ok(())
+}

@@ -131,7 +131,7 @@ fn a_fault_tells_its_line(rt: HostRuntime) {
 }
 
 #[test]
-fn what_a_run_refuses_is_read(rt: HostRuntime) {
+fn no_event_is_tried_as_a_text_is_read(rt: HostRuntime) {
     let texts: [&[u8]; 5] = [
         b"etm 1\nstream 01\nstep\n",
         b"etm 1\nstream 01\non 1000 el0 s 0 0\ntaken\n",

@@ -12,7 +12,7 @@ use Rattle.spec_run.specs.Stands.{OpenBlock, begun_behind, shown_by}
 use Rattle.spec_run.specs.declared.effect.Effect.TheVariants as effect
 use Rattle.spec_run.specs.declared.step.RunStep.{RunStep}
 use Rattle.spec_run.specs.declared.step.StepKind.{StepKind}
-use Rattle.spec_run.specs.declared.step.StepKind.TheVariants.{Plain, Cond, Ind, Eret, Exc}
+use Rattle.spec_run.specs.declared.step.StepKind.TheVariants.{Plain, Jump, Cond, Ind, Eret, Exc}
 
 -- ---- the steps
 
@@ -28,6 +28,14 @@ step addr ctx kind next = record { addr = addr; ctx = ctx; kind = kind; next = n
 -- NOP; NOP; B.EQ to 1010
 abbrev branch_block : List RunStep
 branch_block = step 0x1000 program Plain 0x1004 ∷ step 0x1004 program Plain 0x1008 ∷ step 0x1008 program (Cond true) 0x1010 ∷ []
+
+-- the same, where B.EQ goes on at the next word
+abbrev passed_block : List RunStep
+passed_block = step 0x1000 program Plain 0x1004 ∷ step 0x1004 program Plain 0x1008 ∷ step 0x1008 program (Cond false) 0x100c ∷ []
+
+-- B
+abbrev jump : RunStep
+jump = step 0x100c program Jump 0x1000
 
 -- NOP; RET to 1000
 abbrev return_block : List RunStep
@@ -50,13 +58,16 @@ abbrev interrupted : List RunStep
 interrupted = step 0x2000 program Plain 0x2004 ∷ step 0x2004 program (Exc 14) 0x8000 ∷ []
 
 abbrev at : ℕ → Item
-at addr = item.Instr addr program
+at addr = item.Instr addr program false
 
 abbrev in_handler : ℕ → Item
-in_handler addr = item.Instr addr handler
+in_handler addr = item.Instr addr handler false
 
 abbrev branch_items : List Item
-branch_items = at 0x1000 ∷ at 0x1004 ∷ at 0x1008 ∷ []
+branch_items = at 0x1000 ∷ at 0x1004 ∷ item.Instr 0x1008 program true ∷ []
+
+abbrev passed_items : List Item
+passed_items = at 0x1000 ∷ at 0x1004 ∷ at 0x1008 ∷ []
 
 abbrev return_items : List Item
 return_items = at 0x1010 ∷ at 0x1014 ∷ []
@@ -71,6 +82,22 @@ trace_is_on_once = λ e. let a = ap length e in cc
 
 pub trace_is_on_first : stretch_items (branch_block ++ return_block) ≡ branch_items ++ return_items → ⊥
 trace_is_on_first = λ e. cc
+
+-- only the conditional branch that was taken is marked as one: not where it goes on at the next word, and no other P0 step
+pub a_branch_that_falls_through : stretch_items (passed_block ++ jump ∷ []) ≡ item.On ∷ (passed_items ++ at 0x100c ∷ [])
+a_branch_that_falls_through = refl
+
+pub a_taken_branch_is_marked : stretch_items branch_block ≡ item.On ∷ passed_items → ⊥
+a_taken_branch_is_marked = λ e. cc
+
+pub one_that_falls_through_is_not : stretch_items passed_block ≡ item.On ∷ branch_items → ⊥
+one_that_falls_through_is_not = λ e. cc
+
+pub a_jump_is_not : stretch_items (jump ∷ []) ≡ item.On ∷ item.Instr 0x100c program true ∷ [] → ⊥
+a_jump_is_not = λ e. cc
+
+pub a_return_is_not : stretch_items return_block ≡ item.On ∷ at 0x1010 ∷ item.Instr 0x1014 program true ∷ [] → ⊥
+a_return_is_not = λ e. cc
 
 -- the plain step behind the last P0 step is cut
 pub cut_behind_a_branch : stretch_items (branch_block ++ return_block ++ first_nop ∷ []) ≡ item.On ∷ (branch_items ++ return_items)
@@ -160,14 +187,14 @@ items_given [] = []
 items_given (w ∷ walked) = items_of w ++ items_given walked
 
 pub two_blocks_given : given at_first (branch_block ++ return_block ++ first_nop ∷ [])
-    ≡ record { on = true; unknown = false; ctx = program; start = 0x1000; count = 3; exc = None }
-    ∷ record { on = false; unknown = false; ctx = program; start = 0x1010; count = 2; exc = None } ∷ []
+    ≡ record { on = true; unknown = false; ctx = program; start = 0x1000; count = 3; took = true; exc = None }
+    ∷ record { on = false; unknown = false; ctx = program; start = 0x1010; count = 2; took = false; exc = None } ∷ []
 two_blocks_given = refl
 
 pub exceptions_given : given at_first (exception_at_once ∷ return_from_handler ++ interrupted)
-    ≡ record { on = true; unknown = false; ctx = program; start = 0x2000; count = 0; exc = Some (record { kind = 3; ret = 0x2000 }) }
-    ∷ record { on = false; unknown = false; ctx = handler; start = 0x8000; count = 2; exc = None }
-    ∷ record { on = false; unknown = false; ctx = program; start = 0x2000; count = 1; exc = Some (record { kind = 14; ret = 0x2004 }) } ∷ []
+    ≡ record { on = true; unknown = false; ctx = program; start = 0x2000; count = 0; took = false; exc = Some (record { kind = 3; ret = 0x2000 }) }
+    ∷ record { on = false; unknown = false; ctx = handler; start = 0x8000; count = 2; took = false; exc = None }
+    ∷ record { on = false; unknown = false; ctx = program; start = 0x2000; count = 1; took = false; exc = Some (record { kind = 14; ret = 0x2004 }) } ∷ []
 exceptions_given = refl
 
 pub what_is_given_is_shown : items_given (given at_first (exception_at_once ∷ return_from_handler ++ interrupted))

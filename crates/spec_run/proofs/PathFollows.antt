@@ -29,15 +29,16 @@ all_behind [] e = refl
 all_behind (s ∷ steps) e = simp e
 
 one_begun : (o : Begun) (context : Ctx) (s : RunStep) → o.start < 2 ^ 64 → s.addr ≡ behind o.start o.plain → (0 < o.plain → s.ctx ≡ context) → is_p0 s ≡ false
-    → instructions s.ctx o.start (o.plain + 1) ≡ instructions context o.start o.plain ++ item_of s ∷ []
+    → instructions s.ctx o.start (o.plain + 1) false ≡ instructions context o.start o.plain false ++ item_of s ∷ []
 one_begun o context s lt there same p =
-    instructions_grow s.ctx o.start o.plain (λ e. lt) ∙ ap (λ a. instructions s.ctx o.start o.plain ++ item.Instr a s.ctx ∷ []) (sym there)
-    ∙ ap (λ i. instructions s.ctx o.start o.plain ++ i ∷ []) (sym (plain_item s p))
+    instructions_grow s.ctx o.start o.plain false (λ e. lt)
+    ∙ ap (λ a. instructions s.ctx o.start o.plain false ++ item.Instr a s.ctx false ∷ []) (sym there)
+    ∙ ap (λ i. instructions s.ctx o.start o.plain false ++ i ∷ []) (sym (plain_item s p))
     ∙ ap (λ l. l ++ item_of s ∷ []) (same_instructions o.plain s.ctx context o.start same)
 
 -- the instructions that a block that is begun has before steps, where none of them ends it
 abbrev begun_before : Begun → Ctx → List RunStep → List Item
-begun_before o context steps = if has_p0 steps then [] else instructions context o.start o.plain
+begun_before o context steps = if has_p0 steps then [] else instructions context o.start o.plain false
 
 fresh_before : (start : ℕ) (context : Ctx) (steps : List RunStep) → begun_before (fresh start) context steps ≡ []
 fresh_before start context steps = elim (bools (has_p0 steps)) [
@@ -46,11 +47,11 @@ fresh_before start context steps = elim (bools (has_p0 steps)) [
 ]
 
 abbrev begun_items : Begun → Ctx → List RunStep → List Item
-begun_items o context steps = instructions (context_behind context steps) (begun o steps).start (begun o steps).plain
+begun_items o context steps = instructions (context_behind context steps) (begun o steps).start (begun o steps).plain false
 
 begun_shows : (image : Image) (o : Begun) (context : Ctx) (steps : List RunStep) → o.start < 2 ^ 64 → AreSteps image o context steps
     → begun_before o context steps ++ map item_of (behind_last_p0 steps) ≡ begun_items o context steps
-begun_shows image o context [] lt are = append-nil (instructions context o.start o.plain)
+begun_shows image o context [] lt are = append-nil (instructions context o.start o.plain false)
 begun_shows image o context (s ∷ steps) lt are = elim (bools (is_p0 s)) [
   | inl p ↦
       let rest : AreSteps image (fresh s.next) s.ctx steps = simp p at are.1 in
@@ -63,18 +64,19 @@ begun_shows image o context (s ∷ steps) lt are = elim (bools (is_p0 s)) [
       elim (bools (has_p0 steps)) [
         | inl some ↦ let e = simp some at shows in simp (p, some) e
         | inr none ↦
-            let e : instructions s.ctx o.start (o.plain + 1) ++ map item_of (behind_last_p0 steps) ≡ begun_items o' s.ctx steps = simp none at shows in
+            let e : instructions s.ctx o.start (o.plain + 1) false ++ map item_of (behind_last_p0 steps) ≡ begun_items o' s.ctx steps = simp none at shows in
             let one = one_begun o context s lt are.0.there are.0.same p in
             simp (p, none) (
-            sym (append_assoc (instructions context o.start o.plain) (item_of s ∷ []) (map item_of steps))
-            ∙ ap (λ l. l ++ map item_of steps) (sym one) ∙ ap (λ l. instructions s.ctx o.start (o.plain + 1) ++ map item_of l) (sym (all_behind steps none)) ∙ e
+            sym (append_assoc (instructions context o.start o.plain false) (item_of s ∷ []) (map item_of steps))
+            ∙ ap (λ l. l ++ map item_of steps) (sym one)
+            ∙ ap (λ l. instructions s.ctx o.start (o.plain + 1) false ++ map item_of l) (sym (all_behind steps none)) ∙ e
             )
       ]
 ]
 
 -- ---- equal instructions
 
-length-instructions : (ctx : Ctx) (start n : ℕ) → length (instructions ctx start n) ≡ n
+length-instructions : (ctx : Ctx) (start n : ℕ) → length (instructions ctx start n false) ≡ n
 length-instructions ctx start zero = refl
 length-instructions ctx start (suc n) = ap (λ k. suc k) (length-instructions ctx ((start + 4) % 2 ^ 64) n)
 
@@ -84,7 +86,7 @@ record AreBegun (b : OpenBlock) (o : Begun) (context : Ctx) : Type 0 where
   pub start : 0 < b.plain → b.start ≡ o.start
   pub ctx : 0 < b.plain → b.ctx ≡ context
 
-same_begun : (bc c : Ctx) (bs s bn n : ℕ) → instructions bc bs bn ≡ instructions c s n → 0 < bn → (bs ≡ s) × (bc ≡ c)
+same_begun : (bc c : Ctx) (bs s bn n : ℕ) → instructions bc bs bn false ≡ instructions c s n false → 0 < bn → (bs ≡ s) × (bc ≡ c)
 same_begun bc c bs s zero n e lt = absurd (omega (arith, lt))
 same_begun bc c bs s (suc bn) zero e lt = absurd cc
 same_begun bc c bs s (suc bn) (suc n) e lt = (cc, cc)
@@ -94,7 +96,7 @@ are_begun : (image : Image) (start : ℕ) (first : Ctx) (steps : List RunStep) (
 are_begun image start first steps b place are at =
     let o = begun (fresh start) steps in
     let c = context_behind first steps in
-    let same : instructions b.ctx b.start b.plain ≡ instructions c o.start o.plain =
+    let same : instructions b.ctx b.start b.plain false ≡ instructions c o.start o.plain false =
     sym at.begun ∙ ap (λ l. l ++ map item_of (behind_last_p0 steps)) (sym (fresh_before start first steps))
     ∙ begun_shows image (fresh start) first steps place.0 are in
     record {

@@ -84,43 +84,44 @@ none_before (x ∷ xs) e = simp e
 later : (n : ℕ) → (suc n == 0) ≡ false
 later n = grind (arith, nat_tests)
 
-goes_on : (n : ℕ) (ctx : Ctx) (start : ℕ) (s : RunStep) → (0 < n → (s.addr ≡ behind start n) × (s.ctx ≡ ctx))
-    → instructions ctx start n ++ item.Instr s.addr s.ctx ∷ [] ≡ instructions s.ctx (if n == 0 then s.addr else start) (n + 1)
-goes_on zero ctx start s follows = refl
-goes_on (suc n) ctx start s follows =
+goes_on : (n : ℕ) (ctx : Ctx) (start : ℕ) (s : RunStep) (took : Bool) → (0 < n → (s.addr ≡ behind start n) × (s.ctx ≡ ctx))
+    → instructions ctx start n false ++ item.Instr s.addr s.ctx took ∷ [] ≡ instructions s.ctx (if n == 0 then s.addr else start) (n + 1) took
+goes_on zero ctx start s took follows = refl
+goes_on (suc n) ctx start s took follows =
     let f = follows (omega arith) in
-    let same : instructions ctx start (suc n) ≡ instructions s.ctx start (suc n) = same_instructions (suc n) ctx s.ctx start (λ e. sym f.1) in
-    simp (later n) (ap (λ l. l ++ item.Instr s.addr s.ctx ∷ []) same
-    ∙ ap (λ a. instructions s.ctx start (suc n) ++ item.Instr a s.ctx ∷ []) f.0
-    ∙ sym (instructions_grow s.ctx start (suc n) (λ e. absurd (omega (arith, e)))))
+    let same : instructions ctx start (suc n) false ≡ instructions s.ctx start (suc n) false = same_instructions (suc n) ctx s.ctx start (λ e. sym f.1) in
+    simp (later n) (ap (λ l. l ++ item.Instr s.addr s.ctx took ∷ []) same
+    ∙ ap (λ a. instructions s.ctx start (suc n) false ++ item.Instr a s.ctx took ∷ []) f.0
+    ∙ sym (instructions_grow s.ctx start (suc n) took (λ e. absurd (omega (arith, e)))))
 
 stays : (n : ℕ) (ctx : Ctx) (start : ℕ) (s : RunStep) → (0 < n → (s.addr ≡ behind start n) × (s.ctx ≡ ctx))
-    → instructions s.ctx (if n == 0 then s.addr else start) n ≡ instructions ctx start n
+    → instructions s.ctx (if n == 0 then s.addr else start) n false ≡ instructions ctx start n false
 stays zero ctx start s follows = refl
 stays (suc n) ctx start s follows = simp (later n) (same_instructions (suc n) s.ctx ctx start (λ e. (follows e).1))
 
 abbrev on_items : Bool → List Item
 on_items on = if on then item.On ∷ [] else []
 
-instruction_last : (b : OpenBlock) (s : RunStep) → Follows b s
-    → (on_items b.first ++ instructions s.ctx (start_with b s) (b.plain + 1)) ++ []
-    ≡ on_items b.first ++ (instructions b.ctx b.start b.plain ++ item.Instr s.addr s.ctx ∷ [])
-instruction_last b s follows =
-    append_assoc (on_items b.first) (instructions s.ctx (start_with b s) (b.plain + 1)) []
-    ∙ ap (λ l. on_items b.first ++ l) (append-nil (instructions s.ctx (start_with b s) (b.plain + 1)) ∙ sym (goes_on b.plain b.ctx b.start s follows))
+instruction_last : (b : OpenBlock) (s : RunStep) (took : Bool) → Follows b s
+    → (on_items b.first ++ instructions s.ctx (start_with b s) (b.plain + 1) took) ++ []
+    ≡ on_items b.first ++ (instructions b.ctx b.start b.plain false ++ item.Instr s.addr s.ctx took ∷ [])
+instruction_last b s took follows =
+    append_assoc (on_items b.first) (instructions s.ctx (start_with b s) (b.plain + 1) took) []
+    ∙ ap (λ l. on_items b.first ++ l)
+    (append-nil (instructions s.ctx (start_with b s) (b.plain + 1) took) ∙ sym (goes_on b.plain b.ctx b.start s took follows))
 
 -- a block shows what is begun and the P0 step
 block_shown : (b : OpenBlock) (kind : StepKind) (s : RunStep) → Follows b s → is_p0_kind kind ≡ true
-    → items_of (walked_by b kind s) ≡ on_items b.first ++ (instructions b.ctx b.start b.plain ++ last_item kind s ∷ [])
+    → items_of (walked_by b kind s) ≡ on_items b.first ++ (instructions b.ctx b.start b.plain false ++ last_item kind s ∷ [])
 block_shown b Plain s follows p = absurd cc
 block_shown b (Exc kind) s follows p =
-    append_assoc (on_items b.first) (instructions s.ctx (start_with b s) b.plain) (item.Exc kind s.addr ∷ [])
+    append_assoc (on_items b.first) (instructions s.ctx (start_with b s) b.plain false) (item.Exc kind s.addr ∷ [])
     ∙ ap (λ l. on_items b.first ++ (l ++ item.Exc kind s.addr ∷ [])) (stays b.plain b.ctx b.start s follows)
-block_shown b Isb s follows p = instruction_last b s follows
-block_shown b Jump s follows p = instruction_last b s follows
-block_shown b (Cond taken) s follows p = instruction_last b s follows
-block_shown b (Ind link) s follows p = instruction_last b s follows
-block_shown b Eret s follows p = instruction_last b s follows
+block_shown b Isb s follows p = instruction_last b s false follows
+block_shown b Jump s follows p = instruction_last b s false follows
+block_shown b (Cond taken) s follows p = instruction_last b s taken follows
+block_shown b (Ind link) s follows p = instruction_last b s false follows
+block_shown b Eret s follows p = instruction_last b s false follows
 
 -- ---- where the retired path stands behind a step
 
@@ -129,10 +130,10 @@ pub stands_behind : (b : OpenBlock) (s : RunStep) (steps : List RunStep) → Fol
 stands_behind b s steps follows at = elim (bools (is_p0 s)) [
   | inl p ↦ simp p (record { first = sym (ap not (p0_behind steps s p)); begun = ap (map item_of) (none_since_p0 steps s p) })
   | inr p ↦
-      let begun : map item_of (behind_last_p0 (steps ++ s ∷ [])) ≡ instructions s.ctx (start_with b s) (b.plain + 1) =
+      let begun : map item_of (behind_last_p0 (steps ++ s ∷ [])) ≡ instructions s.ctx (start_with b s) (b.plain + 1) false =
       ap (map item_of) (one_since_p0 steps s p) ∙ map-append item_of (behind_last_p0 steps) (s ∷ [])
-      ∙ ap (λ l. l ++ item_of s ∷ []) at.begun ∙ ap (λ i. instructions b.ctx b.start b.plain ++ i ∷ []) (plain_item s p)
-      ∙ goes_on b.plain b.ctx b.start s follows in
+      ∙ ap (λ l. l ++ item_of s ∷ []) at.begun ∙ ap (λ i. instructions b.ctx b.start b.plain false ++ i ∷ []) (plain_item s p)
+      ∙ goes_on b.plain b.ctx b.start s false follows in
       simp p (record { first = at.first ∙ ap not (sym (plain_behind steps s p)); begun = begun })
 ]
 

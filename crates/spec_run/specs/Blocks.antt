@@ -1,9 +1,10 @@
 -- Blocks: the plain steps from where a P0 step led up to the next P0 step, that one included.
-use Rattle.std.specs.Prelude.{ℕ, ◌+◌, if◌then◌else◌, List, [], ◌∷◌, ◌++◌}
+use Rattle.std.specs.Prelude.{ℕ, false, ◌+◌, if◌then◌else◌, List, [], ◌∷◌, ◌++◌}
 use Rattle.etm_types.specs.Walked.{instructions}
 use Rattle.etm_types.specs.declared.context.Ctx.{Ctx}
 use Rattle.etm_types.specs.declared.item.Item.{Item}
 use Rattle.etm_types.specs.declared.item.Item.TheVariants as item
+use Rattle.spec_run.specs.Kinds.{took_of}
 use Rattle.spec_run.specs.Steps.{is_p0}
 use Rattle.spec_run.specs.declared.step.RunStep.{RunStep}
 use Rattle.spec_run.specs.declared.step.StepKind.{StepKind}
@@ -41,13 +42,13 @@ abbrev pub blocks : Begun → List RunStep → List Block
 blocks o [] = []
 blocks o (s ∷ steps) = ended o s ++ blocks (grown o s) steps
 
--- what a block shows: its instructions, and its exception, which is none
+-- what a block shows: its plain instructions, and behind them an exception, or one more, which may be a branch that was taken
 abbrev pub last_item : StepKind → RunStep → Item
 last_item (Exc kind) s = item.Exc kind s.addr
-last_item kind s = item.Instr s.addr s.ctx
+last_item kind s = item.Instr s.addr s.ctx (took_of kind)
 
 abbrev pub block_items : Block → List Item
-block_items b = instructions b.ctx b.start b.plain ++ last_item b.last.kind b.last ∷ []
+block_items b = instructions b.ctx b.start b.plain false ++ last_item b.last.kind b.last ∷ []
 
 abbrev pub items_of_blocks : List Block → List Item
 items_of_blocks [] = []

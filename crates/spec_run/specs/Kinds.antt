@@ -15,3 +15,8 @@ is_isb kind = false
 abbrev pub is_cond : StepKind → Bool
 is_cond (Cond taken) = true
 is_cond kind = false
+
+-- it is a conditional branch, and was taken
+abbrev pub took_of : StepKind → Bool
+took_of (Cond taken) = taken
+took_of kind = false

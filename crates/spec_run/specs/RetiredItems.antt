@@ -9,7 +9,7 @@ use Rattle.spec_run.specs.declared.effect.Effect.{Effect}
 use Rattle.spec_run.specs.declared.effect.Effect.TheVariants as effect
 use Rattle.spec_run.specs.declared.step.RunStep.{RunStep}
 
--- an instruction, or an exception, whose return address is the step's
+-- an instruction, and whether it is a taken conditional branch, or an exception, whose return address is the step's
 abbrev pub item_of : RunStep → Item
 item_of s = last_item s.kind s
 

@@ -1,14 +1,14 @@
 -- What a run and a retired path keep, and at which events and steps they stand.
-use Rattle.std.specs.Prelude.{◌≡◌, ℕ, ◌+◌, ◌<◌, ◌==◌, Bool, true, false, not, if◌then◌else◌, List, [], ◌∷◌, ◌++◌, map, Option, Some, None, Result, Ok, Err}
+use Rattle.std.specs.Prelude.{◌≡◌, ℕ, ◌+◌, ◌<◌, ◌==◌, Bool, false, not, if◌then◌else◌, List, [], ◌∷◌, map, Option, Some, None, Result, Ok, Err}
 use Rattle.etm_types.specs.Settings.{Sizes}
 use Rattle.etm_types.specs.Walked.{instructions, items_of}
 use Rattle.etm_types.specs.declared.context.Ctx.{Ctx}
 use Rattle.etm_types.specs.declared.item.Item.{Item}
-use Rattle.etm_types.specs.declared.walked.ExcMark.{ExcMark}
 use Rattle.etm_types.specs.declared.walked.Walked.{Walked}
 use Rattle.program_image.specs.Blocks.{behind}
 use Rattle.program_image.specs.declared.image.Image.{Image}
 use Rattle.spec_run.specs.Checks.{Place}
+use Rattle.spec_run.specs.Kinds.{took_of}
 use Rattle.spec_run.specs.RetiredItems.{has_p0, item_of}
 use Rattle.spec_run.specs.RunAfter.{place_in, run_after}
 use Rattle.spec_run.specs.Runs.{Execution}
@@ -63,7 +63,7 @@ behind_last_p0 (s ∷ steps) = if has_p0 (s ∷ steps) then behind_last_p0 steps
 -- it stands behind these steps since tracing was turned on
 pub record PathStandsAt (b : OpenBlock) (steps : List RunStep) : Type 0 where
   pub first : b.first ≡ not (has_p0 steps)
-  pub begun : map item_of (behind_last_p0 steps) ≡ instructions b.ctx b.start b.plain
+  pub begun : map item_of (behind_last_p0 steps) ≡ instructions b.ctx b.start b.plain false
 
 -- the start of the block with a step at its end
 abbrev pub start_with : OpenBlock → RunStep → ℕ
@@ -72,8 +72,17 @@ start_with b s = if b.plain == 0 then s.addr else b.start
 -- the block that a P0 step ends: an exception is no instruction
 abbrev pub walked_by : OpenBlock → StepKind → RunStep → Walked
 walked_by b (Exc kind) s =
-    record { on = b.first; unknown = false; ctx = s.ctx; start = start_with b s; count = b.plain; exc = Some (record { kind = kind; ret = s.addr }) }
-walked_by b kind s = record { on = b.first; unknown = false; ctx = s.ctx; start = start_with b s; count = b.plain + 1; exc = None }
+    record {
+      on = b.first;
+      unknown = false;
+      ctx = s.ctx;
+      start = start_with b s;
+      count = b.plain;
+      took = false;
+      exc = Some (record { kind = kind; ret = s.addr });
+    }
+walked_by b kind s = record
+    { on = b.first; unknown = false; ctx = s.ctx; start = start_with b s; count = b.plain + 1; took = took_of kind; exc = None }
 
 abbrev pub shown_by : OpenBlock → RunStep → Option Walked
 shown_by b s = if is_p0 s then Some (walked_by b s.kind s) else None

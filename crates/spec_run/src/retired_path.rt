@@ -86,6 +86,7 @@ impl RetiredPath {
             ctx: step.ctx,
             start,
             count: self.plain + instruction,
+            took: step.kind.took(),
             exc,
         };
         self.first = false;

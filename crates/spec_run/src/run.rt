@@ -69,12 +69,14 @@ impl Run {
         })
     }
 
-    /// Forgets all events, as if none came.
-    pub fn restart(&mut self)
-        ensures stands { (image : List Part) (s : Sizes) → self.old.depth ≡ s.depth → StandsAt image s self.new [] }
-        ensures depth { self.new.depth ≡ self.old.depth }
+    /// Forgets all events, and goes on as a new run of these settings. It takes no memory: that of a run is the same for
+    /// all settings.
+    pub fn restart(&mut self, settings: &Settings)
+        ensures stands { (image : List Part) → StandsAt image settings.now self.new [] }
     {
+        let depth = settings.depth();
         self.close();
+        self.depth = depth;
     }
 
     /// Takes an event, and says what it did. Where it is refused, nothing changes.

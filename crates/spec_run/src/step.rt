@@ -1,6 +1,6 @@
 //! The steps of a run: executed instructions, and exceptions.
 ghost use Rattle.std.specs.Prelude.{◌≡◌};
-ghost use Rattle.spec_run.specs.Kinds.{is_cond, is_isb, is_p0_kind};
+ghost use Rattle.spec_run.specs.Kinds.{is_cond, is_isb, is_p0_kind, took_of};
 
 use etm_types::Ctx;
 
@@ -43,6 +43,13 @@ impl StepKind {
         ensures { result ≡ is_cond self.now }
     {
         matches!(self, StepKind::Cond { .. })
+    }
+
+    /// Whether it is a conditional branch, and was taken.
+    pub fn took(&self) -> bool
+        ensures { result ≡ took_of self.now }
+    {
+        matches!(self, StepKind::Cond { taken: true })
     }
 }
 

@@ -117,7 +117,7 @@ abbrev at : ℕ → State
 at address = record { pc = Known address; stack = []; ctx = secure }
 
 abbrev ran : Bool → ℕ → Walked
-ran on start = record { on = on; unknown = false; ctx = secure; start = start; count = 1; exc = None }
+ran on start = record { on = on; unknown = false; ctx = secure; start = start; count = 1; took = false; exc = None }
 
 first_shows : Shows code first_state first (ran true 0x1000) (at 0x1004)
 unfolding class_of
@@ -130,6 +130,7 @@ first_shows = record {
   ctx = refl;
   kept = refl;
   exc = refl;
+  took = refl;
 }
 
 later_shows : Shows code (at 0x1004) later (ran false 0x1004) (at 0x1008)
@@ -143,13 +144,14 @@ later_shows = record {
   ctx = refl;
   kept = refl;
   exc = refl;
+  took = refl;
 }
 
 abbrev one : List Item
-one = item.On ∷ item.Instr 0x1000 secure ∷ []
+one = item.On ∷ item.Instr 0x1000 secure false ∷ []
 
 abbrev more : List Item
-more = item.Instr 0x1004 secure ∷ []
+more = item.Instr 0x1004 secure false ∷ []
 
 one_walks : Walks code first_state (Seen first ∷ []) one (Ok (at 0x1004))
 one_walks = inl (one, [], at 0x1004, (ran true 0x1000, first_shows, refl), (refl, refl), refl)

@@ -1,13 +1,12 @@
 -- What contracts see of the P0 elements that wait: those that may still be taken back, and those that are due.
-use Rattle.std.specs.Prelude.{◌≡◌, ◌≤◌, ◌<◌, ◌^◌, ◌-◌, ℕ, Bool, List, [], ◌∷◌, ◌++◌, length, take, drop, Ok}
+use Rattle.std.specs.Prelude.{◌≡◌, ◌≤◌, ℕ, Bool, List, ◌++◌, length, take, drop, Ok}
 use Rattle.element_queue.specs.Counting.{AreCounts, Balances, add, counts_after, entries, made_by}
 use Rattle.element_queue.specs.Pending.{Gone, Pending, taken}
-use Rattle.element_queue.specs.Queued.{Queued}
+use Rattle.element_queue.specs.Queued.{Queued, committed_by as queue_commits}
 use Rattle.element_queue.specs.declared.ledger.Counts.{Counts}
 use Rattle.etm_types.specs.declared.element.Elem.{Elem}
 use Rattle.etm_types.specs.declared.element.P0.{P0}
 use Rattle.etm_types.specs.declared.element.Thing.{Thing}
-use Rattle.etm_types.specs.declared.element.Thing.TheVariants.{Seen}
 
 -- what may still be taken back, what was committed by an element and is still to be given out, the most that may be held, and
 -- what became of the others
@@ -27,10 +26,13 @@ waiting_of q informed due =
       counts = q.counts;
     }
 
+-- what may still be taken back, as a queue of its own
+abbrev pub queue_of : Waiting → Queued
+queue_of w = record { held = (w.pending).held; pre = (w.pending).pre; depth = w.depth; counts = w.counts }
+
 -- what one P0 element more commits
 abbrev pub committed_by : Waiting → P0 → List Thing
-committed_by w p0 =
-    let all = (w.pending).held ++ Seen (record { pre = (w.pending).pre; p0 = p0 }) ∷ [] in take (length all - w.depth) all
+committed_by w p0 = queue_commits (queue_of w) p0
 
 -- what became of the P0 elements, once what is due is committed
 abbrev pub counted_with : Counts → List Thing → Counts

@@ -167,10 +167,8 @@ impl StreamDecoder {
         if taken == 0 {
             return Ok(true);
         }
-        match write_end(id, &end, sink) {
-            Ok(()) => Ok(!is_fault(&end)),
-            Err(failed) => Err(failed),
-        }
+        write_end(id, &end, sink)?;
+        Ok(!is_fault(&end))
     }
 
     /// Ends it without a line. What is still held is lost; the ledger has what became of all.
@@ -290,10 +288,7 @@ fn write_atoms<K: Sink>(
 {
     while let Some(stretch) = decoding.next_atom(image) {
         let walked = stretch.in_context(decoding.context());
-        match write_walked_on(line, &walked, shown, sink) {
-            Ok(()) => {}
-            Err(failed) => return Err(failed),
-        }
+        write_walked_on(line, &walked, shown, sink)?;
     }
     Ok(())
 }

@@ -411,10 +411,7 @@ impl Decoding {
     {
         match self.take_next() {
             Ok(None) => Ok(None),
-            Ok(Some(thing)) => match self.walk(image, &thing) {
-                Ok(found) => Ok(found),
-                Err(fault) => Err(fault),
-            },
+            Ok(Some(thing)) => self.walk(image, &thing),
             Err(fault) => Err(Fault::Queue(fault)),
         }
     }
@@ -451,13 +448,9 @@ impl Decoding {
         let Some(elem) = self.todo.first() else {
             unreachable!()
         };
-        match self.waiting.take(&elem) {
-            Ok(thing) => {
-                self.todo.advance();
-                Ok(thing)
-            }
-            Err(fault) => Err(fault),
-        }
+        let thing = self.waiting.take(&elem)?;
+        self.todo.advance();
+        Ok(thing)
     }
 
     /// Walks a thing that was committed, and gives what the walk shows.

@@ -8,7 +8,9 @@ pub mod RawStreams
 pub mod Runs
 pub mod Standing
 pub mod Examples
+pub mod LaidExamples
 pub mod OneText
 pub mod Parted
 pub mod PathTexts
+pub mod Printing
 pub mod Writing

@@ -1,7 +1,10 @@
 -- The path of a stream among others.
-use Rattle.std.proofs.Common.{◌≡◌, ℕ, Bool, true, false, List, [], ◌∷◌, length, Result, Ok, Err, refl, sym, ap, subst, ◌∙◌, inl, inr, arith, append-nil}
+use Rattle.std.proofs.Common.{◌≡◌, ◌≤◌, ℕ, Bool, true, false, List, [], ◌∷◌, ◌++◌, length, Result, Ok, Err, refl, sym, ap, subst, ◌∙◌, inl, inr, arith, append-nil, length-append}
 use Rattle.std.proofs.lemmas.Bool.Decides.{eqb_tells}
 use Rattle.std.specs.Prelude.{IfOk, not, ◌==◌, if◌then◌else◌}
+use Rattle.element_queue.specs.Counting.{entries, no_counts}
+use Rattle.etm_types.specs.declared.element.Thing.{Thing}
+use Rattle.etm_types.specs.declared.element.Thing.TheVariants.{Gap, Seen, Stop, Unseen}
 use Rattle.etm_types.specs.declared.item.Item.{Item}
 use Rattle.packet_grammar.specs.Ends.{is_fault}
 use Rattle.packet_grammar.specs.declared.end.End.{End}
@@ -13,6 +16,7 @@ use Rattle.stream_decoder.proofs.Standing.{ends_so}
 use Rattle.stream_decoder.specs.Decoding.{Decoder}
 use Rattle.stream_decoder.specs.Stands.{StandsAt, end_at}
 use Rattle.stream_demux.specs.Paths.{paths}
+use Rattle.stream_demux.specs.Streams.{HoldsToDepth}
 use Rattle.stream_demux.specs.Texts.{Printed, StreamEnds, lines_under, text_of}
 use Rattle.trace_io.specs.State.{IoState}
 use Rattle.trace_io.specs.declared.traits.Failed.{Failed}
@@ -61,3 +65,20 @@ pub fresh : {E : Type 0} (result : Result Decoder E) → IfOk result (λ (d : De
     → IfOk result (λ (d : Decoder). (d.broken ≡ false) × ((d.decoding).reader.taken ≡ 0))
 fresh (Ok d) stands = let at = stands [] in (at.whole, sym at.came.reads.0)
 fresh (Err e) stands = tt
+
+-- and holds nothing
+pub fresh_holds : {E : Type 0} (result : Result Decoder E) → IfOk result (λ (d : Decoder). (image : Image) → StandsAt image d [])
+    → IfOk result (λ (d : Decoder). ((d.decoding).counts ≡ no_counts) × (((d.decoding).pending).held ≡ []))
+    → IfOk result (HoldsToDepth (λ (d : Decoder). length ((d.decoding).due ++ ((d.decoding).pending).held)) (λ (d : Decoder). ((d.decoding).reader).settings))
+fresh_holds (Ok d) stands none =
+    let at = stands [] in
+    omega (arith, length-append ((d.decoding).due) (((d.decoding).pending).held), ap length at.came.done.due, ap length none.1)
+fresh_holds (Err e) stands none = tt
+
+-- of the things that are held, some were seen
+pub seen_within : (things : List Thing) → entries things ≤ length things
+seen_within [] = omega arith
+seen_within (Seen entry ∷ things) = omega (arith, seen_within things)
+seen_within (Unseen ∷ things) = omega (arith, seen_within things)
+seen_within (Gap ∷ things) = omega (arith, seen_within things)
+seen_within (Stop ∷ things) = omega (arith, seen_within things)

@@ -120,6 +120,13 @@ module _ {X : Type 0} (broken : X → Bool) (taken : X → ℕ) where
       All-set (IsReady broken taken (m + n)) streams k next (record { whole = whole; few = omega (arith, more, before.few) })
       (later_ready m (m + n) streams (omega arith) all)
 
+-- a stream gives way to one with the same image
+pub map_kept : {X Y : Type 0} (f : X → Y) (streams : List X) (k : ℕ) (stream next : X) → Some stream ≡ slice_get streams k → f next ≡ f stream
+    → map f (slice_set streams k next) ≡ map f streams
+map_kept f [] k stream next at same = absurd cc
+map_kept f (x ∷ streams) zero stream next at same = let here : stream ≡ x = cc in ap (λ y. y ∷ map f streams) (same ∙ ap f here)
+map_kept f (x ∷ streams) (suc k) stream next at same = ap (λ l. f x ∷ l) (map_kept f streams k stream next at same)
+
 -- ---- sources
 
 both : (a b : Bool) → a ≡ true → b ≡ true → (a && b) ≡ true

@@ -1,7 +1,7 @@
 -- What contracts see of the streams of a capture.
 use Rattle.std.specs.Prelude.{◌≡◌, ℕ, suc, ◌≤◌, Bool, false, List, [], ◌∷◌, ◌++◌, length, Result, IsOk}
 use Rattle.std.specs.List.{concat}
-use Rattle.element_queue.specs.Counting.{sum_of}
+use Rattle.element_queue.specs.Counting.{Balances, sum_of}
 use Rattle.element_queue.specs.declared.ledger.Counts.{Counts}
 use Rattle.etm_types.specs.Settings.{Sizes}
 use Rattle.path_text.specs.Writing.{Writes}
@@ -31,6 +31,14 @@ pub record AllStand {X : Type 0} (stands : X → List ℕ → Type 0) (sizes : X
 pub record IsReady {X : Type 0} (broken : X → Bool) (taken : X → ℕ) (most : ℕ) (stream : X) : Type 0 where
   pub whole : broken stream ≡ false
   pub few : taken stream ≤ most
+
+-- a stream that holds no more P0 elements than the depth that its sizes give
+abbrev pub HoldsToDepth : {X : Type 0} → (X → ℕ) → (X → Sizes) → X → Type 0
+HoldsToDepth held sizes stream = held stream ≤ (sizes stream).depth
+
+-- all that was made was committed, cancelled or lost, but for some of so many that are held: those that were seen
+abbrev pub SettlesBut : ℕ → Counts → Type 0
+SettlesBut held c = (n : ℕ) × (n ≤ held) × Balances c n
 
 -- counts added one after the other
 abbrev pub total : Counts → List Counts → Counts

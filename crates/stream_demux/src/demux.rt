@@ -6,7 +6,7 @@ ghost use Rattle.formatter_frames.specs.Reader as reader;
 ghost use Rattle.formatter_frames.specs.Unframed.{begun_frame, unframed};
 ghost use Rattle.path_text.specs.Writing.{Writes};
 ghost use Rattle.stream_demux.specs.Demuxed.{Gains, StandsAt};
-ghost use Rattle.stream_demux.specs.Streams.{Adds, AllStand, AllTallied, IsReady, total};
+ghost use Rattle.stream_demux.specs.Streams.{Adds, AllStand, AllTallied, HoldsToDepth, IsReady, total};
 ghost use Rattle.stream_demux.specs.Texts.{IsEnding, Printed, by_sizes, text_of};
 ghost use Rattle.trace_io.specs.Bytes.{ShowsAsBefore};
 ghost use Rattle.trace_io.specs.Causes.{HasCause};
@@ -38,7 +38,7 @@ pub struct Demux<S: Stream> {
 impl<S: Stream> Model for Demux<S> {
     ghost use Rattle.std.specs.Prelude.{◌≡◌, ◌≤◌, ◌*◌, false, All};
     ghost use Rattle.stream_demux.specs.Demuxed.{Demuxed, demuxed_code, most_bytes};
-    ghost use Rattle.stream_demux.specs.Streams.{IsReady};
+    ghost use Rattle.stream_demux.specs.Streams.{HoldsToDepth, IsReady};
 
     ghost Value = { Demuxed S };
 
@@ -46,7 +46,8 @@ impl<S: Stream> Model for Demux<S> {
 
     ghost view = { λ d. record { frames = d.frames; streams = d.sources; taken = d.taken; broken = d.broken } };
 
-    ghost invariant = { λ d. (d.taken ≤ most_bytes) × (d.broken ≡ false → All (IsReady S.broken S.taken (15 * d.taken)) d.sources) };
+    ghost invariant = { λ d. (d.taken ≤ most_bytes) × (d.broken ≡ false → All (IsReady S.broken S.taken (15 * d.taken)) d.sources)
+        × All (HoldsToDepth S.held S.sizes) d.sources };
 }
 
 impl<S: Stream> Demux<S> {
@@ -54,6 +55,7 @@ impl<S: Stream> Demux<S> {
     /// means want of it.
     pub fn new(alloc: Global, settings: &Settings) -> Result<Demux<S>, AllocError>
         ensures stands { IfOk result (λ d. (shared : S.Shared) → StandsAt (S.stands shared) S.sizes (λ id. settings.now) d []) }
+        ensures most { IfOk result (λ d. All (HoldsToDepth S.held S.sizes) d.streams) }
     {
         Ok(Demux {
             frames: FrameReader::new(),
@@ -82,6 +84,8 @@ impl<S: Stream> Demux<S> {
         ensures broken { IsTrue self.new.broken ↔ IsErr result }
         ensures taken { IsOk result → self.new.taken ≡ self.old.taken + length piece.now }
         ensures between { (self.old.taken ≤ self.new.taken) × (self.new.taken ≤ self.old.taken + length piece.now) }
+        ensures sizes { map S.sizes self.new.streams ≡ map S.sizes self.old.streams }
+        ensures most { All (HoldsToDepth S.held S.sizes) self.new.streams }
     {
         let mut at = 0;
         while at < piece.len() {
@@ -121,11 +125,13 @@ impl<S: Stream> Demux<S> {
         self.taken
     }
 
-    /// What became of the P0 elements of all streams.
+    /// What became of the P0 elements of all streams. Never more are held of a stream than the depth that its sizes give, whatever
+    /// the bytes.
     pub fn ledger(&self) -> Counts
         ensures value { result ≡ total no_counts (map S.counts self.now.streams) }
         ensures tallied { (shared : S.Shared) (t : ℕ → Sizes) (bytes : List ℕ) → StandsAt (S.stands shared) S.sizes t self.now bytes
             → AllTallied (S.tallies shared) t (map S.counts self.now.streams) (unframed bytes) }
+        ensures most { All (HoldsToDepth S.held S.sizes) self.now.streams }
     {
         self.sources.ledger()
     }
@@ -193,6 +199,8 @@ fn take_front<S: Stream, K: Sink>(
     ensures shows { ShowsAsBefore (K.state sink.old) (K.state sink.new) }
     ensures ready { (most : ℕ) → All (IsReady S.broken S.taken most) sources.old → IsOk result
         → All (IsReady S.broken S.taken (most + 15)) sources.new }
+    ensures sizes { map S.sizes sources.new ≡ map S.sizes sources.old }
+    ensures most { All (HoldsToDepth S.held S.sizes) sources.old → All (HoldsToDepth S.held S.sizes) sources.new }
     ensures some { IfOk result (λ n. (n ≤ length piece.now) × (0 < length piece.now → 0 < n)) }
 {
     let (count, frame) = frames.take(piece);
@@ -218,6 +226,8 @@ fn take_frame<S: Stream, K: Sink>(
     ensures shows { ShowsAsBefore (K.state sink.old) (K.state sink.new) }
     ensures ready { (most : ℕ) → All (IsReady S.broken S.taken most) sources.old → IsOk result
         → All (IsReady S.broken S.taken (most + 15)) sources.new }
+    ensures sizes { map S.sizes sources.new ≡ map S.sizes sources.old }
+    ensures most { All (HoldsToDepth S.held S.sizes) sources.old → All (HoldsToDepth S.held S.sizes) sources.new }
 {
     let mut place = 0;
     while let Some((id, run)) = frame.run_at(place) {

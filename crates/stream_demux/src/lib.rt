@@ -17,8 +17,9 @@
 //! - the laws: an input has one text of its paths, what is printed before the ends begins with what is printed of
 //!   each front of the input, and the lines of a source are those of its own bytes, whatever other streams hold.
 //!
-//! All memory is taken by `new`. A `Demux` and a `RawStream` can't be forgotten: each ends by `finish` or
-//! `abandon`, and so do the streams in it.
+//! All memory is taken by `new`: no more P0 elements of a stream are held than the depth that its sizes give, and each call says so.
+//! Code without `unsafe` can't forget a `Demux` or a `RawStream`: each ends by `finish` or `abandon`, and so do the streams
+//! in it. Only `spend_ring` has any `unsafe`.
 #![tactic(auto)]
 
 mod demux;

@@ -12,7 +12,7 @@ use trace_io::{Failed, Sink};
 impl Stream for StreamDecoder {
     ghost use Rattle.element_queue.specs.Counting.{counts_after};
     ghost use Rattle.element_queue.specs.Pending.{losing};
-    ghost use Rattle.std.specs.Prelude.{◌++◌};
+    ghost use Rattle.std.specs.Prelude.{◌++◌, length};
     ghost use Rattle.stream_decoder.specs.Stands.{StandsAt};
     ghost use Rattle.stream_demux.specs.Paths.{PathTallies, paths};
 
@@ -23,6 +23,8 @@ impl Stream for StreamDecoder {
     ghost broken = { λ d. d.broken };
 
     ghost taken = { λ d. d.decoding.reader.taken };
+
+    ghost held = { λ d. length (d.decoding.due ++ d.decoding.pending.held) };
 
     ghost counts = { λ d. d.decoding.counts };
 

@@ -1,5 +1,6 @@
 //! What prints an input, piece by piece, however it is laid out.
-ghost use Rattle.std.specs.Prelude.{◌≡◌, ◌<◌, ◌≤◌, ◌+◌, ◌^◌, ◌++◌, ◌↔◌, [], ℕ, List, Bool, false, not, length, IsOk, IsErr, IsTrue, IfOk};
+ghost use Rattle.std.specs.Prelude.{◌≡◌, ◌<◌, ◌≤◌, ◌+◌, ◌^◌, ◌++◌, ◌↔◌, [], ℕ, List, length};
+ghost use Rattle.std.specs.Prelude.{Bool, false, not, IsOk, IsErr, IsTrue, IfOk};
 ghost use Rattle.etm_types.specs.Settings.{Sizes};
 ghost use Rattle.path_text.specs.Writing.{Writes};
 ghost use Rattle.stream_demux.specs.Demuxed.{Gains};
@@ -13,7 +14,8 @@ use crate::raw::RawStream;
 use crate::stream::Stream;
 use trace_io::{Failed, Sink};
 
-/// Takes an input by pieces, and writes the lines that they add. It has no drop: it ends by `finish` or `abandon`.
+/// Takes an input by pieces, and writes the lines that they add. It ends by `finish` or `abandon`: code that works with any printer has
+/// no other way.
 pub trait Printer {
     /// What all streams of the input share.
     type Shared;
@@ -48,7 +50,8 @@ pub trait Printer {
     ) -> Result<(), Failed>
         requires whole { broken self.old ≡ false }
         requires few { taken self.old + length piece.now ≤ 2 ^ 30 }
-        ensures stands { (t : ℕ → Sizes) (bytes : List ℕ) → stands shared.now t self.old bytes → IsOk result → stands shared.now t self.new (bytes ++ piece.now) }
+        ensures stands { (t : ℕ → Sizes) (bytes : List ℕ) → stands shared.now t self.old bytes → IsOk result
+            → stands shared.now t self.new (bytes ++ piece.now) }
         ensures gains { (t : ℕ → Sizes) (bytes : List ℕ) → stands shared.now t self.old bytes
             → Gains (laid (frames self.old)).carried (listing shared.now t) bytes piece.now (K.state sink.old) (K.state sink.new) result }
         ensures cause { HasCause (K.state sink.old) (K.state sink.new) result }
@@ -61,7 +64,8 @@ pub trait Printer {
     fn take_rest<K: Sink>(&mut self, shared: &Self::Shared, sink: &mut K) -> Result<(), Failed>
         requires whole { broken self.old ≡ false }
         requires few { taken self.old ≤ 2 ^ 30 }
-        ensures ended { (t : ℕ → Sizes) (bytes : List ℕ) → stands shared.now t self.old bytes → IsOk result → ended shared.now t self.new bytes }
+        ensures ended { (t : ℕ → Sizes) (bytes : List ℕ) → stands shared.now t self.old bytes → IsOk result
+            → ended shared.now t self.new bytes }
         ensures rests { (t : ℕ → Sizes) (bytes : List ℕ) → stands shared.now t self.old bytes
             → Rests (laid (frames self.old)) (listing shared.now t) bytes (K.state sink.old) (K.state sink.new) result }
         ensures cause { HasCause (K.state sink.old) (K.state sink.new) result }
@@ -73,7 +77,8 @@ pub trait Printer {
     fn finish<K: Sink>(self, sink: &mut K) -> Result<bool, Failed>
         requires { broken self ≡ false }
         ensures ending { (shared : Self.Shared) (t : ℕ → Sizes) (bytes : List ℕ) → ended shared t self bytes
-            → (lines : List Printed) × (faulty : Bool) × IsEnding (listing shared t) ((laid (frames self)).whole bytes) ((laid (frames self)).left bytes) lines faulty
+            → (lines : List Printed) × (faulty : Bool)
+            × IsEnding (listing shared t) ((laid (frames self)).whole bytes) ((laid (frames self)).left bytes) lines faulty
             × Writes (K.state sink.old) (K.state sink.new) result (text_of lines) × IfOk result (λ whole. whole ≡ not faulty) }
         ensures cause { HasCause (K.state sink.old) (K.state sink.new) result }
         ensures shows { ShowsAsBefore (K.state sink.old) (K.state sink.new) };
@@ -117,6 +122,7 @@ impl<S: Stream> Printer for Demux<S> {
     }
 
     fn take_rest<K: Sink>(&mut self, _shared: &S::Shared, _sink: &mut K) -> Result<(), Failed> {
+        // What frames carry came with the last byte of each, and one that is cut carries nothing.
         Ok(())
     }
 
@@ -163,6 +169,7 @@ impl<S: Stream> Printer for RawStream<S> {
     }
 
     fn take_rest<K: Sink>(&mut self, _shared: &S::Shared, _sink: &mut K) -> Result<(), Failed> {
+        // Each byte came at once.
         Ok(())
     }
 

@@ -4,6 +4,7 @@ ghost use Rattle.element_queue.specs.Counting.{Balances};
 ghost use Rattle.etm_types.specs.Settings.{Sizes};
 ghost use Rattle.path_text.specs.Writing.{Writes};
 ghost use Rattle.stream_demux.specs.Demuxed.{Gains, RawStandsAt, raw_id, raw_pairs};
+ghost use Rattle.stream_demux.specs.Streams.{HoldsToDepth};
 ghost use Rattle.stream_demux.specs.Texts.{IsEnding, Printed, by_sizes, text_of};
 ghost use Rattle.trace_io.specs.Bytes.{ShowsAsBefore};
 ghost use Rattle.trace_io.specs.Causes.{HasCause};
@@ -23,17 +24,22 @@ pub struct RawStream<S: Stream> {
 }
 
 impl<S: Stream> Model for RawStream<S> {
+    ghost use Rattle.stream_demux.specs.Streams.{HoldsToDepth};
+
     ghost Value = { S };
 
     ghost coded = { S.code };
 
     ghost view = { λ r. r.stream };
+
+    ghost invariant = { λ r. HoldsToDepth S.held S.sizes r.stream };
 }
 
 impl<S: Stream> RawStream<S> {
     /// A stream that has taken nothing. This is the one call that takes memory, and the error means want of it.
     pub fn new(alloc: Global, settings: &Settings) -> Result<RawStream<S>, AllocError>
         ensures stands { IfOk result (λ r. (shared : S.Shared) → RawStandsAt (S.stands shared) S.sizes S.broken S.taken (λ id. settings.now) r []) }
+        ensures most { IfOk result (HoldsToDepth S.held S.sizes) }
     {
         Ok(RawStream {
             stream: S::new(alloc, settings)?,
@@ -59,6 +65,8 @@ impl<S: Stream> RawStream<S> {
         ensures broken { IsTrue (S.broken self.new) ↔ IsErr result }
         ensures taken { IsOk result → S.taken self.new ≡ S.taken self.old + length piece.now }
         ensures between { (S.taken self.old ≤ S.taken self.new) × (S.taken self.new ≤ S.taken self.old + length piece.now) }
+        ensures sizes { S.sizes self.new ≡ S.sizes self.old }
+        ensures most { HoldsToDepth S.held S.sizes self.new }
     {
         self.stream.take_run(shared, raw_id(), piece, sink)
     }

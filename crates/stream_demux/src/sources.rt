@@ -5,7 +5,7 @@ ghost use Rattle.etm_types.specs.Settings.{Sizes};
 ghost use Rattle.formatter_frames.specs.Symbols.{run_of};
 ghost use Rattle.std.specs.List.{range_with_len};
 ghost use Rattle.path_text.specs.Writing.{Writes};
-ghost use Rattle.stream_demux.specs.Streams.{Adds, AllStand, AllTallied, IsReady, StandFrom, total};
+ghost use Rattle.stream_demux.specs.Streams.{Adds, AllStand, AllTallied, HoldsToDepth, IsReady, StandFrom, total};
 ghost use Rattle.stream_demux.specs.Texts.{EndsOf, Printed, by_sizes, sources, text_of};
 ghost use Rattle.trace_io.specs.Bytes.{ShowsAsBefore};
 ghost use Rattle.trace_io.specs.Causes.{HasCause};
@@ -55,6 +55,7 @@ impl<S: Stream> Sources<S> {
     pub fn new(alloc: Global, settings: &Settings) -> Result<Sources<S>, AllocError>
         ensures stands { IfOk result (λ all. (shared : S.Shared) → AllStand (S.stands shared) S.sizes (λ id. settings.now) all []) }
         ensures ready { IfOk result (λ all. All (IsReady S.broken S.taken 0) all) }
+        ensures most { IfOk result (λ all. All (HoldsToDepth S.held S.sizes) all) }
     {
         let mut ring = SpendRing::with_capacity(alloc, SOURCES)?;
         while ring.len() < SOURCES {
@@ -86,6 +87,8 @@ impl<S: Stream> Sources<S> {
         ensures shows { ShowsAsBefore (K.state sink.old) (K.state sink.new) }
         ensures ready { (most : ℕ) → All (IsReady S.broken S.taken most) self.old → IsOk result
             → All (IsReady S.broken S.taken (most + length run.now)) self.new }
+        ensures sizes { map S.sizes self.new ≡ map S.sizes self.old }
+        ensures most { All (HoldsToDepth S.held S.sizes) self.old → All (HoldsToDepth S.held S.sizes) self.new }
     {
         let Some(id) = Id::new(id) else {
             return Ok(());

@@ -5,7 +5,7 @@ ghost use Rattle.element_queue.specs.Counting.{Balances};
 ghost use Rattle.element_queue.specs.declared.ledger.Counts.{Counts};
 ghost use Rattle.etm_types.specs.Settings.{Sizes};
 ghost use Rattle.path_text.specs.Writing.{Writes};
-ghost use Rattle.stream_demux.specs.Streams.{RunAdds};
+ghost use Rattle.stream_demux.specs.Streams.{HoldsToDepth, RunAdds, SettlesBut};
 ghost use Rattle.stream_demux.specs.Texts.{Listing, Printed, StreamEnds, text_of};
 ghost use Rattle.trace_io.specs.Bytes.{ShowsAsBefore};
 ghost use Rattle.trace_io.specs.Causes.{HasCause};
@@ -15,7 +15,8 @@ use etm_types::{Id, Settings};
 use std::alloc::{AllocError, Global};
 use trace_io::{Failed, Sink};
 
-/// One stream, of which lines are printed as its bytes come. It has no drop: it ends by `finish` or `abandon`.
+/// One stream, of which lines are printed as its bytes come. It ends by `finish` or `abandon`: one that holds P0 elements has no drop,
+/// and code that works with any stream has no other way.
 pub trait Stream {
     /// What all streams of a capture share.
     type Shared;
@@ -28,6 +29,9 @@ pub trait Stream {
 
     /// How many bytes were taken.
     ghost taken: { Self → ℕ };
+
+    /// How many P0 elements it holds. They are not committed yet.
+    ghost held: { Self → ℕ };
 
     /// What became of its P0 elements.
     ghost counts: { Self → Counts };
@@ -48,7 +52,8 @@ pub trait Stream {
     fn new(alloc: Global, settings: &Settings) -> Result<Self, AllocError>
         ensures stands { IfOk result (λ s. (shared : Self.Shared) → stands shared s []) }
         ensures sizes { IfOk result (λ s. sizes s ≡ settings.now) }
-        ensures ready { IfOk result (λ s. (broken s ≡ false) × (taken s ≡ 0)) };
+        ensures ready { IfOk result (λ s. (broken s ≡ false) × (taken s ≡ 0)) }
+        ensures most { IfOk result (HoldsToDepth held sizes) };
 
     /// Takes the next byte, and writes the lines that it adds. The error means that a write failed; then the
     /// stream is broken.
@@ -69,7 +74,8 @@ pub trait Stream {
         ensures shows { ShowsAsBefore (K.state sink.old) (K.state sink.new) }
         ensures broken { IsTrue (broken self.new) ↔ IsErr result }
         ensures taken { taken self.new ≡ taken self.old + 1 }
-        ensures sizes { sizes self.new ≡ sizes self.old };
+        ensures sizes { sizes self.new ≡ sizes self.old }
+        ensures most { HoldsToDepth held sizes self.new };
 
     /// Takes the next bytes, and writes the lines that they add, as [`take`](Stream::take) does of each. The error means that a
     /// write failed; then nothing more is taken, and the stream is broken.
@@ -91,6 +97,7 @@ pub trait Stream {
         ensures taken { IsOk result → taken self.new ≡ taken self.old + length run.now }
         ensures between { (taken self.old ≤ taken self.new) × (taken self.new ≤ taken self.old + length run.now) }
         ensures sizes { sizes self.new ≡ sizes self.old }
+        ensures most { HoldsToDepth held sizes self.old → HoldsToDepth held sizes self.new }
     {
         for byte in run {
             self.take(shared, id, *byte, sink)?;
@@ -101,7 +108,8 @@ pub trait Stream {
     /// What became of its P0 elements.
     fn ledger(&self) -> Counts
         ensures value { result ≡ counts self.now }
-        ensures tallied { (shared : Self.Shared) (bytes : List ℕ) → stands shared self.now bytes → tallies shared (sizes self.now) bytes result };
+        ensures tallied { (shared : Self.Shared) (bytes : List ℕ) → stands shared self.now bytes → tallies shared (sizes self.now) bytes result }
+        ensures balanced { SettlesBut (held self.now) result };
 
     /// Writes the line of how the stream ends, and says whether it ends without a fault. Nothing is written of a
     /// stream without bytes.

@@ -184,10 +184,8 @@ fn answer_trace<I: Source, J: Source, K: Sink>(
 fn answer_usage<K: Sink>(out: &mut K) -> Result<Status, Failed>
     ensures { Writes (K.state out.old) (K.state out.new) result usage_line × IfOk result (λ status. status ≡ Status.Usage) }
 {
-    match write_usage(out) {
-        Ok(()) => Ok(Status::Usage),
-        Err(failed) => Err(failed),
-    }
+    write_usage(out)?;
+    Ok(Status::Usage)
 }
 
 /// Answers by the words, and then by image and input as far as the command reads them.

@@ -3,6 +3,7 @@ use Rattle.std.proofs.Common.{◌≡◌, ℕ, ◌≤◌, Bool, true, false, if�
 use Rattle.std.proofs.Common.{refl, sym, ap, subst, ◌∙◌}
 use Rattle.std.specs.Prelude.{⊤}
 use Rattle.element_queue.specs.Resolved.{Resolved, resolve_all, unresolved}
+use Rattle.etm_types.specs.SameContext.{same_context}
 use Rattle.etm_types.specs.Settings.{Sizes}
 use Rattle.etm_types.specs.declared.context.Ctx.{Ctx}
 use Rattle.program_image.specs.Blocks.{HasGap}
@@ -25,7 +26,7 @@ use Rattle.trace_unit.proofs.OrderTold.{settles}
 use Rattle.trace_unit.proofs.Out.{Waits, none_left, none_out}
 use Rattle.trace_unit.proofs.RunOrders.{Suits, run_suits, same_ok}
 use Rattle.trace_unit.specs.Orders.{Branch, Cancel, Close, Exception, Flip, Order, Retire, Settle, Sync, Tell}
-use Rattle.trace_unit.specs.Orders.{before, missing, orders, orders_from, orders_on, p0_order, same_context}
+use Rattle.trace_unit.specs.Orders.{before, missing, orders, orders_from, orders_on, p0_order}
 use Rattle.trace_unit.specs.Places.{Places, no_places, placed}
 use Rattle.trace_unit.specs.Taken.{AllMeet, Announces}
 use Rattle.trace_unit.specs.Told.{all_told, closing_element, told}

@@ -1,7 +1,7 @@
 -- What is told before a P0 step, and what is pending behind it.
 use Rattle.std.proofs.Common.{◌≡◌, ℕ, ◌≤◌, Bool, true, false, if◌then◌else◌, List, [], ◌∷◌, ◌++◌, Some, Ok, refl, sym, ap, subst, ◌∙◌, append-nil}
 use Rattle.std.proofs.lemmas.Bool.{eqb-true}
-use Rattle.std.specs.Prelude.{◌==◌, ◌&&◌}
+use Rattle.std.specs.Prelude.{◌==◌}
 use Rattle.etm_types.specs.Pre.{nothing_told}
 use Rattle.etm_types.specs.declared.context.Ctx.{Ctx}
 use Rattle.etm_types.specs.declared.element.Pre.{Pre}
@@ -19,30 +19,10 @@ use Rattle.spec_run.specs.declared.step.StepKind.{StepKind}
 use Rattle.spec_run.specs.declared.step.StepKind.TheVariants.{Cond, Eret, Exc, Ind, Isb, Jump, Plain}
 use Rattle.trace_unit.proofs.Fronts.{front_linked}
 use Rattle.trace_unit.specs.Told.{all_told}
-use Rattle.trace_unit.specs.Orders.{missing, same_context, same_flag}
+use Rattle.trace_unit.specs.Orders.{missing}
 use Rattle.trace_unit.proofs.Matching.{Pends}
 use Rattle.trace_unit.proofs.Rows.{IsFront, Ready, pc_after}
 use Rattle.trace_unit.specs.Places.{Left, left_by, link_after, popped, pushed_by}
-
--- ---- contexts
-
-both : (b c : Bool) → (b && c) ≡ true → (b ≡ true) × (c ≡ true)
-both true c e = (refl, e)
-both false c e = absurd cc
-
-flag_is : (a b : Bool) → same_flag a b ≡ true → a ≡ b
-flag_is true true e = refl
-flag_is true false e = absurd cc
-flag_is false true e = absurd cc
-flag_is false false e = refl
-
-pub same_is : (a b : Ctx) → same_context a b ≡ true → a ≡ b
-same_is a b e =
-    let x = both (a.el == b.el) _ e in
-    let y = both (same_flag a.ns b.ns) _ x.1 in
-    let z = both (a.vmid == b.vmid) _ y.1 in
-    ap (λ l. record a { el = l }) (eqb-true a.el b.el x.0) ∙ ap (λ n. record a { el = b.el; ns = n }) (flag_is a.ns b.ns y.0)
-    ∙ ap (λ v. record b { vmid = v; cid = a.cid }) (eqb-true a.vmid b.vmid z.0) ∙ ap (λ c. record b { cid = c }) (eqb-true a.cid b.cid z.1)
 
 -- ---- before
 

@@ -6,6 +6,7 @@ use Rattle.std.proofs.lemmas.List.{length-drop, length-take}
 use Rattle.std.proofs.lemmas.List.Concat.{flat_map-cons}
 use Rattle.std.specs.Prelude.{IsTrue, nat_le, ◌==◌, ◌||◌}
 use Rattle.etm_types.specs.CtxBits.{bits_against}
+use Rattle.etm_types.specs.SameContext.{same_context}
 use Rattle.etm_types.specs.Settings.{AreSettings, Sizes, is_cid_size, is_vmid_size}
 use Rattle.etm_types.specs.declared.address.AddrForm.{AddrForm}
 use Rattle.etm_types.specs.declared.address.AddrForm.TheVariants.{Long32, Long64, Match, Short1, Short2}
@@ -22,7 +23,6 @@ use Rattle.trace_unit.proofs.Out.{none_left, none_out}
 use Rattle.trace_unit.proofs.Sizes.{some_front, turn_many}
 use Rattle.trace_unit.specs.Ordered.{bytes_all, bytes_of, told_all, told_by}
 use Rattle.trace_unit.specs.Orders.{Address, Branch, Cancel, Close, Context, Exception, Flip, Notice, On, Order, Place, Retire, Settle, Start, Sync, Tell}
-use Rattle.trace_unit.specs.Orders.{same_context}
 use Rattle.trace_unit.specs.Packets.{Shared, announced, cancel_packets, closing_packet, commit_packets, context_packet, exception_packets}
 use Rattle.trace_unit.specs.Packets.{flip_packet, flip_packets, front_packet}
 use Rattle.trace_unit.specs.Packets.{form_of, long_form, notice_packets, out_packets, packed, packed_within, packets_of}
@@ -182,7 +182,7 @@ module _ (s : Sizes) (are : AreSettings s) where
   exception_few : (shared : Shared) (kind ret : ℕ) → length (spelled s (exception_packets shared kind ret)) ≤ 11
   exception_few shared kind ret =
       let addr = packet.Addr (form_of shared.history ret) None in
-      omega (arith, spelled_with (packet.Exc kind) (addr ∷ []), spelled_alone addr, address_few (form_of shared.history ret))
+      omega (arith, spelled_with (packet.Exc kind false) (addr ∷ []), spelled_alone addr, address_few (form_of shared.history ret))
 
   flip_packet_few : (n : ℕ) → length (spelling s (flip_packet n)) ≤ 6
   flip_packet_few zero = omega arith

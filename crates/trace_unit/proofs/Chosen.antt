@@ -7,6 +7,7 @@ use Rattle.std.proofs.lemmas.Bool.{eq-eqb, eqb-false, eqb-true}
 use Rattle.address_history.specs.Forms.{address_told, forms_of}
 use Rattle.etm_types.specs.AddrForm.{IsAddrForm}
 use Rattle.etm_types.specs.CtxBits.{bits_against, context_told, if_changed}
+use Rattle.etm_types.specs.SameContext.{same_context}
 use Rattle.etm_types.specs.Settings.{FitsSettings, Sizes}
 use Rattle.etm_types.specs.declared.address.AddrForm.{AddrForm}
 use Rattle.etm_types.specs.declared.address.AddrForm.TheVariants.{Long32, Long64}
@@ -17,7 +18,6 @@ use Rattle.packet_writer.specs.Fitting.{HasForm, HasSpelling}
 use Rattle.packet_writer.proofs.Having.{spelled_where_fits}
 use Rattle.spec_run.specs.Executed.{IsPlace}
 use Rattle.trace_unit.specs.Packets.{Shared, context_packet, form_of, long_form, with_context}
-use Rattle.trace_unit.specs.Orders.{same_context}
 
 -- ---- what is found, or what stands for it
 

@@ -9,6 +9,7 @@ use Rattle.std.proofs.lemmas.List.Elements.{All-append, All-cons, All-drop, All-
 use Rattle.a64_branches.specs.Offsets.{target}
 use Rattle.a64_branches.specs.declared.class.Class.{Class}
 use Rattle.a64_branches.specs.declared.class.Class.TheVariants as class
+use Rattle.etm_types.specs.SameContext.{same_context}
 use Rattle.etm_types.specs.Settings.{FitsSettings, Sizes}
 use Rattle.etm_types.specs.declared.context.Ctx.{Ctx}
 use Rattle.program_image.specs.Blocks.{behind, class_at}
@@ -32,7 +33,7 @@ use Rattle.spec_run.specs.declared.step.StepKind.{StepKind}
 use Rattle.spec_run.specs.declared.step.StepKind.TheVariants.{Cond, Eret, Exc, Ind, Isb, Jump, Plain}
 use Rattle.trace_unit.specs.Fitting.{FitsOrder, FitsPlaces, FitsRun, FitsRunning, FitsStep}
 use Rattle.trace_unit.specs.Orders.{Address, Cancel, Close, Context, Flip, On, Order, Place, Retire, Settle, Start, Sync, Tell}
-use Rattle.trace_unit.specs.Orders.{before, missing, orders_on, p0_order, same_context}
+use Rattle.trace_unit.specs.Orders.{before, missing, orders_on, p0_order}
 use Rattle.trace_unit.specs.Places.{Places, Saved, back_by, placed, placed_behind, placed_on, saves, without_stack}
 
 -- ---- checks

@@ -5,6 +5,7 @@ use Rattle.std.proofs.Common.{refl, sym, ap, ◌∙◌, inl, inr, arith, append-
 use Rattle.std.proofs.lemmas.List.{length-drop, length-map, length-take}
 use Rattle.std.specs.Prelude.{⊤}
 use Rattle.std.specs.Option.{option_map}
+use Rattle.etm_types.specs.SameContext.{same_context}
 use Rattle.etm_types.specs.declared.context.Ctx.{Ctx}
 use Rattle.etm_types.specs.declared.element.P0.{P0}
 use Rattle.program_image.specs.declared.image.Image.{Image}
@@ -27,7 +28,7 @@ use Rattle.trace_unit.specs.Followed.{CanFollow, element_of, followed, orders_do
 use Rattle.trace_unit.specs.Followed.{windowed_cancelled, windowed_lost, windowed_retired, with_places}
 use Rattle.trace_unit.specs.Kept.{counts_by, counts_lost, counts_made}
 use Rattle.trace_unit.specs.Ordered.{Allows, told_all, unretired_by}
-use Rattle.trace_unit.specs.Orders.{Order, missing, orders_on, p0_order, same_context, step_orders, sync_orders}
+use Rattle.trace_unit.specs.Orders.{Order, missing, orders_on, p0_order, step_orders, sync_orders}
 use Rattle.trace_unit.specs.Places.{Places, Saved, back_by, placed_behind, placed_on, placed_synced, saves, without_stack}
 use Rattle.trace_unit.specs.Whole.{at_once}
 use Rattle.trace_unit.specs.WindowKept.{WindowKept, pushed, turn_newest_p0}

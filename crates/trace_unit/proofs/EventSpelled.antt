@@ -2,6 +2,7 @@
 use Rattle.std.proofs.Common.{ℕ, Bool, true, false, if◌then◌else◌, List, [], ◌∷◌, ◌++◌, Option, Some, None}
 use Rattle.std.specs.Prelude.{All, ⊤}
 use Rattle.std.proofs.lemmas.List.Elements.{All-append, All-head, All-nil, All-tail}
+use Rattle.etm_types.specs.SameContext.{same_context}
 use Rattle.etm_types.specs.Settings.{Sizes}
 use Rattle.etm_types.specs.declared.context.Ctx.{Ctx}
 use Rattle.packet_writer.specs.Fitting.{HasSpelling}
@@ -12,7 +13,7 @@ use Rattle.spec_run.specs.declared.effect.Effect.TheVariants as effect
 use Rattle.spec_run.specs.declared.step.RunStep.{RunStep}
 use Rattle.trace_unit.proofs.OrderSpelled.{order_spelled, settled_counted, told_counted}
 use Rattle.trace_unit.specs.Fitting.{FitsOrder, IsCounted, IsShared}
-use Rattle.trace_unit.specs.Orders.{Order, Settle, Tell, before, missing, orders_on, p0_order, same_context}
+use Rattle.trace_unit.specs.Orders.{Order, Settle, Tell, before, missing, orders_on, p0_order}
 use Rattle.trace_unit.specs.Packets.{Shared, packets_all, packets_of, shared_after, shared_all}
 use Rattle.trace_unit.specs.Places.{Places}
 use Rattle.trace_unit.specs.Whole.{Waiting, waits}

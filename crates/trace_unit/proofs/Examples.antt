@@ -22,8 +22,8 @@ use Rattle.spec_run.specs.declared.event.Event.TheVariants as event
 use Rattle.spec_run.specs.declared.run_fault.RunFault.{RunFault}
 use Rattle.trace_unit.specs.Orders.{Address, Branch, Cancel, Close, Context, Exception, Flip, On, Order, Place, Retire, Settle, Start, Sync, Tell, orders}
 use Rattle.trace_unit.specs.Told.{all_told}
-use Rattle.trace_unit.specs.Packing.{byte_of}
 use Rattle.trace_unit.specs.Whole.{whole_settled}
+use Rattle.atom_formats.specs.Bytes.{byte_of}
 use Rattle.atom_formats.specs.Formats.{atom_formats}
 
 abbrev pub program : Ctx
@@ -34,6 +34,10 @@ handler = record { el = 1; ns = true; vmid = 5; cid = 7 }
 
 abbrev pub sizes : ℕ → Sizes
 sizes depth = record { depth = depth; vmid_bytes = 1; cid_bytes = 4 }
+
+-- an instruction that is no conditional branch, or not taken
+abbrev pub ran : ℕ → Ctx → Item
+ran address ctx = item.Instr address ctx false
 
 -- the retired path, where each event is accepted
 abbrev pub path_of : Result Execution (ℕ × RunFault) → Option (List Item)
@@ -82,10 +86,9 @@ mixed_orders =
 
 abbrev mixed_items : List Item
 mixed_items =
-    item.On ∷ item.Instr 0x1000 program ∷ item.Instr 0x1004 program ∷ item.Instr 0x1008 program ∷ item.Instr 0x100c program
-    ∷ item.Instr 0x1000 program ∷ item.Instr 0x1004 program ∷ item.Instr 0x1008 handler ∷ item.Gap ∷ item.On ∷ item.Instr 0x100c handler
-    ∷ item.Instr 0x1000 handler ∷ item.Instr 0x1004 handler ∷ item.Instr 0x1008 handler ∷ item.Exc 3 0x1010 ∷ item.Instr 0x1010 handler
-    ∷ item.Instr 0x1010 handler ∷ item.Instr 0x1014 handler ∷ item.Stop ∷ []
+    item.On ∷ ran 0x1000 program ∷ ran 0x1004 program ∷ ran 0x1008 program ∷ ran 0x100c program ∷ ran 0x1000 program ∷ ran 0x1004 program
+    ∷ ran 0x1008 handler ∷ item.Gap ∷ item.On ∷ ran 0x100c handler ∷ ran 0x1000 handler ∷ ran 0x1004 handler ∷ item.Instr 0x1008 handler true
+    ∷ item.Exc 3 0x1010 ∷ ran 0x1010 handler ∷ ran 0x1010 handler ∷ ran 0x1014 handler ∷ item.Stop ∷ []
 
 mixed_is_accepted : path_of (run_after code 4 mixed) ≡ Some mixed_items
 unfolding class_of
@@ -127,7 +130,7 @@ many_orders =
 
 abbrev many_items : List Item
 many_items =
-    item.On ∷ (replicate 20 (item.Instr 0x1000 program) ++ [])
+    item.On ∷ (replicate 20 (item.Instr 0x1000 program true) ++ [])
 
 many_is_accepted : path_of (run_after loop 30 many) ≡ Some many_items
 unfolding class_of
@@ -161,8 +164,7 @@ flat_orders =
 
 abbrev flat_items : List Item
 flat_items =
-    item.On ∷ item.Instr 0x100c program ∷ item.Instr 0x1000 program ∷ item.Instr 0x1004 program ∷ item.Instr 0x1008 program
-    ∷ item.Instr 0x100c program ∷ item.Gap ∷ []
+    item.On ∷ ran 0x100c program ∷ ran 0x1000 program ∷ ran 0x1004 program ∷ ran 0x1008 program ∷ ran 0x100c program ∷ item.Gap ∷ []
 
 flat_is_accepted : path_of (run_after code 0 flat) ≡ Some flat_items
 unfolding class_of

@@ -5,6 +5,8 @@ use Rattle.std.proofs.lemmas.List.{length-map, nil_from_length}
 use Rattle.std.specs.Prelude.{map}
 use Rattle.element_queue.proofs.Joined.{one_by_one}
 use Rattle.element_queue.specs.Resolved.{Resolved, resolve_all, then_resolve}
+use Rattle.etm_types.proofs.SameContexts.{same_is}
+use Rattle.etm_types.specs.SameContext.{same_context}
 use Rattle.etm_types.specs.declared.context.Ctx.{Ctx}
 use Rattle.etm_types.specs.declared.element.Elem.{Elem}
 use Rattle.etm_types.specs.declared.element.Elem.TheVariants as elem
@@ -22,7 +24,7 @@ use Rattle.spec_run.specs.declared.effect.Effect.TheVariants as effect
 use Rattle.spec_run.specs.declared.step.RunStep.{RunStep}
 use Rattle.spec_run.specs.declared.step.StepKind.{StepKind}
 use Rattle.spec_run.specs.declared.step.StepKind.TheVariants.{Cond, Eret, Exc, Ind, Isb, Jump, Plain}
-use Rattle.trace_unit.proofs.Before.{ready_before, same_is, tells_before, told_addr, told_ctx, with_pre}
+use Rattle.trace_unit.proofs.Before.{ready_before, tells_before, told_addr, told_ctx, with_pre}
 use Rattle.trace_unit.proofs.Begins.{begun_so}
 use Rattle.trace_unit.proofs.Cancelled.{cancelled_so}
 use Rattle.trace_unit.proofs.Closed.{overflowed, stopped}
@@ -34,7 +36,7 @@ use Rattle.trace_unit.proofs.Rooms.{Fits, HasRoomBy}
 use Rattle.trace_unit.proofs.RowLists.{length-rows}
 use Rattle.trace_unit.proofs.Rows.{after_all, first_behind, p0_of, thing_of}
 use Rattle.trace_unit.proofs.Synced.{synced}
-use Rattle.trace_unit.specs.Orders.{Order, before, p0_order, same_context}
+use Rattle.trace_unit.specs.Orders.{Order, before, p0_order}
 use Rattle.trace_unit.specs.Places.{Places, placed_behind}
 use Rattle.trace_unit.specs.Told.{all_told, told}
 

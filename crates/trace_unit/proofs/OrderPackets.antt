@@ -3,8 +3,10 @@ use Rattle.std.proofs.Common.{◌≡◌, ℕ, zero, suc, ◌*◌, ◌/◌, ◌�
 use Rattle.std.proofs.Common.{None, refl, sym, ap, subst, ◌∙◌, arith}
 use Rattle.std.proofs.lemmas.List.{append-nil, length-drop, map-append, take-append-drop, take_all}
 use Rattle.address_history.specs.Forms.{address_told}
+use Rattle.etm_types.proofs.SameContexts.{same_is}
 use Rattle.etm_types.specs.Atoms.{atoms_in}
 use Rattle.etm_types.specs.CtxBits.{bits_against}
+use Rattle.etm_types.specs.SameContext.{same_context}
 use Rattle.etm_types.specs.Settings.{Sizes}
 use Rattle.etm_types.specs.declared.address.AddrForm.{AddrForm}
 use Rattle.etm_types.specs.declared.address.AddrForm.TheVariants.{Long64}
@@ -16,13 +18,12 @@ use Rattle.packet_grammar.specs.declared.packet.Packet.{Packet}
 use Rattle.packet_grammar.specs.declared.packet.Packet.TheVariants as packet
 use Rattle.path_elements.specs.Elements.{atoms, placed, untold}
 use Rattle.spec_run.specs.Runs.{ByOff, ByOverflow, Closing}
-use Rattle.trace_unit.proofs.Before.{same_is}
 use Rattle.trace_unit.proofs.Chosen.{context_back, form_gives, long_gives}
 use Rattle.trace_unit.proofs.Packed.{bits_are, longest_front}
 use Rattle.trace_unit.proofs.Telling.{Tells, gained, tells_on}
 use Rattle.trace_unit.specs.Fitting.{FitsNotice, FitsOrder}
 use Rattle.trace_unit.specs.Orders.{Address, Branch, Cancel, Close, Context, Exception, Flip, Notice, On, Order, Place, Retire, Settle, Start}
-use Rattle.trace_unit.specs.Orders.{Sync, Tell, same_context}
+use Rattle.trace_unit.specs.Orders.{Sync, Tell}
 use Rattle.trace_unit.specs.Packets.{Shared, cancel_packets, closing_packet, commit_packets, context_packet, exception_packets, flip_packet, flip_packets}
 use Rattle.trace_unit.specs.Packets.{form_of, front_packet, long_form, nothing_shared, notice_packets, out_packets, packed, packed_within, packets_of}
 use Rattle.trace_unit.specs.Packets.{run_of, settle_packets, shared_after, shared_by, spilled_packets, with_address, with_context}

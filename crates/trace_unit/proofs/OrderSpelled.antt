@@ -148,7 +148,7 @@ module _ (s : Sizes) where
 
   exception_spelled : (shared : Shared) (kind ret : ℕ) → kind < 32 → IsPlace ret → AreSpelled (exception_packets shared kind ret)
   exception_spelled shared kind ret less place =
-      both (packet.Exc kind) (packet.Addr (form_of shared.history ret) None) (by_values (packet.Exc kind) (less, tt))
+      both (packet.Exc kind false) (packet.Addr (form_of shared.history ret) None) (by_values (packet.Exc kind false) (less, tt))
       (address_spelled s shared.history ret place)
 
   -- ---- what both ends have

@@ -1,6 +1,7 @@
 -- Runs that are told at once: the packets that were written down for them by hand have these elements, and these bytes.
 use Rattle.std.proofs.Common.{◌≡◌, Bool, true, false, List, [], ◌∷◌, ◌++◌, Some, None, map, refl}
 use Rattle.a64_branches.specs.Classes.{class_of}
+use Rattle.atom_formats.specs.Bytes.{byte_of}
 use Rattle.atom_formats.specs.Formats.{atom_formats}
 use Rattle.etm_types.specs.declared.address.AddrForm.TheVariants.{Long64}
 use Rattle.etm_types.specs.declared.context.Ctx.{Ctx}
@@ -47,7 +48,7 @@ turned_is_told = refl
 turned_has_bytes : spelled (sizes 4) turned_packets ≡
     async ++ 0x01 ∷ 0x01 ∷ 0x00 ∷ 0x04 ∷ 0x85 ∷ 0x00 ∷ 0x08 ∷ 0x00 ∷ 0x00 ∷ 0x00 ∷ 0x00 ∷ 0x00 ∷ 0x00 ∷ 0x31 ∷ 0xf7 ∷ 0xf7 ∷ 0xf6 ∷ 0x2e ∷ 0x02
     ∷ 0x30 ∷ 0xf7 ∷ 0x2d ∷ 0x02 ∷ []
-unfolding atom_formats
+unfolding atom_formats byte_of
 turned_has_bytes = refl
 
 -- ---- a call that is taken back, and a return to the address of the call before it
@@ -80,5 +81,5 @@ called_is_told = refl
 called_has_bytes : spelled (sizes 4) called_packets ≡
     async ++ 0x01 ∷ 0x01 ∷ 0x00 ∷ 0x04 ∷ 0x85 ∷ 0x00 ∷ 0x10 ∷ 0x00 ∷ 0x00 ∷ 0x00 ∷ 0x00 ∷ 0x00 ∷ 0x00 ∷ 0x10 ∷ 0xf7 ∷ 0xf6 ∷ 0xf7 ∷ 0x2e ∷ 0x01
     ∷ 0x30 ∷ 0xf7 ∷ 0xf7 ∷ 0x2d ∷ 0x04 ∷ []
-unfolding atom_formats
+unfolding atom_formats byte_of
 called_has_bytes = refl

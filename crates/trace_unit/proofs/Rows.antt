@@ -17,6 +17,7 @@ use Rattle.path_walker.specs.Start.{pc_before, context_of, mismatch_of, start_of
 use Rattle.path_walker.specs.Steps.{linked}
 use Rattle.path_walker.specs.Walk.{mark_of}
 use Rattle.spec_run.specs.Blocks.{Block}
+use Rattle.spec_run.specs.Kinds.{took_of}
 use Rattle.spec_run.specs.declared.step.RunStep.{RunStep}
 use Rattle.spec_run.specs.declared.step.StepKind.{StepKind}
 use Rattle.spec_run.specs.declared.step.StepKind.TheVariants.{Cond, Eret, Exc, Ind}
@@ -99,6 +100,7 @@ walked_of r =
       ctx = r.block.ctx;
       start = r.block.start;
       count = count_of r.block.last.kind r.block.plain;
+      took = took_of r.block.last.kind;
       exc = mark_of (p0_of r.block.last.kind r.block.last.addr);
     }
 

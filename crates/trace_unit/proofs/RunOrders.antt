@@ -5,6 +5,7 @@ use Rattle.std.proofs.lemmas.List.{length-map, take-append-drop}
 use Rattle.std.specs.Prelude.{⊤}
 use Rattle.element_queue.specs.Pending.{Pending, flip_newest, flips}
 use Rattle.element_queue.specs.Resolved.{Resolved, resolve_all, then_resolve, unresolved, with_done}
+use Rattle.etm_types.specs.SameContext.{same_context}
 use Rattle.etm_types.specs.Settings.{Sizes}
 use Rattle.etm_types.specs.declared.context.Ctx.{Ctx}
 use Rattle.etm_types.specs.declared.element.Elem.TheVariants as elem
@@ -42,7 +43,7 @@ use Rattle.trace_unit.proofs.Ran.{HasRoom}
 use Rattle.trace_unit.proofs.Rooms.{Fits, HasRoomBy, room_for}
 use Rattle.trace_unit.proofs.RowLists.{length-rows}
 use Rattle.trace_unit.proofs.Rows.{thing_of}
-use Rattle.trace_unit.specs.Orders.{Order, Sync, Tell, before, missing, orders, orders_from, orders_on, p0_order, same_context}
+use Rattle.trace_unit.specs.Orders.{Order, Sync, Tell, before, missing, orders, orders_from, orders_on, p0_order}
 use Rattle.trace_unit.specs.Places.{Places, no_places, placed}
 use Rattle.trace_unit.specs.Taken.{AllMeet, CanTake, CanTakeAll}
 use Rattle.trace_unit.specs.Told.{all_told, told}

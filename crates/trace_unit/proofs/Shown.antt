@@ -15,7 +15,7 @@ use Rattle.spec_run.proofs.Shown.{blocks_show, instructions_grow}
 use Rattle.spec_run.proofs.StepLists.{bools}
 use Rattle.spec_run.specs.Blocks.{Begun, Block, block_items, blocks, fresh, items_of_blocks, last_item}
 use Rattle.spec_run.specs.Executed.{AreSteps, IsPlace}
-use Rattle.spec_run.specs.Kinds.{is_p0_kind}
+use Rattle.spec_run.specs.Kinds.{is_p0_kind, took_of}
 use Rattle.spec_run.specs.RetiredItems.{has_p0, stretch_items}
 use Rattle.spec_run.specs.Steps.{is_p0}
 use Rattle.spec_run.specs.declared.step.RunStep.{RunStep}
@@ -25,7 +25,9 @@ use Rattle.trace_unit.proofs.Rows.{IsLed, Led, Row, after, all_items, block_of, 
 
 -- what a reader shows of a block
 abbrev pub walked_items : Block → List Item
-walked_items b = instructions b.ctx b.start (count_of b.last.kind b.plain) ++ exception (mark_of (p0_of b.last.kind b.last.addr))
+walked_items b =
+    instructions b.ctx b.start (count_of b.last.kind b.plain) (took_of b.last.kind)
+    ++ exception (mark_of (p0_of b.last.kind b.last.addr))
 
 -- ---- rows show their blocks, and the first of a stretch that trace is on
 
@@ -35,7 +37,8 @@ one_item on flag items e = ap (λ b. (if b then item.On ∷ [] else []) ++ items
 
 row_shows : (first : Bool) (w : State) (r : Row) → IsLed first w r → row_items r ≡ (if first then item.On ∷ [] else []) ++ walked_items r.block
 row_shows first w r led =
-    append_assoc (if r.pre.on then item.On ∷ [] else []) (instructions r.block.ctx r.block.start (count_of r.block.last.kind r.block.plain))
+    append_assoc (if r.pre.on then item.On ∷ [] else [])
+    (instructions r.block.ctx r.block.start (count_of r.block.last.kind r.block.plain) (took_of r.block.last.kind))
     (exception (mark_of (p0_of r.block.last.kind r.block.last.addr)))
     ∙ one_item r.pre.on first (walked_items r.block) led.on
 
@@ -51,22 +54,23 @@ first_shows w r rows led =
 
 -- ---- blocks show their steps
 
-last : (s : RunStep) (start n : ℕ) → start < 2 ^ 64 → s.addr ≡ behind start n
-    → instructions s.ctx start (n + 1) ++ [] ≡ instructions s.ctx start n ++ item.Instr s.addr s.ctx ∷ []
-last s start n lt at =
-    append-nil (instructions s.ctx start (n + 1)) ∙ instructions_grow s.ctx start n (λ e. lt)
-    ∙ ap (λ a. instructions s.ctx start n ++ item.Instr a s.ctx ∷ []) (sym at)
+last : (s : RunStep) (start n : ℕ) (took : Bool) → start < 2 ^ 64 → s.addr ≡ behind start n
+    → instructions s.ctx start (n + 1) took ++ [] ≡ instructions s.ctx start n false ++ item.Instr s.addr s.ctx took ∷ []
+last s start n took lt at =
+    append-nil (instructions s.ctx start (n + 1) took) ∙ instructions_grow s.ctx start n took (λ e. lt)
+    ∙ ap (λ a. instructions s.ctx start n false ++ item.Instr a s.ctx took ∷ []) (sym at)
 
 -- the last instruction of a block, or the exception behind it
 ends : (kind : StepKind) (s : RunStep) (start n : ℕ) → start < 2 ^ 64 → s.addr ≡ behind start n → is_p0_kind kind ≡ true
-    → instructions s.ctx start (count_of kind n) ++ exception (mark_of (p0_of kind s.addr)) ≡ instructions s.ctx start n ++ last_item kind s ∷ []
+    → instructions s.ctx start (count_of kind n) (took_of kind) ++ exception (mark_of (p0_of kind s.addr))
+    ≡ instructions s.ctx start n false ++ last_item kind s ∷ []
 ends Plain s start n lt at p = absurd cc
 ends (Exc kind) s start n lt at p = refl
-ends Isb s start n lt at p = last s start n lt at
-ends Jump s start n lt at p = last s start n lt at
-ends (Cond taken) s start n lt at p = last s start n lt at
-ends (Ind link) s start n lt at p = last s start n lt at
-ends Eret s start n lt at p = last s start n lt at
+ends Isb s start n lt at p = last s start n false lt at
+ends Jump s start n lt at p = last s start n false lt at
+ends (Cond taken) s start n lt at p = last s start n taken lt at
+ends (Ind link) s start n lt at p = last s start n false lt at
+ends Eret s start n lt at p = last s start n false lt at
 
 blocks_walked : (image : Image) (o : Begun) (context : Ctx) (steps : List RunStep) → o.start < 2 ^ 64 → AreSteps image o context steps
     → flat_map walked_items (blocks o steps) ≡ items_of_blocks (blocks o steps)

@@ -6,6 +6,7 @@ use Rattle.std.specs.Prelude.{nat_le, ◌&&◌, is_some}
 use Rattle.std.proofs.lemmas.Bool.{cases_Bool, eqb-false}
 use Rattle.std.proofs.lemmas.Bool.Decides.{nat_tests}
 use Rattle.std.proofs.lemmas.List.{length-drop, length-map, length-take}
+use Rattle.atom_formats.specs.Bytes.{byte_of}
 use Rattle.element_queue.specs.Resolved.{Resolved, unresolved}
 use Rattle.etm_types.specs.Settings.{Sizes}
 use Rattle.etm_types.specs.declared.element.P0.{P0}
@@ -25,7 +26,7 @@ use Rattle.trace_unit.proofs.OrderTold.{wrote_atoms}
 use Rattle.trace_unit.proofs.Out.{Waits, none_left, p0s_of}
 use Rattle.trace_unit.proofs.RunOrders.{held_many, run_takes, same_ok}
 use Rattle.trace_unit.specs.Orders.{Branch, Cancel, Close, Exception, Flip, Order, Retire, Settle, Tell, orders}
-use Rattle.trace_unit.specs.Packing.{byte_of, longest, longest_within}
+use Rattle.trace_unit.specs.Packing.{longest, longest_within}
 use Rattle.trace_unit.specs.Places.{Places, no_places}
 use Rattle.trace_unit.specs.Small.{Small, unretired}
 use Rattle.trace_unit.specs.Whole.{Waiting, at_once, flipped, is_full, nothing_waits, out, spilled, turn_last, waits, waits_all, with_atom}

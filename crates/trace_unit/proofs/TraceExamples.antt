@@ -9,19 +9,19 @@ use Rattle.packet_grammar.specs.declared.end.End.TheVariants as end
 use Rattle.path_elements.specs.Path.{IsPath}
 use Rattle.program_image.specs.Part.{IsImage, IsPart}
 use Rattle.spec_run.specs.RunAfter.{AreEvents, run_after}
-use Rattle.trace_unit.proofs.Examples.{accepted, code, flat, mixed, path_of}
+use Rattle.trace_unit.proofs.Examples.{accepted, code, flat, mixed, path_of, ran}
 use Rattle.trace_unit.proofs.Examples.{loop as branch, many as branches_taken, sizes as with_numbers}
 use Rattle.trace_unit.proofs.TraceShown.{trace_shows}
 use Rattle.std.proofs.Common.{Some, subst, arith}
 use Rattle.std.specs.Cmp.Lexicographic.{other_text}
 use Rattle.a64_branches.specs.Classes.{class_of}
+use Rattle.atom_formats.specs.Bytes.{byte_of}
 use Rattle.atom_formats.specs.Formats.{atom_formats}
 use Rattle.etm_types.specs.Settings.{Sizes}
 use Rattle.etm_types.specs.declared.context.Ctx.{Ctx}
 use Rattle.program_image.specs.Part.{Part}
 use Rattle.spec_run.specs.declared.event.Event.{Event}
 use Rattle.spec_run.specs.declared.event.Event.TheVariants as event
-use Rattle.trace_unit.specs.Packing.{byte_of}
 use Rattle.trace_unit.specs.Written.{settled, written}
 
 abbrev pub user : Ctx
@@ -219,7 +219,7 @@ flat_is_written = refl
 -- ---- the law speaks of such a run
 
 abbrev flip_few_items : List Item
-flip_few_items = item.On ∷ item.Instr 0x1000 user ∷ item.Instr 0x1004 user ∷ item.Instr 0x1008 user ∷ item.Instr 0x100c user ∷ []
+flip_few_items = item.On ∷ ran 0x1000 user ∷ ran 0x1004 user ∷ ran 0x1008 user ∷ ran 0x100c user ∷ []
 
 flip_few_are_accepted : path_of (run_after branches 4 flip_few) ≡ Some flip_few_items
 unfolding class_of

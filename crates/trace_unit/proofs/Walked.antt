@@ -1,9 +1,11 @@
 -- Rows over the blocks that an image allows are walked.
-use Rattle.std.proofs.Common.{◌≡◌, ℕ, ◌+◌, Bool, true, false, if◌then◌else◌, List, [], ◌∷◌, Option, Some, None, Ok, refl, sym, ap, subst, ◌∙◌, inl}
+use Rattle.std.proofs.Common.{◌≡◌, ℕ, ◌+◌, ◌-◌, Bool, true, false, ◌&&◌, if◌then◌else◌, List, [], ◌∷◌, Option, Some, None, Ok}
+use Rattle.std.proofs.Common.{refl, sym, ap, subst, ◌∙◌, inl, arith}
 use Rattle.std.specs.Prelude.{map, not, is_none}
 use Rattle.std.specs.Option.{unwrap_or}
 use Rattle.a64_branches.specs.declared.class.Class.{Class}
 use Rattle.a64_branches.specs.declared.class.Class.TheVariants as class
+use Rattle.etm_types.specs.declared.element.P0.TheVariants.{Atom}
 use Rattle.program_image.specs.Blocks.{class_at, behind}
 use Rattle.program_image.specs.declared.image.Image.{Image}
 use Rattle.path_walker.specs.declared.pc.Pc.{Pc}
@@ -12,10 +14,10 @@ use Rattle.path_walker.specs.State.{State}
 use Rattle.path_walker.specs.Start.{start_of}
 use Rattle.path_walker.specs.Steps.{next_of, stack_after, linked}
 use Rattle.path_walker.specs.Things.{Gives, Walks}
-use Rattle.path_walker.specs.Walk.{GoesOn, Leads, Shows}
+use Rattle.path_walker.specs.Walk.{GoesOn, Leads, Shows, is_cond, takes}
 use Rattle.spec_run.specs.Blocks.{Block}
 use Rattle.spec_run.specs.Executed.{Executes}
-use Rattle.spec_run.specs.Kinds.{is_p0_kind}
+use Rattle.spec_run.specs.Kinds.{is_p0_kind, took_of}
 use Rattle.spec_run.specs.declared.step.RunStep.{RunStep}
 use Rattle.spec_run.specs.declared.step.StepKind.{StepKind}
 use Rattle.spec_run.specs.declared.step.StepKind.TheVariants.{Cond, Eret, Exc, Ind, Isb, Jump, Plain}
@@ -70,6 +72,25 @@ leads image b Eret stack is does p = atom image b class.Eret true (Awaited false
 leads image b (Exc kind) stack is does p =
     ((λ k lt. ((λ e. is.early k lt (e ∙ is.there)), is.run k lt)), sym is.there, refl, no_link b.last stack does)
 
+-- a conditional branch at the end of a block is taken by an E atom
+taken_at : (image : Image) (b : Block) (c : Class) (taken : Bool) → IsRunBlock image b → class_at image b.last.addr ≡ Some c
+    → takes image (Some b.start) (Atom taken) (b.plain + 1) ≡ taken && is_cond (Some c)
+taken_at image b c taken is there =
+    let back : b.plain + 1 - 1 ≡ b.plain = omega arith in
+    ap (λ n. taken && is_cond (class_at image (behind b.start n))) back ∙ ap (λ a. taken && is_cond (class_at image a)) (sym is.there)
+    ∙ ap (λ k. taken && is_cond k) there
+
+took : (image : Image) (b : Block) (kind : StepKind) → IsRunBlock image b → Executes image kind b.last → is_p0_kind kind ≡ true
+    → took_of kind ≡ takes image (Some b.start) (p0_of kind b.last.addr) (count_of kind b.plain)
+took image b Plain is does p = absurd cc
+took image b Isb is does p = sym (taken_at image b class.Isb true is does.0)
+took image b Jump is does p = sym (taken_at image b (class.Jump does.0 b.last.link) true is does.1)
+took image b (Cond true) is does p = sym (taken_at image b (class.Cond does.0) true is does.1)
+took image b (Cond false) is does p = refl
+took image b (Ind link) is does p = sym (taken_at image b (class.Ind link) true is does.0)
+took image b Eret is does p = sym (taken_at image b class.Eret true is does.0)
+took image b (Exc kind) is does p = refl
+
 row_shows : (image : Image) (first : Bool) (w : State) (r : Row) → IsRunBlock image r.block → IsLed first w r
     → Shows image w (record { pre = r.pre; p0 = p0_of r.block.last.kind r.block.last.addr }) (walked_of r) (after w r)
 row_shows image first w r is led =
@@ -84,6 +105,8 @@ row_shows image first w r is led =
       ctx = sym led.ctx;
       kept = sym led.ctx;
       exc = refl;
+      took = took image r.block r.block.last.kind is is.does is.ends
+          ∙ ap (λ a. takes image a (p0_of r.block.last.kind r.block.last.addr) (count_of r.block.last.kind r.block.plain)) (sym led.at);
     }
 
 pub row_gives : (image : Image) (first : Bool) (w : State) (r : Row) → IsRunBlock image r.block → IsLed first w r

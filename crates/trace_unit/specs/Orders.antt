@@ -1,6 +1,7 @@
 -- The orders of a run: what a trace unit has to tell, event by event, whether it writes it at once or puts some of it off, and
 -- whichever packets tell it.
-use Rattle.std.specs.Prelude.{ℕ, ◌==◌, ◌&&◌, Bool, true, false, not, if◌then◌else◌, List, [], ◌∷◌, ◌++◌, take, Option, Some, None}
+use Rattle.std.specs.Prelude.{ℕ, Bool, true, false, if◌then◌else◌, List, [], ◌∷◌, ◌++◌, take, Option, Some, None}
+use Rattle.etm_types.specs.SameContext.{same_context}
 use Rattle.etm_types.specs.Settings.{Sizes}
 use Rattle.etm_types.specs.declared.context.Ctx.{Ctx}
 use Rattle.program_image.specs.declared.image.Image.{Image}
@@ -40,13 +41,6 @@ pub data Order : Type 0 where
   Close : Closing → Order
 
 -- ---- before a P0 step
-
-abbrev pub same_flag : Bool → Bool → Bool
-same_flag true b = b
-same_flag false b = not b
-
-abbrev pub same_context : Ctx → Ctx → Bool
-same_context a b = (a.el == b.el) && (same_flag a.ns b.ns && ((a.vmid == b.vmid) && (a.cid == b.cid)))
 
 -- what the reader lacks of the address and the context of the block, where it has the context or not, and needs the address or not
 abbrev pub missing : Bool → Bool → ℕ → Ctx → List Order

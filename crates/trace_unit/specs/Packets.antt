@@ -6,6 +6,7 @@ use Rattle.std.specs.Option.{unwrap_or}
 use Rattle.address_history.specs.Forms.{first_form, no_address, put_first}
 use Rattle.etm_types.specs.Context.{initial_context}
 use Rattle.etm_types.specs.CtxBits.{bits_against}
+use Rattle.etm_types.specs.SameContext.{same_context}
 use Rattle.etm_types.specs.declared.address.AddrForm.{AddrForm}
 use Rattle.etm_types.specs.declared.address.AddrForm.TheVariants.{Long32, Long64}
 use Rattle.etm_types.specs.declared.atoms.AtomRun.{AtomRun}
@@ -15,7 +16,7 @@ use Rattle.packet_grammar.specs.declared.packet.Packet.{Packet}
 use Rattle.packet_grammar.specs.declared.packet.Packet.TheVariants as packet
 use Rattle.spec_run.specs.Runs.{ByOff, ByOverflow, Closing}
 use Rattle.trace_unit.specs.Orders.{Address, Branch, Cancel, Close, Context, Exception, Flip, Notice, On, Order, Place, Retire, Settle, Start}
-use Rattle.trace_unit.specs.Orders.{Sync, Tell, same_context}
+use Rattle.trace_unit.specs.Orders.{Sync, Tell}
 use Rattle.trace_unit.specs.Packing.{longest}
 use Rattle.trace_unit.specs.Whole.{Waiting, is_full, out, waits, with_atom}
 
@@ -72,7 +73,7 @@ shared_by shared (Context ctx) = record shared { context = ctx }
 -- ---- P0 elements
 
 abbrev pub exception_packets : Shared → ℕ → ℕ → List Packet
-exception_packets shared kind ret = packet.Exc kind ∷ packet.Addr (form_of shared.history ret) None ∷ []
+exception_packets shared kind ret = packet.Exc kind false ∷ packet.Addr (form_of shared.history ret) None ∷ []
 
 -- bit 0 is the oldest atom
 abbrev pub bits_of : List Bool → ℕ

@@ -1,15 +1,6 @@
 -- The longest front of atoms that one packet tells (Arm IHI 0064, "Atom Format 1 packet" to "Atom Format 6 packet").
-use Rattle.std.specs.Prelude.{ℕ, zero, suc, ◌+◌, ◌&&◌, nat_le, Bool, if◌then◌else◌, List, [], ◌∷◌, length, take, Option, Some, None, is_some}
-use Rattle.atom_formats.specs.Formats.{atom_formats}
-use Rattle.packet_writer.specs.Atoms.{same_atoms}
-
-abbrev pub byte_in : List (ℕ × List Bool) → List Bool → Option ℕ
-byte_in [] atoms = None
-byte_in (row ∷ rows) atoms = if same_atoms row.1 atoms then Some row.0 else byte_in rows atoms
-
--- the byte that tells these atoms and no more
-unfoldable pub byte_of : List Bool → Option ℕ
-byte_of atoms = byte_in atom_formats atoms
+use Rattle.std.specs.Prelude.{ℕ, zero, suc, ◌+◌, ◌&&◌, nat_le, Bool, if◌then◌else◌, List, length, take, is_some}
+use Rattle.atom_formats.specs.Bytes.{byte_of}
 
 -- of the fronts of at most so many atoms and one more, the longest that one byte tells
 abbrev pub longest_within : ℕ → List Bool → ℕ

@@ -143,7 +143,11 @@ impl Shared {
         ensures bytes { bytes.new.items ≡ bytes.old.items ++ spelled settings.now (exception_packets self.old kind ret) }
         ensures capacity { vec_capacity bytes.new ≡ vec_capacity bytes.old }
     {
-        put(bytes, settings, &Packet::Exc { kind });
+        let exception = Packet::Exc {
+            kind,
+            target: false,
+        };
+        put(bytes, settings, &exception);
         self.address(ret, settings, bytes);
     }
 

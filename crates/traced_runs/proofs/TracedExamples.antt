@@ -17,7 +17,7 @@ use Rattle.stream_demux.specs.Texts.{Printed, lines_under, text_of}
 use Rattle.retired_paths.specs.Retired.{stream_text}
 use Rattle.traced_runs.specs.Traced.{ShowsTraces, end_lines, is_of_one, trace_lines, trace_pairs, traces}
 use Rattle.woven_traces.specs.Woven.{under}
-use Rattle.trace_unit.specs.Packing.{byte_of}
+use Rattle.atom_formats.specs.Bytes.{byte_of}
 
 -- ---- three streams, of which one has no event
 

@@ -8,8 +8,8 @@
 mod rounds;
 
 use etm_types::Settings;
+use line_words::{decimal, next_word};
 use program_image::Image;
-use program_image::text::{decimal, next_word};
 use rounds::{P0_STEPS, ROUND, begin, retire_round, run_round};
 use std::alloc::Global;
 use trace_io::{SafeSource, StdSource, read_all};

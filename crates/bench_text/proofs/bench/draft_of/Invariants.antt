@@ -1,13 +1,10 @@
-use Rattle.std.proofs.Common.{◌≡◌, ◌+◌, ◌≤◌, None, length}
+use Rattle.std.proofs.Common.{◌≡◌, None, length}
 use Rattle.std.specs.Str.Lines.{lines}
 use Rattle.bench_text.specs.BenchText.{add_lines}
 use Rattle.bench_text.proofs.bench.draft_of.Given as goal
 
-abbrev pub invariant-loop-rest : goal.invariant-loop-rest
-invariant-loop-rest l = record {
-  same : add_lines 1 None (lines l.text) ≡ add_lines l.number l.draft (lines l.rest);
-  few : l.number + length l.rest ≤ length l.text + 1;
-}
+abbrev pub invariant-loop-number : goal.invariant-loop-number
+invariant-loop-number l = add_lines 1 None (lines l.text) ≡ add_lines l.lines.number l.draft l.lines.lines
 
-abbrev pub decreases-loop-rest : goal.decreases-loop-rest
-decreases-loop-rest l = length l.rest
+abbrev pub decreases-loop-number : goal.decreases-loop-number
+decreases-loop-number l = length l.lines.lines

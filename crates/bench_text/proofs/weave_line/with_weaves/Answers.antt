@@ -1,5 +1,5 @@
 use Rattle.std.proofs.Common.{◌≡◌, ◌∙◌, ◌∷◌, ◌++◌, [], List, ap, rules, sym}
-use Rattle.program_image.specs.Line.{words_in}
+use Rattle.line_words.specs.Line.{words_in}
 use Rattle.bench_text.specs.Kept.{streams_in}
 use Rattle.bench_text.specs.declared.line.Weave.{Weave}
 use Rattle.bench_text.proofs.Weaves.{ok_on, weave_on}

@@ -1,5 +1,5 @@
 use Rattle.std.proofs.Common.{◌≡◌, length}
-use Rattle.program_image.specs.Line.{words_in}
+use Rattle.line_words.specs.Line.{words_in}
 use Rattle.bench_text.specs.BenchText.{weave, weaves_of}
 use Rattle.bench_text.specs.EventLines.{need}
 use Rattle.bench_text.specs.Kept.{streams_in}

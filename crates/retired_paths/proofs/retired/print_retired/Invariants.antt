@@ -7,8 +7,5 @@ abbrev pub invariant-loop-s : goal.invariant-loop-s
 invariant-loop-s g l =
     let state = g.K.Sink.state in
     let most = l.bench.settings.depth in
-    record {
-      depth : (l.retiring.run.depth ≡ most) × (l.retiring.depth ≡ most);
-      so_far : (text : List ℕ) × Wrote (state l.fn.out) (state l.out) text
-          × (text ++ streams_text l.image most (drop l.s l.bench.streams) ≡ streams_text l.image most l.bench.streams);
-    }
+    (text : List ℕ) × Wrote (state l.fn.out) (state l.out) text
+    × (text ++ streams_text l.image most (drop l.s l.bench.streams) ≡ streams_text l.image most l.bench.streams)

@@ -10,12 +10,9 @@ use Rattle.retired_paths.proofs.retired.print_stream.Given as goal
 abbrev pub invariant-loop-line : goal.invariant-loop-line
 invariant-loop-line g l =
     let state = g.K.Sink.state in
-    record {
-      depth : (l.retiring.run.depth ≡ l.fn.retiring.run.depth) × (l.retiring.depth ≡ l.fn.retiring.depth);
-      so_far : (sizes : Sizes) (stream : BenchStream) → slice_get l.bench.streams l.s ≡ Some stream
-          → CanGoOn l.image sizes l.fn.retiring [] (events_of stream.lines)
-          → Printed l.image sizes l.id l.fn.retiring [] l.retiring (events_of (take l.k stream.lines)) (state l.fn.out) (state l.out);
-    }
+    (sizes : Sizes) (stream : BenchStream) → slice_get l.bench.streams l.s ≡ Some stream
+    → CanGoOn l.image sizes l.fn.retiring [] (events_of stream.lines)
+    → Printed l.image sizes l.id l.fn.retiring [] l.retiring (events_of (take l.k stream.lines)) (state l.fn.out) (state l.out)
 
 abbrev pub decreases-loop-line : goal.decreases-loop-line
 decreases-loop-line g l = length (lines_in (slice_get l.bench.streams l.s)) - l.k

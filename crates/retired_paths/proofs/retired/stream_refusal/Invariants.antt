@@ -7,11 +7,9 @@ use Rattle.retired_paths.proofs.Refused.{lines_in}
 use Rattle.retired_paths.proofs.retired.stream_refusal.Given as goal
 
 abbrev pub invariant-loop-line : goal.invariant-loop-line
-invariant-loop-line l = record {
-  depth : l.run.depth ≡ l.fn.run.depth;
-  so_far : (sizes : Sizes) (stream : BenchStream) → slice_get l.bench.streams l.s ≡ Some stream → StandsAt l.image sizes l.fn.run []
-      → StandsAt l.image sizes l.run (events_of (take l.k stream.lines));
-}
+invariant-loop-line l =
+    (sizes : Sizes) (stream : BenchStream) → slice_get l.bench.streams l.s ≡ Some stream → StandsAt l.image sizes l.fn.run []
+    → StandsAt l.image sizes l.run (events_of (take l.k stream.lines))
 
 abbrev pub decreases-loop-line : goal.decreases-loop-line
 decreases-loop-line l = length (lines_in (slice_get l.bench.streams l.s)) - l.k

@@ -1,6 +1,7 @@
 use Rattle.std.proofs.Common.{◌≡◌, ◌++◌, arith, Some, None, Ok, Err, refl, sym, ap, subst, ◌∙◌}
+use Rattle.std.proofs.lemmas.Result.{err_from_is_err_and}
 use Rattle.etm_types.specs.Walked.{items_of}
-use Rattle.path_text.proofs.Wrote.{wrote_by, writes_all}
+use Rattle.path_text.proofs.Wrote.{answers_err, wrote_by, writes_all}
 use Rattle.etm_types.specs.declared.context.Ctx.{Ctx}
 use Rattle.etm_types.specs.declared.walked.Walked.{Walked}
 use Rattle.path_text.specs.PathLines.{lines_of, shown_after_all}
@@ -35,31 +36,33 @@ loop-stretch-preserved g c =
     c.in_context-walked.ensures ∙ ap (λ (x : Ctx). walked_in x c.in-Some.stretch) c.context.ensures in
     let wrote = wrote_by was now tt (lines_of id c.loop-stretch.shown more)
     (subst (λ (w : Walked). Writes {T = Unit {0}} {E = Failed} was now (Ok tt) (lines_of id c.loop-stretch.shown (items_of w))) same
-    (rw c.loop-stretch.invariant.id at c.in-Ok.ensures.lines)) in
+    (rw c.loop-stretch.invariant.id at c.in_ok-write_walked_on.ensures.lines)) in
     record {
       printed = printed_on image id c.args.decoding.now c.loop-stretch.decoding c.args.shown.now c.loop-stretch.shown (state c.args.sink.now) was now
           c.loop-stretch.invariant.printed more c.next_atom.new.self c.in-Some.ensures.goes c.write_walked_on.new.shown
-          (c.in-Ok.ensures.shown ∙ ap (λ (w : Walked). shown_after_all c.loop-stretch.shown (items_of w)) same) wrote;
+          (c.in_ok-write_walked_on.ensures.shown ∙ ap (λ (w : Walked). shown_after_all c.loop-stretch.shown (items_of w)) same) wrote;
       fewer = let less = c.in-Some.ensures.fewer in let before = c.loop-stretch.invariant.fewer in omega (arith, less, before);
       rest = λ done. absurd (
           let still = subst AtRest (sym (c.loop-stretch.invariant.rest done).0) done in
           let e : None ≡ Some c.in-Some.stretch = sym (c.next_atom.ensures.stopped still) ∙ c.in-Some.is in cc);
-      id = c.in-Ok.ensures.id ∙ c.loop-stretch.invariant.id;
+      id = c.in_ok-write_walked_on.ensures.id ∙ c.loop-stretch.invariant.id;
       holds = c.next_atom.ensures.holds;
     }
 
-pub returns-in-Err-clause-prints : goal.returns-in-Err-clause-prints
-returns-in-Err-clause-prints g c =
+pub returns-in_err-write_walked_on-clause-prints : goal.returns-in_err-write_walked_on-clause-prints
+returns-in_err-write_walked_on-clause-prints g c =
     let state = g.K.Sink.state in let image = c.args.image.now in let p = c.loop-stretch.invariant.printed in let more = items_of (walked_in c.next_atom.new.self.walk.ctx c.in-Some.stretch) in
     let same : c.in_context-walked.result ≡ walked_in c.next_atom.new.self.walk.ctx c.in-Some.stretch =
-    c.in_context-walked.ensures ∙ ap (λ (x : Ctx). walked_in x c.in-Some.stretch) c.context.ensures in (
+    c.in_context-walked.ensures ∙ ap (λ (x : Ctx). walked_in x c.in-Some.stretch) c.context.ensures in
+    let e = err_from_is_err_and c.from_residual.result c.from_residual.ensures.1 in
+    rw e.1 (
       p.items ++ more,
       goes_on image c.args.decoding.now c.loop-stretch.decoding c.next_atom.new.self p.items more p.goes c.in-Some.ensures.goes,
       writes_front image c.args.line.now.id c.args.decoding.now c.loop-stretch.decoding c.args.shown.now c.loop-stretch.shown (state c.args.sink.now)
-          (state c.loop-stretch.sink) (state c.write_walked_on.new.sink) p more c.next_atom.new.self c.in-Some.ensures.goes c.in-Err.failed
-          (subst (λ (w : Walked). Writes {T = Unit {0}} (state c.loop-stretch.sink) (state c.write_walked_on.new.sink) (Err c.in-Err.failed)
+          (state c.loop-stretch.sink) (state c.write_walked_on.new.sink) p more c.next_atom.new.self c.in-Some.ensures.goes e.0
+          (subst (λ (w : Walked). Writes {T = Unit {0}} (state c.loop-stretch.sink) (state c.write_walked_on.new.sink) (Err e.0)
           (lines_of c.args.line.now.id c.loop-stretch.shown (items_of w))) same
-          (rw c.loop-stretch.invariant.id at c.in-Err.ensures.lines)),
+          (answers_err _ _ _ _ _ (rw c.loop-stretch.invariant.id at c.in_err-write_walked_on.ensures.lines))),
       tt,
     )
 
@@ -72,8 +75,8 @@ returns-clause-prints g c =
       p.context,
     )
 
-pub returns-in-Err-clause-fewer : goal.returns-in-Err-clause-fewer
-returns-in-Err-clause-fewer g c =
+pub returns-in_err-write_walked_on-clause-fewer : goal.returns-in_err-write_walked_on-clause-fewer
+returns-in_err-write_walked_on-clause-fewer g c =
     let less = c.in-Some.ensures.fewer in let before = c.loop-stretch.invariant.fewer in omega (arith, less, before)
 
 pub returns-clause-fewer : goal.returns-clause-fewer

@@ -59,6 +59,8 @@ loop-id-preserved g c =
           let sum : most + n + length run ≡ most + (n + length run) = omega arith in
           subst (λ k. All (IsReady g.S.Stream.broken g.S.Stream.taken k) c.take_run.new.self) sum
           (c.in_ok-take_run.ensures.ready (most + n) (i.ready most all) refl);
+      sizes = c.take_run.ensures.sizes ∙ i.sizes;
+      held = λ all. c.take_run.ensures.most (i.held all);
     }
 
 pub returns-clause-stands : goal.returns-clause-stands

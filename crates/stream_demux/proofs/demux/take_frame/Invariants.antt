@@ -1,7 +1,7 @@
-use Rattle.std.proofs.Common.{◌+◌, ◌-◌, ◌≤◌, ℕ, List, ◌++◌, length, take}
+use Rattle.std.proofs.Common.{◌≡◌, ◌+◌, ◌-◌, ◌≤◌, ℕ, List, ◌++◌, length, map, take}
 use Rattle.std.specs.Prelude.{All}
 use Rattle.etm_types.specs.Settings.{Sizes}
-use Rattle.stream_demux.specs.Streams.{AllStand, IsReady}
+use Rattle.stream_demux.specs.Streams.{AllStand, HoldsToDepth, IsReady}
 use Rattle.stream_demux.specs.Texts.{by_sizes}
 use Rattle.stream_demux.proofs.Writing.{Written}
 use Rattle.stream_demux.proofs.demux.take_frame.Given as goal
@@ -24,4 +24,6 @@ invariant-loop-id g l =
       shows : ShowsAsBefore (state l.fn.sink) (state l.sink);
       ready : (most : ℕ) → All (IsReady g.S.Stream.broken g.S.Stream.taken most) l.fn.sources
           → All (IsReady g.S.Stream.broken g.S.Stream.taken (most + l.place)) l.sources;
+      sizes : map g.S.Stream.sizes l.sources ≡ map g.S.Stream.sizes l.fn.sources;
+      held : All (HoldsToDepth g.S.Stream.held g.S.Stream.sizes) l.fn.sources → All (HoldsToDepth g.S.Stream.held g.S.Stream.sizes) l.sources;
     }

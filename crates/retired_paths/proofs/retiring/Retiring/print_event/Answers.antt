@@ -20,8 +20,8 @@ print_oldest-requires g c =
     subst (λ (place : Option Place). 0 < length (take c.asked.result (held_at place)) → CanRetire t (take c.asked.result (held_at place)))
     (sym can.stands.run.place) (can_retire c.args.image.now t x.current c.asked.result can.gap w.before can.stands.path)
 
-pub returns-in_err-print_oldest-clause-prints : goal.returns-in_err-print_oldest-clause-prints
-returns-in_err-print_oldest-clause-prints g c s events can =
+pub returns-in_err-print_oldest : goal.returns-in_err-print_oldest
+returns-in_err-print_oldest g c s events can =
     let image = c.args.image.now in
     let e = c.args.event.now in
     let t = c.args.self.now in
@@ -53,8 +53,8 @@ print_done-requires g c =
     let at = subst (λ l. PathStandsAt path (stood.0 ++ l)) same (oldest.path stood.0 stood.1 refl) in
     rw (oldest.run.1, can.stands.depth, is) (parts.show can.gap w.running path at)
 
-pub returns-clause-prints : goal.returns-clause-prints
-returns-clause-prints g c s events can =
+pub returns : goal.returns
+returns g c s events can =
     let image = c.args.image.now in
     let e = c.args.event.now in
     let t = c.args.self.now in

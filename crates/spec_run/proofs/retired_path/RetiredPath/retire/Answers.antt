@@ -28,6 +28,7 @@ returns-clause-shown c = λ steps at.
       ctx = c.args.step.now.ctx;
       start = c.if-self-eq0.start;
       count = c.self.inside.plain + c.match-step.instruction.0;
+      took = c.took.result;
       exc = c.match-step.instruction.1;
     } in
     shows_block c.args.self.now c.args.step.now steps block c.requires.follows at (search rules)

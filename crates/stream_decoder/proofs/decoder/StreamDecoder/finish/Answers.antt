@@ -1,4 +1,5 @@
 use Rattle.std.proofs.Common.{◌≡◌, ℕ, Bool, List, [], length, None, Ok, Err, sym, ap, subst, ◌∙◌, not, true}
+use Rattle.std.proofs.lemmas.Result.{err_from_is_err_and}
 use Rattle.etm_types.specs.Settings.{AreSettings}
 use Rattle.packet_grammar.specs.Ends.{is_fault}
 use Rattle.packet_grammar.specs.Parsed.{Ending, IsStream}
@@ -32,8 +33,8 @@ returns-then-taken-eq0-clause-line g c image bytes items last stands path =
       ap not (nothing_ends_whole image c.args.self.decoding.reader.settings are bytes items last path.0 none path.1),
     )
 
-pub returns-in-Ok-clause-line : goal.returns-in-Ok-clause-line
-returns-in-Ok-clause-line g c image bytes items last stands path =
+pub returns-clause-line : goal.returns-clause-line
+returns-clause-line g c image bytes items last stands path =
     let same = ap (λ (d : Decoder). d.decoding) c.self.view_is in
     let are = subst (λ (d : Decoding). AreSettings d.reader.settings) same c.self.invariant.0.reads.settings in
     let some : length bytes ≡ 0 → ⊥ =
@@ -44,13 +45,13 @@ returns-in-Ok-clause-line g c image bytes items last stands path =
     (λ packets ending stream free. ends bytes packets ending stands.came.reads stream free) in
     let a = g.K.Sink.state c.args.sink.now in let b = g.K.Sink.state c.write_end.new.sink in
     let answer = not c.is_fault.result in
-    let wrote = answers_ok {U = Bool} a b c.in-Ok.field-0 answer (end_line c.args.id c.end-end.result) c.in-Ok.ensures in (
+    let wrote = answers_ok {U = Bool} a b _ answer (end_line c.args.id c.end-end.result) c.in_ok-write_end.ensures in (
       subst (λ (t : List ℕ). Writes {T = Bool} {E = Failed} a b (Ok answer) t) (ap (end_line c.args.id) known ∙ printed_end c.args.id bytes last some) wrote,
       ap not (c.is_fault.ensures ∙ ap is_fault known),
     )
 
-pub returns-in-Err-clause-line : goal.returns-in-Err-clause-line
-returns-in-Err-clause-line g c image bytes items last stands path =
+pub returns-in_err-write_end-clause-line : goal.returns-in_err-write_end-clause-line
+returns-in_err-write_end-clause-line g c image bytes items last stands path =
     let same = ap (λ (d : Decoder). d.decoding) c.self.view_is in
     let are = subst (λ (d : Decoding). AreSettings d.reader.settings) same c.self.invariant.0.reads.settings in
     let some : length bytes ≡ 0 → ⊥ =
@@ -60,8 +61,10 @@ returns-in-Err-clause-line g c image bytes items last stands path =
     end_known image c.args.self.decoding bytes stands.items stands.came are items last path.0 path.1 c.end-end.result
     (λ packets ending stream free. ends bytes packets ending stands.came.reads stream free) in
     let a = g.K.Sink.state c.args.sink.now in let b = g.K.Sink.state c.write_end.new.sink in
-    let wrote = answers_err {U = Bool} a b c.in-Err.failed c.in-Err.failed (end_line c.args.id c.end-end.result) c.in-Err.ensures in (
-      subst (λ (t : List ℕ). Writes {T = Bool} {E = Failed} a b (Err c.in-Err.failed) t)
+    let p = err_from_is_err_and c.from_residual.result c.from_residual.ensures.1 in
+    let wrote = answers_err {U = Bool} a b c.in_err-write_end.field-0.0 p.0 (end_line c.args.id c.end-end.result) c.in_err-write_end.ensures in
+    rw p.1 (
+      subst (λ (t : List ℕ). Writes {T = Bool} {E = Failed} a b (Err p.0) t)
           (ap (end_line c.args.id) known ∙ printed_end c.args.id bytes last some) wrote,
       tt,
     )

@@ -1,4 +1,5 @@
-use Rattle.std.proofs.Common.{◌≡◌, ◌<◌, ◌^◌, [], Option, Some, None, refl, sym, subst, ◌∙◌}
+use Rattle.std.proofs.Common.{◌≡◌, ◌<◌, ◌^◌, [], Option, Some, None, refl, sym, subst}
+use Rattle.std.proofs.lemmas.Result.{IfOk-weaker}
 use Rattle.etm_types.specs.declared.element.Thing.{Thing}
 use Rattle.packet_grammar.specs.declared.stream_fault.Fault.{Fault}
 use Rattle.packet_grammar.specs.declared.stream_fault.Fault.TheVariants.{Queue, Walk}
@@ -15,21 +16,22 @@ returns-in-Ok-None-clause-goes c =
     let leaves = subst (λ (t : Option Thing). Leaves c.args.self.now next t) c.in-Ok-None.field-0-is c.in-Ok-None.ensures.ok in
     goes_by_leaving c.args.image.now c.args.self.now next next None [] leaves (refl, refl) refl
 
-pub returns-in-Ok-clause-goes : goal.returns-in-Ok-clause-goes
-returns-in-Ok-clause-goes c =
-    let leaves = subst (λ (t : Option Thing). Leaves c.args.self.now c.take_next.new.self t) c.in-Ok-Some.field-0-is c.in-Ok-Some.ensures.ok in
-    goes_by_leaving c.args.image.now c.args.self.now c.take_next.new.self c.walk.new.self (Some c.in-Ok-Some.thing) (items_found c.in-Ok.found) leaves
-    c.in-Ok.ensures.walks c.walk.ensures.others
+pub returns-in-Ok-Some-clause-goes : goal.returns-in-Ok-Some-clause-goes
+returns-in-Ok-Some-clause-goes c =
+    let image = c.args.image.now in let d = c.args.self.now in let m = c.take_next.new.self in let thing = Some c.in-Ok-Some.thing in
+    let leaves = subst (λ (t : Option Thing). Leaves d m t) c.in-Ok-Some.field-0-is c.in-Ok-Some.ensures.ok in
+    IfOk-weaker c.walk.result _ _
+    (λ found walks. goes_by_leaving image d m c.walk.new.self thing (items_found found) leaves walks c.walk.ensures.others) c.walk.ensures.walks
 
-pub returns-in-Err-walk-clause-stops : goal.returns-in-Err-walk-clause-stops
-returns-in-Err-walk-clause-stops c fault is =
+pub returns-in-Ok-Some-clause-stops : goal.returns-in-Ok-Some-clause-stops
+returns-in-Ok-Some-clause-stops c fault is =
     let image = c.args.image.now in let d = c.args.self.now in let m = c.take_next.new.self in
-    let why = c.walk.ensures.fault c.in-Err-walk.fault c.in-Err-walk.is in
+    let why = c.walk.ensures.fault fault is in
     let leaves = subst (λ (t : Option Thing). Leaves d m t) c.in-Ok-Some.field-0-is c.in-Ok-Some.ensures.ok in
     let stops : Stops image d (Walk why.0) m = stops_walking image d m c.in-Ok-Some.thing why.0 leaves why.2 in
-    let same : Walk why.0 ≡ fault = sym why.1 ∙ same_error c.in-Err-walk.fault fault is in
-    subst (λ (f : Fault). Stops image d f c.walk.new.self) same
-    (subst (λ (x : Decoding). Stops image d (Walk why.0) x) (sym (c.in-Err-walk.ensures.unchanged refl)) stops)
+    let unchanged : c.walk.new.self ≡ m = c.walk.ensures.unchanged (rw is refl) in
+    subst (λ (f : Fault). Stops image d f c.walk.new.self) (sym why.1)
+    (subst (λ (x : Decoding). Stops image d (Walk why.0) x) (sym unchanged) stops)
 
 pub returns-in-Err-clause-stops : goal.returns-in-Err-clause-stops
 returns-in-Err-clause-stops c fault is =

@@ -67,6 +67,8 @@ loop-at-preserved g c =
       ready = later_ready g.S.Stream.broken g.S.Stream.taken (15 * c.loop-at.self-inside.taken + 15) (15 * (c.loop-at.self-inside.taken + m))
           c.take_front.new.sources (omega (arith, c.in-Ok.ensures.some.1 (omega (arith, size, c.loop-at-test.true))))
           (c.in-Ok.ensures.ready (15 * c.loop-at.self-inside.taken) i.ready refl);
+      sizes = c.take_front.ensures.sizes ∙ i.sizes;
+      most = c.take_front.ensures.most i.most;
     }
 
 pub returns-clause-gains : goal.returns-clause-gains

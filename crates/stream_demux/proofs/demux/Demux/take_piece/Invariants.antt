@@ -1,9 +1,9 @@
-use Rattle.std.proofs.Common.{◌≡◌, ◌+◌, ◌-◌, ◌*◌, ◌≤◌, ℕ, List, ◌++◌, length, take, false}
+use Rattle.std.proofs.Common.{◌≡◌, ◌+◌, ◌-◌, ◌*◌, ◌≤◌, ℕ, List, ◌++◌, length, map, take, false}
 use Rattle.std.specs.Prelude.{All}
 use Rattle.etm_types.specs.Settings.{Sizes}
 use Rattle.formatter_frames.specs.Unframed.{unframed}
 use Rattle.stream_demux.specs.Demuxed.{Demuxed, StandsAt}
-use Rattle.stream_demux.specs.Streams.{IsReady}
+use Rattle.stream_demux.specs.Streams.{HoldsToDepth, IsReady}
 use Rattle.stream_demux.specs.Texts.{by_sizes}
 use Rattle.stream_demux.proofs.Writing.{Gained}
 use Rattle.stream_demux.proofs.demux.Demux.take_piece.Given as goal
@@ -29,4 +29,6 @@ invariant-loop-at g l =
       taken : l.self-inside.taken ≡ l.fn.self.taken + l.at;
       whole : l.self-inside.broken ≡ false;
       ready : All (IsReady g.S.Stream.broken g.S.Stream.taken (15 * l.self-inside.taken)) l.self-inside.sources;
+      sizes : map g.S.Stream.sizes l.self-inside.sources ≡ map g.S.Stream.sizes l.fn.self.streams;
+      most : All (HoldsToDepth g.S.Stream.held g.S.Stream.sizes) l.self-inside.sources;
     }

@@ -1,10 +1,11 @@
-use Rattle.std.proofs.Common.{◌≡◌, ◌+◌, ◌-◌, true, false, sym, ap, subst, ◌∙◌, length, arith}
+use Rattle.std.proofs.Common.{◌≡◌, ◌+◌, ◌-◌, true, false, sym, ap, subst, ◌∙◌, length, map, arith}
 use Rattle.std.specs.Option.{option_copied_mut}
 use Rattle.std.specs.Prelude.{All}
+use Rattle.std.proofs.lemmas.List.Elements.{All-set}
 use Rattle.etm_types.specs.Id.{IsId}
-use Rattle.stream_demux.specs.Streams.{AllStand, IsReady}
+use Rattle.stream_demux.specs.Streams.{AllStand, HoldsToDepth, IsReady}
 use Rattle.stream_demux.specs.Texts.{by_sizes, of}
-use Rattle.stream_demux.proofs.Standing.{is_none_of, no_source_moves, one_ready, ready_at, source_moves, source_stands, whole_where_ok}
+use Rattle.stream_demux.proofs.Standing.{is_none_of, map_kept, no_source_moves, one_ready, ready_at, source_moves, source_stands, whole_where_ok}
 use Rattle.stream_demux.proofs.Runs.{no_source_adds, source_adds}
 use Rattle.stream_demux.proofs.sources.Sources.take_run.Goals as goal
 
@@ -54,6 +55,20 @@ returns-clause-adds g c t pairs all =
     ) in
     source_adds (g.S.Stream.listing c.args.shared.now) (sizes c.in-Some-get_mut.stream.now) t c.args.id c.in-Some.id pairs c.args.run.now _ _ _ is
     c.in-Some.ensures.value one.1 (c.take_run.ensures.gains (of c.args.id pairs) one.0)
+
+pub returns-clause-sizes : goal.returns-clause-sizes
+returns-clause-sizes g c =
+    let at = sym (ap option_copied_mut c.in-Some-get_mut.is) ∙ c.get_mut.follows.0 in
+    map_kept g.S.Stream.sizes c.self.inside.ring.items (c.from.result - 1) c.in-Some-get_mut.stream.now c.take_run.new.self at c.take_run.ensures.sizes
+    ∙ ap (map g.S.Stream.sizes) c.self.view_is
+
+pub returns-clause-most : goal.returns-clause-most
+returns-clause-most g c all =
+    let at = sym (ap option_copied_mut c.in-Some-get_mut.is) ∙ c.get_mut.follows.0 in
+    let to_depth = HoldsToDepth g.S.Stream.held g.S.Stream.sizes in
+    let each = subst (All to_depth) (sym c.self.view_is) all in
+    All-set to_depth c.self.inside.ring.items (c.from.result - 1) c.take_run.new.self
+    (c.take_run.ensures.most (ready_at to_depth c.self.inside.ring.items (c.from.result - 1) c.in-Some-get_mut.stream.now each at)) each
 
 pub returns-clause-ready : goal.returns-clause-ready
 returns-clause-ready g c most all ok =

@@ -46,6 +46,7 @@ loop-byte-preserved g c =
       taken = omega (arith, c.take.ensures.taken, i.taken);
       whole = whole_where_ok {E = Failed} (g.Self.Stream.broken c.take.new.self) (Ok c.in_ok-take.field-0) refl c.in_ok-take.ensures.broken;
       sizes = c.take.ensures.sizes ∙ i.sizes;
+      most = λ _. c.take.ensures.most;
     }
 
 pub returns-clause-gains : goal.returns-clause-gains

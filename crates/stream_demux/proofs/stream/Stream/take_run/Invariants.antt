@@ -1,5 +1,6 @@
 use Rattle.std.proofs.Common.{◌≡◌, ◌+◌, ℕ, List, ◌++◌, take, false}
 use Rattle.stream_demux.proofs.Runs.{RunWritten}
+use Rattle.stream_demux.specs.Streams.{HoldsToDepth}
 use Rattle.stream_demux.proofs.stream.Stream.take_run.Given as goal
 use Rattle.trace_io.specs.Bytes.{ShowsAsBefore}
 use Rattle.trace_io.specs.Causes.{KeepsFaults}
@@ -16,4 +17,5 @@ invariant-loop-byte g l =
       taken : g.Self.Stream.taken l.self ≡ g.Self.Stream.taken l.fn.self + l.byte-index;
       whole : g.Self.Stream.broken l.self ≡ false;
       sizes : g.Self.Stream.sizes l.self ≡ g.Self.Stream.sizes l.fn.self;
+      most : HoldsToDepth g.Self.Stream.held g.Self.Stream.sizes l.fn.self → HoldsToDepth g.Self.Stream.held g.Self.Stream.sizes l.self;
     }

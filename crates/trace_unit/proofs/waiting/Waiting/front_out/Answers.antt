@@ -9,7 +9,7 @@ drop_front-requires c =
     let u = c.args.self.now in
     let n = c.longest_front-byte.result.1 in
     let given = c.as_slice.ensures.value ∙ ap (λ (w : Waiting). w.atoms) c.self.view_is in
-    let found = front_found u.atoms c.as_slice.result.now c.longest_front-byte.result.0 n given c.requires.some
+    let found = front_found u.atoms c.as_slice.result.now c.longest_front-byte.result.0 n given
     c.longest_front-byte.ensures.front c.longest_front-byte.ensures.longest in
     let atoms : c.self-2.inside.atoms ≡ u.atoms =
     ap (λ (w : Waiting). w.atoms) (c.self-2.view_is ∙ c.count_atoms.ensures) ∙ some_keep c.args.settings.now.depth (take n u.atoms) u in
@@ -21,7 +21,7 @@ returns-clause-waiting c =
     let depth = c.args.settings.now.depth in
     let n = c.longest_front-byte.result.1 in
     let given = c.as_slice.ensures.value ∙ ap (λ (w : Waiting). w.atoms) c.self.view_is in
-    let found = front_found u.atoms c.as_slice.result.now c.longest_front-byte.result.0 n given c.requires.some
+    let found = front_found u.atoms c.as_slice.result.now c.longest_front-byte.result.0 n given
     c.longest_front-byte.ensures.front c.longest_front-byte.ensures.longest in
     let inside = c.self-2.inside in
     let v : Waiting = record { atoms = inside.atoms; cancels = inside.cancels; commits = inside.commits; held = inside.held } in
@@ -34,6 +34,6 @@ pub returns-clause-bytes : goal.returns-clause-bytes
 returns-clause-bytes c =
     let u = c.args.self.now in
     let given = c.as_slice.ensures.value ∙ ap (λ (w : Waiting). w.atoms) c.self.view_is in
-    let found = front_found u.atoms c.as_slice.result.now c.longest_front-byte.result.0 c.longest_front-byte.result.1 given c.requires.some
+    let found = front_found u.atoms c.as_slice.result.now c.longest_front-byte.result.0 c.longest_front-byte.result.1 given
     c.longest_front-byte.ensures.front c.longest_front-byte.ensures.longest in
     c.push_reserved.ensures.items ∙ ap (λ bytes. c.args.bytes.now.items ++ bytes) (sym (found.spelled c.args.settings.now))

@@ -1,7 +1,0 @@
-use Rattle.std.proofs.Common.{◌∙◌, arith, sym}
-use Rattle.program_image.proofs.Small.{number_small}
-use Rattle.bench_text.proofs.words.two_digits.Goals as goal
-
-pub overflow_cast-result : goal.overflow_cast-result
-overflow_cast-result c =
-    omega (arith, number_small c.args.word.now c.in_ok-number.number 1 (sym c.number.ensures ∙ c.in_ok-number.was) (omega arith) (omega arith))

@@ -1,6 +1,0 @@
-use Rattle.std.proofs.Common.{◌∙◌}
-use Rattle.program_image.proofs.Utf8.{tells_utf8}
-use Rattle.program_image.proofs.text.is_utf8.Goals as goal
-
-pub returns : goal.returns
-returns c = c.is_ok.ensures.value ∙ tells_utf8 c.from_utf8.result c.args.line.now _ _ c.from_utf8.ensures.cases
