@@ -15,9 +15,11 @@ BATCH = 8  # P0 steps that are retired at once
 
 
 class Walk:
-    """A core that runs the program, and the lines that say what it does. As many P0 steps are held as the depth has room for."""
+    """A core that runs the program, and the lines that say what it does. As many P0 steps are held as the depth has room for.
+    With at_targets exceptions come before the first instruction of a block too."""
 
-    def __init__(self, blocks, depth):
+    def __init__(self, blocks, depth, at_targets):
+        self.first = 0 if at_targets else 1  # of the plain words before which an exception may come
         self.rng, self.blocks, self.depth = random.Random(programs.SEED), blocks, depth
         self.starts = {block.start: block for block in blocks}
         self.at, self.stack, self.task = blocks[0], [], 1
@@ -42,7 +44,7 @@ class Walk:
 
     def interrupt(self):
         """An exception among the plain words of the block, its handler, and the return, to another task at times."""
-        back = self.at.start + 4 * self.rng.randrange(self.at.plain + 1)
+        back = self.at.start + 4 * self.rng.randrange(self.first, self.at.plain + 1)
         self.add((back - self.at.start) // 4, f"exc 14 {programs.HANDLER:x} {self.context(1)}")
         self.task = self.rng.choice([self.task, self.rng.randrange(1 << 16)])
         self.add(1, f"eret {back:x} {self.context(0)}")
@@ -88,7 +90,7 @@ class Walk:
         block = self.at
         if len(self.held) + ROOM > self.depth:
             self.retire(BATCH)
-        if self.rng.random() < INTERRUPTED:
+        if self.rng.random() < INTERRUPTED and self.first <= block.plain:
             self.interrupt()
         elif block.kind == "cond":
             self.at = self.conditional(block)
@@ -109,9 +111,9 @@ def image_and_blocks():
     return programs.image_of(blocks), blocks
 
 
-def write_run(path, blocks, depth, steps):
+def write_run(path, blocks, depth, steps, at_targets=True):
     """A run file of so many executed steps, or a few more: how many, and how many instructions of them are retired."""
-    walk = Walk(blocks, depth)
+    walk = Walk(blocks, depth, at_targets)
     with open(path, "w") as file:
         while walk.executed < steps:
             walk.step()

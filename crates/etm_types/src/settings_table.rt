@@ -1,8 +1,8 @@
 //! The settings of the trace sources, each its own.
-ghost use Rattle.std.specs.Prelude.{◌≡◌, ◌≢◌, ℕ};
+ghost use Rattle.std.specs.Prelude.{◌≡◌, ◌≢◌, ◌-◌, ℕ, replicate, slice_set};
 ghost use Rattle.etm_types.specs.Id.{IsId};
 ghost use Rattle.etm_types.specs.Settings.{AreSettings};
-ghost use Rattle.etm_types.specs.SettingsTable.{sizes_at};
+ghost use Rattle.etm_types.specs.SettingsTable.{IsTable, sizes_at};
 
 use crate::{Id, Settings};
 use std::marker::Model;
@@ -33,7 +33,9 @@ impl Model for SettingsTable {
 impl SettingsTable {
     /// The table in which all IDs have the same settings.
     pub fn new(all: Settings) -> SettingsTable
-        ensures { (id : ℕ) → IsId id → sizes_at result id ≡ all }
+        ensures each { (id : ℕ) → IsId id → sizes_at result id ≡ all }
+        ensures list { result ≡ replicate 111 all }
+        ensures table { IsTable result }
     {
         let _ = all.depth();
         SettingsTable { of_ids: [all; IDS] }
@@ -43,6 +45,8 @@ impl SettingsTable {
     pub fn set(&mut self, id: Id, one: Settings)
         ensures one { sizes_at self.new id ≡ one }
         ensures others { (other : ℕ) → IsId other → other ≢ id → sizes_at self.new other ≡ sizes_at self.old other }
+        ensures list { self.new ≡ slice_set self.old (id - 1) one }
+        ensures table { IsTable self.new }
     {
         self.of_ids[usize::from(id.get()) - 1] = one;
     }

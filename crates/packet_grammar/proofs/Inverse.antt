@@ -5,6 +5,7 @@ use Rattle.std.specs.Prelude.{if◌then◌else◌, replicate}
 use Rattle.std.specs.List.{list_all}
 use Rattle.std.proofs.Math.Bool.{beq}
 use Rattle.std.proofs.lemmas.Bool.{agree_below_at, and_parts, cases_lt, eqb-true, leb-true, ltb-true}
+use Rattle.etm_types.specs.SameContext.{same_flag}
 use Rattle.etm_types.specs.Settings.{Sizes}
 use Rattle.etm_types.specs.Atoms.{atoms_in}
 use Rattle.etm_types.specs.declared.address.AddrForm.{AddrForm}
@@ -26,7 +27,7 @@ use Rattle.packet_grammar.proofs.Table.{Body, alone, atoms, extension, trace_inf
 use Rattle.packet_grammar.proofs.Table.{long_64, long_32_with_context, long_64_with_context, headers, body_in}
 use Rattle.packet_grammar.proofs.Table.{body_of, pick, whole, Follows, Told, AfterZero, AtomsOf, Exception, exception_by}
 use Rattle.packet_grammar.specs.Spelling.{Section, Mode, TraceInfo, SpellsPacket, OneOf}
-use Rattle.packet_grammar.specs.Faults.{SpellsFault, ShowsAt, Place, same, in_header, in_sync}
+use Rattle.packet_grammar.specs.Faults.{SpellsFault, ShowsAt, Place, in_header, in_sync}
 use Rattle.packet_grammar.specs.Faults.{in_info, in_exception, in_number, in_context, in_context_of_32, in_context_of_64}
 use Rattle.packet_grammar.specs.Parsed.{Spells}
 
@@ -558,14 +559,14 @@ short_fault f (a ∷ bytes) is = short_more f a bytes (nat_lt a 128) is
 
 exc_fault : (s : Sizes) (x7 x6 x0 : Bool) (b : ℕ) (f : PacketFault) → bit 7 b ≡ x7 → bit 6 b ≡ x6 → bit 0 b ≡ x0
     → ◌≡◌ {A = Outcome Packet} (Err f) (exception_by x7 x6 x0 b)
-    → ((x7 || same x6 x0) ≡ true) × (f ≡ (if x7 then ExceptionTwoByte b else ExceptionForm b))
+    → ((x7 || same_flag x6 x0) ≡ true) × (f ≡ (if x7 then ExceptionTwoByte b else ExceptionForm b))
 exc_fault s false false true b f b7 b6 b0 e = absurd cc
 exc_fault s false true false b f b7 b6 b0 e = absurd cc
 exc_fault s true x6 x0 b f b7 b6 b0 e = (refl, cc)
 exc_fault s false true true b f b7 b6 b0 e = (refl, cc)
 exc_fault s false false false b f b7 b6 b0 e = (refl, cc)
 
-exc_shown : (x7 x6 x0 : Bool) (b : ℕ) (f : PacketFault) → (x7 || same x6 x0) ≡ true → f ≡ (if x7 then ExceptionTwoByte b else ExceptionForm b)
+exc_shown : (x7 x6 x0 : Bool) (b : ℕ) (f : PacketFault) → (x7 || same_flag x6 x0) ≡ true → f ≡ (if x7 then ExceptionTwoByte b else ExceptionForm b)
     → ◌≡◌ {A = Outcome Packet} (Err f) (exception_by x7 x6 x0 b)
 exc_shown false false true b f wrong e = absurd cc
 exc_shown false true false b f wrong e = absurd cc

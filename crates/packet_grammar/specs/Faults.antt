@@ -1,6 +1,7 @@
 -- Which bytes show which fault: each time the bytes from a packet's first one up to the one that shows it (Arm IHI 0064,
 -- "Descriptions of Trace Packets").
 use Rattle.std.specs.Prelude.{◌≡◌, ◌≢◌, ℕ, ◌<◌, ◌≤◌, ◌||◌, not, replicate, Bool, true, List, [], ◌∷◌, ◌++◌, length, Some, Err, if◌then◌else◌}
+use Rattle.etm_types.specs.SameContext.{same_flag}
 use Rattle.etm_types.specs.Settings.{Sizes}
 use Rattle.packet_grammar.specs.declared.fault.PacketFault.{PacketFault}
 use Rattle.packet_grammar.specs.declared.fault.PacketFault.TheVariants.{Extension, BrokenSync, ExceptionTwoByte, ExceptionForm}
@@ -27,10 +28,6 @@ BadSync (Extension b) bytes = (bytes ≡ b ∷ []) × (b ≢ 0x00) × (b ≢ 0x0
 BadSync BrokenSync bytes = BreaksSync bytes
 BadSync fault bytes = ⊥
 
--- whether two bits are the same
-abbrev pub same : Bool → Bool → Bool
-same one other = if one then other else not other
-
 -- the packet that a fault is in
 pub data Place : Type 0 where
   in_header : Place
@@ -51,7 +48,7 @@ ShowsAt s in_sync fault bytes = (rest : List ℕ) × (bytes ≡ 0x00 ∷ rest) �
 ShowsAt s in_info fault bytes = (rest : List ℕ) × (bytes ≡ 0x01 ∷ rest) × TraceInfo (Err fault) rest
 -- Exception instruction trace packet: another byte follows, or bits 6 and 0 (E1 and E0) are the same
 ShowsAt s in_exception fault bytes =
-    (b : ℕ) × (bytes ≡ 0x06 ∷ b ∷ []) × ((bit 7 b || same (bit 6 b) (bit 0 b)) ≡ true)
+    (b : ℕ) × (bytes ≡ 0x06 ∷ b ∷ []) × ((bit 7 b || same_flag (bit 6 b) (bit 0 b)) ≡ true)
     × (fault ≡ (if bit 7 b then ExceptionTwoByte b else ExceptionForm b))
 -- Commit packet, Cancel Format 1 packet
 ShowsAt s in_number fault bytes = (h : ℕ) × (rest : List ℕ) × (0x2d ≤ h) × (h ≤ 0x2f) × (bytes ≡ h ∷ rest) × Number (Err fault) rest

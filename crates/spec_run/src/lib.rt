@@ -23,6 +23,7 @@ mod run_fault;
 mod standing;
 mod step;
 
+pub use effect::Effect;
 pub use event::{Done, Event};
 pub use laws::{
     events_go_one_by_one, paths_go_by_blocks, retired_path_grows,

@@ -137,8 +137,8 @@ impl Run {
         self.standing.map(|standing| standing.ctx)
     }
 
-    /// What an event does, or the first of its checks that fails.
-    fn plan(&self, image: &Image, event: &Event) -> Result<Effect, RunFault>
+    /// What an event does, or the first of its checks that fails. Nothing changes.
+    pub fn plan(&self, image: &Image, event: &Event) -> Result<Effect, RunFault>
         ensures { result ≡ planned image.now self.now.depth self.now.place event.now }
     {
         let Some(standing) = self.standing else {
@@ -279,8 +279,8 @@ impl Run {
         }
     }
 
-    /// Does what is planned, and says what was done.
-    fn take(&mut self, image: &Image, effect: &Effect) -> Done
+    /// Does what an event does by its plan, and says what was done. The plan is of the run as it stands.
+    pub fn take(&mut self, image: &Image, effect: &Effect) -> Done
         requires room { HasRoom effect.now (held_at self.old.place) }
         ensures place { self.new.place ≡ place_after image.now self.old.depth self.old.place effect.now }
         ensures done { result ≡ done_of (held_at self.old.place) effect.now }

@@ -25,8 +25,9 @@ use Rattle.trace_unit.proofs.OneOrder.{one_order}
 use Rattle.trace_unit.proofs.OrderTold.{settles}
 use Rattle.trace_unit.proofs.Out.{Waits, none_left, none_out}
 use Rattle.trace_unit.proofs.RunOrders.{Suits, run_suits, same_ok}
-use Rattle.trace_unit.specs.Orders.{Branch, Cancel, Close, Exception, Flip, Order, Retire, Settle, Sync, Tell}
-use Rattle.trace_unit.specs.Orders.{before, missing, orders, orders_from, orders_on, p0_order}
+use Rattle.trace_unit.proofs.StepOrders.{in_both}
+use Rattle.trace_unit.specs.Orders.{Branch, Cancel, Close, Exception, ExceptionAtTarget, Flip, Order, Retire, Settle, Sync, Tell}
+use Rattle.trace_unit.specs.Orders.{missing, orders, orders_from, orders_on, p0_order, step_orders}
 use Rattle.trace_unit.specs.Places.{Places, no_places, placed}
 use Rattle.trace_unit.specs.Taken.{AllMeet, Announces}
 use Rattle.trace_unit.specs.Told.{all_told, closing_element, told}
@@ -100,6 +101,15 @@ either : (P : List Order → Type 0) (b : Bool) (some none : List Order) → P s
 either P true some none p q = p
 either P false some none p q = q
 
+step_syncs : (p : Places) (s : RunStep) → SyncsSettled false (step_orders p s)
+step_syncs p s =
+    in_both (SyncsSettled false) p s (missing_syncs (same_context s.ctx p.reader_context) p.needs p.start s.ctx s.kind s.addr) (λ kind e is. (tt, tt))
+
+step_ends : (p : Places) (s : RunStep) → settled_behind false (step_orders p s) ≡ false
+step_ends p s =
+    in_both (λ l. settled_behind false l ≡ false) p s (missing_ends (same_context s.ctx p.reader_context) p.needs p.start s.ctx s.kind s.addr)
+    (λ kind e is. refl)
+
 runs_on : (depth : ℕ) (r : Running) (s : RunStep) (ctx : Ctx) → is_off (Some (runs depth r s ctx)) ≡ false
 runs_on depth r s ctx = refl
 
@@ -115,8 +125,7 @@ event_syncs None p effect.Overflowed = tt
 event_syncs None p effect.Stopped = tt
 event_syncs (Some r) p (effect.Began addr ctx) = tt
 event_syncs (Some r) p (effect.Ran s ctx) =
-    either (SyncsSettled false) (is_p0 s) (before p s.ctx ++ p0_order s.kind s.addr ∷ []) []
-    (missing_syncs (same_context s.ctx p.reader_context) p.needs p.start s.ctx s.kind s.addr) tt
+    either (SyncsSettled false) (is_p0 s) (step_orders p s) [] (step_syncs p s) tt
 event_syncs (Some r) p (effect.Contexted ctx) = tt
 event_syncs (Some r) p (effect.Retired n) = (tt, tt)
 event_syncs (Some r) p (effect.Cancelled n) = (tt, tt)
@@ -138,8 +147,7 @@ event_ends image depth closed None p effect.Overflowed = refl
 event_ends image depth closed None p effect.Stopped = refl
 event_ends image depth closed (Some r) p (effect.Began addr ctx) = refl
 event_ends image depth closed (Some r) p (effect.Ran s ctx) =
-    either (λ l. settled_behind false l ≡ false) (is_p0 s) (before p s.ctx ++ p0_order s.kind s.addr ∷ []) []
-    (missing_ends (same_context s.ctx p.reader_context) p.needs p.start s.ctx s.kind s.addr) refl
+    either (λ l. settled_behind false l ≡ false) (is_p0 s) (step_orders p s) [] (step_ends p s) refl
 event_ends image depth closed (Some r) p (effect.Contexted ctx) = refl
 event_ends image depth closed (Some r) p (effect.Retired n) = refl
 event_ends image depth closed (Some r) p (effect.Cancelled n) = refl
@@ -186,6 +194,7 @@ settles_alike depth u rw rp np nw (Close closing) b is e f =
 settles_alike depth u rw rp np nw (Tell notice) b is e f = absurd cc
 settles_alike depth u rw rp np nw (Branch taken) b is e f = absurd cc
 settles_alike depth u rw rp np nw (Exception kind ret) b is e f = absurd cc
+settles_alike depth u rw rp np nw (ExceptionAtTarget context kind addr) b is e f = absurd cc
 settles_alike depth u rw rp np nw (Retire n) b is e f = absurd cc
 settles_alike depth u rw rp np nw (Cancel n) b is e f = absurd cc
 settles_alike depth u rw rp np nw Flip b is e f = absurd cc

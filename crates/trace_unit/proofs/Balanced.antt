@@ -7,7 +7,7 @@ use Rattle.trace_unit.proofs.Out.{none_out, none_wrote}
 use Rattle.trace_unit.proofs.Sizes.{few_atoms, turn_many}
 use Rattle.trace_unit.proofs.WaitingOut.{wrote_one, wrote_some}
 use Rattle.trace_unit.specs.Ordered.{Allows, unretired_by}
-use Rattle.trace_unit.specs.Orders.{Branch, Cancel, Close, Exception, Flip, Order, Retire, Settle, Tell}
+use Rattle.trace_unit.specs.Orders.{Branch, Cancel, Close, Exception, ExceptionAtTarget, Flip, Order, Retire, Settle, Tell}
 use Rattle.trace_unit.specs.Packing.{longest}
 use Rattle.trace_unit.specs.Small.{Small}
 use Rattle.trace_unit.specs.Whole.{Waiting, at_once, cancelled_out, flipped, is_full, out, some_out, spilled, waits, with_atom, wrote}
@@ -97,6 +97,7 @@ order_balanced depth n u (Branch taken) le can b =
     let v = with_atom depth u taken in
     spilled_balanced depth (n + 1 - at_once depth) (is_full v) v (omega (arith, can)) (atom_balanced depth n u taken can b)
 order_balanced depth n u (Exception kind ret) le can b = excepted depth n (out depth u) can (out_balanced depth n u le b)
+order_balanced depth n u (ExceptionAtTarget context kind addr) le can b = excepted depth n (out depth u) can (out_balanced depth n u le b)
 order_balanced depth n u (Retire k) le can b = record { held = b.held; cancels = b.cancels; balance = omega (arith, can, b.balance) }
 order_balanced depth n u (Cancel k) le can b =
     let left = length-take (length u.atoms - k) u.atoms in
@@ -122,6 +123,7 @@ pub few_kept : (depth n : ℕ) (order : Order) → n ≤ depth → Allows depth 
 few_kept depth n (Tell notice) le can = le
 few_kept depth n (Branch taken) le can = omega (arith, can)
 few_kept depth n (Exception kind ret) le can = omega (arith, can)
+few_kept depth n (ExceptionAtTarget context kind addr) le can = omega (arith, can)
 few_kept depth n (Retire k) le can = omega (arith, le)
 few_kept depth n (Cancel k) le can = omega (arith, le)
 few_kept depth n Flip le can = le

@@ -22,11 +22,12 @@ use Rattle.trace_unit.proofs.Growing.{spelled_joined}
 use Rattle.trace_unit.proofs.Out.{none_left, none_out}
 use Rattle.trace_unit.proofs.Sizes.{some_front, turn_many}
 use Rattle.trace_unit.specs.Ordered.{bytes_all, bytes_of, told_all, told_by}
-use Rattle.trace_unit.specs.Orders.{Address, Branch, Cancel, Close, Context, Exception, Flip, Notice, On, Order, Place, Retire, Settle, Start, Sync, Tell}
+use Rattle.trace_unit.specs.Orders.{Address, Branch, Cancel, Close, Context, Exception, ExceptionAtTarget, Flip, Notice, On, Order, Place, Retire}
+use Rattle.trace_unit.specs.Orders.{Settle, Start, Sync, Tell, target_notice}
 use Rattle.trace_unit.specs.Packets.{Shared, announced, cancel_packets, closing_packet, commit_packets, context_packet, exception_packets}
 use Rattle.trace_unit.specs.Packets.{flip_packet, flip_packets, front_packet}
 use Rattle.trace_unit.specs.Packets.{form_of, long_form, notice_packets, out_packets, packed, packed_within, packets_of}
-use Rattle.trace_unit.specs.Packets.{settle_packets, spilled_packets, with_context}
+use Rattle.trace_unit.specs.Packets.{settle_packets, spilled_packets, target_packets, with_context}
 use Rattle.trace_unit.specs.Packing.{longest}
 use Rattle.trace_unit.specs.Whole.{Waiting, at_once, flipped, is_full, out, some_out, spilled, waits, with_atom, wrote}
 use Rattle.trace_unit.specs.Written.{spelled}
@@ -82,6 +83,7 @@ abbrev pub order_size : Order → ℕ
 order_size (Tell notice) = notice_size notice
 order_size (Branch taken) = 1
 order_size (Exception kind ret) = 11
+order_size (ExceptionAtTarget context kind addr) = 20
 order_size (Retire n) = 0
 order_size (Cancel n) = 6
 order_size Flip = 6
@@ -184,6 +186,15 @@ module _ (s : Sizes) (are : AreSettings s) where
       let addr = packet.Addr (form_of shared.history ret) None in
       omega (arith, spelled_with (packet.Exc kind false) (addr ∷ []), spelled_alone addr, address_few (form_of shared.history ret))
 
+  target_few : (shared : Shared) (context : Option Ctx) (kind addr : ℕ) → length (spelled s (target_packets shared context kind addr)) ≤ 20
+  target_few shared context kind addr =
+      let notice = target_notice context addr in
+      omega (arith, spelled_with (packet.Exc kind true) (notice_packets shared notice), notice_few shared notice, by context)
+    where
+      by : (context : Option Ctx) → notice_size (target_notice context addr) ≤ 18
+      by None = omega arith
+      by (Some ctx) = omega arith
+
   flip_packet_few : (n : ℕ) → length (spelling s (flip_packet n)) ≤ 6
   flip_packet_few zero = omega arith
   flip_packet_few (suc zero) = omega arith
@@ -249,6 +260,9 @@ module _ (s : Sizes) (are : AreSettings s) where
   order_few depth u shared (Exception kind ret) =
       let none = nothing_wrote depth (record (out depth u) { commits = (out depth u).commits + at_once depth }) (nothing_out depth u) in
       omega (arith, spelled_both (out_packets u) (exception_packets shared kind ret), out_few u, exception_few shared kind ret, none)
+  order_few depth u shared (ExceptionAtTarget context kind addr) =
+      let none = nothing_wrote depth (record (out depth u) { commits = (out depth u).commits + at_once depth }) (nothing_out depth u) in
+      omega (arith, spelled_both (out_packets u) (target_packets shared context kind addr), out_few u, target_few shared context kind addr, none)
   order_few depth u shared (Retire n) = omega arith
   order_few depth u shared (Cancel n) =
       omega (arith, cancels_more u.cancels (n - length u.atoms), length-take (length u.atoms - n) u.atoms)

@@ -1,5 +1,5 @@
 -- An event that is accepted gives orders whose values fit, and leaves a run and places that fit.
-use Rattle.std.proofs.Common.{◌≡◌, ℕ, zero, suc, ◌+◌, ◌-◌, ◌%◌, ◌<◌, ◌≤◌, Bool, true, false, if◌then◌else◌, List, [], ◌∷◌, ◌++◌, length, map, take}
+use Rattle.std.proofs.Common.{◌≡◌, ℕ, zero, suc, ◌+◌, ◌-◌, ◌%◌, ◌<◌, ◌≤◌, Bool, true, false, if◌then◌else◌, List, [], ◌∷◌, length, map, take}
 use Rattle.std.proofs.Common.{Option, Some, None, refl, sym, ap, subst, arith, length-append}
 use Rattle.std.specs.Prelude.{All, ◌==◌, nat_lt, ⊤}
 use Rattle.std.specs.Option.{option_map}
@@ -31,9 +31,10 @@ use Rattle.spec_run.specs.declared.run_fault.RunFault.TheVariants as fault
 use Rattle.spec_run.specs.declared.step.RunStep.{RunStep}
 use Rattle.spec_run.specs.declared.step.StepKind.{StepKind}
 use Rattle.spec_run.specs.declared.step.StepKind.TheVariants.{Cond, Eret, Exc, Ind, Isb, Jump, Plain}
+use Rattle.trace_unit.proofs.StepOrders.{in_both}
 use Rattle.trace_unit.specs.Fitting.{FitsOrder, FitsPlaces, FitsRun, FitsRunning, FitsStep}
-use Rattle.trace_unit.specs.Orders.{Address, Cancel, Close, Context, Flip, On, Order, Place, Retire, Settle, Start, Sync, Tell}
-use Rattle.trace_unit.specs.Orders.{before, missing, orders_on, p0_order}
+use Rattle.trace_unit.specs.Orders.{Address, Cancel, Close, Context, ExceptionAtTarget, Flip, On, Order, Place, Retire, Settle, Start, Sync, Tell}
+use Rattle.trace_unit.specs.Orders.{before, lacked, missing, orders_on, p0_order, step_orders}
 use Rattle.trace_unit.specs.Places.{Places, Saved, back_by, placed, placed_behind, placed_on, saves, without_stack}
 
 -- ---- checks
@@ -159,16 +160,24 @@ module _ (s : Sizes) where
   p0_fits Eret addr is place = tt
   p0_fits (Exc kind) addr is place = (is, place)
 
+  target_fits : (same : Bool) (ctx : Ctx) (kind addr : ℕ) → KindFits (Exc kind) → IsPlace addr → FitsSettings s ctx
+      → FitsOrder s (ExceptionAtTarget (lacked same ctx) kind addr)
+  target_fits true ctx kind addr is place fits = (is, place)
+  target_fits false ctx kind addr is place fits = (is, (place, fits))
+
   step_fits : (r : Running) (t : RunStep) (ctx : Ctx) → FitsRunning s r → Steps s r t ctx → FitsStep s t
   step_fits r t ctx fits is = record { addr = subst IsPlace (sym is.there) fits.pc; ctx = subst (FitsSettings s) (sym is.context) fits.ctx }
 
   ran_orders : (r : Running) (p : Places) (t : RunStep) (ctx : Ctx) (test : Bool) → FitsRunning s r → FitsPlaces p → Steps s r t ctx
-      → AllFit (if test then before p t.ctx ++ p0_order t.kind t.addr ∷ [] else [])
+      → AllFit (if test then step_orders p t else [])
   ran_orders r p t ctx true fits places is =
       let step = step_fits r t ctx fits is in
-      All-append (FitsOrder s) (before p t.ctx) (p0_order t.kind t.addr ∷ [])
-      (missing_fit (same_context t.ctx p.reader_context) p.needs p.start t.ctx places.start step.ctx)
-      (alone (p0_order t.kind t.addr) (p0_fits t.kind t.addr is.kind step.addr))
+      let same = same_context t.ctx p.reader_context in
+      in_both AllFit p t
+      (All-append (FitsOrder s) (before p t.ctx) (p0_order t.kind t.addr ∷ []) (missing_fit same p.needs p.start t.ctx places.start step.ctx)
+      (alone (p0_order t.kind t.addr) (p0_fits t.kind t.addr is.kind step.addr)))
+      (λ kind e at. alone (ExceptionAtTarget (lacked same t.ctx) kind t.addr)
+      (target_fits same t.ctx kind t.addr (subst KindFits e is.kind) step.addr step.ctx))
   ran_orders r p t ctx false fits places is = none
 
   p0s_few : (steps : List RunStep) → p0s steps ≤ length steps

@@ -23,6 +23,7 @@ use Rattle.spec_run.specs.declared.step.StepKind.TheVariants.{Cond, Eret, Exc, I
 use Rattle.trace_unit.proofs.BytesFew.{order_size, orders_size}
 use Rattle.trace_unit.proofs.Elements.{elements_dropped, elements_joined, elements_kept, elements_many, elements_turned, ends_in_atom, p0s_parts, turned_many}
 use Rattle.trace_unit.proofs.Ordered.{AllowsAll, unretired_all}
+use Rattle.trace_unit.proofs.StepOrders.{in_both}
 use Rattle.trace_unit.specs.Agreeing.{elements_of}
 use Rattle.trace_unit.specs.Followed.{CanFollow, element_of, followed, orders_done}
 use Rattle.trace_unit.specs.Followed.{windowed_cancelled, windowed_lost, windowed_retired, with_places}
@@ -179,6 +180,12 @@ window_counts depth current w e suits room same = absurd suits
 
 -- ---- orders
 
+-- a P0 step is one more, and written in few bytes
+record AreOne (depth n : ℕ) (orders : List Order) : Type 0 where
+  allows : n + 1 ≤ depth + at_once depth → AllowsAll depth n orders
+  behind : unretired_all depth n orders ≡ n + 1 - at_once depth
+  few : orders_size orders ≤ 29
+
 -- what the reader lacks leaves the P0 steps as they are
 record Lacking (depth n : ℕ) (order : Order) (orders : List Order) : Type 0 where
   allows : Allows depth n order → AllowsAll depth n orders
@@ -191,10 +198,6 @@ missing_lacks depth n true false addr ctx order = record { allows = λ can. (can
 missing_lacks depth n false true addr ctx order = record { allows = λ can. (tt, (can, tt)); behind = refl; few = omega arith }
 missing_lacks depth n false false addr ctx order = record { allows = λ can. (tt, (can, tt)); behind = refl; few = omega arith }
 
-step_lacks : (depth n : ℕ) (p : Places) (s : RunStep) → Lacking depth n (p0_order s.kind s.addr) (step_orders p s)
-step_lacks depth n p s = missing_lacks depth n (same_context s.ctx p.reader_context) p.needs p.start s.ctx (p0_order s.kind s.addr)
-
--- a P0 step is one more, and written in few bytes
 record IsOne (depth n : ℕ) (order : Order) : Type 0 where
   allows : n + 1 ≤ depth + at_once depth → Allows depth n order
   behind : unretired_by depth n order ≡ n + 1 - at_once depth
@@ -209,6 +212,15 @@ p0_is_one depth n (Ind link) addr = record { allows = λ le. le; behind = refl; 
 p0_is_one depth n Eret addr = record { allows = λ le. le; behind = refl; few = omega arith }
 p0_is_one depth n (Exc kind) addr = record { allows = λ le. le; behind = refl; few = omega arith }
 
+steps_are_one : (depth n : ℕ) (p : Places) (s : RunStep) → AreOne depth n (step_orders p s)
+steps_are_one depth n p s =
+    let order = p0_order s.kind s.addr in
+    let lacks = missing_lacks depth n (same_context s.ctx p.reader_context) p.needs p.start s.ctx order in
+    let one = p0_is_one depth n s.kind s.addr in
+    in_both (AreOne depth n) p s
+    (record { allows = λ le. lacks.allows (one.allows le); behind = lacks.behind ∙ one.behind; few = omega (arith, lacks.few, one.few) })
+    (λ kind e is. record { allows = λ le. (le, tt); behind = refl; few = omega arith })
+
 room_for_one : (depth n : ℕ) → n ≤ depth → (0 < depth → n + 1 ≤ depth) → n + 1 ≤ depth + at_once depth
 room_for_one zero n le room = omega (arith, le)
 room_for_one (suc depth) n le room = let more = room (omega arith) in omega (arith, more)
@@ -218,9 +230,8 @@ pub orders_allowed : (image : Image) (depth : ℕ) (current : Option Running) (p
 orders_allowed image depth None p (effect.Began addr ctx) n suits le e = (tt, (tt, (tt, tt)))
 orders_allowed image depth (Some r) p (effect.Ran s ctx) n suits le e = elim (bools (is_p0 s)) [
   | inl some ↦
-      let one = p0_is_one depth n s.kind s.addr in
       let room = room_for_one depth n le (λ lt. let more = suits some lt in omega (arith, more, e)) in
-      simp some ((step_lacks depth n p s).allows (one.allows room))
+      simp some ((steps_are_one depth n p s).allows room)
   | inr none ↦ simp none tt
 ]
 orders_allowed image depth (Some r) p (effect.Contexted ctx) n suits le e = tt
@@ -242,8 +253,7 @@ pub orders_behind : (image : Image) (depth : ℕ) (current : Option Running) (p 
 orders_behind image depth None p w (effect.Began addr ctx) suits room e = refl
 orders_behind image depth (Some r) p w (effect.Ran s ctx) suits room e = elim (bools (is_p0 s)) [
   | inl some ↦
-      let one = p0_is_one depth (length w.p0s) s.kind s.addr in
-      simp some ((step_lacks depth (length w.p0s) p s).behind ∙ one.behind ∙ pushed_one depth w (element_of s.kind s.addr)
+      simp some ((steps_are_one depth (length w.p0s) p s).behind ∙ pushed_one depth w (element_of s.kind s.addr)
       ∙ ap (λ n. length (pushed w n (element_of s.kind s.addr)).p0s) (sym room))
   | inr none ↦ simp none refl
 ]
@@ -260,7 +270,7 @@ orders_behind image depth current p w e suits room same = absurd suits
 pub orders_small : (current : Option Running) (p : Places) (e : Effect) → orders_size (orders_on current p e) ≤ 99
 orders_small None p (effect.Began addr ctx) = omega arith
 orders_small (Some r) p (effect.Ran s ctx) = elim (bools (is_p0 s)) [
-  | inl some ↦ simp some (omega (arith, (step_lacks 0 0 p s).few, (p0_is_one 0 0 s.kind s.addr).few))
+  | inl some ↦ simp some (omega (arith, (steps_are_one 0 0 p s).few))
   | inr none ↦ simp none (omega arith)
 ]
 orders_small (Some r) p effect.Synced = omega arith

@@ -12,8 +12,9 @@ use Rattle.spec_run.specs.declared.effect.Effect.{Effect}
 use Rattle.spec_run.specs.declared.effect.Effect.TheVariants as effect
 use Rattle.spec_run.specs.declared.step.RunStep.{RunStep}
 use Rattle.trace_unit.proofs.OrderSpelled.{order_spelled, settled_counted, told_counted}
+use Rattle.trace_unit.proofs.StepOrders.{in_both}
 use Rattle.trace_unit.specs.Fitting.{FitsOrder, IsCounted, IsShared}
-use Rattle.trace_unit.specs.Orders.{Order, Settle, Tell, before, missing, orders_on, p0_order}
+use Rattle.trace_unit.specs.Orders.{Order, Settle, Tell, missing, orders_on, p0_order, step_orders}
 use Rattle.trace_unit.specs.Packets.{Shared, packets_all, packets_of, shared_after, shared_all}
 use Rattle.trace_unit.specs.Places.{Places}
 use Rattle.trace_unit.specs.Whole.{Waiting, waits}
@@ -61,8 +62,9 @@ missing_first true false addr ctx order = tt
 missing_first false true addr ctx order = tt
 missing_first false false addr ctx order = tt
 
-step_first : (test : Bool) (p : Places) (t : RunStep) → OneLast (if test then before p t.ctx ++ p0_order t.kind t.addr ∷ [] else [])
-step_first true p t = missing_first (same_context t.ctx p.reader_context) p.needs p.start t.ctx (p0_order t.kind t.addr)
+step_first : (test : Bool) (p : Places) (t : RunStep) → OneLast (if test then step_orders p t else [])
+step_first true p t =
+    in_both OneLast p t (missing_first (same_context t.ctx p.reader_context) p.needs p.start t.ctx (p0_order t.kind t.addr)) (λ kind e is. tt)
 step_first false p t = tt
 
 one_last : (current : Option Running) (p : Places) (e : Effect) → OneLast (orders_on current p e)

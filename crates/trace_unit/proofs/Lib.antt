@@ -15,6 +15,7 @@ pub mod Begins
 pub mod Ran
 pub mod Synced
 pub mod Rooms
+pub mod StepOrders
 pub mod OneEvent
 pub mod AllEvents
 pub mod Behind
@@ -41,6 +42,7 @@ pub mod Growing
 pub mod AllPackets
 pub mod TraceShown
 pub mod TraceExamples
+pub mod TargetExamples
 pub mod Balanced
 pub mod BytesFew
 pub mod Ordered

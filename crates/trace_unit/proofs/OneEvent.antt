@@ -35,8 +35,9 @@ use Rattle.trace_unit.proofs.Retired.{retired}
 use Rattle.trace_unit.proofs.Rooms.{Fits, HasRoomBy}
 use Rattle.trace_unit.proofs.RowLists.{length-rows}
 use Rattle.trace_unit.proofs.Rows.{after_all, first_behind, p0_of, thing_of}
+use Rattle.trace_unit.proofs.StepOrders.{told_alike}
 use Rattle.trace_unit.proofs.Synced.{synced}
-use Rattle.trace_unit.specs.Orders.{Order, before, p0_order}
+use Rattle.trace_unit.specs.Orders.{Order, before, p0_order, step_orders}
 use Rattle.trace_unit.specs.Places.{Places, placed_behind}
 use Rattle.trace_unit.specs.Told.{all_told, told}
 
@@ -73,7 +74,7 @@ p0_told (Exc kind) addr = refl
 
 p0_kept : (image : Image) (depth most : ℕ) (closed : List (List RunStep × Closing)) (s : Running) (p : Places) (r : Resolved) (t : RunStep) (ctx : Ctx)
     → most ≤ most_addresses → IsFlat depth s → CanRun image s t ctx → Fits depth s.held t → is_p0 t ≡ true → IsOpen image closed s p r
-    → (next : Resolved) × (resolve_all depth r (all_told (before p t.ctx ++ p0_order t.kind t.addr ∷ [])) ≡ Ok next)
+    → (next : Resolved) × (resolve_all depth r (all_told (step_orders p t)) ≡ Ok next)
     × IsOpen image closed (runs depth s t ctx) (placed_behind depth most p t) next
 p0_kept image depth most closed s p r t ctx le flat can fits p0 o =
     let same = same_context t.ctx p.reader_context in
@@ -84,7 +85,7 @@ p0_kept image depth most closed s p r t ctx le flat can fits p0 o =
     let takes = enters depth r pre (p0_of t.kind t.addr) (few_held image depth closed s p r (fits p0) flat o) in
     let next = entered depth r pre (p0_of t.kind t.addr) in (
       next,
-      ap (resolve_all depth r) (told_joined (before p t.ctx) (p0_order t.kind t.addr ∷ []))
+      ap (resolve_all depth r) (told_alike p t ∙ told_joined (before p t.ctx) (p0_order t.kind t.addr ∷ []))
           ∙ ap (λ l. resolve_all depth r (all_told (before p t.ctx) ++ l)) (p0_told t.kind t.addr)
           ∙ goes_on depth r (with_pre r pre) (all_told (before p t.ctx)) (elem.P0 (p0_of t.kind t.addr) ∷ []) tells
           ∙ ap (λ s. then_resolve s (λ n. Ok n)) takes,

@@ -2,10 +2,10 @@
 use Rattle.std.proofs.Common.{ℕ}
 use Rattle.element_queue.specs.Resolved.{Resolved}
 use Rattle.trace_unit.proofs.Out.{Waits}
-use Rattle.trace_unit.specs.Orders.{Branch, Cancel, Close, Exception, Flip, Order, Retire, Settle, Tell}
+use Rattle.trace_unit.specs.Orders.{Branch, Cancel, Close, Exception, ExceptionAtTarget, Flip, Order, Retire, Settle, Tell}
 use Rattle.trace_unit.specs.Taken.{CanTake}
 use Rattle.trace_unit.specs.Whole.{Waiting}
-use Rattle.trace_unit.proofs.OrderTold.{KeepsBoth, branch_order, close_order, exception_order, retire_order, settle_order, told_order}
+use Rattle.trace_unit.proofs.OrderTold.{KeepsBoth, branch_order, close_order, exception_order, retire_order, settle_order, target_order, told_order}
 use Rattle.trace_unit.proofs.OrderCancelled.{cancel_order}
 use Rattle.trace_unit.proofs.OrderFlipped.{flip_by}
 
@@ -13,6 +13,7 @@ pub one_order : (depth : ℕ) (u : Waiting) (rw rp : Resolved) (o : Order) → W
 one_order depth u rw rp (Tell notice) b asks = told_order depth u rw rp notice b asks
 one_order depth u rw rp (Branch taken) b asks = branch_order depth u rw rp taken b asks
 one_order depth u rw rp (Exception kind ret) b asks = exception_order depth u rw rp kind ret b asks
+one_order depth u rw rp (ExceptionAtTarget context kind addr) b asks = target_order depth u rw rp context kind addr b asks
 one_order depth u rw rp (Retire n) b asks = retire_order depth u rw rp n b asks
 one_order depth u rw rp (Cancel n) b asks = cancel_order depth u rw rp n b asks
 one_order depth u rw rp Flip b asks = flip_by depth u.atoms u.cancels u.commits u.held rw rp asks.0 b asks.1

@@ -1,6 +1,6 @@
 -- The packets of one order tell its elements.
 use Rattle.std.proofs.Common.{◌≡◌, ℕ, zero, suc, ◌*◌, ◌/◌, ◌≤◌, Bool, true, false, if◌then◌else◌, nat_le, List, [], ◌∷◌, ◌++◌, length, map, take, drop}
-use Rattle.std.proofs.Common.{None, refl, sym, ap, subst, ◌∙◌, arith}
+use Rattle.std.proofs.Common.{Option, Some, None, refl, sym, ap, subst, ◌∙◌, arith}
 use Rattle.std.proofs.lemmas.List.{append-nil, length-drop, map-append, take-append-drop, take_all}
 use Rattle.address_history.specs.Forms.{address_told}
 use Rattle.etm_types.proofs.SameContexts.{same_is}
@@ -22,14 +22,14 @@ use Rattle.trace_unit.proofs.Chosen.{context_back, form_gives, long_gives}
 use Rattle.trace_unit.proofs.Packed.{bits_are, longest_front}
 use Rattle.trace_unit.proofs.Telling.{Tells, gained, tells_on}
 use Rattle.trace_unit.specs.Fitting.{FitsNotice, FitsOrder}
-use Rattle.trace_unit.specs.Orders.{Address, Branch, Cancel, Close, Context, Exception, Flip, Notice, On, Order, Place, Retire, Settle, Start}
-use Rattle.trace_unit.specs.Orders.{Sync, Tell}
+use Rattle.trace_unit.specs.Orders.{Address, Branch, Cancel, Close, Context, Exception, ExceptionAtTarget, Flip, Notice, On, Order, Place, Retire}
+use Rattle.trace_unit.specs.Orders.{Settle, Start, Sync, Tell, target_notice}
 use Rattle.trace_unit.specs.Packets.{Shared, cancel_packets, closing_packet, commit_packets, context_packet, exception_packets, flip_packet, flip_packets}
 use Rattle.trace_unit.specs.Packets.{form_of, front_packet, long_form, nothing_shared, notice_packets, out_packets, packed, packed_within, packets_of}
-use Rattle.trace_unit.specs.Packets.{run_of, settle_packets, shared_after, shared_by, spilled_packets, with_address, with_context}
+use Rattle.trace_unit.specs.Packets.{run_of, settle_packets, shared_after, shared_by, spilled_packets, target_packets, with_address, with_context}
 use Rattle.trace_unit.specs.Packing.{longest}
 use Rattle.trace_unit.specs.Telling.{told_with}
-use Rattle.trace_unit.specs.Told.{atom_element, cancels_of, closing_element, commits_of, notice_elements}
+use Rattle.trace_unit.specs.Told.{atom_element, cancels_of, closing_element, commits_of, notice_elements, target_elements}
 use Rattle.trace_unit.specs.Whole.{Waiting, flip_elements, is_full, out, out_elements, settle_elements, spilled_elements, whole, with_atom}
 
 -- the reader's own state stays as it is
@@ -147,6 +147,25 @@ exception_tells : (shared : Shared) (kind ret : ℕ) → address_told shared.his
     → Tells (told_with shared) (exception_packets shared kind ret) (elem.P0 (p0.Exc kind ret) ∷ []) (told_with (with_address shared ret))
 exception_tells shared kind ret gives = ap (λ a. gained (elem.P0 (p0.Exc kind a) ∷ []) (told_with (with_address shared a))) gives
 
+target_address_tells : (shared : Shared) (kind addr : ℕ) → address_told shared.history (form_of shared.history addr) ≡ addr
+    → Tells (told_with shared) (target_packets shared None kind addr) (target_elements None kind addr) (told_with (with_address shared addr))
+target_address_tells shared kind addr gives =
+    ap (λ a. gained (elem.Addr a ∷ elem.P0 (p0.Exc kind a) ∷ []) (told_with (with_address shared a))) gives
+
+target_place_tells : (shared : Shared) (ctx : Ctx) (kind addr : ℕ) → address_told shared.history (long_form shared.history addr) ≡ addr
+    → Tells (told_with shared) (target_packets shared (Some ctx) kind addr) (target_elements (Some ctx) kind addr) (told_with (at_place shared addr ctx))
+target_place_tells shared ctx kind addr gives =
+    let form = long_form shared.history addr in
+    ap (λ c. gained (elem.Ctx c ∷ elem.Addr (address_told shared.history form) ∷ elem.P0 (p0.Exc kind (address_told shared.history form)) ∷ [])
+    (told_with (at_place shared (address_told shared.history form) c))) (context_back shared.context ctx)
+    ∙ ap (λ a. gained (elem.Ctx ctx ∷ elem.Addr a ∷ elem.P0 (p0.Exc kind a) ∷ []) (told_with (at_place shared a ctx))) gives
+
+target_tells : (s : Sizes) (shared : Shared) (context : Option Ctx) (kind addr : ℕ) → FitsNotice s (target_notice context addr)
+    → Tells (told_with shared) (target_packets shared context kind addr) (target_elements context kind addr)
+    (told_with (shared_by shared (target_notice context addr)))
+target_tells s shared None kind addr fits = target_address_tells shared kind addr (form_gives shared.history addr fits.1)
+target_tells s shared (Some ctx) kind addr fits = target_place_tells shared ctx kind addr (long_gives shared.history addr fits.0.1)
+
 -- ---- an order
 
 out_then : (shared next : Shared) (u : Waiting) (packets : List Packet) (elements : List Elem)
@@ -164,6 +183,9 @@ order_tells s depth u shared (Branch taken) fits =
 order_tells s depth u shared (Exception kind ret) fits =
     out_then shared (with_address shared ret) u (exception_packets shared kind ret) (elem.P0 (p0.Exc kind ret) ∷ [])
     (exception_tells shared kind ret (form_gives shared.history ret fits.1.1))
+order_tells s depth u shared (ExceptionAtTarget context kind addr) fits =
+    out_then shared (shared_by shared (target_notice context addr)) u (target_packets shared context kind addr) (target_elements context kind addr)
+    (target_tells s shared context kind addr fits.1)
 order_tells s depth u shared (Retire n) fits = refl
 order_tells s depth u shared (Cancel n) fits = refl
 order_tells s depth u shared Flip fits = flip_tells shared u u.atoms

@@ -1,6 +1,6 @@
 -- Each packet of an order whose values fit has a spelling.
 use Rattle.std.proofs.Common.{◌≡◌, ℕ, zero, suc, ◌+◌, ◌-◌, ◌^◌, ◌<◌, ◌≤◌, Bool, true, false, if◌then◌else◌, nat_le, List, [], ◌∷◌, ◌++◌, length, take, Some}
-use Rattle.std.proofs.Common.{None, refl, inl, arith}
+use Rattle.std.proofs.Common.{Option, None, refl, inl, arith}
 use Rattle.std.specs.Prelude.{All, IfSome}
 use Rattle.std.proofs.Math.Nat.{pow-suc}
 use Rattle.std.proofs.lemmas.Bool.{eqb-true, leb-true}
@@ -9,6 +9,7 @@ use Rattle.std.proofs.lemmas.List.Elements.{All-append, All-cons, All-nil, All-t
 use Rattle.address_history.specs.Forms.{IsHistory, put_first}
 use Rattle.etm_types.specs.Settings.{AreSettings, Sizes}
 use Rattle.etm_types.specs.declared.address.AddrForm.TheVariants.{Long64}
+use Rattle.etm_types.specs.declared.context.Ctx.{Ctx}
 use Rattle.packet_grammar.specs.declared.packet.Packet.{Packet}
 use Rattle.packet_grammar.specs.declared.packet.Packet.TheVariants as packet
 use Rattle.packet_writer.specs.Fitting.{Fits, HasSpelling}
@@ -18,10 +19,11 @@ use Rattle.spec_run.specs.Runs.{ByOff, ByOverflow, Closing}
 use Rattle.trace_unit.proofs.Chosen.{address_spelled, context_spelled, full_spelled, place_spelled}
 use Rattle.trace_unit.proofs.Packed.{front_spelled, packed_spelled}
 use Rattle.trace_unit.specs.Fitting.{FitsNotice, FitsOrder, IsCounted, IsShared}
-use Rattle.trace_unit.specs.Orders.{Address, Branch, Cancel, Close, Context, Exception, Flip, Notice, On, Order, Place, Retire, Settle, Start, Sync, Tell}
+use Rattle.trace_unit.specs.Orders.{Address, Branch, Cancel, Close, Context, Exception, ExceptionAtTarget, Flip, Notice, On, Order, Place, Retire}
+use Rattle.trace_unit.specs.Orders.{Settle, Start, Sync, Tell, target_notice}
 use Rattle.trace_unit.specs.Packets.{Shared, announced, cancel_packets, closing_packet, commit_packets, context_packet, exception_packets, flip_packet}
 use Rattle.trace_unit.specs.Packets.{flip_packets, form_of, front_packet, long_form, no_atoms, nothing_shared, notice_packets, out_packets, packed, packets_of}
-use Rattle.trace_unit.specs.Packets.{settle_packets, shared_after, shared_by, spilled_packets, with_context}
+use Rattle.trace_unit.specs.Packets.{settle_packets, shared_after, shared_by, spilled_packets, target_packets, with_context}
 use Rattle.trace_unit.specs.Small.{Small}
 use Rattle.trace_unit.specs.Whole.{Waiting, cancelled_out, is_full, out, waits, with_atom, wrote, wrote_all}
 
@@ -151,6 +153,12 @@ module _ (s : Sizes) where
       both (packet.Exc kind false) (packet.Addr (form_of shared.history ret) None) (by_values (packet.Exc kind false) (less, tt))
       (address_spelled s shared.history ret place)
 
+  target_spelled : (shared : Shared) (context : Option Ctx) (kind addr : ℕ) → IsShared s shared → kind < 32 → FitsNotice s (target_notice context addr)
+      → AreSpelled (target_packets shared context kind addr)
+  target_spelled shared context kind addr is less fits =
+      joined (packet.Exc kind true ∷ []) (notice_packets shared (target_notice context addr))
+      (alone (packet.Exc kind true) (by_values (packet.Exc kind true) (less, tt))) (notice_spelled shared (target_notice context addr) is fits)
+
   -- ---- what both ends have
 
   put_one : (history : List ℕ) (addr : ℕ) → IsHistory history → addr < 2 ^ 64 → IsHistory (put_first addr history)
@@ -185,6 +193,7 @@ module _ (s : Sizes) where
   order_shared shared (Tell notice) is fits = notice_shared shared notice is fits
   order_shared shared (Branch taken) is fits = is
   order_shared shared (Exception kind ret) is fits = record { history = put_one shared.history ret is.history fits.1.0; context = is.context }
+  order_shared shared (ExceptionAtTarget context kind addr) is fits = notice_shared shared (target_notice context addr) is fits.1
   order_shared shared (Retire n) is fits = is
   order_shared shared (Cancel n) is fits = is
   order_shared shared Flip is fits = is
@@ -207,6 +216,9 @@ module _ (s : Sizes) where
       spills_spelled (is_full v) v (λ t. let full = eqb-true (length v.atoms) 24 t in omega (arith, full)) counted.cancels
   packets_spelled depth u shared (Exception kind ret) fits is counted =
       joined (out_packets u) (exception_packets shared kind ret) (out_spelled u counted) (exception_spelled shared kind ret fits.0 fits.1)
+  packets_spelled depth u shared (ExceptionAtTarget context kind addr) fits is counted =
+      joined (out_packets u) (target_packets shared context kind addr) (out_spelled u counted)
+      (target_spelled shared context kind addr is fits.0 fits.1)
   packets_spelled depth u shared (Retire n) fits is counted = All-nil (HasSpelling s)
   packets_spelled depth u shared (Cancel n) fits is counted = All-nil (HasSpelling s)
   packets_spelled depth u shared Flip fits is counted = flips_spelled u u.atoms counted

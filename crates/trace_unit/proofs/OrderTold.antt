@@ -1,13 +1,15 @@
 -- An order that tells, adds, retires, settles or closes keeps the two readers so.
 use Rattle.std.proofs.Common.{◌≡◌, ◌⊎◌, ℕ, ◌+◌, ◌-◌, ◌≤◌, Bool, true, false, List, [], ◌∷◌, ◌++◌, length, take, drop}
-use Rattle.std.proofs.Common.{Some, None, Ok, refl, sym, ap, subst, ◌∙◌, inl, inr, arith, append_assoc, append-nil, length-append}
+use Rattle.std.proofs.Common.{Option, Some, None, Ok, refl, sym, ap, subst, ◌∙◌, inl, inr, arith, append_assoc, append-nil, length-append}
 use Rattle.std.proofs.lemmas.Bool.{cases_Bool}
 use Rattle.std.proofs.lemmas.Bool.Decides.{nat_tests}
 use Rattle.std.proofs.lemmas.List.{take-append-drop, map-append, nil_from_length, length-take-le, length-drop, take_at, drop_at}
 use Rattle.std.specs.Prelude.{nat_le, ⊤}
 use Rattle.etm_types.specs.Pre.{trace_missing}
+use Rattle.etm_types.specs.declared.context.Ctx.{Ctx}
 use Rattle.etm_types.specs.declared.element.Elem.{Elem}
 use Rattle.etm_types.specs.declared.element.Elem.TheVariants as elem
+use Rattle.etm_types.specs.declared.element.P0.{P0}
 use Rattle.etm_types.specs.declared.element.P0.TheVariants.{Atom, Exc}
 use Rattle.etm_types.specs.declared.element.Pre.{Pre}
 use Rattle.etm_types.specs.declared.element.Thing.{Thing}
@@ -18,12 +20,13 @@ use Rattle.trace_unit.proofs.OneEvent.{goes_on}
 use Rattle.trace_unit.proofs.Out.{Waits, none_left, none_out, none_wrote, p0s_of, writes_all, writes_some, wrote_one}
 use Rattle.trace_unit.proofs.Retired.{commits, committed}
 use Rattle.spec_run.specs.Runs.{ByOff, ByOverflow, Closing}
-use Rattle.trace_unit.specs.Orders.{Address, Branch, Close, Context, Exception, Notice, On, Order, Place, Retire, Settle, Start, Sync, Tell}
+use Rattle.trace_unit.specs.Orders.{Address, Branch, Close, Context, Exception, ExceptionAtTarget, Notice, On, Order, Place, Retire, Settle, Start}
+use Rattle.trace_unit.specs.Orders.{Sync, Tell, target_notice}
 use Rattle.trace_unit.specs.Packing.{longest}
 use Rattle.trace_unit.specs.Taken.{CanHear}
 use Rattle.trace_unit.specs.Told.{commits_of, notice_elements, told}
 use Rattle.trace_unit.specs.Whole.{Waiting, at_once, is_full, out, out_elements, settle_elements, settled, some_elements, some_out, spilled}
-use Rattle.trace_unit.specs.Whole.{spilled_elements, waits, whole, with_atom, wrote}
+use Rattle.trace_unit.specs.Whole.{spilled_elements, waits, whole, with_atom, with_exception, wrote}
 
 -- what an order keeps
 abbrev pub KeepsBoth : ℕ → Waiting → Resolved → Resolved → Order → Type 0
@@ -144,7 +147,8 @@ tells_one depth elem.Discard r told = absurd told
 
 tells : (depth c h : ℕ) (es : List Elem) (rw rp : Resolved) → AreTold rp.pending.informed es → Beside depth c h rw rp
     → (np : Resolved) × (nw : Resolved) × (resolve_all depth rp es ≡ Ok np) × (resolve_all depth rw es ≡ Ok nw) × Beside depth c h nw np
-tells depth c h [] rw rp told b = (rp, rw, refl, refl, b)
+    × (np.pending.held ≡ rp.pending.held)
+tells depth c h [] rw rp told b = (rp, rw, refl, refl, b, refl)
 tells depth c h (e ∷ es) rw rp told b =
     let one = tells_one depth e rp told.0 in
     let two = tells_one depth e rw (subst (λ i. IsTold i e) b.informed told.0) in
@@ -167,6 +171,7 @@ tells depth c h (e ∷ es) rw rp told b =
       ap (λ s. then_resolve s (λ n. resolve_all depth n es)) two
           ∙ rest.3,
       rest.4,
+      rest.5,
     )
 
 pub told_order : (depth : ℕ) (u : Waiting) (rw rp : Resolved) (notice : Notice) → Waits depth u rw rp → CanHear rp.pending.informed notice
@@ -184,7 +189,7 @@ told_order depth u rw rp notice b can =
       waits_none depth (out depth u) t.1 t.0 (none_left u) (none_out depth (length u.atoms) u) (behind_by depth _ _ t.1 t.0 t.4),
     )
 
--- ---- Branch, Exception
+-- ---- Branch, Exception, ExceptionAtTarget
 
 -- so many of the oldest atoms go out
 some_go : (depth : ℕ) (u : Waiting) (rw rp : Resolved) (n : ℕ) → Waits depth u rw rp
@@ -215,20 +220,48 @@ branch_order depth u rw rp taken b asks =
 pub wrote_atoms : (depth : ℕ) (u : Waiting) → (wrote depth u).atoms ≡ u.atoms
 wrote_atoms depth u = elim (cases_Bool (nat_le (u.held + 1) depth)) [ inl t ↦ simp t | inr f ↦ simp f ]
 
+-- where all went out an exception is one more for both
+exception_waits : (depth : ℕ) (u : Waiting) (rw rp : Resolved) (x : P0) → Behind depth [] 0 (out depth u).commits (out depth u).held rw rp
+    → length rp.pending.held + 1 ≤ depth + at_once depth → Waits depth (with_exception depth u) (put depth rw x) (put depth rp x)
+exception_waits depth u rw rp x b asks =
+    let v : Waiting = record (out depth u) { commits = (out depth u).commits + at_once depth } in
+    let more = pushed_on depth [] 0 (out depth u).commits (out depth u).held rw rp x b asks in
+    let one = wrote_one depth x [] v rw (put depth rp x) more in
+    waits_none depth (wrote depth v) (put depth rw x) (put depth rp x) (wrote_atoms depth v ∙ none_left u)
+    (none_wrote depth v ∙ none_out depth (length u.atoms) u) one
+
 pub exception_order : (depth : ℕ) (u : Waiting) (rw rp : Resolved) (kind ret : ℕ) → Waits depth u rw rp → length rp.pending.held + 1 ≤ depth + at_once depth
     → KeepsBoth depth u rw rp (Exception kind ret)
 exception_order depth u rw rp kind ret b asks =
     let x = Exc kind ret in
-    let w = writes_all depth u rw rp b in
-    let v : Waiting = record (out depth u) { commits = (out depth u).commits + at_once depth } in
-    let more = pushed_on depth [] 0 (out depth u).commits (out depth u).held w.0 rp x w.2 asks in
-    let one = wrote_one depth x [] v w.0 (put depth rp x) more in (
+    let w = writes_all depth u rw rp b in (
       put depth rp x,
       put depth w.0 x,
       refl,
       goes_on depth rw w.0 (out_elements u) (elem.P0 x ∷ []) w.1,
-      waits_none depth (wrote depth v) (put depth w.0 x) (put depth rp x) (wrote_atoms depth v ∙ none_left u)
-          (none_wrote depth v ∙ none_out depth (length u.atoms) u) one,
+      exception_waits depth u w.0 rp x w.2 asks,
+    )
+
+target_heard : (informed : Bool) (context : Option Ctx) (addr : ℕ) → CanHear informed (target_notice context addr)
+target_heard informed None addr = tt
+target_heard informed (Some ctx) addr = tt
+
+pub target_order : (depth : ℕ) (u : Waiting) (rw rp : Resolved) (context : Option Ctx) (kind addr : ℕ) → Waits depth u rw rp
+    → length rp.pending.held + 1 ≤ depth + at_once depth → KeepsBoth depth u rw rp (ExceptionAtTarget context kind addr)
+target_order depth u rw rp context kind addr b asks =
+    let x = Exc kind addr in
+    let notice = target_notice context addr in
+    let es = notice_elements notice in
+    let c = (out depth u).commits in
+    let h = (out depth u).held in
+    let w = writes_all depth u rw rp b in
+    let t = tells depth c h es w.0 rp (notice_told rp.pending.informed notice (target_heard rp.pending.informed context addr))
+    (beside depth c h w.0 rp w.2) in (
+      put depth t.0 x,
+      put depth t.1 x,
+      goes_on depth rp t.0 es (elem.P0 x ∷ []) t.2,
+      goes_on depth rw w.0 (out_elements u) (es ++ elem.P0 x ∷ []) w.1 ∙ goes_on depth w.0 t.1 es (elem.P0 x ∷ []) t.3,
+      exception_waits depth u t.1 t.0 x (behind_by depth c h t.1 t.0 t.4) (omega (arith, asks, ap length t.5)),
     )
 
 -- ---- Retire

@@ -1,9 +1,10 @@
 -- What is saved of each P0 step that is held.
-use Rattle.std.proofs.Common.{◌≡◌, ℕ, zero, suc, ◌+◌, ◌-◌, ◌<◌, ◌≤◌, ◌≢◌, false, List, [], ◌∷◌, ◌++◌, All, length, map, take, drop, slice_get, slice_set}
-use Rattle.std.proofs.Common.{Some, None, refl, sym, ap, ◌∙◌, arith, add-one, length-append, length-drop}
-use Rattle.std.proofs.lemmas.List.{length-map, length-take}
+use Rattle.std.proofs.Common.{◌≡◌, ℕ, zero, suc, ◌+◌, ◌-◌, ◌<◌, ◌≤◌, false, List, [], ◌∷◌, length, map, take, drop, slice_get, Some, None}
+use Rattle.std.proofs.Common.{refl, sym, ap, ◌∙◌, arith}
+use Rattle.std.specs.Option.{option_map}
 use Rattle.spec_run.specs.Steps.{kept}
 use Rattle.trace_unit.specs.Places.{Places, Saved, back_by, placed_back, without_stack}
+use Rattle.trace_unit.specs.PlacesKept.{without_stacks}
 
 -- ---- the oldest of those that are taken back
 
@@ -32,36 +33,61 @@ stays p now n i from at is =
 
 -- ---- without return addresses
 
--- so many of the oldest are without them
-abbrev pub emptied : ℕ → List Saved → List Saved
-emptied i vs = map without_stack (take i vs) ++ drop i vs
+none_emptied : (n : ℕ) → without_stacks n [] ≡ []
+none_emptied zero = refl
+none_emptied (suc n) = refl
 
-next_emptied : (vs : List Saved) (i : ℕ) (v : Saved) → slice_get (emptied i vs) i ≡ Some v → slice_set (emptied i vs) i (without_stack v) ≡ emptied (suc i) vs
-next_emptied [] zero v at = absurd cc
-next_emptied [] (suc i) v at = absurd cc
-next_emptied (x ∷ vs) zero v at = let same : v ≡ x = cc in ap (λ y. without_stack y ∷ vs) same
-next_emptied (x ∷ vs) (suc i) v at = ap (λ l. without_stack x ∷ l) (next_emptied vs i v at)
+pub emptied_length : (n : ℕ) (vs : List Saved) → length (without_stacks n vs) ≡ length vs
+emptied_length zero vs = refl
+emptied_length (suc n) [] = refl
+emptied_length (suc n) (x ∷ vs) = ap suc (emptied_length n vs)
 
-pub one_more : (vs items : List Saved) (i : ℕ) (v after : Saved) → items ≡ emptied i vs → slice_get items i ≡ Some v → after ≡ without_stack v
-    → slice_set items i after ≡ emptied (i + 1) vs
-one_more vs items i v after is at now =
-    rw add-one (ap (λ l. slice_set l i after) is ∙ ap (slice_set (emptied i vs) i) now
-    ∙ next_emptied vs i v (ap (λ l. slice_get l i) (sym is) ∙ at))
+-- without the oldest or the newest of them
+emptied_drop : (i n m : ℕ) (vs : List Saved) → m ≡ n - i → without_stacks m (drop i vs) ≡ drop i (without_stacks n vs)
+emptied_drop zero n m vs h = let same : m ≡ n = omega (arith, h) in ap (λ k. without_stacks k vs) same
+emptied_drop (suc i) zero zero vs h = refl
+emptied_drop (suc i) zero (suc m) vs h = absurd (omega (arith, h))
+emptied_drop (suc i) (suc n) m [] h = none_emptied m
+emptied_drop (suc i) (suc n) m (x ∷ vs) h = emptied_drop i n m vs (omega (arith, h))
 
-pub one_there : (vs items : List Saved) (i : ℕ) → items ≡ emptied i vs → i < length vs → slice_get items i ≢ None
-one_there vs items i is inside at =
-    let size = length-append (map without_stack (take i vs)) (drop i vs) in
-    let front = length-map (take i vs) without_stack in
-    let none = ap length (ends items i at) in
-    omega (arith, ap length is, size, front, none, length-take i vs, length-drop i vs, length-drop i items)
+kept_last : (n : ℕ) (vs : List Saved) → drop (length vs - (length vs - n)) vs ≡ drop n vs
+kept_last zero vs = let all : length vs - (length vs - 0) ≡ 0 = omega arith in ap (λ m. drop m vs) all
+kept_last (suc n) [] = let none : 0 - (0 - suc n) ≡ 0 = omega arith in let empty : List Saved = [] in ap (λ m. drop m empty) none
+kept_last (suc n) (x ∷ vs) =
+    let size : length (x ∷ vs) - (length (x ∷ vs) - suc n) ≡ suc (length vs - (length vs - n)) = omega arith in
+    ap (λ m. drop m (x ∷ vs)) size ∙ kept_last n vs
 
-pub all_emptied : (vs : List Saved) (i : ℕ) → length vs ≤ i → emptied i vs ≡ map without_stack vs
-all_emptied [] zero h = refl
-all_emptied [] (suc i) h = refl
-all_emptied (x ∷ vs) zero h = absurd (omega arith)
-all_emptied (x ∷ vs) (suc i) h = ap (λ l. without_stack x ∷ l) (all_emptied vs i (omega arith))
+pub dropped : (n m k e : ℕ) (vs : List Saved) → m ≡ length vs - n → k ≡ e - n
+    → without_stacks k (drop (length vs - m) vs) ≡ drop n (without_stacks e vs)
+dropped n m k e vs is left = ap (without_stacks k) (ap (λ m. drop (length vs - m) vs) is ∙ kept_last n vs) ∙ emptied_drop n e k vs left
 
-pub none_kept : (vs : List Saved) (most : ℕ) → All (λ (v : Saved). length v.stack ≤ most) (map without_stack vs)
-none_kept [] most k d h = absurd (omega arith)
-none_kept (x ∷ vs) most zero d h = omega arith
-none_kept (x ∷ vs) most (suc k) d h = none_kept vs most k d (omega arith)
+pub taken : (n i m : ℕ) (vs : List Saved) → m + (n - i) ≡ n → without_stacks m (take i vs) ≡ take i (without_stacks n vs)
+taken zero i zero vs h = refl
+taken zero i (suc m) vs h = absurd (omega (arith, h))
+taken (suc n) zero zero vs h = refl
+taken (suc n) zero (suc m) vs h = absurd (omega (arith, h))
+taken (suc n) (suc i) zero vs h = absurd (omega (arith, h))
+taken (suc n) (suc i) (suc m) [] h = refl
+taken (suc n) (suc i) (suc m) (x ∷ vs) h = ap (λ l. without_stack x ∷ l) (taken n i m vs (omega (arith, h)))
+
+-- the one at an index
+pub get_emptied : (n i : ℕ) (vs : List Saved) → i < n → slice_get (without_stacks n vs) i ≡ option_map without_stack (slice_get vs i)
+get_emptied zero i vs h = absurd (omega arith)
+get_emptied (suc n) zero [] h = refl
+get_emptied (suc n) (suc i) [] h = refl
+get_emptied (suc n) zero (x ∷ vs) h = refl
+get_emptied (suc n) (suc i) (x ∷ vs) h = get_emptied n i vs (omega arith)
+
+pub get_whole : (n i : ℕ) (vs : List Saved) → n ≤ i → slice_get (without_stacks n vs) i ≡ slice_get vs i
+get_whole zero i vs h = refl
+get_whole (suc n) zero vs h = absurd (omega arith)
+get_whole (suc n) (suc i) [] h = refl
+get_whole (suc n) (suc i) (x ∷ vs) h = get_whole n i vs (omega arith)
+
+-- without any
+pub all_emptied : (n i : ℕ) (vs : List Saved) → length vs ≤ i → without_stacks i vs ≡ map without_stack (without_stacks n vs)
+all_emptied n zero [] h = sym (ap (map without_stack) (none_emptied n))
+all_emptied n (suc i) [] h = sym (ap (map without_stack) (none_emptied n))
+all_emptied n zero (x ∷ vs) h = absurd (omega arith)
+all_emptied zero (suc i) (x ∷ vs) h = ap (λ l. without_stack x ∷ l) (all_emptied zero i vs (omega arith))
+all_emptied (suc n) (suc i) (x ∷ vs) h = ap (λ l. without_stack x ∷ l) (all_emptied n i vs (omega arith))

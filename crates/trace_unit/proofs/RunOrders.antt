@@ -43,7 +43,8 @@ use Rattle.trace_unit.proofs.Ran.{HasRoom}
 use Rattle.trace_unit.proofs.Rooms.{Fits, HasRoomBy, room_for}
 use Rattle.trace_unit.proofs.RowLists.{length-rows}
 use Rattle.trace_unit.proofs.Rows.{thing_of}
-use Rattle.trace_unit.specs.Orders.{Order, Sync, Tell, before, missing, orders, orders_from, orders_on, p0_order}
+use Rattle.trace_unit.proofs.StepOrders.{in_both}
+use Rattle.trace_unit.specs.Orders.{Order, Sync, Tell, before, missing, orders, orders_from, orders_on, p0_order, step_orders}
 use Rattle.trace_unit.specs.Places.{Places, no_places, placed}
 use Rattle.trace_unit.specs.Taken.{AllMeet, CanTake, CanTakeAll}
 use Rattle.trace_unit.specs.Told.{all_told, told}
@@ -109,15 +110,17 @@ p0_takes depth p (Exc kind) addr le = (le, tt)
 
 ran_takes : (image : Image) (depth : ℕ) (closed : List (List RunStep × Closing)) (s : Running) (p : Places) (r : Resolved) (t : RunStep) (ctx : Ctx)
     → IsFlat depth s → Fits depth s.held t → is_p0 t ≡ true → IsOpen image closed s p r
-    → AllMeet (Suits depth) depth r (before p t.ctx ++ p0_order t.kind t.addr ∷ [])
+    → AllMeet (Suits depth) depth r (step_orders p t)
 ran_takes image depth closed s p r t ctx flat fits p0 o =
     let same = same_context t.ctx p.reader_context in
     let r' = with_pre r (told_addr p.needs p.start (told_ctx same t.ctx r.pending.pre)) in
     let room = has_room depth r.pending.held (few_held image depth closed s p r (fits p0) flat o) in
-    meets_joined (Suits depth) depth r (before p t.ctx) (p0_order t.kind t.addr ∷ []) (missing_takes depth r same p.needs p.start t.ctx)
+    in_both (AllMeet (Suits depth) depth r) p t
+    (meets_joined (Suits depth) depth r (before p t.ctx) (p0_order t.kind t.addr ∷ []) (missing_takes depth r same p.needs p.start t.ctx)
     (λ next e.
     let is : r' ≡ next = same_ok r' next (sym (tells_before depth r same p.needs t.ctx p.start) ∙ e) in
-    (subst (λ (n : Resolved). Suits depth n.pending (p0_order t.kind t.addr)) is (p0_takes depth r'.pending t.kind t.addr room), λ last f. tt))
+    (subst (λ (n : Resolved). Suits depth n.pending (p0_order t.kind t.addr)) is (p0_takes depth r'.pending t.kind t.addr room), λ last f. tt)))
+    (λ kind e is. ((room, tt), λ last f. tt))
 
 flip_some : (p : Pending) (done : List Thing) (o : Option (List Thing)) (next : Resolved) → with_done done (flips p o) ≡ Ok next
     → (held : List Thing) × (o ≡ Some held)

@@ -1,5 +1,5 @@
 -- The packets of what both ends share have spellings.
-use Rattle.std.proofs.Common.{◌≡◌, ℕ, ◌^◌, ◌<◌, zero, suc, false, All, List, [], ◌∷◌, nat_lt, Option, Some, None, refl, subst, sym, arith}
+use Rattle.std.proofs.Common.{◌≡◌, ℕ, ◌^◌, ◌<◌, zero, suc, Bool, All, List, [], ◌∷◌, nat_lt, Option, Some, None, refl, subst, sym, arith}
 use Rattle.std.specs.Bool.{then_some}
 use Rattle.std.proofs.lemmas.Bool.{lt-ltb}
 use Rattle.address_history.specs.Forms.{address_told}
@@ -28,8 +28,8 @@ pub form_alone : (s : Sizes) (history : List ℕ) (form : AddrForm) (addr : ℕ)
     → HasSpelling s (Addr form None)
 form_alone s history form addr less is told = has s (Addr form None) ((is, tt), given_alone history form addr less is told)
 
-pub exception_has : (s : Sizes) (kind : ℕ) → kind < 32 → HasSpelling s (Exc kind false)
-exception_has s kind less = has s (Exc kind false) (less, tt)
+pub exception_has : (s : Sizes) (kind : ℕ) (target : Bool) → kind < 32 → HasSpelling s (Exc kind target)
+exception_has s kind target less = has s (Exc kind target) (less, tt)
 
 -- a trace info that announces so many P0 elements
 pub info_has : (s : Sizes) (n : ℕ) (count : Option ℕ) → n < 2 ^ 32 → count ≡ announced n → HasSpelling s (Info (Some 0) None count None)

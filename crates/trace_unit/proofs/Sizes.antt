@@ -25,11 +25,12 @@ use Rattle.trace_unit.proofs.Matching.{MatchesBy}
 use Rattle.trace_unit.proofs.OrderTold.{wrote_atoms}
 use Rattle.trace_unit.proofs.Out.{Waits, none_left, p0s_of}
 use Rattle.trace_unit.proofs.RunOrders.{held_many, run_takes, same_ok}
-use Rattle.trace_unit.specs.Orders.{Branch, Cancel, Close, Exception, Flip, Order, Retire, Settle, Tell, orders}
+use Rattle.trace_unit.specs.Orders.{Branch, Cancel, Close, Exception, ExceptionAtTarget, Flip, Order, Retire, Settle, Tell, orders}
 use Rattle.trace_unit.specs.Packing.{longest, longest_within}
 use Rattle.trace_unit.specs.Places.{Places, no_places}
 use Rattle.trace_unit.specs.Small.{Small, unretired}
 use Rattle.trace_unit.specs.Whole.{Waiting, at_once, flipped, is_full, nothing_waits, out, spilled, turn_last, waits, waits_all, with_atom}
+use Rattle.trace_unit.specs.Whole.{with_exception}
 
 -- ---- the atoms
 
@@ -62,13 +63,17 @@ flip_few : (u : Waiting) (atoms : List Bool) → length atoms ≤ 23 → u.atoms
 flip_few u [] le e = omega (arith, le, ap length e)
 flip_few u (a ∷ atoms) le e = omega (arith, le, turn_many (a ∷ atoms))
 
+exception_few : (depth : ℕ) (u : Waiting) → length (with_exception depth u).atoms ≤ 23
+exception_few depth u =
+    omega (arith, ap length (wrote_atoms depth (record (out depth u) { commits = (out depth u).commits + at_once depth })), none_stay u)
+
 pub few_atoms : (depth : ℕ) (u : Waiting) (order : Order) → length u.atoms ≤ 23 → length (waits depth u order).atoms ≤ 23
 few_atoms depth u (Tell notice) le = none_stay u
 few_atoms depth u (Branch taken) le =
     let v : Waiting = with_atom depth u taken in
     spill_few depth (is_full v) v (omega (arith, le, length-append u.atoms (taken ∷ []))) (λ f. eqb-false (length v.atoms) 24 f)
-few_atoms depth u (Exception kind ret) le =
-    omega (arith, ap length (wrote_atoms depth (record (out depth u) { commits = (out depth u).commits + at_once depth })), none_stay u)
+few_atoms depth u (Exception kind ret) le = exception_few depth u
+few_atoms depth u (ExceptionAtTarget context kind addr) le = exception_few depth u
 few_atoms depth u (Retire n) le = le
 few_atoms depth u (Cancel n) le = omega (arith, le, length-take (length u.atoms - n) u.atoms)
 few_atoms depth u Flip le = flip_few u u.atoms le refl

@@ -6,7 +6,7 @@ use Rattle.spec_run.specs.Checks.{window}
 use Rattle.spec_run.specs.Executed.{IsPlace}
 use Rattle.spec_run.specs.Runs.{Running}
 use Rattle.spec_run.specs.declared.step.RunStep.{RunStep}
-use Rattle.trace_unit.specs.Orders.{Address, Context, Exception, Notice, On, Order, Place, Start, Sync, Tell}
+use Rattle.trace_unit.specs.Orders.{Address, Context, Exception, ExceptionAtTarget, Notice, On, Order, Place, Start, Sync, Tell, target_notice}
 use Rattle.trace_unit.specs.Packets.{Shared}
 use Rattle.trace_unit.specs.Places.{Places, Saved}
 use Rattle.trace_unit.specs.Whole.{Waiting}
@@ -24,6 +24,7 @@ FitsNotice s (Context ctx) = FitsSettings s ctx
 abbrev pub FitsOrder : Sizes → Order → Type 0
 FitsOrder s (Tell notice) = FitsNotice s notice
 FitsOrder s (Exception kind ret) = (kind < 32) × IsPlace ret
+FitsOrder s (ExceptionAtTarget context kind addr) = (kind < 32) × FitsNotice s (target_notice context addr)
 FitsOrder s order = ⊤
 
 -- what both ends have: three addresses of 64 bits, and a context that fits the sizes

@@ -2,7 +2,7 @@
 use Rattle.std.specs.Prelude.{ℕ, ◌+◌, ◌-◌, ◌≤◌, List, [], ◌∷◌, ◌++◌, ⊤}
 use Rattle.etm_types.specs.Settings.{AreSettings}
 use Rattle.trace_unit.specs.Fitting.{FitsOrder, IsShared}
-use Rattle.trace_unit.specs.Orders.{Branch, Cancel, Close, Exception, Order, Retire}
+use Rattle.trace_unit.specs.Orders.{Branch, Cancel, Close, Exception, ExceptionAtTarget, Order, Retire}
 use Rattle.trace_unit.specs.Packets.{packets_of, shared_after}
 use Rattle.trace_unit.specs.Small.{Small}
 use Rattle.trace_unit.specs.Whole.{at_once, waits}
@@ -31,6 +31,7 @@ bytes_all t (order ∷ orders) = bytes_of t order ++ bytes_all (told_by t order)
 abbrev pub unretired_by : ℕ → ℕ → Order → ℕ
 unretired_by depth n (Branch taken) = n + 1 - at_once depth
 unretired_by depth n (Exception kind ret) = n + 1 - at_once depth
+unretired_by depth n (ExceptionAtTarget context kind addr) = n + 1 - at_once depth
 unretired_by depth n (Retire k) = n - k
 unretired_by depth n (Cancel k) = n - k
 unretired_by depth n (Close closing) = 0
@@ -40,6 +41,7 @@ unretired_by depth n order = n
 abbrev pub Allows : ℕ → ℕ → Order → Type 0
 Allows depth n (Branch taken) = n + 1 ≤ depth + at_once depth
 Allows depth n (Exception kind ret) = n + 1 ≤ depth + at_once depth
+Allows depth n (ExceptionAtTarget context kind addr) = n + 1 ≤ depth + at_once depth
 Allows depth n (Retire k) = k ≤ n
 Allows depth n (Cancel k) = k ≤ n
 Allows depth n order = ⊤

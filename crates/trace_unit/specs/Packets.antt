@@ -15,8 +15,8 @@ use Rattle.etm_types.specs.declared.context.Ctx.{Ctx}
 use Rattle.packet_grammar.specs.declared.packet.Packet.{Packet}
 use Rattle.packet_grammar.specs.declared.packet.Packet.TheVariants as packet
 use Rattle.spec_run.specs.Runs.{ByOff, ByOverflow, Closing}
-use Rattle.trace_unit.specs.Orders.{Address, Branch, Cancel, Close, Context, Exception, Flip, Notice, On, Order, Place, Retire, Settle, Start}
-use Rattle.trace_unit.specs.Orders.{Sync, Tell}
+use Rattle.trace_unit.specs.Orders.{Address, Branch, Cancel, Close, Context, Exception, ExceptionAtTarget, Flip, Notice, On, Order, Place, Retire}
+use Rattle.trace_unit.specs.Orders.{Settle, Start, Sync, Tell, target_notice}
 use Rattle.trace_unit.specs.Packing.{longest}
 use Rattle.trace_unit.specs.Whole.{Waiting, is_full, out, waits, with_atom}
 
@@ -74,6 +74,10 @@ shared_by shared (Context ctx) = record shared { context = ctx }
 
 abbrev pub exception_packets : Shared → ℕ → ℕ → List Packet
 exception_packets shared kind ret = packet.Exc kind false ∷ packet.Addr (form_of shared.history ret) None ∷ []
+
+-- E1 and E0 are 1 and 0: one address packet tells the target and the return address
+abbrev pub target_packets : Shared → Option Ctx → ℕ → ℕ → List Packet
+target_packets shared context kind addr = packet.Exc kind true ∷ notice_packets shared (target_notice context addr)
 
 -- bit 0 is the oldest atom
 abbrev pub bits_of : List Bool → ℕ
@@ -140,6 +144,7 @@ abbrev pub packets_of : ℕ → Waiting → Shared → Order → List Packet
 packets_of depth u shared (Tell notice) = out_packets u ++ notice_packets shared notice
 packets_of depth u shared (Branch taken) = spilled_packets (is_full (with_atom depth u taken)) (with_atom depth u taken)
 packets_of depth u shared (Exception kind ret) = out_packets u ++ exception_packets shared kind ret
+packets_of depth u shared (ExceptionAtTarget context kind addr) = out_packets u ++ target_packets shared context kind addr
 packets_of depth u shared (Retire n) = []
 packets_of depth u shared (Cancel n) = []
 packets_of depth u shared Flip = flip_packets u u.atoms
@@ -149,6 +154,7 @@ packets_of depth u shared (Close closing) = settle_packets depth u ++ closing_pa
 abbrev pub shared_after : Shared → Order → Shared
 shared_after shared (Tell notice) = shared_by shared notice
 shared_after shared (Exception kind ret) = with_address shared ret
+shared_after shared (ExceptionAtTarget context kind addr) = shared_by shared (target_notice context addr)
 shared_after shared order = shared
 
 -- ---- all orders

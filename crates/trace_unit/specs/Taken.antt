@@ -2,7 +2,7 @@
 use Rattle.std.specs.Prelude.{◌≡◌, ◌⊎◌, ℕ, ◌+◌, ◌≤◌, Bool, true, List, [], ◌∷◌, length, Some, Ok, ⊤}
 use Rattle.element_queue.specs.Pending.{Pending, flip_newest}
 use Rattle.element_queue.specs.Resolved.{Resolved, resolve_all}
-use Rattle.trace_unit.specs.Orders.{Branch, Cancel, Close, Exception, Flip, Notice, Order, Retire, Settle, Sync, Tell}
+use Rattle.trace_unit.specs.Orders.{Branch, Cancel, Close, Exception, ExceptionAtTarget, Flip, Notice, Order, Retire, Settle, Sync, Tell}
 use Rattle.trace_unit.specs.Told.{told}
 use Rattle.trace_unit.specs.Whole.{at_once}
 
@@ -16,6 +16,7 @@ abbrev pub CanTake : ℕ → Pending → Order → Type 0
 CanTake depth p (Tell notice) = CanHear p.informed notice
 CanTake depth p (Branch taken) = length p.held + 1 ≤ depth + at_once depth
 CanTake depth p (Exception kind ret) = length p.held + 1 ≤ depth + at_once depth
+CanTake depth p (ExceptionAtTarget context kind addr) = length p.held + 1 ≤ depth + at_once depth
 CanTake depth p (Retire n) = n ≤ length p.held
 CanTake depth p (Cancel n) = n ≤ length p.held
 CanTake depth p Flip = (held : List _) × (flip_newest p.held ≡ Some held)

@@ -1,10 +1,12 @@
 -- What orders tell where each is written at once: the elements, in their order.
-use Rattle.std.specs.Prelude.{ℕ, zero, suc, Bool, List, [], ◌∷◌, ◌++◌}
+use Rattle.std.specs.Prelude.{ℕ, zero, suc, Bool, List, [], ◌∷◌, ◌++◌, Option}
+use Rattle.etm_types.specs.declared.context.Ctx.{Ctx}
 use Rattle.etm_types.specs.declared.element.Elem.{Elem}
 use Rattle.etm_types.specs.declared.element.Elem.TheVariants as elem
 use Rattle.etm_types.specs.declared.element.P0.TheVariants as p0
 use Rattle.spec_run.specs.Runs.{ByOff, ByOverflow, Closing}
-use Rattle.trace_unit.specs.Orders.{Address, Branch, Cancel, Close, Context, Exception, Flip, Notice, On, Order, Place, Retire, Settle, Start, Sync, Tell}
+use Rattle.trace_unit.specs.Orders.{Address, Branch, Cancel, Close, Context, Exception, ExceptionAtTarget, Flip, Notice, On, Order, Place, Retire}
+use Rattle.trace_unit.specs.Orders.{Settle, Start, Sync, Tell, target_notice}
 
 abbrev pub notice_elements : Notice → List Elem
 notice_elements (Sync announced) = elem.Info announced ∷ []
@@ -30,10 +32,15 @@ abbrev pub closing_element : Closing → Elem
 closing_element ByOverflow = elem.Overflow
 closing_element ByOff = elem.Discard
 
+-- the address stands before the exception, so that a cancel of the exception leaves it
+abbrev pub target_elements : Option Ctx → ℕ → ℕ → List Elem
+target_elements context kind addr = notice_elements (target_notice context addr) ++ elem.P0 (p0.Exc kind addr) ∷ []
+
 abbrev pub told : Order → List Elem
 told (Tell notice) = notice_elements notice
 told (Branch taken) = atom_element taken ∷ []
 told (Exception kind ret) = elem.P0 (p0.Exc kind ret) ∷ []
+told (ExceptionAtTarget context kind addr) = target_elements context kind addr
 told (Retire n) = commits_of n
 told (Cancel n) = cancels_of n
 told Flip = elem.Flip ∷ []

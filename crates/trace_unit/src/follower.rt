@@ -3,6 +3,7 @@
 ghost use Rattle.std.specs.Prelude.{◌≡◌, ◌<◌, ◌≤◌, ◌^◌, ◌∷◌, ◌++◌, [], Bool, List, length, IfOk, IsSome, Some};
 ghost use Rattle.std.specs.Prelude.{vec_capacity};
 ghost use Rattle.element_queue.specs.Counting.{Balances};
+ghost use Rattle.etm_types.specs.SameContext.{same_context};
 ghost use Rattle.etm_types.specs.Settings.{AreSettings};
 ghost use Rattle.etm_types.specs.declared.element.P0.{P0 as Element};
 ghost use Rattle.etm_types.specs.declared.element.P0.TheVariants.{Atom};
@@ -12,7 +13,7 @@ ghost use Rattle.spec_run.specs.Runs.{ByOff, ByOverflow};
 ghost use Rattle.trace_unit.specs.Followed.{CanFollow, HasRoomFor, begun, cancelled, closed, element_of, first_follower};
 ghost use Rattle.trace_unit.specs.Followed.{flipped, followed, orders_done, retired, stepped, synced, windowed_lost};
 ghost use Rattle.trace_unit.specs.Ordered.{CanTell, CanTellAll, bytes_all, bytes_of, told_all, told_by};
-ghost use Rattle.trace_unit.specs.Orders.{Cancel, Close, Flip, Retire, before, begin_orders, p0_order, step_orders};
+ghost use Rattle.trace_unit.specs.Orders.{Cancel, Close, Flip, Retire, before, begin_orders, lacked, p0_order, step_orders};
 ghost use Rattle.trace_unit.specs.Orders.{sync_orders};
 ghost use Rattle.trace_unit.specs.Room.{HasRoom};
 
@@ -123,10 +124,37 @@ impl Follower {
         ensures bytes { bytes.new.items
             ≡ bytes.old.items ++ bytes_all self.old.teller (step_orders self.old.places.places step.now) }
     {
-        self.tell_missing(step.ctx, bytes);
-        self.tell_step(step, bytes);
+        self.tell(step, bytes);
         self.places.push(step);
         self.window.push(element_of(step));
+    }
+
+    /// Tells what the reader lacks of the block, and a P0 step; of an exception at its target both in one.
+    fn tell(&mut self, step: &RunStep, bytes: &mut Vec<u8>)
+        requires tells { CanTellAll self.old.teller (step_orders self.old.places.places step.now) }
+        requires room { HasRoom bytes.old (bytes_all self.old.teller (step_orders self.old.places.places step.now)) }
+        ensures follower { self.new
+            ≡ record (self.old) { teller = told_all self.old.teller (step_orders self.old.places.places step.now) } }
+        ensures bytes { bytes.new.items
+            ≡ bytes.old.items ++ bytes_all self.old.teller (step_orders self.old.places.places step.now) }
+    {
+        match step.kind {
+            StepKind::Exc { kind } if self.places.is_target(step.addr) => {
+                let ctx = self.lacked(step.ctx);
+                self.teller.exception_at_target(ctx, kind, step.addr, bytes);
+            }
+            _ => {
+                self.tell_missing(step.ctx, bytes);
+                self.tell_step(step, bytes);
+            }
+        }
+    }
+
+    /// A context where the reader lacks it.
+    fn lacked(&self, ctx: Ctx) -> Option<Ctx>
+        ensures { result ≡ lacked (same_context ctx self.now.places.places.reader_context) ctx }
+    {
+        (ctx != self.places.reader_context()).then_some(ctx)
     }
 
     /// Tells what the reader lacks of the address and the context of the block.

@@ -1,7 +1,8 @@
 //! The places of a run, as far as its trace unit knows them, with the return addresses that a reader has too (Arm IHI 0064,
 //! "Return stack").
-ghost use Rattle.std.specs.Prelude.{◌≡◌, ◌<◌, ◌≤◌, length, drop, IfOk};
+ghost use Rattle.std.specs.Prelude.{◌≡◌, ◌<◌, ◌≤◌, length, drop, slice_get, IfOk, IfSome};
 ghost use Rattle.return_stack.specs.Stack.{most_addresses};
+ghost use Rattle.trace_unit.specs.Orders.{is_target};
 ghost use Rattle.trace_unit.specs.Places.{left_by, no_places, placed_back, placed_begun, placed_behind, placed_closed};
 ghost use Rattle.trace_unit.specs.Places.{placed_flipped, placed_synced, saves};
 
@@ -40,6 +41,8 @@ pub struct Places {
     stack: ReturnStack,
     /// Oldest first.
     saved: HeapCircularBuffer<Saved>,
+    /// So many of the oldest were saved before a synchronisation, and count as saved without return addresses.
+    emptied: usize,
     /// Whether the begun block needs an address.
     needs: bool,
     start: u64,
@@ -50,14 +53,14 @@ pub struct Places {
 impl Model for Places {
     ghost use Rattle.std.specs.Prelude.{◌≤◌, All, length};
     ghost use Rattle.trace_unit.specs.Places.{Saved as Keeps};
-    ghost use Rattle.trace_unit.specs.PlacesKept.{PlacesKept};
+    ghost use Rattle.trace_unit.specs.PlacesKept.{PlacesKept, without_stacks};
 
     ghost Value = { PlacesKept };
 
     ghost view = { λ p. record {
       places = record {
         stack = p.stack.addresses;
-        saved = p.saved.items;
+        saved = without_stacks p.emptied p.saved.items;
         needs = p.needs;
         start = p.start;
         reader_context = p.reader_context;
@@ -66,7 +69,7 @@ impl Model for Places {
       room = p.saved.capacity;
     } };
 
-    ghost invariant = { λ p. All (λ (s : Keeps). length s.stack ≤ p.stack.depth) p.saved.items };
+    ghost invariant = { λ p. All (λ (s : Keeps). length s.stack ≤ p.stack.depth) p.saved.items × (p.emptied ≤ length p.saved.items) };
 }
 
 impl Places {
@@ -79,6 +82,7 @@ impl Places {
         Ok(Places {
             stack: ReturnStack::new(alloc, stack_depth)?,
             saved: HeapCircularBuffer::with_capacity(alloc, room)?,
+            emptied: 0,
             needs: false,
             start: 0,
             reader_context: Ctx::initial(),
@@ -99,6 +103,13 @@ impl Places {
         self.start
     }
 
+    /// Whether the begun block needs an address, and this is it.
+    pub fn is_target(&self, addr: u64) -> bool
+        ensures { result ≡ is_target self.now.places addr }
+    {
+        self.needs && self.start == addr
+    }
+
     /// The context that the reader has for it.
     pub fn reader_context(&self) -> Ctx
         ensures { result ≡ self.now.places.reader_context }
@@ -112,6 +123,7 @@ impl Places {
     {
         self.stack.clear();
         self.saved.clear();
+        self.emptied = 0;
         self.needs = false;
         self.start = addr;
         self.reader_context = ctx;
@@ -171,6 +183,7 @@ impl Places {
     {
         let held = self.saved.len();
         self.saved.truncate_front(held.saturating_sub(n));
+        self.emptied = self.emptied.saturating_sub(n);
     }
 
     /// So many of the newest P0 steps are taken back.
@@ -179,13 +192,29 @@ impl Places {
         ensures { self.new ≡ record (self.old) { places = placed_back self.old.places n } }
     {
         let kept = self.saved.len() - n;
-        if let Some(&oldest) = self.saved.get(kept) {
+        if let Some(oldest) = self.saved_at(kept) {
             self.stack.restore(&oldest.stack);
             self.needs = false;
             self.start = oldest.start;
             self.reader_context = oldest.context;
         }
         self.saved.truncate_back(kept);
+        self.emptied = self.emptied.min(kept);
+    }
+
+    /// What is saved of the P0 step at an index; 0 is the oldest.
+    fn saved_at(&self, index: usize) -> Option<Saved>
+        ensures saved { result ≡ slice_get self.now.places.saved index }
+        ensures few { IfSome result (λ s. length s.stack ≤ self.now.stack_depth) }
+    {
+        let saved = *self.saved.get(index)?;
+        if index >= self.emptied {
+            return Some(saved);
+        }
+        Some(Saved {
+            stack: SavedStack::empty(),
+            ..saved
+        })
     }
 
     /// The newest step goes the other way, to this address.
@@ -197,16 +226,13 @@ impl Places {
     }
 
     /// The reader is told the address and the context of the begun block. It empties its return
-    /// stack.
+    /// stack, and nothing that is saved has return addresses any more. This costs the same whatever is held.
     pub fn sync(&mut self, ctx: Ctx)
         ensures { self.new ≡ record (self.old) { places = placed_synced self.old.places ctx } }
     {
         self.stack.clear();
-        for index in 0..self.saved.len() {
-            if let Some(saved) = self.saved.get_mut(index) {
-                saved.stack = SavedStack::empty();
-            }
-        }
+        let held = self.saved.len();
+        self.emptied = held;
         self.needs = false;
         self.reader_context = ctx;
     }
@@ -216,5 +242,6 @@ impl Places {
         ensures { self.new ≡ record (self.old) { places = placed_closed self.old.places } }
     {
         self.saved.clear();
+        self.emptied = 0;
     }
 }

@@ -3,9 +3,9 @@
 ghost use Rattle.std.specs.Prelude.{◌≡◌, ◌<◌, ◌%◌, ◌++◌, All, vec_capacity};
 ghost use Rattle.packet_writer.specs.Fitting.{HasSpelling};
 ghost use Rattle.packet_writer.specs.Spelling.{spelling};
-ghost use Rattle.trace_unit.specs.Orders.{Address, Context, Place, Start, Sync};
+ghost use Rattle.trace_unit.specs.Orders.{Address, Context, Place, Start, Sync, target_notice};
 ghost use Rattle.trace_unit.specs.Packets.{context_packet, exception_packets, long_form, notice_packets};
-ghost use Rattle.trace_unit.specs.Packets.{nothing_shared, shared_by, with_address, with_context};
+ghost use Rattle.trace_unit.specs.Packets.{nothing_shared, shared_by, target_packets, with_address, with_context};
 ghost use Rattle.trace_unit.specs.Room.{HasRoom};
 ghost use Rattle.trace_unit.specs.Written.{spelled};
 
@@ -149,6 +149,31 @@ impl Shared {
         };
         put(bytes, settings, &exception);
         self.address(ret, settings, bytes);
+    }
+
+    /// An exception at its target: the address is told once for both, with the context of the block where there is one here.
+    pub fn exception_at_target(
+        &mut self,
+        ctx: Option<Ctx>,
+        kind: u8,
+        addr: u64,
+        settings: &Settings,
+        bytes: &mut Vec<u8>,
+    )
+        requires kind { kind < 32 }
+        requires spelled { All (HasSpelling settings.now) (notice_packets self.old (target_notice ctx addr)) }
+        requires whole { addr % 4 ≡ 0 }
+        requires room { HasRoom bytes.old (spelled settings.now (target_packets self.old ctx kind addr)) }
+        ensures shared { self.new ≡ shared_by self.old (target_notice ctx addr) }
+        ensures bytes { bytes.new.items ≡ bytes.old.items ++ spelled settings.now (target_packets self.old ctx kind addr) }
+        ensures capacity { vec_capacity bytes.new ≡ vec_capacity bytes.old }
+    {
+        let exception = Packet::Exc { kind, target: true };
+        put(bytes, settings, &exception);
+        match ctx {
+            Some(ctx) => self.place(addr, ctx, settings, bytes),
+            None => self.address(addr, settings, bytes),
+        }
     }
 
     /// An address in a form, with a context.

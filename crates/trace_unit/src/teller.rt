@@ -2,8 +2,8 @@
 //! was put off and goes out before them.
 ghost use Rattle.std.specs.Prelude.{◌≡◌, ◌++◌, vec_capacity};
 ghost use Rattle.trace_unit.specs.Ordered.{CanTell, bytes_of, told_by};
-ghost use Rattle.trace_unit.specs.Orders.{Address, Branch, Cancel, Close, Context, Exception, Flip, On, Place, Retire};
-ghost use Rattle.trace_unit.specs.Orders.{Settle, Start, Sync, Tell};
+ghost use Rattle.trace_unit.specs.Orders.{Address, Branch, Cancel, Close, Context, Exception, ExceptionAtTarget, Flip, On};
+ghost use Rattle.trace_unit.specs.Orders.{Place, Retire, Settle, Start, Sync, Tell};
 ghost use Rattle.trace_unit.specs.Packets.{nothing_shared};
 ghost use Rattle.trace_unit.specs.Room.{HasRoom};
 ghost use Rattle.trace_unit.specs.Whole.{nothing_waits};
@@ -129,6 +129,26 @@ impl Teller {
         self.waiting.write_out(&self.settings, bytes);
         self.waiting.except(&self.settings);
         self.shared.exception(kind, ret, &self.settings, bytes);
+    }
+
+    /// An exception at its target, with the context of the block where the reader lacks it.
+    pub fn exception_at_target(
+        &mut self,
+        ctx: Option<Ctx>,
+        kind: u8,
+        addr: u64,
+        bytes: &mut Vec<u8>,
+    )
+        requires can { CanTell self.old (ExceptionAtTarget ctx kind addr) }
+        requires room { HasRoom bytes.old (bytes_of self.old (ExceptionAtTarget ctx kind addr)) }
+        ensures teller { self.new ≡ told_by self.old (ExceptionAtTarget ctx kind addr) }
+        ensures bytes { bytes.new.items ≡ bytes.old.items ++ bytes_of self.old (ExceptionAtTarget ctx kind addr) }
+        ensures capacity { vec_capacity bytes.new ≡ vec_capacity bytes.old }
+    {
+        self.waiting.write_out(&self.settings, bytes);
+        self.waiting.except(&self.settings);
+        self.shared
+            .exception_at_target(ctx, kind, addr, &self.settings, bytes);
     }
 
     /// So many P0 steps are retired.

@@ -99,9 +99,9 @@ impl Unit {
         ensures kept { IsErr result → (self.new ≡ self.old) × (bytes.new.items ≡ bytes.old.items) }
         ensures settings { (self.new.settings ≡ self.old.settings) × (self.new.stack_depth ≡ self.old.stack_depth) }
     {
-        self.run.check(image, event).map_err(UnitFault::Run)?;
+        let effect = self.run.plan(image, event).map_err(UnitFault::Run)?;
         bytes.reserve(ROOM).map_err(|_| UnitFault::Memory)?;
-        let done = self.run.apply(image, event).map_err(UnitFault::Run)?;
+        let done = self.run.take(image, &effect);
         self.follower.follow(&done, &self.run, bytes);
         Ok(())
     }

@@ -1,8 +1,8 @@
 //! Traces a loop with a call and a branch that is now and then predicted wrongly, to be timed by `bench/unit`.
 //!
-//! Standard input has a maximum speculation depth of at least 16 and a number of rounds, in decimal. A round is 15 instructions, and in
-//! each twentieth of them the branch is first taken wrongly. Printed are the numbers of events, of retired instructions and of bytes
-//! of trace.
+//! Standard input has a maximum speculation depth of at least 16, a number of rounds, and one of synchronisations behind them, in
+//! decimal. A round is 15 instructions, and in each twentieth of them the branch is first taken wrongly. A synchronisation finds half
+//! the depth held. Printed are the numbers of events, of retired instructions and of bytes of trace.
 #![tactic(auto)]
 
 mod rounds;
@@ -10,7 +10,7 @@ mod rounds;
 use etm_types::Settings;
 use line_words::{decimal, next_word};
 use program_image::Image;
-use rounds::{P0_STEPS, ROUND, begin, retire_round, run_round};
+use rounds::{P0_STEPS, ROUND, begin, retire_round, run_round, synchronise};
 use std::alloc::Global;
 use trace_io::{SafeSource, StdSource, read_all};
 use trace_unit::{Unit, UnitFault};
@@ -36,10 +36,11 @@ fn main(rt: HostRuntime) -> Result<(), anyhow::Error> {
         line => line,
     };
     let (depth, rest) = number_at(line);
-    let (rounds, _) = number_at(rest);
+    let (rounds, rest) = number_at(rest);
+    let (syncs, _) = number_at(rest);
     let image = Image::read(alloc, &mut SafeSource::new(PROGRAM.to_vec(alloc)?, 4096))?;
     let settings = Settings::new(u32::try_from(depth)?, 0, 0)?;
-    let (events, bytes) = traced(alloc, &image, &settings, rounds)?;
+    let (events, bytes) = traced(alloc, &image, &settings, rounds, u32::try_from(syncs)?)?;
     println!(rt;
         "{events} {} {bytes}",
         rounds.wrapping_mul(u64::from(ROUND))
@@ -55,18 +56,27 @@ fn number_at(text: &[u8]) -> (u64, &[u8]) {
     }
 }
 
-/// How many events so many rounds have, and how many bytes their trace.
+/// How many events so many rounds and synchronisations are, and how many bytes their trace has.
 fn traced(
     alloc: Global,
     image: &Image,
     settings: &Settings,
     rounds: u64,
+    syncs: u32,
 ) -> Result<(u64, usize), UnitFault> {
     let mut bytes = Vec::new(alloc);
     let Ok(mut unit) = Unit::new(alloc, settings, STACK) else {
         return Err(UnitFault::Memory);
     };
-    match run_rounds(&mut unit, image, settings.depth(), rounds, &mut bytes) {
+    let ran = run_events(
+        &mut unit,
+        image,
+        settings.depth(),
+        rounds,
+        syncs,
+        &mut bytes,
+    );
+    match ran {
         Ok(events) => match unit.end(&mut bytes) {
             Ok(_) => Ok((events, bytes.len())),
             Err(_) => Err(UnitFault::Memory),
@@ -76,6 +86,20 @@ fn traced(
             Err(fault)
         }
     }
+}
+
+/// Runs the rounds, and behind them the synchronisations, and tells how many events these are.
+fn run_events(
+    unit: &mut Unit,
+    image: &Image,
+    depth: u32,
+    rounds: u64,
+    syncs: u32,
+    bytes: &mut Vec<u8>,
+) -> Result<u64, UnitFault> {
+    let events = run_rounds(unit, image, depth, rounds, bytes)?;
+    synchronise(unit, image, syncs, bytes)?;
+    Ok(events.wrapping_add(u64::from(syncs)))
 }
 
 /// Runs the rounds, and tells how many events they had. Half the depth is held: a round has four P0 steps.

@@ -2,7 +2,7 @@
 ghost use Rattle.std.specs.Prelude.{◌≡◌, ◌++◌, ◌∷◌, [], List, IfOk, IsOk, if◌then◌else◌, replicate};
 ghost use Rattle.etm_types.specs.Context.{initial_context};
 ghost use Rattle.spec_run.specs.declared.event.Event.{Event as Events};
-ghost use Rattle.spec_run.specs.declared.event.Event.TheVariants.{On, Retire};
+ghost use Rattle.spec_run.specs.declared.event.Event.TheVariants.{On, Retire, Sync};
 ghost use Rattle.trace_unit.specs.Kept.{StandsAt};
 ghost use Rattle.spec_run.specs.RunAfter.{IsEvent};
 
@@ -66,6 +66,19 @@ pub fn retire_round(unit: &mut Unit, image: &Image, bytes: &mut Vec<u8>) -> Resu
         → StandsAt image.now unit.new (events ++ Retire 15 ∷ []) }
 {
     repeat(unit, image, &Event::Retire(ROUND), 1, bytes)
+}
+
+/// So many synchronisations.
+pub fn synchronise(
+    unit: &mut Unit,
+    image: &Image,
+    times: u32,
+    bytes: &mut Vec<u8>,
+) -> Result<(), UnitFault>
+    ensures stands { (events : List Events) → StandsAt image.now unit.old events → IsOk result
+        → StandsAt image.now unit.new (events ++ replicate times Sync) }
+{
+    repeat(unit, image, &Event::Sync, times, bytes)
 }
 
 /// The same event, so many times.
