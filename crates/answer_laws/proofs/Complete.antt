@@ -2,14 +2,12 @@
 use Rattle.std.proofs.Common.{◌≡◌, ◌⊎◌, ℕ, ◌<◌, ◌≤◌, Bool, true, false, List, [], ◌∷◌, ◌++◌, length, Option, Some, None, Result, Ok, Err}
 use Rattle.std.proofs.Common.{refl, sym, ap, subst, ◌∙◌, inl, inr, arith, length-append}
 use Rattle.std.specs.Io.KnownBytes.{Consumes, IsAtEnd}
-use Rattle.std.specs.Prelude.{⊤, IfSome}
-use Rattle.std.specs.Option.{option_and_then, option_map}
 use Rattle.std.proofs.lemmas.Bool.{lt-ltb}
 use Rattle.bench_gen.specs.Bench.{generated}
 use Rattle.bench_text.specs.Parts.{BenchParts}
 use Rattle.bench_text.specs.Refusals.{bench_of, most_text}
 use Rattle.bench_text.specs.declared.fault.BenchWhy.{BenchWhy}
-use Rattle.etm_types.specs.Settings.{AreSettings, Sizes}
+use Rattle.etm_types.proofs.Tables.{are_settings}
 use Rattle.program_image.proofs.TooLong.{too_long}
 use Rattle.program_image.specs.ImageText.{image_of}
 use Rattle.program_image.specs.declared.fault.ImageWhy.{ImageWhy}
@@ -19,7 +17,7 @@ use Rattle.stream_demux.proofs.PathTexts.{one_text_of_paths}
 use Rattle.stream_demux.specs.Texts.{IsText, Printed}
 use Rattle.packet_list.proofs.PacketTexts.{one_text_of_packets}
 use Rattle.answer_laws.proofs.TracedCalls.{one_image, taken_are}
-use Rattle.command_words.proofs.WordLemmas.{within}
+use Rattle.answer_laws.proofs.WordTables.{packets_table, path_table}
 use Rattle.trace_cmd.proofs.WordKinds.{no_kind, number_kind, one_kind, packets_kind, path_kind, program_kind, retired_kind, trace_kind}
 use Rattle.trace_cmd.specs.Answers.{Answers, Asks, Call, HasImage, HasRead, IsBareCall, IsBenchBad, IsImageCall, IsOfKind, IsOwnBenchBad}
 use Rattle.trace_cmd.specs.Answers.{IsOwnImageBad, IsOwnTooLong, IsPathCall, IsProgramBad, IsRunFileCall, IsSelftestCall, IsSelftestOf}
@@ -31,13 +29,9 @@ use Rattle.trace_cmd.specs.Printing.{PacketsOf, PathsOf, What, laid_of, listing_
 use Rattle.retired_paths.specs.Retired.{IsBadBench}
 use Rattle.traced_runs.specs.Selftest.{AreGood}
 use Rattle.traced_runs.specs.Traced.{trace_frames}
-use Rattle.command_words.specs.Words.{BareKind, Command, Intake, Kind, NoCommand, NumberKind, Packets, Path, PathKind, Retired, RunFileKind}
-use Rattle.command_words.specs.Words.{Seen, Selftest, Trace, command_in, cut_of, intake_in, kind_of, layout_in, meaning, most_number, nothing_seen}
-use Rattle.command_words.specs.Words.{number_of, number_to, program_in, seen_of, sizes_in}
+use Rattle.command_words.specs.Words.{BareKind, Kind, NoCommand, NumberKind, Packets, Path, PathKind, RunFileKind, Selftest, kind_of, meaning}
 use Rattle.answer_lines.specs.declared.status.Status.{Status}
 use Rattle.answer_lines.specs.declared.status.Status.TheVariants as status
-use Rattle.command_words.specs.declared.words.CommandName.{CommandName}
-use Rattle.command_words.specs.declared.words.CommandName.TheVariants as name
 use Rattle.trace_io.specs.State.{IoState}
 
 -- ---- what is taken of good bytes
@@ -303,63 +297,15 @@ packets_are_done c old new s asks input nothing answers = done_or_faulted c old 
 
 -- ---- one text of an input
 
--- what comes behind a value that is there
-behind : {A B : Type 0} (found : Option A) (f : A → Option B) (y : B) → option_and_then f found ≡ Some y → (x : A) × (f x ≡ Some y)
-behind None f y is = absurd cc
-behind (Some x) f y is = (x, is)
-
-mapped : {A B : Type 0} (found : Option A) (f : A → B) (y : B) → option_map f found ≡ Some y → (x : A) × (found ≡ Some x) × (f x ≡ y)
-mapped None f y is = absurd cc
-mapped (Some x) f y is = (x, refl, cc)
-
--- sizes that words tell are settings
-told_settings : (seen : Seen) (s : Sizes) → sizes_in seen ≡ Some s → AreSettings s
-told_settings seen s is =
-    let depth = behind (number_of 16 seen.depth) _ s is in let vmid = behind (number_of 1 seen.vmid) _ s depth.1 in
-    let cid = behind (number_of 4 seen.cid) _ s vmid.1 in
-    subst (λ (o : Option Sizes). IfSome o AreSettings) cid.1 (within depth.0 vmid.0 cid.0)
-
-told_intake : (seen : Seen) (r : Intake) → intake_in seen ≡ Some r → AreSettings r.units
-told_intake seen r is =
-    let units = mapped (sizes_in seen) (λ (s : Sizes). record { units = s; layout = layout_in seen }) r is in
-    subst (λ (i : Intake). AreSettings i.units) units.2 (told_settings seen units.0 units.1)
-
--- the sizes of a command that has any
-abbrev HaveSettings : Command → Type 0
-HaveSettings (Path p r) = AreSettings r.units
-HaveSettings (Packets r) = AreSettings r.units
-HaveSettings (Retired p) = ⊤
-HaveSettings (Trace p) = ⊤
-HaveSettings (Selftest n cut) = ⊤
-
-command_settings : (command : CommandName) (seen : Seen) (said : Command) → command_in command seen ≡ Some said → HaveSettings said
-command_settings name.Path seen said is =
-    let program = behind (program_in seen) _ said is in let intake = mapped (intake_in seen) (Path program.0) said program.1 in
-    subst HaveSettings intake.2 (told_intake seen intake.0 intake.1)
-command_settings name.Packets seen said is =
-    let intake = mapped (intake_in seen) Packets said is in subst HaveSettings intake.2 (told_intake seen intake.0 intake.1)
-command_settings name.Retired seen said is = let program = mapped (program_in seen) Retired said is in subst HaveSettings program.2 tt
-command_settings name.Trace seen said is = let program = mapped (program_in seen) Trace said is in subst HaveSettings program.2 tt
-command_settings name.Selftest seen said is =
-    let word = behind seen.positional _ said is in let n = behind (number_to most_number word.0) _ said word.1 in
-    let cut = mapped (cut_of seen.cut) (Selftest n.0) said n.1 in subst HaveSettings cut.2 tt
-
-words_settings : (words : List (List ℕ)) (said : Command) → meaning words ≡ Some said → HaveSettings said
-words_settings [] said is = absurd cc
-words_settings (word ∷ words) said is =
-    let row = behind _ (λ r. option_and_then (command_in r.name) (seen_of r nothing_seen words)) said is in
-    let seen = behind (seen_of row.0 nothing_seen words) (command_in row.0.name) said row.1 in
-    command_settings row.0.name seen.0 said seen.1
-
 -- what is printed has a fault or has none
 abbrev TextOf : What → List ℕ → Bool → Type 0
 TextOf what bytes faulty = (lines : List Printed) × IsText (listing_of what) ((laid_of what).whole bytes) ((laid_of what).left bytes) lines faulty
 
 decided : (c : Call) (what : What) → Asks c what → (bytes : List ℕ) (faulty also : Bool) → TextOf what bytes faulty → TextOf what bytes also → faulty ≡ also
 decided c (PathsOf image r) (words, read) bytes faulty also (lines, text) (others, too) =
-    (one_text_of_paths image (sizes_by r) (λ id. words_settings c.words _ words.1) _ _ lines others faulty also text too).1
+    (one_text_of_paths image (sizes_by r) (λ id. are_settings r.units id (path_table r c.words words)) _ _ lines others faulty also text too).1
 decided c (PacketsOf r) words bytes faulty also (lines, text) (others, too) =
-    (one_text_of_packets (sizes_by r) (λ id. words_settings c.words _ words) _ _ lines others faulty also text too).1
+    (one_text_of_packets (sizes_by r) (λ id. are_settings r.units id (packets_table r c.words words)) _ _ lines others faulty also text too).1
 
 module _ (c d : Call) (alike : AreAlike c d) where
   same_means : meaning c.words ≡ meaning d.words

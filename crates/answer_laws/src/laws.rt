@@ -8,8 +8,8 @@ ghost use Rattle.answer_laws.specs.TracedCalls.{IsPathOfTrace, PrintsTraces};
 ghost use Rattle.answer_lines.specs.declared.status.Status.{Status};
 ghost use Rattle.trace_io.specs.State.{IoState};
 
-/// So whatever `path` answers for these frames, under the sizes of the run file and over the same image, it finds no fault, and
-/// where it comes to their end it prints these paths and nothing else.
+/// So whatever `path` answers for these frames over the same image, where its words give each stream of the run file its sizes, it
+/// finds no fault, and where it comes to their end it prints these paths and nothing else.
 pub fn path_prints_what_was_traced()
     ensures { (c : Call) (old new : IoState) (status : Status) (image : Image) (b : BenchParts) → IsBench b → AreAccepted image b
         → IsPathOfTrace c image b → Answers c old new status → PrintsTraces image b old new status }

@@ -1,32 +1,38 @@
 -- The parts of a text that has no fault are those of a run file.
 use Rattle.std.proofs.Common.{◌≡◌, ◌∷◌, ◌++◌, ◌∙◌, ◌<◌, ◌≤◌, ◌&&◌, ◌||◌, ◌==◌, ◌+◌, ℕ, Bool, true, false, not, List, [], Option, Some, None, Result, Ok, Err}
-use Rattle.std.proofs.Common.{arith, rules, refl, ap, sym, subst, if◌then◌else◌}
+use Rattle.std.proofs.Common.{arith, refl, ap, sym, subst, if◌then◌else◌}
 use Rattle.std.specs.Prelude.{All, is_none, nat_le, ⊤}
 use Rattle.std.specs.List.{list_all}
-use Rattle.std.specs.Option.{option_and_then, unwrap_or}
-use Rattle.std.specs.Prelude.{IsTrue, codes, slice_index}
-use Rattle.std.specs.Str.{bytes_eq, is_utf8}
+use Rattle.std.specs.Option.{option_map}
+use Rattle.std.specs.Prelude.{slice_index}
+use Rattle.std.specs.Str.{is_utf8}
 use Rattle.std.specs.Str.Lines.{lines}
 use Rattle.std.proofs.lemmas.Bool.{and_parts, leb-true}
 use Rattle.std.proofs.lemmas.Bool.Decides.{nat_tests}
 use Rattle.std.proofs.lemmas.List.Elements.{All-append, All-cons, All-head, All-nil, All-tail}
-use Rattle.etm_types.specs.Settings.{AreSettings, is_cid_size, is_vmid_size, most_depth}
-use Rattle.line_words.specs.Line.{two_digits_of, words_in}
-use Rattle.bench_text.specs.BenchText.{Draft, add_any, add_behind, add_event, add_kind, add_line, add_lines, add_stream, add_weaves, before_streams, declare}
-use Rattle.bench_text.specs.BenchText.{finished, in_stream, is_empty, is_source, is_version, kind_of, most_run_depth, no_lines, parsed, parts_of, set, setting_of}
-use Rattle.bench_text.specs.BenchText.{sizes_of, then_lines, weave, weaves_of, where_allowed, with_line}
-use Rattle.bench_text.specs.EventLines.{event_of, need, only_number, only_word}
+use Rattle.etm_types.specs.Settings.{Sizes}
+use Rattle.line_words.specs.Line.{words_in}
+use Rattle.bench_text.specs.BenchText.{Draft, add_any, add_behind, add_event, add_kind, add_line, add_lines, add_setting, add_stream, add_weaves, before_streams}
+use Rattle.bench_text.specs.BenchText.{begun, declaration_of, declare, event_sizes, finished, is_empty, is_source, kind_of, newest, no_lines, parsed, parts_of, stream_of}
+use Rattle.bench_text.specs.BenchText.{then_lines, version_in, weave, weaves_of, where_allowed, with_line}
+use Rattle.bench_text.specs.EventLines.{event_of, need, only_number}
+use Rattle.bench_text.specs.GivenSettings.{IsGiven, are_allowed, given_or, is_allowed, number_given}
 use Rattle.bench_text.specs.Parts.{AreApart, BenchParts, BenchStream, IsBench, IsBenchLine, IsBenchStream, IsWeave, has_stream}
 use Rattle.bench_text.specs.declared.fault.BenchWhy.{BenchWhy}
-use Rattle.bench_text.specs.declared.fault.BenchWhy.TheVariants.{Header, IdRange, DuplicateId, Range}
+use Rattle.bench_text.specs.declared.fault.BenchWhy.TheVariants.{IdRange, DuplicateId, Range}
 use Rattle.bench_text.specs.declared.line.BenchLine.{BenchLine}
+use Rattle.bench_text.specs.declared.line.Declaration.{Declaration}
 use Rattle.bench_text.specs.declared.line.LineKind.{LineKind}
 use Rattle.bench_text.specs.declared.line.LineKind.TheVariants as kind
 use Rattle.bench_text.specs.declared.line.Weave.{Weave}
+use Rattle.bench_text.specs.declared.setting.Setting.{Setting}
+use Rattle.bench_text.specs.declared.version.Version.{Version}
 use Rattle.bench_text.proofs.Good.{Good, IsRepeated, choose, event_good, good_of, need_good, range_good, then_good}
+use Rattle.bench_text.proofs.Settled.{nothing_settled, one_settled, own_settled}
 
-abbrev IsBenchDraft : Draft → Type 0
-IsBenchDraft d = IsBench (parts_of d)
+record IsBenchDraft (d : Draft) : Type 0 where
+  given : IsGiven d.given
+  bench : IsBench (parts_of d)
 
 where_good : {A : Type 0} (P : A → Type 0) (b : Bool) (r : Result A BenchWhy) → (b ≡ true → Good P r) → Good P (where_allowed b r)
 where_good P true r h = h refl
@@ -38,26 +44,10 @@ empty_told (x ∷ xs) h = absurd cc
 
 -- ---- settings
 
--- before streams, settings alone matter
-set_up : (d : Draft) → before_streams d ≡ true → AreSettings (sizes_of d) → unwrap_or d.stack 15 ≤ 15 → IsBenchDraft d
-set_up d h settings stack =
-    let parts = and_parts _ _ h in
-    let no_streams : d.streams ≡ [] = empty_told d.streams parts.0 in
-    let no_weaves : d.weaves ≡ [] = empty_told d.weaves parts.1 in
-    record {
-      settings = settings;
-      stack = stack;
-      streams = subst (All (IsBenchStream (sizes_of d))) (sym no_streams) (All-nil (IsBenchStream (sizes_of d)));
-      apart = subst AreApart (sym no_streams) tt;
-      weaves = subst (All (IsWeave d.streams)) (sym no_weaves) (All-nil (IsWeave d.streams));
-    }
-
-set_good : (allowed : ℕ → Bool) (given : Option ℕ) (with_it : ℕ → Draft) (d : Draft) (words : List (List ℕ))
-    → ((n : ℕ) → before_streams d ≡ true → allowed n ≡ true → IsBenchDraft (with_it n)) → Good IsBenchDraft (set allowed given with_it d words)
-set_good allowed given with_it d words h =
-    where_good IsBenchDraft (before_streams d && is_none given) _ (λ place. then_good IsBenchDraft (setting_of allowed words) _ (λ n e.
-    h n (and_parts _ _ place).0 (good_of (λ n. allowed n ≡ true) (setting_of allowed words) n
-    (need_good (λ n. allowed n ≡ true) (only_number words) _ (λ m _. range_good (λ n. allowed n ≡ true) (allowed m) m (λ ok. ok))) e)))
+setting_good : (s : Setting) (d : Draft) (words : List (List ℕ)) → IsBenchDraft d → Good IsBenchDraft (add_setting s d words)
+setting_good s d words h =
+    where_good IsBenchDraft (before_streams d && is_none (number_given s d.given)) _ (λ _. need_good IsBenchDraft (only_number words) _ (λ n _.
+    range_good IsBenchDraft (is_allowed d.version s n) _ (λ ok. record { given = one_settled d.version s n d.given ok h.given; bench = h.bench })))
 
 -- ---- streams
 
@@ -86,32 +76,36 @@ apart_more (t ∷ streams) s h none = by (t.id == s.id) refl none (apart_more st
     by true e none more = absurd cc
     by false e none more = (other_stream t.id streams s h.0 (either_way s.id t.id ∙ e), more none)
 
-declare_good : (d : Draft) (id : ℕ) → is_empty d.weaves ≡ true → IsBenchDraft d → Good IsBenchDraft (declare d id)
-declare_good d id no_weaves h = by (is_source id) refl (has_stream id d.streams) refl
+declare_good : (d : Draft) (new : Declaration) → is_empty d.weaves ≡ true → IsBenchDraft d → Good IsBenchDraft (declare d new)
+declare_good d new no_weaves h = by (is_source new.id) refl (has_stream new.id d.streams) refl (are_allowed d.version new.own) refl
   where
     s : BenchStream
-    s = record { id = id; lines = [] }
+    s = stream_of new.id (given_or new.own d.given)
 
     weaves : d.weaves ≡ []
     weaves = empty_told d.weaves no_weaves
 
-    by : (a : Bool) → is_source id ≡ a → (b : Bool) → has_stream id d.streams ≡ b
-        → Good IsBenchDraft (if not a then Err IdRange else if b then Err DuplicateId else Ok (record d { streams = d.streams ++ s ∷ [] }))
-    by false e b f = tt
-    by true e true f = tt
-    by true e false f = record {
-      settings = h.settings;
-      stack = h.stack;
-      streams = All-append (IsBenchStream (sizes_of d)) d.streams (s ∷ []) h.streams
-          (All-cons (IsBenchStream (sizes_of d)) s [] (record { id = source_told id e; lines = All-nil (IsBenchLine (sizes_of d)) })
-          (All-nil (IsBenchStream (sizes_of d))));
-      apart = apart_more d.streams s h.apart f;
-      weaves = subst (All (IsWeave (d.streams ++ s ∷ []))) (sym weaves) (All-nil (IsWeave (d.streams ++ s ∷ [])));
-    }
+    by : (a : Bool) → is_source new.id ≡ a → (b : Bool) → has_stream new.id d.streams ≡ b → (c : Bool) → are_allowed d.version new.own ≡ c
+        → Good IsBenchDraft (if not a then Err IdRange else if b then Err DuplicateId else if not c then Err Range
+        else Ok (record d { streams = d.streams ++ s ∷ [] }))
+    by false e b f c g = tt
+    by true e true f c g = tt
+    by true e false f false g = tt
+    by true e false f true g =
+        let own = own_settled d.version new.own d.given g h.given in
+        let is : IsBenchStream s = record { id = source_told new.id e; settings = own.settings; stack = own.stack; lines = All-nil (IsBenchLine s.settings) } in
+        record {
+          given = h.given;
+          bench = record {
+            streams = All-append IsBenchStream d.streams (s ∷ []) h.bench.streams (All-cons IsBenchStream s [] is (All-nil IsBenchStream));
+            apart = apart_more d.streams s h.bench.apart f;
+            weaves = subst (All (IsWeave (d.streams ++ s ∷ []))) (sym weaves) (All-nil (IsWeave (d.streams ++ s ∷ [])));
+          };
+        }
 
 stream_good : (d : Draft) (words : List (List ℕ)) → IsBenchDraft d → Good IsBenchDraft (add_stream d words)
 stream_good d words h = where_good IsBenchDraft (is_empty d.weaves) _ (λ place.
-    need_good IsBenchDraft (option_and_then two_digits_of (only_word words)) (declare d) (λ id _. declare_good d id place h))
+    need_good IsBenchDraft (declaration_of d.version words) (declare d) (λ new _. declare_good d new place h))
 
 -- ---- event lines
 
@@ -125,30 +119,54 @@ line_apart l [] h = h
 line_apart l (s ∷ []) h = h
 line_apart l (s ∷ t ∷ streams) h = (same_ids s.id l (t ∷ streams) ∙ h.0, line_apart l (t ∷ streams) h.1)
 
-module _ (P : BenchStream → Type 0) (l : BenchLine) (more : (s : BenchStream) → P s → P (record s { lines = s.lines ++ l ∷ [] })) where
-  line_good : (streams : List BenchStream) → All P streams → All P (with_line l streams)
-  line_good [] h = h
-  line_good (s ∷ []) h = All-cons P _ [] (more s (All-head P s [] h)) (All-nil P)
-  line_good (s ∷ t ∷ streams) h = All-cons P s _ (All-head P s (t ∷ streams) h) (line_good (t ∷ streams) (All-tail P s (t ∷ streams) h))
+-- a line that suits the newest stream
+line_good : (l : BenchLine) (streams : List BenchStream) → ((s : BenchStream) → newest streams ≡ Some s → IsBenchLine s.settings l)
+    → All IsBenchStream streams → All IsBenchStream (with_line l streams)
+line_good l [] suits h = h
+line_good l (s ∷ []) suits h =
+    let is = All-head IsBenchStream s [] h in
+    All-cons IsBenchStream _ [] (record {
+      id = is.id;
+      settings = is.settings;
+      stack = is.stack;
+      lines = All-append (IsBenchLine s.settings) s.lines (l ∷ []) is.lines
+          (All-cons (IsBenchLine s.settings) l [] (suits s refl) (All-nil (IsBenchLine s.settings)));
+    }) (All-nil IsBenchStream)
+line_good l (s ∷ t ∷ streams) suits h =
+    All-cons IsBenchStream s _ (All-head IsBenchStream s (t ∷ streams) h)
+    (line_good l (t ∷ streams) suits (All-tail IsBenchStream s (t ∷ streams) h))
+
+-- an event line has a stream, and comes before all weaves
+event_told : (d : Draft) (sizes : Sizes) → event_sizes d ≡ Some sizes
+    → (is_empty d.weaves ≡ true) × (option_map (λ s. s.settings) (newest d.streams) ≡ Some sizes)
+event_told d sizes h = by (is_empty d.weaves) h
+  where
+    by : (b : Bool) → (if b then option_map (λ s. s.settings) (newest d.streams) else None) ≡ Some sizes
+        → (b ≡ true) × (option_map (λ s. s.settings) (newest d.streams) ≡ Some sizes)
+    by true h = (refl, h)
+    by false h = absurd cc
+
+sizes_told : (s : BenchStream) (newest : Option BenchStream) (sizes : Sizes) → option_map (λ s. s.settings) newest ≡ Some sizes → newest ≡ Some s
+    → sizes ≡ s.settings
+sizes_told s newest sizes h at = let e = sym h ∙ ap (option_map (λ (s : BenchStream). s.settings)) at in cc
 
 add_event_good : (number : ℕ) (d : Draft) (word : List ℕ) (words : List (List ℕ)) → IsBenchDraft d → Good IsBenchDraft (add_event number d word words)
 add_event_good number d word words h =
-    where_good IsBenchDraft (in_stream d) _ (λ place. then_good IsBenchDraft (event_of (sizes_of d) word words) _ (λ e f.
+    need_good IsBenchDraft (event_sizes d) _ (λ sizes is. then_good IsBenchDraft (event_of sizes word words) _ (λ e f.
     let l : BenchLine = record { line = number; event = e.event; times = e.times } in
-    let good = good_of (IsRepeated (sizes_of d)) (event_of (sizes_of d) word words) e (event_good (sizes_of d) word words) f in
-    let is_line : IsBenchLine (sizes_of d) l = record { some = good.some; few = good.few; event = good.event } in
-    let weaves : d.weaves ≡ [] = empty_told d.weaves (and_parts _ _ place).1 in
+    let told = event_told d sizes is in
+    let good = good_of (IsRepeated sizes) (event_of sizes word words) e (event_good sizes word words) f in
+    let is_line : IsBenchLine sizes l = record { some = good.some; few = good.few; event = good.event } in
+    let suits : (s : BenchStream) → newest d.streams ≡ Some s → IsBenchLine s.settings l =
+    λ s at. subst (λ (u : Sizes). IsBenchLine u l) (sizes_told s (newest d.streams) sizes told.1 at) is_line in
+    let weaves : d.weaves ≡ [] = empty_told d.weaves told.0 in
     record {
-      settings = h.settings;
-      stack = h.stack;
-      streams = line_good (IsBenchStream (sizes_of d)) l
-          (λ s g. record {
-            id = g.id;
-            lines = All-append (IsBenchLine (sizes_of d)) s.lines (l ∷ []) g.lines
-                (All-cons (IsBenchLine (sizes_of d)) l [] is_line (All-nil (IsBenchLine (sizes_of d))));
-          }) d.streams h.streams;
-      apart = line_apart l d.streams h.apart;
-      weaves = subst (All (IsWeave (with_line l d.streams))) (sym weaves) (All-nil (IsWeave (with_line l d.streams)));
+      given = h.given;
+      bench = record {
+        streams = line_good l d.streams suits h.bench.streams;
+        apart = line_apart l d.streams h.bench.apart;
+        weaves = subst (All (IsWeave (with_line l d.streams))) (sym weaves) (All-nil (IsWeave (with_line l d.streams)));
+      };
     }))
 
 -- ---- weaves
@@ -179,39 +197,33 @@ add_weaves_good d (word ∷ words) h =
     let r = need (weaves_of (word ∷ words)) (weave d.streams d.weaves) in
     then_good IsBenchDraft r _ (λ ws e.
     record {
-      settings = h.settings;
-      stack = h.stack;
-      streams = h.streams;
-      apart = h.apart;
-      weaves = good_of (All (IsWeave d.streams)) r ws
-          (need_good (All (IsWeave d.streams)) (weaves_of (word ∷ words)) _ (λ new _. weave_good d.streams d.weaves new h.weaves)) e;
+      given = h.given;
+      bench = record {
+        streams = h.bench.streams;
+        apart = h.bench.apart;
+        weaves = good_of (All (IsWeave d.streams)) r ws
+            (need_good (All (IsWeave d.streams)) (weaves_of (word ∷ words)) _ (λ new _. weave_good d.streams d.weaves new h.bench.weaves)) e;
+      };
     })
 
 -- ---- lines
 
-truth : (b : Bool) → b ≡ true → IsTrue b
-truth b h = search rules
-
--- a depth that a run file may give is one that settings have
-deep : (n : ℕ) → nat_le n most_run_depth ≡ true → n ≤ most_depth
-deep n ok = omega (arith, leb-true n most_run_depth ok)
-
 kind_good : (k : LineKind) (number : ℕ) (d : Draft) (word : List ℕ) (words : List (List ℕ)) → IsBenchDraft d
     → Good IsBenchDraft (add_kind k number d word words)
-kind_good kind.Depth number d word words h = set_good _ d.depth _ d words (λ n place ok.
-    set_up (record d { depth = Some n }) place (record { depth = deep n ok; vmid = h.settings.vmid; cid = h.settings.cid }) h.stack)
-kind_good kind.VmidBytes number d word words h = set_good _ d.vmid_bytes _ d words (λ n place ok.
-    set_up (record d { vmid_bytes = Some n }) place (record { depth = h.settings.depth; vmid = truth (is_vmid_size n) ok; cid = h.settings.cid }) h.stack)
-kind_good kind.CidBytes number d word words h = set_good _ d.cid_bytes _ d words (λ n place ok.
-    set_up (record d { cid_bytes = Some n }) place (record { depth = h.settings.depth; vmid = h.settings.vmid; cid = truth (is_cid_size n) ok }) h.stack)
-kind_good kind.Stack number d word words h = set_good _ d.stack _ d words (λ n place ok.
-    set_up (record d { stack = Some n }) place h.settings (leb-true n 15 ok))
+kind_good (kind.Setting s) number d word words h = setting_good s d words h
 kind_good kind.Stream number d word words h = stream_good d words h
 kind_good kind.Weaves number d word words h = add_weaves_good d words h
 kind_good kind.Event number d word words h = add_event_good number d word words h
 
-no_lines_good : IsBenchDraft no_lines
-no_lines_good = set_up no_lines refl (search rules) (omega arith)
+no_lines_good : (v : Version) → IsBenchDraft (no_lines v)
+no_lines_good v = record {
+  given = nothing_settled;
+  bench = record { streams = All-nil IsBenchStream; apart = tt; weaves = All-nil (IsWeave []) };
+}
+
+header_good : (o : Option Version) → Good IsBenchDraft (begun o)
+header_good (Some v) = no_lines_good v
+header_good None = tt
 
 -- before the header nothing is said
 abbrev IsBenchSoFar : Option Draft → Type 0
@@ -221,8 +233,7 @@ IsBenchSoFar None = ⊤
 behind_good : (number : ℕ) (draft : Option Draft) (word : List ℕ) (words : List (List ℕ)) → IsBenchSoFar draft
     → Good IsBenchDraft (add_behind number draft word words)
 behind_good number (Some d) word words h = kind_good (kind_of word) number d word words h
-behind_good number None word words h =
-    choose (Good IsBenchDraft) (bytes_eq word (codes "etm") && is_version (only_word words)) (Ok no_lines) (Err Header) no_lines_good tt
+behind_good number None word words h = header_good (version_in word words)
 
 any_good : (number : ℕ) (draft : Option Draft) (words : List (List ℕ)) → IsBenchSoFar draft → Good IsBenchSoFar (add_any number draft words)
 any_good number draft [] h = h
@@ -234,20 +245,23 @@ any_good number draft (word ∷ words) h =
 line_read_good : (number : ℕ) (draft : Option Draft) (line : List ℕ) → IsBenchSoFar draft → Good IsBenchSoFar (add_line number draft line)
 line_read_good number draft line h = choose (Good IsBenchSoFar) (is_utf8 line) _ _ (any_good number draft (words_in line) h) tt
 
-pub lines_good : (number : ℕ) (draft : Option Draft) (lines : List (List ℕ)) (d : Draft) → IsBenchSoFar draft
-    → add_lines number draft lines ≡ Ok (Some d) → IsBench (parts_of d)
+lines_good : (number : ℕ) (draft : Option Draft) (lines : List (List ℕ)) (d : Draft) → IsBenchSoFar draft
+    → add_lines number draft lines ≡ Ok (Some d) → IsBenchDraft d
 lines_good number draft [] d h e = let same : draft ≡ Some d = cc in subst IsBenchSoFar same h
 lines_good number draft (line ∷ lines) d h e =
     by (add_line number draft line) (line_read_good number draft line h) e (λ next. lines_good (number + 1) next lines d)
   where
     by : (r : Result (Option Draft) BenchWhy) → Good IsBenchSoFar r → then_lines number r (λ next. add_lines (number + 1) next lines) ≡ Ok (Some d)
-        → ((next : Option Draft) → IsBenchSoFar next → add_lines (number + 1) next lines ≡ Ok (Some d) → IsBench (parts_of d)) → IsBench (parts_of d)
+        → ((next : Option Draft) → IsBenchSoFar next → add_lines (number + 1) next lines ≡ Ok (Some d) → IsBenchDraft d) → IsBenchDraft d
     by (Ok next) g e more = more next g e
     by (Err why) g e more = absurd cc
 
+pub text_good : (lines : List (List ℕ)) (d : Draft) → add_lines 1 None lines ≡ Ok (Some d) → IsBench (parts_of d)
+text_good lines d e = (lines_good 1 None lines d tt e).bench
+
 pub parsed_good : (text : List ℕ) (b : BenchParts) → parsed text ≡ Ok b → IsBench b
 unfolding parsed
-parsed_good text b h = by (add_lines 1 None (lines text)) (λ d. lines_good 1 None (lines text) d tt) h
+parsed_good text b h = by (add_lines 1 None (lines text)) (text_good (lines text)) h
   where
     by : (r : Result (Option Draft) (ℕ × BenchWhy)) → ((d : Draft) → r ≡ Ok (Some d) → IsBench (parts_of d)) → finished r ≡ Ok b → IsBench b
     by (Ok (Some d)) good h = let same : parts_of d ≡ b = cc in subst IsBench same (good d refl)

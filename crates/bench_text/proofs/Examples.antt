@@ -1,14 +1,16 @@
 -- Run files that were worked out by hand, each beside what a wrong definition would say.
-use Rattle.std.proofs.Common.{◌≡◌, ◌∷◌, ◌++◌, ◌∙◌, ◌+◌, ℕ, Bool, false, true, List, [], Option, Some, None, Result, Ok, Err, ap, eq-eqb}
+use Rattle.std.proofs.Common.{◌≡◌, ◌∷◌, ◌++◌, ◌∙◌, ◌+◌, ℕ, Bool, false, true, List, [], Option, None, Result, Ok, Err, ap, eq-eqb}
 use Rattle.std.proofs.Common.{nat_eq, refl, sym, true≢false}
 use Rattle.std.specs.Prelude.{⊤, codes}
+use Rattle.std.specs.Option.{option_map, unwrap_or}
 use Rattle.std.specs.Str.{is_utf8}
 use Rattle.hex.specs.Hex.{decode_pairs}
 use Rattle.line_words.specs.Line.{words_in}
+use Rattle.etm_types.specs.Settings.{Sizes}
 use Rattle.etm_types.specs.declared.context.Ctx.{Ctx}
 use Rattle.spec_run.specs.declared.event.Event.{Event}
 use Rattle.spec_run.specs.declared.event.Event.TheVariants as event
-use Rattle.bench_text.specs.BenchText.{Draft, add_any, add_lines, finished, then_lines}
+use Rattle.bench_text.specs.BenchText.{Draft, add_any, add_lines, finished, newest, then_lines}
 use Rattle.bench_text.specs.Parts.{BenchParts, BenchStream, events_of}
 use Rattle.bench_text.specs.WhyNumbers.{why_number}
 use Rattle.bench_text.specs.declared.fault.BenchWhy.{BenchWhy}
@@ -49,6 +51,9 @@ one_fault r line why other told differ h =
 abbrev etm : List (List ℕ) → List (List ℕ)
 etm lines = codes "etm 1" ∷ lines
 
+abbrev etm_2 : List (List ℕ) → List (List ℕ)
+etm_2 lines = codes "etm 2" ∷ lines
+
 abbrev stream_01 : List (List ℕ) → List (List ℕ)
 stream_01 lines = etm (codes "stream 01" ∷ lines)
 
@@ -87,8 +92,11 @@ no_lines_at_all = refl
 no_line_with_words : said (codes "# etm 1" ∷ codes "" ∷ []) ≡ Err (0, Header)
 no_line_with_words = refl
 
-another_version : said (codes "etm 2" ∷ []) ≡ Err (1, Header)
+another_version : said (codes "etm 3" ∷ []) ≡ Err (1, Header)
 another_version = refl
+
+no_number_of_a_version : said (codes "etm 02" ∷ []) ≡ Err (1, Header)
+no_number_of_a_version = refl
 
 words_behind_the_header : said (codes "etm 1 1" ∷ []) ≡ Err (1, Header)
 words_behind_the_header = refl
@@ -114,6 +122,9 @@ no_range_of_a_second = one_fault _ 3 Syntax Range given_twice refl
 depth_too_great : said (etm (codes "depth 4097" ∷ [])) ≡ Err (2, Range)
 depth_too_great = refl
 
+depth_too_great_in_2 : said (etm_2 (codes "depth 16385" ∷ [])) ≡ Err (2, Range)
+depth_too_great_in_2 = refl
+
 no_size_of_vmids : said (etm (codes "vmid 3" ∷ [])) ≡ Err (2, Range)
 no_size_of_vmids = refl
 
@@ -130,12 +141,26 @@ setting_behind_a_stream = refl
 no_setting_behind_a_stream : said (stream_01 (codes "depth 5" ∷ [])) ≡ Err (3, Range) → ⊥
 no_setting_behind_a_stream = one_fault _ 3 Syntax Range setting_behind_a_stream refl
 
-settings_told : said (etm (codes "stack 0" ∷ codes "vmid 4" ∷ codes "cid 0" ∷ codes "depth 4096" ∷ []))
-    ≡ Ok (record { settings = record { depth = 4096; vmid_bytes = 4; cid_bytes = 0 }; stack = 0; streams = []; weaves = [] })
+abbrev sizes : ℕ → ℕ → ℕ → Sizes
+sizes depth vmid_bytes cid_bytes = record { depth = depth; vmid_bytes = vmid_bytes; cid_bytes = cid_bytes }
+
+-- a run file of streams alone
+abbrev streams_alone : List BenchStream → Result BenchParts (ℕ × BenchWhy)
+streams_alone streams = Ok (record { streams = streams; weaves = [] })
+
+abbrev idle : ℕ → Sizes → ℕ → BenchStream
+idle id settings stack = record { id = id; settings = settings; stack = stack; lines = [] }
+
+no_streams : said (etm (codes "stack 0" ∷ [])) ≡ streams_alone []
+no_streams = refl
+
+settings_told : said (etm (codes "stack 0" ∷ codes "vmid 4" ∷ codes "cid 0" ∷ codes "depth 4096" ∷ codes "stream 01" ∷ codes "stream 02" ∷ []))
+    ≡ streams_alone (idle 1 (sizes 4096 4 0) 0 ∷ idle 2 (sizes 4096 4 0) 0 ∷ [])
+unfolding decode_pairs
 settings_told = refl
 
-settings_left_out : said (etm [])
-    ≡ Ok (record { settings = record { depth = 16; vmid_bytes = 1; cid_bytes = 4 }; stack = 15; streams = []; weaves = [] })
+settings_left_out : said (stream_01 []) ≡ streams_alone (idle 1 (sizes 16 1 4) 15 ∷ [])
+unfolding decode_pairs
 settings_left_out = refl
 
 -- ---- streams
@@ -151,6 +176,83 @@ null_id = refl
 two_streams_of_one_id : said (stream_01 (codes "stream 01" ∷ [])) ≡ Err (3, DuplicateId)
 unfolding decode_pairs
 two_streams_of_one_id = refl
+
+-- ---- settings of one stream
+
+-- what a stream has of its own, none after it has
+own_settings : said (etm_2 (codes "depth 4" ∷ codes "stream 01 depth 1" ∷ codes "stream 02" ∷ []))
+    ≡ streams_alone (idle 1 (sizes 1 1 4) 15 ∷ idle 2 (sizes 4 1 4) 15 ∷ [])
+unfolding decode_pairs
+own_settings = refl
+
+no_depth_that_sticks : said (etm_2 (codes "depth 4" ∷ codes "stream 01 depth 1" ∷ codes "stream 02" ∷ []))
+    ≡ streams_alone (idle 1 (sizes 1 1 4) 15 ∷ idle 2 (sizes 1 1 4) 15 ∷ []) → ⊥
+no_depth_that_sticks told = true≢false (ap (λ r. nat_eq 4 (last_depth r)) (sym own_settings ∙ told))
+  where
+    last_depth : Result BenchParts (ℕ × BenchWhy) → ℕ
+    last_depth (Ok b) = unwrap_or (option_map (λ s. s.settings.depth) (newest b.streams)) 0
+    last_depth (Err fault) = 0
+
+own_settings_in_any_order : said (etm_2 (codes "stack 3" ∷ codes "stream 01 stack 0 cid 0 depth 16384 vmid 4" ∷ []))
+    ≡ streams_alone (idle 1 (sizes 16384 4 0) 0 ∷ [])
+unfolding decode_pairs
+own_settings_in_any_order = refl
+
+none_in_version_1 : said (etm (codes "stream 01 depth 1" ∷ [])) ≡ Err (2, Syntax)
+unfolding decode_pairs
+none_in_version_1 = refl
+
+own_depth_too_great : said (etm_2 (codes "stream 01 depth 16385" ∷ [])) ≡ Err (2, Range)
+unfolding decode_pairs
+own_depth_too_great = refl
+
+-- all words have a form before a number is out of range
+own_syntax_before_range : said (etm_2 (codes "stream 01 depth 20000 foo 1" ∷ [])) ≡ Err (2, Syntax)
+unfolding decode_pairs
+own_syntax_before_range = refl
+
+no_own_range_before_syntax : said (etm_2 (codes "stream 01 depth 20000 foo 1" ∷ [])) ≡ Err (2, Range) → ⊥
+no_own_range_before_syntax = one_fault _ 2 Syntax Range own_syntax_before_range refl
+
+own_setting_twice : said (etm_2 (codes "stream 01 depth 1 depth 1" ∷ [])) ≡ Err (2, Syntax)
+unfolding decode_pairs
+own_setting_twice = refl
+
+own_syntax_before_id_range : said (etm_2 (codes "stream 70 depth 1 depth 1" ∷ [])) ≡ Err (2, Syntax)
+unfolding decode_pairs
+own_syntax_before_id_range = refl
+
+number_without_a_name : said (etm_2 (codes "stream 01 1" ∷ [])) ≡ Err (2, Syntax)
+unfolding decode_pairs
+number_without_a_name = refl
+
+name_without_a_number : said (etm_2 (codes "stream 01 depth" ∷ [])) ≡ Err (2, Syntax)
+unfolding decode_pairs
+name_without_a_number = refl
+
+id_range_before_own_range : said (etm_2 (codes "stream 70 vmid 3" ∷ [])) ≡ Err (2, IdRange)
+unfolding decode_pairs
+id_range_before_own_range = refl
+
+duplicate_id_before_own_range : said (etm_2 (codes "stream 01" ∷ codes "stream 01 depth 99999" ∷ [])) ≡ Err (3, DuplicateId)
+unfolding decode_pairs
+duplicate_id_before_own_range = refl
+
+no_own_range_before_duplicate_id : said (etm_2 (codes "stream 01" ∷ codes "stream 01 depth 99999" ∷ [])) ≡ Err (3, Range) → ⊥
+no_own_range_before_duplicate_id = one_fault _ 3 DuplicateId Range duplicate_id_before_own_range refl
+
+setting_of_the_file_behind_a_stream : said (etm_2 (codes "stream 01" ∷ codes "vmid 2" ∷ [])) ≡ Err (3, Syntax)
+unfolding decode_pairs
+setting_of_the_file_behind_a_stream = refl
+
+-- contexts go by the sizes of their own stream, the newest
+context_of_its_stream : said (etm_2 (codes "vmid 4" ∷ codes "stream 01 vmid 0" ∷ codes "on 1000 el0 s 1 0" ∷ [])) ≡ Err (4, Range)
+unfolding decode_pairs
+context_of_its_stream = refl
+
+context_of_the_newest_stream : said (etm_2 (codes "vmid 4" ∷ codes "stream 01" ∷ codes "stream 02 vmid 0" ∷ codes "context el0 s 1 0" ∷ [])) ≡ Err (5, Range)
+unfolding decode_pairs
+context_of_the_newest_stream = refl
 
 event_before_a_stream : said (etm (codes "step" ∷ [])) ≡ Err (2, Syntax)
 event_before_a_stream = refl
@@ -225,14 +327,16 @@ whole = etm (codes "vmid 0" ∷ codes "" ∷ codes "stream 6f" ∷ codes "on 100
 
 abbrev whole_parts : BenchParts
 whole_parts = record {
-  settings = record { depth = 16; vmid_bytes = 0; cid_bytes = 4 };
-  stack = 15;
   streams = record {
     id = 111;
+    settings = sizes 16 0 4;
+    stack = 15;
     lines = record { line = 5; event = event.On 0x1000 (record { el = 1; ns = true; vmid = 0; cid = 42 }); times = 1 }
         ∷ record { line = 6; event = event.Step; times = 3 } ∷ [];
   } ∷ record {
     id = 1;
+    settings = sizes 16 0 4;
+    stack = 15;
     lines = record { line = 9; event = event.Exc 31 0x80 (record { el = 3; ns = false; vmid = 0; cid = 0 }); times = 1 } ∷ [];
   } ∷ [];
   weaves = record { id = 1; count = 2 } ∷ record { id = 111; count = 1048576 } ∷ [];

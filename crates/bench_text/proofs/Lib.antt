@@ -2,6 +2,8 @@ pub mod Entries
 pub mod Weaves
 pub mod Drafts
 pub mod Good
+pub mod Settled
+pub mod Pairs
 pub mod Benches
 pub mod WrittenOut
 pub mod Examples

@@ -55,11 +55,14 @@ line_found k (m ∷ lines) more l h =
     sym (cond_above here m.times m.line (line_of (here - m.times) (lines ++ l ∷ more)) l.line (omega arith)
     (sym (ap (λ (n : ℕ). line_of n (lines ++ l ∷ more)) behind ∙ line_found k lines more l h)))
 
-module _ (image : Image) (depth : ℕ) where
-  pub refused : (id k : ℕ) (lines more : List BenchLine) (l : BenchLine) (x : Execution) (fault : RunFault)
+module _ (image : Image) (s : BenchStream) where
+  abbrev depth : ℕ
+  depth = s.settings.depth
+
+  pub refused : (k : ℕ) (lines more : List BenchLine) (l : BenchLine) (x : Execution) (fault : RunFault)
       → run_after image depth (events_of lines ++ replicate k l.event) ≡ Ok x → k < l.times → check image depth (place_in x) l.event ≡ Some fault
-      → stream_refusal image depth (record { id = id; lines = lines ++ l ∷ more }) ≡ Some (l.line, Run fault)
-  refused id k lines more l x fault ran few told =
+      → stream_refusal image (record s { lines = lines ++ l ∷ more }) ≡ Some (l.line, Run fault)
+  refused k lines more l x fault ran few told =
       let p = repeated k l.times l.event few in
       let front = events_of lines ++ replicate k l.event in
       let rest = p.0 ++ events_of more in
@@ -83,39 +86,40 @@ module _ (image : Image) (depth : ℕ) where
       let pair : (n, other) ≡ (m, fault) = cc in
       ap (λ (p : ℕ × RunFault). Some p.1) pair
 
-  pub refused_behind : (id k n : ℕ) (lines more : List BenchLine) (l : BenchLine) (x : Execution) (fault : RunFault)
+  pub refused_behind : (k n : ℕ) (lines more : List BenchLine) (l : BenchLine) (x : Execution) (fault : RunFault)
       → run_after image depth (events_of lines ++ replicate k l.event) ≡ Ok x → k < l.times
       → run_after image depth ((events_of lines ++ replicate k l.event) ++ l.event ∷ []) ≡ Err (n, fault)
-      → stream_refusal image depth (record { id = id; lines = lines ++ l ∷ more }) ≡ Some (l.line, Run fault)
-  refused_behind id k n lines more l x fault ran few stops =
+      → stream_refusal image (record s { lines = lines ++ l ∷ more }) ≡ Some (l.line, Run fault)
+  refused_behind k n lines more l x fault ran few stops =
       let front = events_of lines ++ replicate k l.event in
       let here = 0 + length front in
       let on = run_joined image depth front (l.event ∷ []) at_first x 0 here ran refl in
-      refused id k lines more l x fault ran few
+      refused k lines more l x fault ran few
       (told_by_run (check image depth (place_in x) l.event) here n (after_event image depth x l.event) fault (sym on ∙ stops))
 
-  pub accepted : (s : BenchStream) (x : Execution) → run_after image depth (events_of s.lines) ≡ Ok x → stream_refusal image depth s ≡ None
-  accepted s x h = ap (refused_line s.lines) h
+  pub accepted : (x : Execution) → run_after image depth (events_of s.lines) ≡ Ok x → stream_refusal image s ≡ None
+  accepted x h = ap (refused_line s.lines) h
 
-  pub among_next : (streams more : List BenchStream) (s : BenchStream) → refusal_among image depth streams ≡ None
-      → refusal_among image depth (streams ++ s ∷ more) ≡ first_of (stream_refusal image depth s) (refusal_among image depth more)
+module _ (image : Image) where
+  pub among_next : (streams more : List BenchStream) (s : BenchStream) → refusal_among image streams ≡ None
+      → refusal_among image (streams ++ s ∷ more) ≡ first_of (stream_refusal image s) (refusal_among image more)
   among_next [] more s h = refl
-  among_next (t ∷ streams) more s h = by (stream_refusal image depth t) h (among_next streams more s)
+  among_next (t ∷ streams) more s h = by (stream_refusal image t) h (among_next streams more s)
     where
-      by : (o : Option (ℕ × BenchWhy)) → first_of o (refusal_among image depth streams) ≡ None
-          → (refusal_among image depth streams ≡ None
-          → refusal_among image depth (streams ++ s ∷ more) ≡ first_of (stream_refusal image depth s) (refusal_among image depth more))
-          → first_of o (refusal_among image depth (streams ++ s ∷ more)) ≡ first_of (stream_refusal image depth s) (refusal_among image depth more)
+      by : (o : Option (ℕ × BenchWhy)) → first_of o (refusal_among image streams) ≡ None
+          → (refusal_among image streams ≡ None
+          → refusal_among image (streams ++ s ∷ more) ≡ first_of (stream_refusal image s) (refusal_among image more))
+          → first_of o (refusal_among image (streams ++ s ∷ more)) ≡ first_of (stream_refusal image s) (refusal_among image more)
       by None g next = next g
       by (Some fault) g next = absurd cc
 
-  pub among_first : (line : ℕ) (why : BenchWhy) (streams more : List BenchStream) → refusal_among image depth streams ≡ Some (line, why)
-      → refusal_among image depth (streams ++ more) ≡ Some (line, why)
+  pub among_first : (line : ℕ) (why : BenchWhy) (streams more : List BenchStream) → refusal_among image streams ≡ Some (line, why)
+      → refusal_among image (streams ++ more) ≡ Some (line, why)
   among_first line why [] more h = absurd cc
-  among_first line why (t ∷ streams) more h = by (stream_refusal image depth t) h (among_first line why streams more)
+  among_first line why (t ∷ streams) more h = by (stream_refusal image t) h (among_first line why streams more)
     where
-      by : (o : Option (ℕ × BenchWhy)) → first_of o (refusal_among image depth streams) ≡ Some (line, why)
-          → (refusal_among image depth streams ≡ Some (line, why) → refusal_among image depth (streams ++ more) ≡ Some (line, why))
-          → first_of o (refusal_among image depth (streams ++ more)) ≡ Some (line, why)
+      by : (o : Option (ℕ × BenchWhy)) → first_of o (refusal_among image streams) ≡ Some (line, why)
+          → (refusal_among image streams ≡ Some (line, why) → refusal_among image (streams ++ more) ≡ Some (line, why))
+          → first_of o (refusal_among image (streams ++ more)) ≡ Some (line, why)
       by None g next = next g
       by (Some fault) g next = g

@@ -2,40 +2,37 @@
 use Rattle.std.specs.Prelude.{ℕ, ◌+◌, ◌==◌, ◌&&◌, nat_le, Bool, true, false, not, codes, List, [], ◌∷◌, ◌++◌, Option, Some, None, is_none}
 use Rattle.std.specs.Prelude.{Result, Ok, Err, slice_index, if◌then◌else◌}
 use Rattle.std.specs.List.{list_all}
-use Rattle.std.specs.Option.{option_and_then, option_map, unwrap_or}
+use Rattle.std.specs.Option.{option_and_then, option_map}
 use Rattle.std.specs.Str.{bytes_eq, is_utf8}
 use Rattle.std.specs.Str.Lines.{lines}
-use Rattle.etm_types.specs.Settings.{Sizes, default_sizes, is_cid_size, is_vmid_size}
+use Rattle.etm_types.specs.Settings.{Sizes}
 use Rattle.line_words.specs.Line.{decimal_of, two_digits_of, words_in}
 use Rattle.bench_text.specs.EventLines.{event_of, in_range, need, only_number, only_word, then_ok}
+use Rattle.bench_text.specs.GivenSettings.{are_allowed, given_or, is_allowed, nothing_given, number_given, pairs_in, setting_named, sizes_of, stack_of, with_number}
 use Rattle.bench_text.specs.Parts.{BenchParts, BenchStream, has_stream}
 use Rattle.bench_text.specs.declared.fault.BenchWhy.{BenchWhy}
 use Rattle.bench_text.specs.declared.fault.BenchWhy.TheVariants.{Header, Syntax, IdRange, DuplicateId, Range}
+use Rattle.bench_text.specs.declared.given.Given.{Given}
 use Rattle.bench_text.specs.declared.line.BenchLine.{BenchLine}
+use Rattle.bench_text.specs.declared.line.Declaration.{Declaration}
 use Rattle.bench_text.specs.declared.line.LineKind.{LineKind}
 use Rattle.bench_text.specs.declared.line.LineKind.TheVariants as kind
 use Rattle.bench_text.specs.declared.line.Weave.{Weave}
+use Rattle.bench_text.specs.declared.setting.Setting.{Setting}
+use Rattle.bench_text.specs.declared.version.Version.{Version}
+use Rattle.bench_text.specs.declared.version.Version.TheVariants as version
 
--- ---- what the lines behind the header said so far
+-- ---- what the header and the lines behind it said so far
 
+-- the settings are those of the file
 pub record Draft : Type 0 where
-  pub depth : Option ℕ
-  pub vmid_bytes : Option ℕ
-  pub cid_bytes : Option ℕ
-  pub stack : Option ℕ
+  pub version : Version
+  pub given : Given
   pub streams : List BenchStream
   pub weaves : List Weave
 
-abbrev pub no_lines : Draft
-no_lines = record { depth = None; vmid_bytes = None; cid_bytes = None; stack = None; streams = []; weaves = [] }
-
--- the sizes, where a setting is left out by its default
-abbrev pub sizes_of : Draft → Sizes
-sizes_of d = record {
-  depth = unwrap_or d.depth default_sizes.depth;
-  vmid_bytes = unwrap_or d.vmid_bytes default_sizes.vmid_bytes;
-  cid_bytes = unwrap_or d.cid_bytes default_sizes.cid_bytes;
-}
+abbrev pub no_lines : Version → Draft
+no_lines v = record { version = v; given = nothing_given; streams = []; weaves = [] }
 
 abbrev pub is_empty : {X : Type 0} → List X → Bool
 is_empty [] = true
@@ -45,25 +42,16 @@ is_empty (x ∷ xs) = false
 abbrev pub before_streams : Draft → Bool
 before_streams d = is_empty d.streams && is_empty d.weaves
 
-abbrev pub in_stream : Draft → Bool
-in_stream d = not (is_empty d.streams) && is_empty d.weaves
-
 abbrev pub where_allowed : {A : Type 0} → Bool → Result A BenchWhy → Result A BenchWhy
 where_allowed true result = result
 where_allowed false result = Err Syntax
 
 -- ---- settings, each at most once
 
--- the greatest depth of speculation that a run file may give
-abbrev pub most_run_depth : ℕ
-most_run_depth = 4096
-
--- a number in range alone
-abbrev pub setting_of : (ℕ → Bool) → List (List ℕ) → Result ℕ BenchWhy
-setting_of allowed words = need (only_number words) (λ n. in_range (allowed n) n)
-
-abbrev pub set : (ℕ → Bool) → Option ℕ → (ℕ → Draft) → Draft → List (List ℕ) → Result Draft BenchWhy
-set allowed given with_it d words = where_allowed (before_streams d && is_none given) (then_ok (setting_of allowed words) (λ n. Ok (with_it n)))
+abbrev pub add_setting : Setting → Draft → List (List ℕ) → Result Draft BenchWhy
+add_setting s d words =
+    where_allowed (before_streams d && is_none (number_given s d.given))
+    (need (only_number words) (λ n. in_range (is_allowed d.version s n) (record d { given = with_number s n d.given })))
 
 -- ---- streams and their events
 
@@ -71,14 +59,35 @@ set allowed given with_it d words = where_allowed (before_streams d && is_none g
 abbrev pub is_source : ℕ → Bool
 is_source id = nat_le 1 id && nat_le id 111
 
-abbrev pub declare : Draft → ℕ → Result Draft BenchWhy
-declare d id =
-    if not (is_source id) then Err IdRange
-    else if has_stream id d.streams then Err DuplicateId
-    else Ok (record d { streams = d.streams ++ record { id = id; lines = [] } ∷ [] })
+-- the settings behind the ID of a stream: in version 1 there are none
+abbrev pub own_of : Version → List (List ℕ) → Option Given
+own_of version.One [] = Some nothing_given
+own_of version.One (word ∷ words) = None
+own_of version.Two words = pairs_in nothing_given words
+
+abbrev pub declaration_of : Version → List (List ℕ) → Option Declaration
+declaration_of v [] = None
+declaration_of v (word ∷ words) = option_and_then (λ id. option_map (λ own. record { id = id; own = own }) (own_of v words)) (two_digits_of word)
+
+-- a stream without events, of these settings
+abbrev pub stream_of : ℕ → Given → BenchStream
+stream_of id given = record { id = id; settings = sizes_of given; stack = stack_of given; lines = [] }
+
+-- what the line does not give is the file's
+abbrev pub declare : Draft → Declaration → Result Draft BenchWhy
+declare d new =
+    if not (is_source new.id) then Err IdRange
+    else if has_stream new.id d.streams then Err DuplicateId
+    else if not (are_allowed d.version new.own) then Err Range
+    else Ok (record d { streams = d.streams ++ stream_of new.id (given_or new.own d.given) ∷ [] })
 
 abbrev pub add_stream : Draft → List (List ℕ) → Result Draft BenchWhy
-add_stream d words = where_allowed (is_empty d.weaves) (need (option_and_then two_digits_of (only_word words)) (declare d))
+add_stream d words = where_allowed (is_empty d.weaves) (need (declaration_of d.version words) (declare d))
+
+abbrev pub newest : List BenchStream → Option BenchStream
+newest [] = None
+newest (s ∷ []) = Some s
+newest (s ∷ t ∷ streams) = newest (t ∷ streams)
 
 -- a line at the end of the newest stream
 abbrev pub with_line : BenchLine → List BenchStream → List BenchStream
@@ -86,9 +95,13 @@ with_line l [] = []
 with_line l (s ∷ []) = record s { lines = s.lines ++ l ∷ [] } ∷ []
 with_line l (s ∷ t ∷ streams) = s ∷ with_line l (t ∷ streams)
 
+-- the sizes that an event line goes by, those of the newest stream: behind a weave there are none
+abbrev pub event_sizes : Draft → Option Sizes
+event_sizes d = if is_empty d.weaves then option_map (λ s. s.settings) (newest d.streams) else None
+
 abbrev pub add_event : ℕ → Draft → List ℕ → List (List ℕ) → Result Draft BenchWhy
 add_event number d word words =
-    where_allowed (in_stream d) (then_ok (event_of (sizes_of d) word words) (λ e.
+    need (event_sizes d) (λ s. then_ok (event_of s word words) (λ e.
     Ok (record d { streams = with_line (record { line = number; event = e.event; times = e.times }) d.streams })))
 
 -- ---- weaves
@@ -117,22 +130,17 @@ add_weaves d words = then_ok (need (weaves_of words) (weave d.streams d.weaves))
 
 -- ---- lines
 
--- what a line behind the header says: an event, where its first word is none of these
+abbrev pub kind_by : List ℕ → Option Setting → LineKind
+kind_by word (Some s) = kind.Setting s
+kind_by word None =
+    if bytes_eq word (codes "stream") then kind.Stream else if bytes_eq word (codes "weave") then kind.Weaves else kind.Event
+
+-- what a line behind the header says: an event, where its first word is none of the others
 abbrev pub kind_of : List ℕ → LineKind
-kind_of word =
-    if bytes_eq word (codes "depth") then kind.Depth
-    else if bytes_eq word (codes "vmid") then kind.VmidBytes
-    else if bytes_eq word (codes "cid") then kind.CidBytes
-    else if bytes_eq word (codes "stack") then kind.Stack
-    else if bytes_eq word (codes "stream") then kind.Stream
-    else if bytes_eq word (codes "weave") then kind.Weaves
-    else kind.Event
+kind_of word = kind_by word (setting_named word)
 
 abbrev pub add_kind : LineKind → ℕ → Draft → List ℕ → List (List ℕ) → Result Draft BenchWhy
-add_kind kind.Depth number d word words = set (λ n. nat_le n most_run_depth) d.depth (λ n. record d { depth = Some n }) d words
-add_kind kind.VmidBytes number d word words = set is_vmid_size d.vmid_bytes (λ n. record d { vmid_bytes = Some n }) d words
-add_kind kind.CidBytes number d word words = set is_cid_size d.cid_bytes (λ n. record d { cid_bytes = Some n }) d words
-add_kind kind.Stack number d word words = set (λ n. nat_le n 15) d.stack (λ n. record d { stack = Some n }) d words
+add_kind (kind.Setting s) number d word words = add_setting s d words
 add_kind kind.Stream number d word words = add_stream d words
 add_kind kind.Weaves number d word words = add_weaves d words
 add_kind kind.Event number d word words = add_event number d word words
@@ -141,13 +149,20 @@ add_kind kind.Event number d word words = add_event number d word words
 abbrev pub add_words : ℕ → Draft → List ℕ → List (List ℕ) → Result Draft BenchWhy
 add_words number d word words = add_kind (kind_of word) number d word words
 
--- the header is `etm 1`
-abbrev pub is_version : Option (List ℕ) → Bool
-is_version (Some word) = bytes_eq word (codes "1")
-is_version None = false
+-- the header is `etm 1` or `etm 2`
+abbrev pub version_named : List ℕ → Option Version
+version_named word =
+    if bytes_eq word (codes "1") then Some version.One else if bytes_eq word (codes "2") then Some version.Two else None
+
+abbrev pub version_in : List ℕ → List (List ℕ) → Option Version
+version_in word words = if bytes_eq word (codes "etm") then option_and_then version_named (only_word words) else None
+
+abbrev pub begun : Option Version → Result Draft BenchWhy
+begun (Some v) = Ok (no_lines v)
+begun None = Err Header
 
 abbrev pub header : List ℕ → List (List ℕ) → Result Draft BenchWhy
-header word words = if bytes_eq word (codes "etm") && is_version (only_word words) then Ok no_lines else Err Header
+header word words = begun (version_in word words)
 
 -- the first line with words is the header
 abbrev pub add_behind : ℕ → Option Draft → List ℕ → List (List ℕ) → Result Draft BenchWhy
@@ -173,7 +188,7 @@ add_lines number draft [] = Ok draft
 add_lines number draft (line ∷ lines) = then_lines number (add_line number draft line) (λ next. add_lines (number + 1) next lines)
 
 abbrev pub parts_of : Draft → BenchParts
-parts_of d = record { settings = sizes_of d; stack = unwrap_or d.stack 15; streams = d.streams; weaves = d.weaves }
+parts_of d = record { streams = d.streams; weaves = d.weaves }
 
 abbrev pub finished : Result (Option Draft) (ℕ × BenchWhy) → Result BenchParts (ℕ × BenchWhy)
 finished (Ok (Some d)) = Ok (parts_of d)

@@ -1,6 +1,7 @@
 pub mod Parts
 pub mod Kept
 pub mod EventLines
+pub mod GivenSettings
 pub mod WhyNumbers
 pub mod Answers
 pub mod BenchText

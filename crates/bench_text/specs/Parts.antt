@@ -1,4 +1,4 @@
--- What a run file says: the sizes of the trace units, the events of each stream, and how the streams are woven.
+-- What a run file says: the settings and events of each stream, and how the streams are woven.
 use Rattle.std.specs.Prelude.{◌≡◌, ℕ, ◌<◌, ◌≤◌, ◌==◌, Bool, true, false, List, [], ◌∷◌, ◌++◌, All, replicate, ⊤}
 use Rattle.std.specs.List.{list_any}
 use Rattle.etm_types.specs.Id.{IsId}
@@ -8,15 +8,15 @@ use Rattle.spec_run.specs.declared.event.Event.{Event}
 use Rattle.bench_text.specs.declared.line.BenchLine.{BenchLine}
 use Rattle.bench_text.specs.declared.line.Weave.{Weave}
 
--- a stream: its ID, and its event lines in their order
+-- a stream: its ID, the sizes and the return stack's depth of its trace unit, and its event lines in their order
 pub record BenchStream : Type 0 where
   pub id : ℕ
+  pub settings : Sizes
+  pub stack : ℕ
   pub lines : List BenchLine
 
 -- streams in the order of their declaration, and weaves in the order of their lines
 pub record BenchParts : Type 0 where
-  pub settings : Sizes
-  pub stack : ℕ
   pub streams : List BenchStream
   pub weaves : List Weave
 
@@ -39,9 +39,11 @@ pub record IsBenchLine (s : Sizes) (l : BenchLine) : Type 0 where
   pub few : l.times ≤ 65535
   pub event : IsEvent s l.event
 
-pub record IsBenchStream (s : Sizes) (stream : BenchStream) : Type 0 where
+pub record IsBenchStream (stream : BenchStream) : Type 0 where
   pub id : IsId stream.id
-  pub lines : All (IsBenchLine s) stream.lines
+  pub settings : AreSettings stream.settings
+  pub stack : stream.stack ≤ 15
+  pub lines : All (IsBenchLine stream.settings) stream.lines
 
 pub record IsWeave (streams : List BenchStream) (w : Weave) : Type 0 where
   pub declared : has_stream w.id streams ≡ true
@@ -50,8 +52,6 @@ pub record IsWeave (streams : List BenchStream) (w : Weave) : Type 0 where
 
 -- the parts of a run file
 pub record IsBench (b : BenchParts) : Type 0 where
-  pub settings : AreSettings b.settings
-  pub stack : b.stack ≤ 15
-  pub streams : All (IsBenchStream b.settings) b.streams
+  pub streams : All IsBenchStream b.streams
   pub apart : AreApart b.streams
   pub weaves : All (IsWeave b.streams) b.weaves

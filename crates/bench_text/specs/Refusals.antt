@@ -19,17 +19,17 @@ abbrev pub refused_line : List BenchLine → Result Execution (ℕ × RunFault) 
 refused_line lines (Ok x) = None
 refused_line lines (Err refused) = Some (line_of refused.0 lines, Run refused.1)
 
-abbrev pub stream_refusal : Image → ℕ → BenchStream → Option (ℕ × BenchWhy)
-stream_refusal image depth s = refused_line s.lines (run_after image depth (events_of s.lines))
+abbrev pub stream_refusal : Image → BenchStream → Option (ℕ × BenchWhy)
+stream_refusal image s = refused_line s.lines (run_after image s.settings.depth (events_of s.lines))
 
 abbrev pub first_of : Option (ℕ × BenchWhy) → Option (ℕ × BenchWhy) → Option (ℕ × BenchWhy)
 first_of None other = other
 first_of (Some fault) other = Some fault
 
 -- the first refusal of the streams, which stand one behind the other
-abbrev pub refusal_among : Image → ℕ → List BenchStream → Option (ℕ × BenchWhy)
-refusal_among image depth [] = None
-refusal_among image depth (s ∷ streams) = first_of (stream_refusal image depth s) (refusal_among image depth streams)
+abbrev pub refusal_among : Image → List BenchStream → Option (ℕ × BenchWhy)
+refusal_among image [] = None
+refusal_among image (s ∷ streams) = first_of (stream_refusal image s) (refusal_among image streams)
 
 -- 64 MiB
 abbrev pub most_text : ℕ
@@ -41,7 +41,7 @@ unless (Some fault) b = Err fault
 
 abbrev pub unless_refused : Image → Result BenchParts (ℕ × BenchWhy) → Result BenchParts (ℕ × BenchWhy)
 unless_refused image (Err fault) = Err fault
-unless_refused image (Ok b) = unless (refusal_among image b.settings.depth b.streams) b
+unless_refused image (Ok b) = unless (refusal_among image b.streams) b
 
 -- The parts of a run file over an image, whose events are all accepted; or the first fault: the text is too long, or a line of it has a
 -- fault of its own, or an event is refused.

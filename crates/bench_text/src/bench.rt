@@ -1,5 +1,5 @@
-//! A run file: settings, streams of events, and weaves.
-ghost use Rattle.std.specs.Prelude.{◌≡◌, ◌≤◌, ◌<◌, ◌+◌, ◌^◌, length, IfOk, IsSome, None, slice_get};
+//! A run file: streams of events, each with its trace unit's settings, and weaves.
+ghost use Rattle.std.specs.Prelude.{◌≡◌, ◌≤◌, ◌<◌, ◌+◌, ◌^◌, length, IfOk, IfSome, IsSome, None, slice_get};
 ghost use Rattle.std.specs.Str.Lines.{lines};
 ghost use Rattle.std.specs.Option.{option_and_then, option_map};
 ghost use Rattle.bench_text.specs.Answers.{AnswersText};
@@ -10,6 +10,7 @@ ghost use Rattle.bench_text.specs.Parts.{IsBench};
 use crate::draft::{Draft, with_line};
 use crate::fault::{BenchFault, BenchWhy, LineFault};
 use crate::line::{BenchLine, Weave};
+use crate::streams::Stream;
 use etm_types::{Id, Settings};
 use indexmap::IndexMap;
 use line_words::NumberedLines;
@@ -19,10 +20,8 @@ use std::marker::Model;
 /// The parts of a run file.
 #[derive(Drop)]
 pub struct Bench {
-    settings: Settings,
-    stack: usize,
-    /// The event lines of each stream, in the order in which the streams were declared.
-    streams: IndexMap<u8, Vec<BenchLine>>,
+    /// By their IDs, in the order in which they were declared.
+    streams: IndexMap<u8, Stream>,
     weaves: Vec<Weave>,
 }
 
@@ -57,38 +56,11 @@ impl Bench {
     }
 
     /// The run file of these parts.
-    pub(crate) fn new(
-        settings: Settings,
-        stack: usize,
-        streams: IndexMap<u8, Vec<BenchLine>>,
-        weaves: Vec<Weave>,
-    ) -> Bench
-        requires { IsBench
-            (record { settings = settings; stack = stack; streams = streams_in streams.entries; weaves = weaves.items }) }
-        ensures { result
-            ≡ record { settings = settings; stack = stack; streams = streams_in streams.entries; weaves = weaves.items } }
+    pub(crate) fn new(streams: IndexMap<u8, Stream>, weaves: Vec<Weave>) -> Bench
+        requires { IsBench (record { streams = streams_in streams.entries; weaves = weaves.items }) }
+        ensures { result ≡ record { streams = streams_in streams.entries; weaves = weaves.items } }
     {
-        Bench {
-            settings,
-            stack,
-            streams,
-            weaves,
-        }
-    }
-
-    /// The sizes of the trace units.
-    pub fn settings(&self) -> &Settings
-        ensures { result.now ≡ self.now.settings }
-    {
-        &self.settings
-    }
-
-    /// The depth of the trace units' return stacks.
-    pub fn stack(&self) -> usize
-        ensures value { result ≡ self.now.stack }
-        ensures within { result ≤ 15 }
-    {
-        self.stack
+        Bench { streams, weaves }
     }
 
     /// How many streams there are.
@@ -106,14 +78,31 @@ impl Bench {
         Id::new(*id)
     }
 
+    /// The sizes of a stream's trace unit, by its place in the order of declaration.
+    pub fn settings_of(&self, s: usize) -> Option<Settings>
+        ensures { result ≡ option_map (λ stream. stream.settings) (slice_get self.now.streams s) }
+    {
+        let (_, stream) = self.streams.get_index(s)?;
+        Some(stream.settings)
+    }
+
+    /// The depth of its return stack.
+    pub fn stack_of(&self, s: usize) -> Option<usize>
+        ensures value { result ≡ option_map (λ stream. stream.stack) (slice_get self.now.streams s) }
+        ensures within { IfSome result (λ stack. stack ≤ 15) }
+    {
+        let (_, stream) = self.streams.get_index(s)?;
+        Some(stream.stack)
+    }
+
     /// An event line of a stream, by its place among them.
     pub fn line_at(&self, s: usize, k: usize) -> Option<&BenchLine>
         ensures value { option_map (λ line. line.now) result
             ≡ option_and_then (λ stream. slice_get stream.lines k) (slice_get self.now.streams s) }
         ensures within { IsSome result → k + 1 < 2 ^ 64 }
     {
-        let (_, lines) = self.streams.get_index(s)?;
-        lines.get(k)
+        let (_, stream) = self.streams.get_index(s)?;
+        stream.lines.get(k)
     }
 
     /// A weave, by its place among them.

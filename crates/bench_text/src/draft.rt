@@ -1,20 +1,21 @@
 //! What the lines of a run file say, one line after another.
-ghost use Rattle.std.specs.Prelude.{◌≡◌, nat_le, Some};
-ghost use Rattle.etm_types.specs.Settings.{is_cid_size, is_vmid_size};
+ghost use Rattle.std.specs.Prelude.{◌≡◌, Some};
 ghost use Rattle.line_words.specs.Line.{words_in};
 ghost use Rattle.bench_text.specs.Answers.{Answers};
 ghost use Rattle.bench_text.specs.Parts.{IsBench};
-ghost use Rattle.bench_text.specs.BenchText.{add_behind, add_event, add_line, add_stream, add_weaves, add_words};
-ghost use Rattle.bench_text.specs.BenchText.{before_streams, header, in_stream, kind_of, most_run_depth, no_lines, parts_of, set, sizes_of};
+ghost use Rattle.bench_text.specs.BenchText.{add_behind, add_event, add_line, add_setting, add_stream, add_weaves, add_words};
+ghost use Rattle.bench_text.specs.BenchText.{before_streams, declaration_of, event_sizes, header, kind_of, no_lines, own_of, parts_of};
 
 use crate::bench::Bench;
 use crate::event_line::event_of;
 use crate::fault::{BenchWhy, LineFault};
-use crate::line::{BenchLine, LineKind, Weave};
-use crate::setting_line::{cid_bytes_of, depth_of, stack_of, vmid_bytes_of};
-use crate::streams::{declare, has_stream, push_line};
+use crate::given::Given;
+use crate::line::{BenchLine, Declaration, LineKind, Weave};
+use crate::setting::Setting;
+use crate::streams::{Stream, declare, has_stream, newest_settings, push_line};
+use crate::version::Version;
 use crate::weave_line::with_weaves;
-use crate::words::only_word;
+use crate::words::{only_number, only_word};
 use etm_types::{Id, Settings};
 use indexmap::IndexMap;
 use line_words::{is_utf8, next_word, two_digits};
@@ -24,17 +25,16 @@ use std::marker::Model;
 /// A line that is of no form, or out of its place.
 const SYNTAX: LineFault = LineFault::Bad(BenchWhy::Syntax);
 
-/// The depth of return stacks where no line gives it.
-const STACK: usize = 15;
+/// A number outside its range.
+const RANGE: LineFault = LineFault::Bad(BenchWhy::Range);
 
-/// What the lines behind the header said so far.
+/// What the header and the lines behind it said so far.
 #[derive(Drop)]
 pub struct Draft {
-    depth: Option<u32>,
-    vmid_bytes: Option<u8>,
-    cid_bytes: Option<u8>,
-    stack: Option<usize>,
-    streams: IndexMap<u8, Vec<BenchLine>>,
+    version: Version,
+    /// The file's own settings.
+    given: Given,
+    streams: IndexMap<u8, Stream>,
     weaves: Vec<Weave>,
 }
 
@@ -92,7 +92,8 @@ fn header(alloc: Global, word: &[u8], rest: &[u8]) -> Result<Draft, LineFault>
     ensures { Answers (λ draft. draft) result (header word.now (words_in rest.now)) }
 {
     match (word, only_word(rest)) {
-        (b"etm", Some(b"1")) => Ok(Draft::new(alloc)),
+        (b"etm", Some(b"1")) => Ok(Draft::new(alloc, Version::One)),
+        (b"etm", Some(b"2")) => Ok(Draft::new(alloc, Version::Two)),
         _ => Err(LineFault::Bad(BenchWhy::Header)),
     }
 }
@@ -100,27 +101,45 @@ fn header(alloc: Global, word: &[u8], rest: &[u8]) -> Result<Draft, LineFault>
 fn kind_of(word: &[u8]) -> LineKind
     ensures { result ≡ kind_of word.now }
 {
+    if let Some(setting) = Setting::named(word) {
+        return LineKind::Setting(setting);
+    }
     match word {
-        b"depth" => LineKind::Depth,
-        b"vmid" => LineKind::VmidBytes,
-        b"cid" => LineKind::CidBytes,
-        b"stack" => LineKind::Stack,
         b"stream" => LineKind::Stream,
         b"weave" => LineKind::Weaves,
         _ => LineKind::Event,
     }
 }
 
+/// What the words of a line that declares a stream say: its ID, and settings of its own where the version has them.
+fn declaration_of(version: Version, words: &[u8]) -> Option<Declaration>
+    ensures { result ≡ declaration_of version (words_in words.now) }
+{
+    let (word, rest) = next_word(words)?;
+    let id = two_digits(word)?;
+    let own = own_of(version, rest)?;
+    Some(Declaration { id, own })
+}
+
+/// The settings of its own that a line gives a stream behind its ID.
+fn own_of(version: Version, words: &[u8]) -> Option<Given>
+    ensures { result ≡ own_of version (words_in words.now) }
+{
+    match version {
+        Version::One if next_word(words).is_some() => None,
+        Version::One => Some(Given::nothing()),
+        Version::Two => Given::in_pairs(words),
+    }
+}
+
 impl Draft {
     /// No line behind the header.
-    fn new(alloc: Global) -> Draft
-        ensures { result ≡ no_lines }
+    fn new(alloc: Global, version: Version) -> Draft
+        ensures { result ≡ no_lines version }
     {
         Draft {
-            depth: None,
-            vmid_bytes: None,
-            cid_bytes: None,
-            stack: None,
+            version,
+            given: Given::nothing(),
             streams: IndexMap::new(alloc),
             weaves: Vec::new(alloc),
         }
@@ -137,10 +156,7 @@ impl Draft {
         ensures { Answers (λ draft. draft) result (add_words number self word.now (words_in rest.now)) }
     {
         match kind_of(word) {
-            LineKind::Depth => self.with_depth(rest),
-            LineKind::VmidBytes => self.with_vmid_bytes(rest),
-            LineKind::CidBytes => self.with_cid_bytes(rest),
-            LineKind::Stack => self.with_stack(rest),
+            LineKind::Setting(setting) => self.with_setting(setting, rest),
             LineKind::Stream => self.with_stream(alloc, rest),
             LineKind::Weaves => self.with_weaves(rest),
             LineKind::Event => self.with_event(number, word, rest),
@@ -154,58 +170,18 @@ impl Draft {
         self.streams.is_empty() && self.weaves.is_empty()
     }
 
-    /// Whether event lines may come.
-    fn in_stream(&self) -> bool
-        ensures { result ≡ in_stream self.now }
+    /// What the lines say after one that gives a setting of the file.
+    fn with_setting(mut self, setting: Setting, words: &[u8]) -> Result<Draft, LineFault>
+        ensures { Answers (λ draft. draft) result (add_setting setting self (words_in words.now)) }
     {
-        !self.streams.is_empty() && self.weaves.is_empty()
-    }
-
-    fn with_depth(mut self, words: &[u8]) -> Result<Draft, LineFault>
-        ensures { Answers (λ draft. draft) result
-            (set (λ n. nat_le n most_run_depth) self.depth (λ n. record self { depth = Some n }) self (words_in words.now)) }
-    {
-        if !self.before_streams() || self.depth.is_some() {
+        if !self.before_streams() || self.given.number(setting).is_some() {
             return Err(SYNTAX);
         }
-        let depth = depth_of(words).map_err(LineFault::Bad)?;
-        self.depth = Some(depth);
-        Ok(self)
-    }
-
-    fn with_vmid_bytes(mut self, words: &[u8]) -> Result<Draft, LineFault>
-        ensures { Answers (λ draft. draft) result
-            (set is_vmid_size self.vmid_bytes (λ n. record self { vmid_bytes = Some n }) self (words_in words.now)) }
-    {
-        if !self.before_streams() || self.vmid_bytes.is_some() {
-            return Err(SYNTAX);
+        let number = only_number(words).ok_or(SYNTAX)?;
+        if !setting.allows(self.version, number) {
+            return Err(RANGE);
         }
-        let bytes = vmid_bytes_of(words).map_err(LineFault::Bad)?;
-        self.vmid_bytes = Some(bytes);
-        Ok(self)
-    }
-
-    fn with_cid_bytes(mut self, words: &[u8]) -> Result<Draft, LineFault>
-        ensures { Answers (λ draft. draft) result
-            (set is_cid_size self.cid_bytes (λ n. record self { cid_bytes = Some n }) self (words_in words.now)) }
-    {
-        if !self.before_streams() || self.cid_bytes.is_some() {
-            return Err(SYNTAX);
-        }
-        let bytes = cid_bytes_of(words).map_err(LineFault::Bad)?;
-        self.cid_bytes = Some(bytes);
-        Ok(self)
-    }
-
-    fn with_stack(mut self, words: &[u8]) -> Result<Draft, LineFault>
-        ensures { Answers (λ draft. draft) result
-            (set (λ n. nat_le n 15) self.stack (λ n. record self { stack = Some n }) self (words_in words.now)) }
-    {
-        if !self.before_streams() || self.stack.is_some() {
-            return Err(SYNTAX);
-        }
-        let stack = stack_of(words).map_err(LineFault::Bad)?;
-        self.stack = Some(stack);
+        self.given = self.given.with(setting, number);
         Ok(self)
     }
 
@@ -216,26 +192,43 @@ impl Draft {
         if !self.weaves.is_empty() {
             return Err(SYNTAX);
         }
-        let word = only_word(words).ok_or(SYNTAX)?;
-        let id = two_digits(word).ok_or(SYNTAX)?;
-        if Id::new(id).is_none() {
+        let new = declaration_of(self.version, words).ok_or(SYNTAX)?;
+        if Id::new(new.id).is_none() {
             return Err(LineFault::Bad(BenchWhy::IdRange));
         }
-        if has_stream(&self.streams, id) {
+        if has_stream(&self.streams, new.id) {
             return Err(LineFault::Bad(BenchWhy::DuplicateId));
         }
-        declare(alloc, &mut self.streams, id).map_err(|_| LineFault::Memory)?;
+        if !new.own.are_allowed(self.version) {
+            return Err(RANGE);
+        }
+        let all = new.own.or(&self.given);
+        let stream = Stream {
+            settings: all.settings(),
+            stack: all.stack(),
+            lines: Vec::new(alloc),
+        };
+        declare(&mut self.streams, new.id, stream).map_err(|_| LineFault::Memory)?;
         Ok(self)
+    }
+
+    /// The settings that an event line goes by, those of the newest stream: behind a weave there are none.
+    fn event_settings(&self) -> Option<Settings>
+        ensures { result ≡ event_sizes self.now }
+    {
+        if self.weaves.is_empty() {
+            newest_settings(&self.streams)
+        } else {
+            None
+        }
     }
 
     /// What the lines say after an event line of the newest stream.
     fn with_event(mut self, number: u64, word: &[u8], rest: &[u8]) -> Result<Draft, LineFault>
         ensures { Answers (λ draft. draft) result (add_event number self word.now (words_in rest.now)) }
     {
-        if !self.in_stream() {
-            return Err(SYNTAX);
-        }
-        let repeated = event_of(&self.sizes(), word, rest).map_err(LineFault::Bad)?;
+        let settings = self.event_settings().ok_or(SYNTAX)?;
+        let repeated = event_of(&settings, word, rest).map_err(LineFault::Bad)?;
         let line = BenchLine {
             line: number,
             event: repeated.event,
@@ -253,33 +246,18 @@ impl Draft {
             return Err(SYNTAX);
         }
         let Draft {
-            depth,
-            vmid_bytes,
-            cid_bytes,
-            stack,
+            version,
+            given,
             streams,
             weaves,
         } = self;
         let weaves = with_weaves(&streams, weaves, words)?;
         Ok(Draft {
-            depth,
-            vmid_bytes,
-            cid_bytes,
-            stack,
+            version,
+            given,
             streams,
             weaves,
         })
-    }
-
-    /// The sizes of the trace units.
-    fn sizes(&self) -> Settings
-        ensures { result ≡ sizes_of self.now }
-    {
-        let default = Settings::default();
-        let depth = self.depth.unwrap_or(default.depth());
-        let vmid_bytes = self.vmid_bytes.unwrap_or(default.vmid_bytes());
-        let cid_bytes = self.cid_bytes.unwrap_or(default.cid_bytes());
-        Settings::new(depth, vmid_bytes, cid_bytes).unwrap()
     }
 
     /// The parts of a run file.
@@ -287,13 +265,11 @@ impl Draft {
         requires { IsBench (parts_of self) }
         ensures { result ≡ parts_of self }
     {
-        let settings = self.sizes();
-        let stack = self.stack.unwrap_or(STACK);
         let Draft {
             streams,
             weaves,
             ..
         } = self;
-        Bench::new(settings, stack, streams, weaves)
+        Bench::new(streams, weaves)
     }
 }

@@ -8,8 +8,8 @@ use thiserror::Error;
 /// Why a line of a run file is bad.
 #[derive(Clone, Copy, Debug, PartialEq, Eq, Error)]
 pub enum BenchWhy {
-    /// The first line with words is not `etm 1`, or there is none.
-    #[error("the header is not `etm 1`")]
+    /// The first line with words is neither `etm 1` nor `etm 2`, or there is none.
+    #[error("the header is neither `etm 1` nor `etm 2`")]
     Header,
     /// A line of no form, or out of its place, or a setting that is given twice.
     #[error("the line has no form of a run file here")]
@@ -20,7 +20,7 @@ pub enum BenchWhy {
     /// A second stream of an ID.
     #[error("the ID has a stream already")]
     DuplicateId,
-    /// A number outside its range, or a context that does not fit the sizes.
+    /// A number outside its range, or a context that does not fit the sizes of its stream.
     #[error("a number is outside its range")]
     Range,
     /// More than 64 MiB of text.

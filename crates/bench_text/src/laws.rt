@@ -11,7 +11,7 @@ ghost use Rattle.bench_text.specs.Refusals.{first_of, refusal_among, stream_refu
 ghost use Rattle.bench_text.specs.declared.fault.BenchWhy.{BenchWhy};
 ghost use Rattle.bench_text.specs.declared.line.BenchLine.{BenchLine};
 
-/// What a text says is a run file: its events are those of trace units of its sizes, no ID has two streams, and each weave is
+/// What a text says is a run file: its events are those of trace units of their sizes, no ID has two streams, and each weave is
 /// one of a stream.
 pub fn texts_say_run_files()
     ensures { (text : List ℕ) (b : BenchParts) → parsed text ≡ Ok b → IsBench b }
@@ -22,28 +22,27 @@ pub fn texts_say_run_files()
 pub fn repeated_lines_are_written_out()
     ensures events { (lines : List BenchLine) (l : BenchLine)
         → events_of (lines ++ l ∷ []) ≡ events_of lines ++ replicate l.times l.event }
-    ensures refused { (image : Image) (depth id k : ℕ) (lines more : List BenchLine) (l : BenchLine) (x : Execution)
+    ensures refused { (image : Image) (s : BenchStream) (k : ℕ) (lines more : List BenchLine) (l : BenchLine) (x : Execution)
         (fault : RunFault)
-        → run_after image depth (events_of lines ++ replicate k l.event) ≡ Ok x → k < l.times
-        → check image depth (place_in x) l.event ≡ Some fault
-        → stream_refusal image depth (record { id = id; lines = lines ++ l ∷ more }) ≡ Some (l.line, BenchWhy.Run fault) }
-    ensures refused_behind { (image : Image) (depth id k n : ℕ) (lines more : List BenchLine) (l : BenchLine) (x : Execution)
+        → run_after image s.settings.depth (events_of lines ++ replicate k l.event) ≡ Ok x → k < l.times
+        → check image s.settings.depth (place_in x) l.event ≡ Some fault
+        → stream_refusal image (record s { lines = lines ++ l ∷ more }) ≡ Some (l.line, BenchWhy.Run fault) }
+    ensures refused_behind { (image : Image) (s : BenchStream) (k n : ℕ) (lines more : List BenchLine) (l : BenchLine) (x : Execution)
         (fault : RunFault)
-        → run_after image depth (events_of lines ++ replicate k l.event) ≡ Ok x → k < l.times
-        → run_after image depth ((events_of lines ++ replicate k l.event) ++ l.event ∷ []) ≡ Err (n, fault)
-        → stream_refusal image depth (record { id = id; lines = lines ++ l ∷ more }) ≡ Some (l.line, BenchWhy.Run fault) }
-    ensures accepted { (image : Image) (depth : ℕ) (s : BenchStream) (x : Execution)
-        → run_after image depth (events_of s.lines) ≡ Ok x
-        → stream_refusal image depth s ≡ None }
+        → run_after image s.settings.depth (events_of lines ++ replicate k l.event) ≡ Ok x → k < l.times
+        → run_after image s.settings.depth ((events_of lines ++ replicate k l.event) ++ l.event ∷ []) ≡ Err (n, fault)
+        → stream_refusal image (record s { lines = lines ++ l ∷ more }) ≡ Some (l.line, BenchWhy.Run fault) }
+    ensures accepted { (image : Image) (s : BenchStream) (x : Execution)
+        → run_after image s.settings.depth (events_of s.lines) ≡ Ok x
+        → stream_refusal image s ≡ None }
 {}
 
 /// Streams are run one by one, in the order of their declaration.
 pub fn streams_are_run_in_order()
-    ensures none { (image : Image) (depth : ℕ) → refusal_among image depth [] ≡ None }
-    ensures next { (image : Image) (depth : ℕ) (streams more : List BenchStream) (s : BenchStream)
-        → refusal_among image depth streams ≡ None
-        → refusal_among image depth (streams ++ s ∷ more)
-        ≡ first_of (stream_refusal image depth s) (refusal_among image depth more) }
-    ensures first { (image : Image) (depth line : ℕ) (why : BenchWhy) (streams more : List BenchStream)
-        → refusal_among image depth streams ≡ Some (line, why) → refusal_among image depth (streams ++ more) ≡ Some (line, why) }
+    ensures none { (image : Image) → refusal_among image [] ≡ None }
+    ensures next { (image : Image) (streams more : List BenchStream) (s : BenchStream)
+        → refusal_among image streams ≡ None
+        → refusal_among image (streams ++ s ∷ more) ≡ first_of (stream_refusal image s) (refusal_among image more) }
+    ensures first { (image : Image) (line : ℕ) (why : BenchWhy) (streams more : List BenchStream)
+        → refusal_among image streams ≡ Some (line, why) → refusal_among image (streams ++ more) ≡ Some (line, why) }
 {}

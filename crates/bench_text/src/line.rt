@@ -1,5 +1,7 @@
 //! The lines of a run file that are kept.
 
+use crate::given::Given;
+use crate::setting::Setting;
 use etm_types::Id;
 use spec_run::Event;
 
@@ -16,13 +18,18 @@ pub struct BenchLine {
 /// What a line behind the header says, by its first word.
 #[derive(Clone, Copy)]
 pub enum LineKind {
-    Depth,
-    VmidBytes,
-    CidBytes,
-    Stack,
+    Setting(Setting),
     Stream,
     Weaves,
     Event,
+}
+
+/// The words of a line that declares a stream.
+#[derive(Clone, Copy)]
+pub struct Declaration {
+    pub id: u8,
+    /// The stream's own settings; the others are those of the file.
+    pub own: Given,
 }
 
 /// An event, and how often it comes.

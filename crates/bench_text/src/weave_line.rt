@@ -10,8 +10,8 @@ ghost use Rattle.bench_text.specs.Kept.{streams_in};
 ghost use Rattle.bench_text.specs.OneWeave.{one_weave};
 
 use crate::fault::{BenchWhy, LineFault};
-use crate::line::{BenchLine, Weave};
-use crate::streams::has_stream;
+use crate::line::Weave;
+use crate::streams::{Stream, has_stream};
 use etm_types::Id;
 use indexmap::IndexMap;
 use line_words::{decimal, next_word, two_digits};
@@ -21,7 +21,7 @@ const MOST_COUNT: u64 = 1 << 20;
 
 /// The weaves with those of a line behind them. Of all words of the line the IDs are tested first, then the counts.
 pub fn with_weaves(
-    streams: &IndexMap<u8, Vec<BenchLine>>,
+    streams: &IndexMap<u8, Stream>,
     mut weaves: Vec<Weave>,
     words: &[u8],
 ) -> Result<Vec<Weave>, LineFault>
@@ -51,7 +51,7 @@ pub fn with_weaves(
 }
 
 /// The weave of a word.
-fn one_weave(streams: &IndexMap<u8, Vec<BenchLine>>, word: &[u8]) -> Result<Weave, BenchWhy>
+fn one_weave(streams: &IndexMap<u8, Stream>, word: &[u8]) -> Result<Weave, BenchWhy>
     requires { All (λ s. IsId s.id) (streams_in streams.now.entries) }
     ensures { result ≡ one_weave (streams_in streams.now.entries) word.now }
 {

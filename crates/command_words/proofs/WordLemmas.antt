@@ -1,9 +1,9 @@
 -- Words, numbers and sizes.
-use Rattle.std.proofs.Common.{◌≡◌, ℕ, Bool, nat_le, ◌<◌, ◌≤◌, true, false, List, [], ◌∷◌, Option, Some, IfSome, Result, Ok, Err, find, String, string_bytes}
-use Rattle.std.proofs.Common.{length, drop, get_or, ◌+◌, add-one, refl, sym, ap, subst, ◌∙◌, arith}
+use Rattle.std.proofs.Common.{◌≡◌, ℕ, Bool, nat_le, ◌<◌, ◌≤◌, true, false, List, [], ◌∷◌, Option, Some, None, IfSome, Result, Ok, Err, find, String, string_bytes}
+use Rattle.std.proofs.Common.{◌&&◌, length, drop, get_or, ◌+◌, add-one, refl, sym, ap, subst, ◌∙◌, arith}
 use Rattle.std.proofs.Math.Seq.{drop-cons}
 use Rattle.std.proofs.lemmas.List.{drop-map}
-use Rattle.std.specs.Option.{option_and_then}
+use Rattle.std.specs.Option.{option_map, option_and_then}
 use Rattle.std.specs.Result.{OkIff, result_ok}
 use Rattle.etm_types.specs.Settings.{Sizes, AreSettings, is_vmid_size, is_cid_size, most_depth}
 use Rattle.etm_types.specs.declared.settings.SettingsFault.{SettingsFault}
@@ -11,7 +11,8 @@ use Rattle.etm_types.specs.declared.settings.SettingsFault.TheVariants.{DepthRan
 use Rattle.clap.specs.Lexer.{strip_byte}
 use Rattle.std.specs.Str.{bytes_eq}
 use Rattle.command_words.specs.declared.words.CommandOption.{CommandOption}
-use Rattle.command_words.specs.Words.{CommandRow, Seen, behind_dash, name_and_value, name_of, seen_of, sizes_of, texts, with_named, with_option, with_word}
+use Rattle.command_words.specs.Lists.{sizes_of}
+use Rattle.command_words.specs.Words.{CommandRow, Seen, behind_dash, name_and_value, name_of, seen_of, texts, with_named, with_option, with_word}
 use Rattle.std.proofs.lemmas.Bool.Decides.{nat_tests}
 
 pub strip_dash : (word : List ℕ) → strip_byte 45 word ≡ behind_dash word
@@ -70,3 +71,23 @@ within_by false b e d v c x y z = simp x tt
 
 pub within : (d v c : ℕ) → IfSome (sizes_of d v c) AreSettings
 within d v c = within_by (nat_le d most_depth) (is_vmid_size v) (is_cid_size c) d v c refl refl refl
+
+-- what an option that is there was made of
+pub then_some : {X Y : Type 0} (o : Option X) (f : X → Option Y) (y : Y) → option_and_then f o ≡ Some y → (x : X) × (o ≡ Some x) × (f x ≡ Some y)
+then_some None f y e = absurd cc
+then_some (Some x) f y e = (x, refl, e)
+
+pub map_some : {X Y : Type 0} (o : Option X) (f : X → Y) (y : Y) → option_map f o ≡ Some y → (x : X) × (o ≡ Some x) × (f x ≡ y)
+map_some None f y e = absurd cc
+map_some (Some x) f y e = (x, refl, cc)
+
+-- sizes that are there have these numbers, and are settings
+pub sized_by : (d v c : ℕ) (s : Sizes) (b : Bool) → (nat_le d most_depth && is_vmid_size v && is_cid_size c) ≡ b → sizes_of d v c ≡ Some s
+    → record { depth = d; vmid_bytes = v; cid_bytes = c } ≡ s
+sized_by d v c s true is e = let f = simp is at e in cc
+sized_by d v c s false is e = absurd (let f = simp is at e in cc)
+
+pub sizes_there : (s : Sizes) → AreSettings s → sizes_of s.depth s.vmid_bytes s.cid_bytes ≡ Some s
+sizes_there s are =
+    let deep : nat_le s.depth most_depth ≡ true = grind (arith, nat_tests, are.depth) in let vmid : is_vmid_size s.vmid_bytes ≡ true = are.vmid in
+    let cid : is_cid_size s.cid_bytes ≡ true = are.cid in simp (deep, vmid, cid)

@@ -104,10 +104,10 @@ record Begins (line : CommandRow) : Type 0 where
   named : (rows : List Row) → command_by (line.word, rows) ≡ command_in line.name (seen_in rows)
 
 abbrev path_row : CommandRow
-path_row = row (codes "path") name.Path (option.Raw ∷ option.Depth ∷ option.Vmid ∷ option.Cid ∷ []) true
+path_row = row (codes "path") name.Path (option.Raw ∷ option.Depth ∷ option.Vmid ∷ option.Cid ∷ option.Settings ∷ []) true
 
 abbrev packets_row : CommandRow
-packets_row = row (codes "packets") name.Packets (option.Raw ∷ option.Vmid ∷ option.Cid ∷ []) false
+packets_row = row (codes "packets") name.Packets (option.Raw ∷ option.Vmid ∷ option.Cid ∷ option.Settings ∷ []) false
 
 abbrev retired_row : CommandRow
 retired_row = row (codes "retired") name.Retired [] true
@@ -177,21 +177,30 @@ flag_is : (rows : List Row) (raw : Bool) → lookup (codes "raw") rows ≡ optio
 flag_is rows true is = simp is
 flag_is rows false is = simp is
 
-abbrev all_seen : Bool → Option Text → Option Text → Option Text → Option Text → Option Text → Seen
-all_seen raw depth vmid cid cut positional =
-    record { raw = raw; depth = depth; vmid = vmid; cid = cid; cut = cut; positional = positional; waits = None; ended = false }
+abbrev all_seen : Bool → Option Text → Option Text → Option Text → Option Text → Option Text → Option Text → Seen
+all_seen raw depth vmid cid settings cut positional = record {
+  raw = raw;
+  depth = depth;
+  vmid = vmid;
+  cid = cid;
+  settings = settings;
+  cut = cut;
+  positional = positional;
+  waits = None;
+  ended = false;
+}
 
 in_all : (n : CommandName) (seen : Seen)
-    → command_in n (all_seen seen.raw seen.depth seen.vmid seen.cid seen.cut seen.positional) ≡ command_in n seen
+    → command_in n (all_seen seen.raw seen.depth seen.vmid seen.cid seen.settings seen.cut seen.positional) ≡ command_in n seen
 in_all name.Path seen = refl
 in_all name.Packets seen = refl
 in_all name.Retired seen = refl
 in_all name.Trace seen = refl
 in_all name.Selftest seen = refl
 
-pub same_seen : {a b : Bool} {c d e f g h i j k l : Option Text} → a ≡ b → c ≡ d → e ≡ f → g ≡ h → i ≡ j → k ≡ l
-    → all_seen a c e g i k ≡ all_seen b d f h j l
-same_seen p q r s t u = (λ x. all_seen (p x) (q x) (r x) (s x) (t x) (u x))
+pub same_seen : {a b : Bool} {c d e f g h i j k l m n : Option Text} → a ≡ b → c ≡ d → e ≡ f → g ≡ h → i ≡ j → k ≡ l → m ≡ n
+    → all_seen a c e g i k m ≡ all_seen b d f h j l n
+same_seen p q r s t u v = (λ x. all_seen (p x) (q x) (r x) (s x) (t x) (u x) (v x))
 
 command_same : (n : CommandName) (rows more : List Row) (seen : Seen) → Shows rows seen → Same rows more → command_in n (seen_in more) ≡ command_in n seen
 command_same n rows more seen shows same =
@@ -199,9 +208,10 @@ command_same n rows more seen shows same =
     let depth = first_is (Named option.Depth) more seen.depth (same.texts (codes "depth") refl ∙ shows (Named option.Depth)) in
     let vmid = first_is (Named option.Vmid) more seen.vmid (same.texts (codes "vmid") refl ∙ shows (Named option.Vmid)) in
     let cid = first_is (Named option.Cid) more seen.cid (same.texts (codes "cid") refl ∙ shows (Named option.Cid)) in
+    let settings = first_is (Named option.Settings) more seen.settings (same.texts (codes "settings") refl ∙ shows (Named option.Settings)) in
     let cut = first_is (Named option.Cut) more seen.cut (same.texts (codes "cut") refl ∙ shows (Named option.Cut)) in
     let positional = first_is Positional more seen.positional (same.texts (codes "POSITIONAL") refl ∙ shows Positional) in
-    ap (command_in n) (same_seen raw depth vmid cid cut positional) ∙ in_all n seen
+    ap (command_in n) (same_seen raw depth vmid cid settings cut positional) ∙ in_all n seen
 
 -- ---- the meaning
 
@@ -219,6 +229,7 @@ nothing_shown (Named option.Raw) = refl
 nothing_shown (Named option.Depth) = refl
 nothing_shown (Named option.Vmid) = refl
 nothing_shown (Named option.Cid) = refl
+nothing_shown (Named option.Settings) = refl
 nothing_shown (Named option.Cut) = refl
 nothing_shown Positional = refl
 

@@ -134,6 +134,7 @@ no_name option.Raw = refl
 no_name option.Depth = refl
 no_name option.Vmid = refl
 no_name option.Cid = refl
+no_name option.Settings = refl
 no_name option.Cut = refl
 
 pub positional_by_id : (row : CommandRow) → row.has_positional ≡ true → arg_by_id (rules row) (codes "POSITIONAL") ≡ Some done_positional
@@ -165,6 +166,7 @@ text_in (Named option.Raw) seen = if seen.raw then Some (codes "true") else None
 text_in (Named option.Depth) seen = seen.depth
 text_in (Named option.Vmid) seen = seen.vmid
 text_in (Named option.Cid) seen = seen.cid
+text_in (Named option.Settings) seen = seen.settings
 text_in (Named option.Cut) seen = seen.cut
 text_in Positional seen = seen.positional
 
@@ -183,6 +185,7 @@ values_for (Named option.Raw) text = []
 values_for (Named option.Depth) text = text ∷ []
 values_for (Named option.Vmid) text = text ∷ []
 values_for (Named option.Cid) text = text ∷ []
+values_for (Named option.Settings) text = text ∷ []
 values_for (Named option.Cut) text = text ∷ []
 values_for Positional text = text ∷ []
 
@@ -191,6 +194,7 @@ text_for (Named option.Raw) text = codes "true"
 text_for (Named option.Depth) text = text
 text_for (Named option.Vmid) text = text
 text_for (Named option.Cid) text = text
+text_for (Named option.Settings) text = text
 text_for (Named option.Cut) text = text
 text_for Positional text = text
 
@@ -242,6 +246,8 @@ used_adds (Named option.Raw) text rows e =
 used_adds (Named option.Depth) text rows e = put_added (codes "depth") (more_values CommandLine (text ∷ [])) (row_for (Named option.Depth) text ∷ []) rows e
 used_adds (Named option.Vmid) text rows e = put_added (codes "vmid") (more_values CommandLine (text ∷ [])) (row_for (Named option.Vmid) text ∷ []) rows e
 used_adds (Named option.Cid) text rows e = put_added (codes "cid") (more_values CommandLine (text ∷ [])) (row_for (Named option.Cid) text ∷ []) rows e
+used_adds (Named option.Settings) text rows e =
+    put_added (codes "settings") (more_values CommandLine (text ∷ [])) (row_for (Named option.Settings) text ∷ []) rows e
 used_adds (Named option.Cut) text rows e = put_added (codes "cut") (more_values CommandLine (text ∷ [])) (row_for (Named option.Cut) text ∷ []) rows e
 used_adds Positional text rows e = put_added (codes "POSITIONAL") (more_values CommandLine (text ∷ [])) (row_for Positional text ∷ []) rows e
 
@@ -256,12 +262,14 @@ shows_by (Named option.Raw) (Named option.Raw) text rows seen is none = shows_th
 shows_by (Named option.Depth) (Named option.Depth) text rows seen is none = shows_this (Named option.Depth) text rows none refl
 shows_by (Named option.Vmid) (Named option.Vmid) text rows seen is none = shows_this (Named option.Vmid) text rows none refl
 shows_by (Named option.Cid) (Named option.Cid) text rows seen is none = shows_this (Named option.Cid) text rows none refl
+shows_by (Named option.Settings) (Named option.Settings) text rows seen is none = shows_this (Named option.Settings) text rows none refl
 shows_by (Named option.Cut) (Named option.Cut) text rows seen is none = shows_this (Named option.Cut) text rows none refl
 shows_by Positional Positional text rows seen is none = shows_this Positional text rows none refl
 shows_by Positional (Named option.Raw) text rows seen is none = find_before _ rows (row_for Positional text ∷ []) refl ∙ is
 shows_by Positional (Named option.Depth) text rows seen is none = find_before _ rows (row_for Positional text ∷ []) refl ∙ is
 shows_by Positional (Named option.Vmid) text rows seen is none = find_before _ rows (row_for Positional text ∷ []) refl ∙ is
 shows_by Positional (Named option.Cid) text rows seen is none = find_before _ rows (row_for Positional text ∷ []) refl ∙ is
+shows_by Positional (Named option.Settings) text rows seen is none = find_before _ rows (row_for Positional text ∷ []) refl ∙ is
 shows_by Positional (Named option.Cut) text rows seen is none = find_before _ rows (row_for Positional text ∷ []) refl ∙ is
 shows_by k j text rows seen is none = find_before _ rows (row_for k (text_for k text) ∷ []) refl ∙ is
 
@@ -291,6 +299,7 @@ use_passes (Named option.Raw) text rows none = simp none
 use_passes (Named option.Depth) text rows none = simp none
 use_passes (Named option.Vmid) text rows none = simp none
 use_passes (Named option.Cid) text rows none = simp none
+use_passes (Named option.Settings) text rows none = simp none
 use_passes (Named option.Cut) text rows none = simp none
 use_passes Positional text rows none = simp none
 
@@ -311,6 +320,7 @@ use_again option.Raw values rows there = action_again (done_option option.Raw) v
 use_again option.Depth values rows there = action_again (done_option option.Depth) values rows there refl
 use_again option.Vmid values rows there = action_again (done_option option.Vmid) values rows there refl
 use_again option.Cid values rows there = action_again (done_option option.Cid) values rows there refl
+use_again option.Settings values rows there = action_again (done_option option.Settings) values rows there refl
 use_again option.Cut values rows there = action_again (done_option option.Cut) values rows there refl
 
 -- an option has a value
@@ -319,4 +329,5 @@ use_bare option.Raw rows takes = absurd cc
 use_bare option.Depth rows takes = tt
 use_bare option.Vmid rows takes = tt
 use_bare option.Cid rows takes = tt
+use_bare option.Settings rows takes = tt
 use_bare option.Cut rows takes = tt

@@ -15,7 +15,7 @@ use Rattle.command_words.specs.Words.{with_dashed, with_named, with_option, with
 
 -- ---- the text behind `--`
 
-Lacks-cons : (c x : ℕ) (xs : List ℕ) → (x == c) ≡ false → Lacks c xs → Lacks c (x ∷ xs)
+pub Lacks-cons : (c x : ℕ) (xs : List ℕ) → (x == c) ≡ false → Lacks c xs → Lacks c (x ∷ xs)
 Lacks-cons c x xs differ rest zero within = λ same. absurd (grind (arith, nat_tests, same))
 Lacks-cons c x xs differ rest (suc i) within = rest i (grind (arith, common_steps))
 
@@ -25,21 +25,22 @@ IsSplit text =
     (name_and_value text ≡ (text, None))
     ⊎ ((name : List ℕ) × (value : List ℕ) × (text ≡ name ++ 61 ∷ value) × (name_and_value text ≡ (name, Some value)))
 
-abbrev Split : List ℕ → Type 0
-Split text = Lacks 61 text ⊎ ((name : List ℕ) × (value : List ℕ) × (text ≡ name ++ 61 ∷ value) × Lacks 61 name)
+-- the same at any byte
+abbrev pub Split : ℕ → List ℕ → Type 0
+Split byte text = Lacks byte text ⊎ ((front : List ℕ) × (behind : List ℕ) × (text ≡ front ++ byte ∷ behind) × Lacks byte front)
 
-split_by : (c : ℕ) (rest : List ℕ) (b : Bool) → (c == 61) ≡ b → Split rest → Split (c ∷ rest)
-split_by c rest true is behind =
-    let same : c ≡ 61 = grind (arith, nat_tests) in inr ([], rest, ap (λ (x : ℕ). x ∷ rest) same, λ i within. absurd (omega arith))
-split_by c rest false is (inl lacks) = inl (Lacks-cons 61 c rest is lacks)
-split_by c rest false is (inr p) = inr (c ∷ p.0, p.1, ap (λ (r : List ℕ). c ∷ r) p.2, Lacks-cons 61 c p.0 is p.3)
+split_by : (byte c : ℕ) (rest : List ℕ) (b : Bool) → (c == byte) ≡ b → Split byte rest → Split byte (c ∷ rest)
+split_by byte c rest true is behind =
+    let same : c ≡ byte = grind (arith, nat_tests) in inr ([], rest, ap (λ (x : ℕ). x ∷ rest) same, λ i within. absurd (omega arith))
+split_by byte c rest false is (inl lacks) = inl (Lacks-cons byte c rest is lacks)
+split_by byte c rest false is (inr p) = inr (c ∷ p.0, p.1, ap (λ (r : List ℕ). c ∷ r) p.2, Lacks-cons byte c p.0 is p.3)
 
-split : (text : List ℕ) → Split text
-split [] = inl (λ i within. absurd (omega arith))
-split (c ∷ rest) = split_by c rest (c == 61) refl (split rest)
+pub split : (byte : ℕ) (text : List ℕ) → Split byte text
+split byte [] = inl (λ i within. absurd (omega arith))
+split byte (c ∷ rest) = split_by byte c rest (c == byte) refl (split byte rest)
 
 pub is_split : (text : List ℕ) → IsSplit text
-is_split text = elim (split text) [
+is_split text = elim (split 61 text) [
   | inl lacks ↦ inl (name_and_value-without text lacks)
   | inr p ↦ inr (p.0, p.1, p.2, ap name_and_value p.2 ∙ name_and_value-at p.0 p.1 p.3)
 ]

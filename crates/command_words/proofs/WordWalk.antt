@@ -137,6 +137,7 @@ most_is option.Raw takes = absurd cc
 most_is option.Depth takes = refl
 most_is option.Vmid takes = refl
 most_is option.Cid takes = refl
+most_is option.Settings takes = refl
 most_is option.Cut takes = refl
 
 same_text : (o : CommandOption) → bytes_eq (name_of o) (name_of o) ≡ true
@@ -144,6 +145,7 @@ same_text option.Raw = refl
 same_text option.Depth = refl
 same_text option.Vmid = refl
 same_text option.Cid = refl
+same_text option.Settings = refl
 same_text option.Cut = refl
 
 -- the step over a value

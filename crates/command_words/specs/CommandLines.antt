@@ -1,8 +1,11 @@
 -- How the words of a command line stand in a row.
-use Rattle.std.specs.Prelude.{◌≡◌, ℕ, ◌≤◌, true, false, List, [], ◌∷◌, ◌++◌, codes, Option, Some, None, All, if◌then◌else◌}
+use Rattle.std.specs.Prelude.{◌≡◌, ◌≢◌, ℕ, ◌≤◌, true, false, List, [], ◌∷◌, ◌++◌, codes, Option, Some, None, All, length, if◌then◌else◌}
+use Rattle.std.specs.List.{AllPairs, AllZip, join_with_byte}
 use Rattle.std.specs.Str.{bytes_eq}
-use Rattle.etm_types.specs.Settings.{AreSettings, default_sizes}
-use Rattle.line_words.specs.Line.{decimal_of}
+use Rattle.etm_types.specs.Id.{IsId}
+use Rattle.etm_types.specs.Settings.{AreSettings, Sizes, default_sizes}
+use Rattle.etm_types.specs.SettingsTable.{sizes_at}
+use Rattle.line_words.specs.Line.{decimal_of, two_digits_of}
 use Rattle.command_words.specs.Words.{Intake, Program, is_dashed, most_cut, most_number, name_of, takes_value}
 use Rattle.command_words.specs.declared.words.CommandOption.{CommandOption}
 use Rattle.command_words.specs.declared.words.CommandOption.TheVariants as option
@@ -85,6 +88,50 @@ IsCut [] cut = cut ≡ None
 IsCut (value ∷ []) cut = (k : ℕ) × (decimal_of value ≡ Some k) × (k ≤ most_cut) × (cut ≡ Some k)
 IsCut (value ∷ other ∷ values) cut = ⊥
 
+-- ---- the settings of single IDs
+
+-- a word of a list: an ID of two hex digits, a depth, and the sizes of a VMID and of a context ID, joined by colons
+pub record IsNamed (word : List ℕ) (id : ℕ) (sizes : Sizes) : Type 0 where
+  pub digits : List ℕ
+  pub depth : List ℕ
+  pub vmid : List ℕ
+  pub cid : List ℕ
+  pub row : word ≡ join_with_byte 58 (digits ∷ depth ∷ vmid ∷ cid ∷ [])
+  pub digits_are : two_digits_of digits ≡ Some id
+  pub is_id : IsId id
+  pub depth_is : decimal_of depth ≡ Some sizes.depth
+  pub vmid_is : decimal_of vmid ≡ Some sizes.vmid_bytes
+  pub cid_is : decimal_of cid ≡ Some sizes.cid_bytes
+  pub within : AreSettings sizes
+
+-- each word names an ID, with its sizes
+abbrev pub AreNamed : List (List ℕ) → List (ℕ × Sizes) → Type 0
+AreNamed words ones = AllZip (λ word one. IsNamed word one.0 one.1) words ones
+
+-- no ID twice
+abbrev pub AreApart : List (ℕ × Sizes) → Type 0
+AreApart ones = AllPairs (λ one other. one.0 ≢ other.0) ones
+
+-- one or more words, joined by commas, that name these IDs, each once
+pub record IsList (text : List ℕ) (ones : List (ℕ × Sizes)) : Type 0 where
+  pub words : List (List ℕ)
+  pub row : text ≡ join_with_byte 44 words
+  pub some : words ≢ []
+  pub words_are : AreNamed words ones
+  pub apart : AreApart ones
+
+-- the sizes of all IDs: each that is named has its own, and the others have the same
+pub record AreUnits (all : Sizes) (ones : List (ℕ × Sizes)) (units : List Sizes) : Type 0 where
+  pub ids : length units ≡ 111
+  pub named : All (λ one. sizes_at units one.0 ≡ one.1) ones
+  pub others : (id : ℕ) → IsId id → All (λ one. one.0 ≢ id) ones → sizes_at units id ≡ all
+
+-- one list names IDs, and the absence of a list names none
+abbrev pub IsUnits : List (List ℕ) → Sizes → List Sizes → Type 0
+IsUnits [] all units = AreUnits all [] units
+IsUnits (list ∷ []) all units = (ones : List (ℕ × Sizes)) × IsList list ones × AreUnits all ones units
+IsUnits (list ∷ other ∷ lists) all units = ⊥
+
 -- ---- lines
 
 -- the words of a command: its own, pieces in any order, and an end, with these positionals among them
@@ -102,10 +149,12 @@ pub record IsPathLine (words : List (List ℕ)) (program : Program) (intake : In
   pub line : IsLine (codes "path") words (program.name ∷ [])
   pub layout_is : IsLayout (values_of option.Raw line.pieces) intake.layout
   pub no_cut : values_of option.Cut line.pieces ≡ []
-  pub depth_is : IsNumber default_sizes.depth (values_of option.Depth line.pieces) intake.units.depth
-  pub vmid_is : IsNumber default_sizes.vmid_bytes (values_of option.Vmid line.pieces) intake.units.vmid_bytes
-  pub cid_is : IsNumber default_sizes.cid_bytes (values_of option.Cid line.pieces) intake.units.cid_bytes
-  pub within : AreSettings intake.units
+  pub all : Sizes
+  pub depth_is : IsNumber default_sizes.depth (values_of option.Depth line.pieces) all.depth
+  pub vmid_is : IsNumber default_sizes.vmid_bytes (values_of option.Vmid line.pieces) all.vmid_bytes
+  pub cid_is : IsNumber default_sizes.cid_bytes (values_of option.Cid line.pieces) all.cid_bytes
+  pub within : AreSettings all
+  pub units_are : IsUnits (values_of option.Settings line.pieces) all intake.units
 
 -- `packets`, with numbers in range and no positional; no packet depends on the depth, which is the default
 pub record IsPacketsLine (words : List (List ℕ)) (intake : Intake) : Type 0 where
@@ -113,10 +162,12 @@ pub record IsPacketsLine (words : List (List ℕ)) (intake : Intake) : Type 0 wh
   pub layout_is : IsLayout (values_of option.Raw line.pieces) intake.layout
   pub no_depth : values_of option.Depth line.pieces ≡ []
   pub no_cut : values_of option.Cut line.pieces ≡ []
-  pub depth_is : intake.units.depth ≡ default_sizes.depth
-  pub vmid_is : IsNumber default_sizes.vmid_bytes (values_of option.Vmid line.pieces) intake.units.vmid_bytes
-  pub cid_is : IsNumber default_sizes.cid_bytes (values_of option.Cid line.pieces) intake.units.cid_bytes
-  pub within : AreSettings intake.units
+  pub all : Sizes
+  pub depth_is : all.depth ≡ default_sizes.depth
+  pub vmid_is : IsNumber default_sizes.vmid_bytes (values_of option.Vmid line.pieces) all.vmid_bytes
+  pub cid_is : IsNumber default_sizes.cid_bytes (values_of option.Cid line.pieces) all.cid_bytes
+  pub within : AreSettings all
+  pub units_are : IsUnits (values_of option.Settings line.pieces) all intake.units
 
 -- `retired`, with no option and one positional
 pub record IsRetiredLine (words : List (List ℕ)) (program : Program) : Type 0 where
@@ -135,4 +186,5 @@ pub record IsSelftestLine (words : List (List ℕ)) (n : ℕ) (cut : Option ℕ)
   pub number_is : decimal_of number ≡ Some n
   pub number_within : n ≤ most_number
   pub cut_is : IsCut (values_of option.Cut line.pieces) cut
-  pub no_other : All (λ (o : CommandOption). values_of o line.pieces ≡ []) (option.Raw ∷ option.Depth ∷ option.Vmid ∷ option.Cid ∷ [])
+  pub no_other : All (λ (o : CommandOption). values_of o line.pieces ≡ [])
+      (option.Raw ∷ option.Depth ∷ option.Vmid ∷ option.Cid ∷ option.Settings ∷ [])

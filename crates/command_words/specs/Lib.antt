@@ -1,4 +1,5 @@
 pub mod CommandLines
+pub mod Lists
 pub mod Said
 pub mod WordRules
 pub mod Words

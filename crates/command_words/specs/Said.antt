@@ -1,7 +1,7 @@
 -- What contracts see of the words' types in the code.
 use Rattle.std.specs.Prelude.{⊤, ◌≤◌}
 use Rattle.std.specs.Option.{option_map}
-use Rattle.etm_types.specs.Settings.{AreSettings}
+use Rattle.etm_types.specs.SettingsTable.{IsTable}
 use Rattle.command_words.specs.Words.{Command, CommandRow, Intake, Path, Packets, Program, Retired, Seen, Selftest, Trace, most_number, row}
 use Rattle.command_words.specs.declared.words.Command.{Command as Told}
 use Rattle.command_words.specs.declared.words.Command.TheVariants as told
@@ -25,8 +25,8 @@ said (told.Selftest n cut) = Selftest n cut
 
 -- its sizes, where it has any, are those of settings, and its number is one that is tried
 abbrev pub IsInRange : Told → Type 0
-IsInRange (told.Path program intake) = AreSettings intake.settings
-IsInRange (told.Packets intake) = AreSettings intake.settings
+IsInRange (told.Path program intake) = IsTable intake.settings
+IsInRange (told.Packets intake) = IsTable intake.settings
 IsInRange (told.Retired program) = ⊤
 IsInRange (told.Trace program) = ⊤
 IsInRange (told.Selftest n cut) = n ≤ most_number
@@ -40,6 +40,7 @@ seen_by seen = record {
   depth = option_map (λ text. text.now) seen.depth;
   vmid = option_map (λ text. text.now) seen.vmid;
   cid = option_map (λ text. text.now) seen.cid;
+  settings = option_map (λ text. text.now) seen.settings;
   cut = option_map (λ text. text.now) seen.cut;
   positional = option_map (λ text. text.now) seen.positional;
   waits = seen.waits;

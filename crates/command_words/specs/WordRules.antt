@@ -51,6 +51,7 @@ seen_in rows = record {
   depth = first_of (codes "depth") rows;
   vmid = first_of (codes "vmid") rows;
   cid = first_of (codes "cid") rows;
+  settings = first_of (codes "settings") rows;
   cut = first_of (codes "cut") rows;
   positional = first_of (codes "POSITIONAL") rows;
   waits = None;

@@ -4,8 +4,9 @@ use Rattle.std.specs.Prelude.{if◌then◌else◌, String, map, string_bytes, fi
 use Rattle.std.specs.List.{before_first, after_first, list_any}
 use Rattle.std.specs.Option.{option_map, option_and_then, option_map_or}
 use Rattle.std.specs.Str.{bytes_eq}
-use Rattle.etm_types.specs.Settings.{Sizes, default_sizes, is_vmid_size, is_cid_size, most_depth}
+use Rattle.etm_types.specs.Settings.{Sizes, default_sizes}
 use Rattle.line_words.specs.Line.{decimal_of}
+use Rattle.command_words.specs.Lists.{sizes_of, units_by}
 use Rattle.command_words.specs.declared.words.CommandName.{CommandName}
 use Rattle.command_words.specs.declared.words.CommandName.TheVariants as name
 use Rattle.command_words.specs.declared.words.CommandOption.{CommandOption}
@@ -21,9 +22,9 @@ texts words = map (λ word. string_bytes word) words
 pub record Program : Type 0 where
   pub name : List ℕ
 
--- how an input is taken: the sizes of the trace units, and how it is laid out
+-- how an input is taken: the sizes of the trace unit of each ID, and how it is laid out
 pub record Intake : Type 0 where
-  pub units : Sizes
+  pub units : List Sizes
   pub layout : Layout
 
 -- a command, with what its words say
@@ -75,6 +76,7 @@ name_of option.Raw = codes "raw"
 name_of option.Depth = codes "depth"
 name_of option.Vmid = codes "vmid"
 name_of option.Cid = codes "cid"
+name_of option.Settings = codes "settings"
 name_of option.Cut = codes "cut"
 
 -- an option takes a value, and a flag none
@@ -83,6 +85,7 @@ takes_value option.Raw = false
 takes_value option.Depth = true
 takes_value option.Vmid = true
 takes_value option.Cid = true
+takes_value option.Settings = true
 takes_value option.Cut = true
 
 -- a command: its word, its options, and whether it has a positional: an IMAGE, or a number
@@ -98,8 +101,8 @@ row word name options has_positional = record { word = word; name = name; option
 -- the table of commands; no packet depends on the depth
 abbrev pub commands : List CommandRow
 commands =
-    row (codes "path") name.Path (option.Raw ∷ option.Depth ∷ option.Vmid ∷ option.Cid ∷ []) true
-    ∷ row (codes "packets") name.Packets (option.Raw ∷ option.Vmid ∷ option.Cid ∷ []) false
+    row (codes "path") name.Path (option.Raw ∷ option.Depth ∷ option.Vmid ∷ option.Cid ∷ option.Settings ∷ []) true
+    ∷ row (codes "packets") name.Packets (option.Raw ∷ option.Vmid ∷ option.Cid ∷ option.Settings ∷ []) false
     ∷ row (codes "retired") name.Retired [] true
     ∷ row (codes "trace") name.Trace [] true
     ∷ row (codes "selftest") name.Selftest (option.Cut ∷ []) true
@@ -133,6 +136,7 @@ pub record Seen : Type 0 where
   pub depth : Option (List ℕ)
   pub vmid : Option (List ℕ)
   pub cid : Option (List ℕ)
+  pub settings : Option (List ℕ)
   pub cut : Option (List ℕ)
   pub positional : Option (List ℕ)
   -- the option that takes the next word
@@ -141,13 +145,24 @@ pub record Seen : Type 0 where
   pub ended : Bool
 
 abbrev pub nothing_seen : Seen
-nothing_seen = record { raw = false; depth = None; vmid = None; cid = None; cut = None; positional = None; waits = None; ended = false }
+nothing_seen = record {
+  raw = false;
+  depth = None;
+  vmid = None;
+  cid = None;
+  settings = None;
+  cut = None;
+  positional = None;
+  waits = None;
+  ended = false;
+}
 
 abbrev pub is_seen : CommandOption → Seen → Bool
 is_seen option.Raw seen = seen.raw
 is_seen option.Depth seen = is_some seen.depth
 is_seen option.Vmid seen = is_some seen.vmid
 is_seen option.Cid seen = is_some seen.cid
+is_seen option.Settings seen = is_some seen.settings
 is_seen option.Cut seen = is_some seen.cut
 
 -- an option is seen, with its value, of which a flag has none
@@ -156,6 +171,7 @@ with_value option.Raw value seen = record seen { raw = true; waits = None }
 with_value option.Depth value seen = record seen { depth = Some value; waits = None }
 with_value option.Vmid value seen = record seen { vmid = Some value; waits = None }
 with_value option.Cid value seen = record seen { cid = Some value; waits = None }
+with_value option.Settings value seen = record seen { settings = Some value; waits = None }
 with_value option.Cut value seen = record seen { cut = Some value; waits = None }
 
 -- the word is the positional, which stands once
@@ -196,11 +212,6 @@ seen_of row seen (word ∷ words) = option_and_then (λ next. seen_of row next w
 
 -- ---- the meaning
 
--- the sizes of a trace unit: a depth of at most `most_depth`, a VMID of 0, 1, 2 or 4 bytes, a context ID of 0 or 4 bytes
-abbrev pub sizes_of : ℕ → ℕ → ℕ → Option Sizes
-sizes_of depth vmid cid =
-    if nat_le depth most_depth && is_vmid_size vmid && is_cid_size cid then Some (record { depth = depth; vmid_bytes = vmid; cid_bytes = cid }) else None
-
 -- the number of a value's text, or the default where there is no value
 abbrev pub number_of : ℕ → Option (List ℕ) → Option ℕ
 number_of default None = Some default
@@ -210,6 +221,10 @@ abbrev pub sizes_in : Seen → Option Sizes
 sizes_in seen =
     option_and_then (λ depth. option_and_then (λ vmid. option_and_then (λ cid. sizes_of depth vmid cid)
     (number_of default_sizes.cid_bytes seen.cid)) (number_of default_sizes.vmid_bytes seen.vmid)) (number_of default_sizes.depth seen.depth)
+
+-- the sizes of all IDs, where a list is one and the sizes are in range
+abbrev pub units_in : Seen → Option (List Sizes)
+units_in seen = option_and_then (λ all. units_by seen.settings all) (sizes_in seen)
 
 -- one stream where `--raw` stood, formatter frames where it did not
 abbrev pub layout_in : Seen → Layout
@@ -221,7 +236,7 @@ program_in seen = option_map (λ image. record { name = image }) seen.positional
 
 -- how the input is taken, where the sizes are in range
 abbrev pub intake_in : Seen → Option Intake
-intake_in seen = option_map (λ units. record { units = units; layout = layout_in seen }) (sizes_in seen)
+intake_in seen = option_map (λ units. record { units = units; layout = layout_in seen }) (units_in seen)
 
 -- the number of a text, where it is no more than the most
 abbrev pub number_to : ℕ → List ℕ → Option ℕ

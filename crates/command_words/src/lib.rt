@@ -1,7 +1,8 @@
 //! The words of the command line, and the command that they mean.
 //!
 //! It says which words are a line of a command (`specs/CommandLines.antt`), and what words mean (`meaning` of `specs/Words.antt`).
-//! The commands and their options stand in one table, and the parse is `clap`'s over it.
+//! The commands and their options stand in one table, and the parse is `clap`'s over it. A list that gives single IDs settings of
+//! their own is read by itself (`specs/Lists.antt`).
 //!
 //! The layer above uses three contracts:
 //! - `command_of`: the command that the words mean, with its numbers in range. The parse takes memory.
@@ -10,6 +11,7 @@
 #![tactic(auto)]
 
 mod laws;
+mod lists;
 mod parser;
 mod words;
 

@@ -120,6 +120,7 @@ fn seen_in<'a>(matches: &ArgMatches<'a>) -> Seen<'a>
         depth: matches.get_str("depth"),
         vmid: matches.get_str("vmid"),
         cid: matches.get_str("cid"),
+        settings: matches.get_str("settings"),
         cut: matches.get_str("cut"),
         positional: matches.get_str("POSITIONAL"),
         waits: None,

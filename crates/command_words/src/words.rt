@@ -4,12 +4,14 @@ ghost use Rattle.std.specs.Option.{option_map};
 ghost use Rattle.std.specs.Str.{bytes_eq};
 ghost use Rattle.command_words.specs.Words.{behind_dash, commands, command_in, cut_of, image_of, intake_in, is_dashed, is_seen, is_whole, layout_in};
 ghost use Rattle.command_words.specs.Words.{meaning, name_and_value, name_of, nothing_seen, number_of, number_to, program_in, seen_of, selftest_in};
-ghost use Rattle.command_words.specs.Words.{sizes_in, sizes_of, takes_value, texts, with_dashed, with_named, with_option, with_positional};
+ghost use Rattle.command_words.specs.Words.{sizes_in, takes_value, texts, units_in, with_dashed, with_named, with_option, with_positional};
 ghost use Rattle.command_words.specs.Words.{with_value, with_word};
 ghost use Rattle.etm_types.specs.Settings.{AreSettings};
+ghost use Rattle.etm_types.specs.SettingsTable.{IsTable};
 ghost use Rattle.command_words.specs.Said.{IsInRange, line_of, said, said_intake, said_program, seen_by};
 
-use etm_types::Settings;
+use crate::lists::{settings_of, table_of};
+use etm_types::{Settings, SettingsTable};
 use line_words::decimal;
 
 /// The highest number of which both ends are tried.
@@ -37,8 +39,8 @@ pub struct Program<'a> {
 /// How an input is taken.
 #[derive(Clone, Copy, Debug)]
 pub struct Intake {
-    /// The settings of the trace units.
-    pub settings: Settings,
+    /// The settings of the trace unit of each ID.
+    pub settings: SettingsTable,
     /// How the input is laid out.
     pub layout: Layout,
 }
@@ -87,6 +89,7 @@ pub enum CommandOption {
     Depth,
     Vmid,
     Cid,
+    Settings,
     Cut,
 }
 
@@ -100,6 +103,7 @@ impl CommandOption {
             CommandOption::Depth => "depth",
             CommandOption::Vmid => "vmid",
             CommandOption::Cid => "cid",
+            CommandOption::Settings => "settings",
             CommandOption::Cut => "cut",
         }
     }
@@ -121,8 +125,8 @@ pub struct CommandLine {
     pub has_positional: bool,
 }
 
-/// The commands: `path [--raw] [--depth N] [--vmid N] [--cid N] IMAGE`, `packets [--raw] [--vmid N] [--cid N]`,
-/// `retired IMAGE`, `trace IMAGE` and `selftest [--cut K] N`.
+/// The commands: `path [--raw] [--depth N] [--vmid N] [--cid N] [--settings LIST] IMAGE`,
+/// `packets [--raw] [--vmid N] [--cid N] [--settings LIST]`, `retired IMAGE`, `trace IMAGE` and `selftest [--cut K] N`.
 pub const COMMANDS: [CommandLine; 5] = [
     CommandLine {
         word: "path",
@@ -132,13 +136,19 @@ pub const COMMANDS: [CommandLine; 5] = [
             CommandOption::Depth,
             CommandOption::Vmid,
             CommandOption::Cid,
+            CommandOption::Settings,
         ],
         has_positional: true,
     },
     CommandLine {
         word: "packets",
         name: CommandName::Packets,
-        options: &[CommandOption::Raw, CommandOption::Vmid, CommandOption::Cid],
+        options: &[
+            CommandOption::Raw,
+            CommandOption::Vmid,
+            CommandOption::Cid,
+            CommandOption::Settings,
+        ],
         has_positional: false,
     },
     CommandLine {
@@ -186,6 +196,7 @@ pub struct Seen<'a> {
     pub depth: Option<&'a str>,
     pub vmid: Option<&'a str>,
     pub cid: Option<&'a str>,
+    pub settings: Option<&'a str>,
     pub cut: Option<&'a str>,
     pub positional: Option<&'a str>,
     /// The option that takes the next word.
@@ -231,6 +242,7 @@ impl<'a> Seen<'a> {
             depth: None,
             vmid: None,
             cid: None,
+            settings: None,
             cut: None,
             positional: None,
             waits: None,
@@ -247,6 +259,7 @@ impl<'a> Seen<'a> {
             CommandOption::Depth => self.depth.is_some(),
             CommandOption::Vmid => self.vmid.is_some(),
             CommandOption::Cid => self.cid.is_some(),
+            CommandOption::Settings => self.settings.is_some(),
             CommandOption::Cut => self.cut.is_some(),
         }
     }
@@ -261,6 +274,7 @@ impl<'a> Seen<'a> {
             CommandOption::Depth => self.depth = Some(value),
             CommandOption::Vmid => self.vmid = Some(value),
             CommandOption::Cid => self.cid = Some(value),
+            CommandOption::Settings => self.settings = Some(value),
             CommandOption::Cut => self.cut = Some(value),
         }
         self
@@ -334,8 +348,8 @@ impl<'a> Seen<'a> {
         self.waits.is_none() && (self.positional.is_some() || !line.has_positional)
     }
 
-    /// The settings, where the values are numbers in range.
-    fn settings(&self) -> Option<Settings>
+    /// The settings of the IDs that no list names, where the values are numbers in range.
+    fn of_others(&self) -> Option<Settings>
         ensures value { result ≡ sizes_in (seen_by self.now) }
         ensures within { IfSome result AreSettings }
     {
@@ -344,6 +358,15 @@ impl<'a> Seen<'a> {
         let vmid_bytes = number_of(self.vmid, u64::from(default.vmid_bytes()))?;
         let cid_bytes = number_of(self.cid, u64::from(default.cid_bytes()))?;
         settings_of(depth, vmid_bytes, cid_bytes)
+    }
+
+    /// The settings of all IDs, where the values are numbers in range and a list names each ID once.
+    fn table(&self) -> Option<SettingsTable>
+        ensures value { result ≡ units_in (seen_by self.now) }
+        ensures within { IfSome result IsTable }
+    {
+        let others = self.of_others()?;
+        table_of(self.settings, others)
     }
 
     /// The layout.
@@ -368,9 +391,9 @@ impl<'a> Seen<'a> {
     /// How the input is taken, where the values are numbers in range.
     fn intake(&self) -> Option<Intake>
         ensures value { option_map said_intake result ≡ intake_in (seen_by self.now) }
-        ensures within { IfSome result (λ intake. AreSettings intake.settings) }
+        ensures within { IfSome result (λ intake. IsTable intake.settings) }
     {
-        let settings = self.settings()?;
+        let settings = self.table()?;
         let layout = self.layout();
         Some(Intake { settings, layout })
     }
@@ -447,17 +470,6 @@ fn number_to(text: &str, most: u32) -> Option<u32>
     let number = decimal(text.as_bytes())?;
     let number = u32::try_from(number).ok()?;
     if number <= most { Some(number) } else { None }
-}
-
-/// The settings of these numbers, where they are in range.
-fn settings_of(depth: u64, vmid_bytes: u64, cid_bytes: u64) -> Option<Settings>
-    ensures value { result ≡ sizes_of depth vmid_bytes cid_bytes }
-    ensures within { IfSome result AreSettings }
-{
-    let depth = u32::try_from(depth).ok()?;
-    let vmid_bytes = u8::try_from(vmid_bytes).ok()?;
-    let cid_bytes = u8::try_from(cid_bytes).ok()?;
-    Settings::new(depth, vmid_bytes, cid_bytes).ok()
 }
 
 /// What is seen of the words behind a command.

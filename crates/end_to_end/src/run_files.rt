@@ -73,6 +73,22 @@ fn a_bad_run_file_is_told_by_its_first_line(rt: HostRuntime) -> Result<(), Fail>
 }
 
 #[test]
+fn a_stream_runs_by_its_own_depth(rt: HostRuntime) -> Result<(), Fail> {
+    let streams =
+        b"etm 2\ndepth 4\nstream 01 depth 1\nstream 02\non 1000 el0 s 0 0\nstep\ntaken\ntaken\nstep\nnot\nretire 5\n";
+    let path = b"02 on\n02 ctx el0 s 0 0\n02 1000\n02 1004\n02 100c\n02 1000\n02 1004\n";
+    assert_eq!(rt; answer(&rt, rt.alloc(), streams, path)?, Status::Done);
+    let one =
+        b"etm 2\ndepth 4\nstream 01 depth 1\non 1000 el0 s 0 0\nstep\ntaken\ntaken\nstep\nnot\nretire 5\n";
+    let why = BenchWhy::Run(RunFault::TooDeep { p0: 2, depth: 1 });
+    assert_eq!(rt;
+        answer(&rt, rt.alloc(), one, b"bench line 7: too-deep 2 1\n")?,
+        Status::BenchBad { line: 7, why }
+    );
+    Ok(())
+}
+
+#[test]
 fn a_run_file_that_cannot_be_read_prints_nothing(rt: HostRuntime) -> Result<(), Fail> {
     let alloc = rt.alloc();
     let mut script = Vec::new(alloc);

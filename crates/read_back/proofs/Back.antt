@@ -36,8 +36,8 @@ by_lines : (image : Image) (r : Result BenchParts (ℕ × BenchWhy)) (b : BenchP
     → (r ≡ Ok b) × AreAccepted image b
 by_lines image (Err fault) b is = absurd cc
 by_lines image (Ok parts) b is =
-    let both = by_refusal (refusal_among image parts.settings.depth parts.streams) parts b is in
-    (ap Ok both.0, subst (λ (p : BenchParts). refusal_among image p.settings.depth p.streams ≡ None) both.0 both.1)
+    let both = by_refusal (refusal_among image parts.streams) parts b is in
+    (ap Ok both.0, subst (λ (p : BenchParts). refusal_among image p.streams ≡ None) both.0 both.1)
 
 by_length : (long : Bool) (image : Image) (file : List ℕ) (b : BenchParts)
     → (if long then Err (0, TooLong) else unless_refused image (parsed file)) ≡ Ok b → (parsed file ≡ Ok b) × AreAccepted image b
@@ -99,7 +99,7 @@ module _ (t : Call) (old new : IoState) (text file frames : List ℕ) (traces : 
 
   -- ---- the call of `path`
 
-  module _ (g : Good) (p : Call) (out out' : IoState) (answer : Status) (asks : AsksBack p out out' text frames g.bench.settings)
+  module _ (g : Good) (p : Call) (out out' : IoState) (answer : Status) (asks : AsksBack p out out' text frames g.bench)
       (answers : Answers p out out' answer) where
     is_bench : IsBench g.bench
     is_bench = parsed_good file g.bench (accepted_parts g.image file g.bench g.bench_is).0
@@ -110,20 +110,20 @@ module _ (t : Call) (old new : IoState) (text file frames : List ℕ) (traces : 
     has_image : HasImage p g.image
     has_image = record {
       program = asks.words.0;
-      named = path_program (frames_under g.bench.settings) p.words asks.words;
+      named = path_program (frames_under asks.table) p.words asks.words;
       bytes = text;
       shows = asks.image_text;
       spells = g.image_is;
     }
 
     of_trace : IsPathOfTrace p g.image g.bench
-    of_trace = record { words = asks.words; is_same = has_image; input = asks.input ∙ ap Some g.frames_are }
+    of_trace = record { table = asks.table; suits = asks.suits; words = asks.words; is_same = has_image; input = asks.input ∙ ap Some g.frames_are }
 
     prints : PrintsTraces g.image g.bench out out' answer
     prints = prints_traces p out out' g.image g.bench is_bench accepted of_trace answer answers
 
     decided : IsDoneOrFaulted answer
-    decided = paths_are_done p out out' answer g.image (path_kind (frames_under g.bench.settings) p.words asks.words) has_image
+    decided = paths_are_done p out out' answer g.image (path_kind (frames_under asks.table) p.words asks.words) has_image
         (record { bytes = frames; shows = asks.input; few = asks.few }) asks.nothing answers
 
     no_fault : IsDoneOrFaulted answer → IsDone answer

@@ -9,7 +9,7 @@ use Rattle.stream_demux.specs.Texts.{Printed, text_of}
 use Rattle.trace_cmd.specs.Answers.{Answers, Call, IsPathUnder, IsTraceCall}
 use Rattle.answer_laws.specs.Complete.{IsDone, NothingFailed}
 use Rattle.input_pieces.specs.Listed.{most_input}
-use Rattle.traced_runs.specs.Traced.{ShowsTraces}
+use Rattle.traced_runs.specs.Traced.{ShowsTraces, Suits}
 use Rattle.answer_lines.specs.declared.status.Status.{Status}
 use Rattle.answer_lines.specs.declared.status.Status.TheVariants as status
 use Rattle.answer_laws.specs.TracedCalls.{frames_under}
@@ -26,9 +26,12 @@ pub record Traces (t : Call) (old new : IoState) (text file frames : List ℕ) :
   pub shown : old.bytes ≡ Some before
   pub appended : new.bytes ≡ Some (before ++ frames)
 
--- `path` is asked for the paths in these frames, over an image of this text and under these sizes; they are not too many, and no call failed
-pub record AsksBack (p : Call) (old new : IoState) (text frames : List ℕ) (s : Sizes) : Type 0 where
-  pub words : IsPathUnder (frames_under s) p.words
+-- `path` is asked for the paths in these frames, over an image of this text, by words that give each stream of the run file its sizes;
+-- they are not too many, and no call failed
+pub record AsksBack (p : Call) (old new : IoState) (text frames : List ℕ) (b : BenchParts) : Type 0 where
+  pub table : List Sizes
+  pub suits : Suits b table
+  pub words : IsPathUnder (frames_under table) p.words
   pub image_text : p.image.bytes ≡ Some text
   pub input : p.input.bytes ≡ Some frames
   pub few : length frames ≤ most_input
@@ -44,5 +47,5 @@ abbrev pub PathReadsBack : Type 0
 PathReadsBack =
     (t : Call) (old new : IoState) (text file frames : List ℕ) → Traces t old new text file frames
     → (image : Image) × (b : BenchParts) × (image_of text ≡ Ok image) × (bench_of image file ≡ Ok b)
-    × ((p : Call) (out out' : IoState) (answer : Status) → AsksBack p out out' text frames b.settings → Answers p out out' answer
+    × ((p : Call) (out out' : IoState) (answer : Status) → AsksBack p out out' text frames b → Answers p out out' answer
     → ReadsBack image b out out' answer)

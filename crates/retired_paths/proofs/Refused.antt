@@ -4,7 +4,7 @@ use Rattle.std.proofs.Common.{Err, inl, inr, refl, sym, ap, ◌∙◌, append_as
 use Rattle.std.proofs.lemmas.Bool.Decides.{nat_tests}
 use Rattle.std.proofs.lemmas.List.{length-replicate, take-append-drop, take_all}
 use Rattle.std.proofs.lemmas.Option.{slice_get_cases}
-use Rattle.std.specs.Option.{option_and_then}
+use Rattle.std.specs.Option.{option_and_then, option_map}
 use Rattle.std.specs.Prelude.{is_some, nat_lt, slice_get}
 use Rattle.bench_text.specs.Parts.{BenchStream, events_of}
 use Rattle.bench_text.specs.Refusals.{first_of, line_of, refusal_among, refused_line, stream_refusal}
@@ -102,6 +102,10 @@ pub looked_up : (streams : List BenchStream) (s k : ℕ) (stream : BenchStream) 
     → option_and_then (λ st. slice_get st.lines k) (slice_get streams s) ≡ slice_get stream.lines k
 looked_up streams s k stream e = ap (option_and_then (λ (st : BenchStream). slice_get st.lines k)) e
 
+pub settings_found : (streams : List BenchStream) (s : ℕ) (sizes : Sizes) (stream : BenchStream) → slice_get streams s ≡ Some stream
+    → Some sizes ≡ option_map (λ st. st.settings) (slice_get streams s) → sizes ≡ stream.settings
+settings_found streams s sizes stream e is = let same = is ∙ ap (option_map (λ (st : BenchStream). st.settings)) e in cc
+
 abbrev pub lines_in : Option BenchStream → List BenchLine
 lines_in None = []
 lines_in (Some stream) = stream.lines
@@ -127,9 +131,9 @@ there_is xs k lt = elim (slice_get_cases xs k).1 [
   | inr w ↦ absurd (omega (arith, lt, w.0))
 ]
 
-pub among_next : (image : Image) (depth : ℕ) (streams : List BenchStream) (s : ℕ) (stream : BenchStream) → slice_get streams s ≡ Some stream
-    → refusal_among image depth (drop s streams) ≡ first_of (stream_refusal image depth stream) (refusal_among image depth (drop (s + 1) streams))
-among_next image depth streams s stream e = ap (refusal_among image depth) (dropped_next streams s stream e)
+pub among_next : (image : Image) (streams : List BenchStream) (s : ℕ) (stream : BenchStream) → slice_get streams s ≡ Some stream
+    → refusal_among image (drop s streams) ≡ first_of (stream_refusal image stream) (refusal_among image (drop (s + 1) streams))
+among_next image streams s stream e = ap (refusal_among image) (dropped_next streams s stream e)
 
 pub bad_line_some : (refusal : Option (ℕ × RunFault)) (given others : Option (ℕ × BenchWhy)) → bad_line refusal ≡ given → is_some refusal ≡ true
     → bad_line refusal ≡ first_of given others

@@ -41,26 +41,27 @@ lines_are s [] all = tt
 lines_are s (l ∷ lines) all =
     times_are s l.times l.event (events_of lines) (All-head (IsBenchLine s) l lines all).event (lines_are s lines (All-tail (IsBenchLine s) l lines all))
 
-streams_are : (s : Sizes) (streams : List BenchStream) (k : ℕ) (stream : BenchStream) → All (IsBenchStream s) streams → slice_get streams k ≡ Some stream
-    → AreEvents s (events_of stream.lines)
-streams_are s [] k stream all e = absurd cc
-streams_are s (x ∷ streams) zero stream all e =
+streams_are : (streams : List BenchStream) (k : ℕ) (stream : BenchStream) → All IsBenchStream streams → slice_get streams k ≡ Some stream
+    → AreEvents stream.settings (events_of stream.lines)
+streams_are [] k stream all e = absurd cc
+streams_are (x ∷ streams) zero stream all e =
     let same : x ≡ stream = cc in
-    subst (λ (st : BenchStream). AreEvents s (events_of st.lines)) same (lines_are s x.lines (All-head (IsBenchStream s) x streams all).lines)
-streams_are s (x ∷ streams) (suc k) stream all e = streams_are s streams k stream (All-tail (IsBenchStream s) x streams all) e
+    subst (λ (st : BenchStream). AreEvents st.settings (events_of st.lines)) same
+    (lines_are x.settings x.lines (All-head IsBenchStream x streams all).lines)
+streams_are (x ∷ streams) (suc k) stream all e = streams_are streams k stream (All-tail IsBenchStream x streams all) e
 
 pub both_none : (a b : Option (ℕ × BenchWhy)) → first_of a b ≡ None → (a ≡ None) × (b ≡ None)
 both_none None b e = (refl, e)
 both_none (Some fault) b e = absurd cc
 
-none_refused : (image : Image) (depth : ℕ) (streams : List BenchStream) (k : ℕ) (stream : BenchStream) → refusal_among image depth streams ≡ None
-    → slice_get streams k ≡ Some stream → stream_refusal image depth stream ≡ None
-none_refused image depth [] k stream none e = absurd cc
-none_refused image depth (x ∷ streams) zero stream none e =
+none_refused : (image : Image) (streams : List BenchStream) (k : ℕ) (stream : BenchStream) → refusal_among image streams ≡ None
+    → slice_get streams k ≡ Some stream → stream_refusal image stream ≡ None
+none_refused image [] k stream none e = absurd cc
+none_refused image (x ∷ streams) zero stream none e =
     let same : x ≡ stream = cc in
-    ap (stream_refusal image depth) (sym same) ∙ (both_none (stream_refusal image depth x) (refusal_among image depth streams) none).0
-none_refused image depth (x ∷ streams) (suc k) stream none e =
-    none_refused image depth streams k stream (both_none (stream_refusal image depth x) (refusal_among image depth streams) none).1 e
+    ap (stream_refusal image) (sym same) ∙ (both_none (stream_refusal image x) (refusal_among image streams) none).0
+none_refused image (x ∷ streams) (suc k) stream none e =
+    none_refused image streams k stream (both_none (stream_refusal image x) (refusal_among image streams) none).1 e
 
 pub accepted_by : (lines : List BenchLine) (outcome : Result Execution (ℕ × RunFault)) → refused_line lines outcome ≡ None
     → (x : Execution) × (outcome ≡ Ok x)
@@ -69,14 +70,14 @@ accepted_by lines (Err refused) e = absurd cc
 
 -- a stream's events can be run from the first on
 pub can_begin : (image : Image) (b : BenchParts) (k : ℕ) (stream : BenchStream) (t : Retiring) → HasGap image → IsBench b
-    → refusal_among image b.settings.depth b.streams ≡ None → slice_get b.streams k ≡ Some stream → IsRetiring image b.settings t []
-    → CanGoOn image b.settings t [] (events_of stream.lines)
+    → refusal_among image b.streams ≡ None → slice_get b.streams k ≡ Some stream → IsRetiring image stream.settings t []
+    → CanGoOn image stream.settings t [] (events_of stream.lines)
 can_begin image b k stream t gap is none e stands =
-    let accepted = accepted_by stream.lines (run_after image b.settings.depth (events_of stream.lines))
-    (none_refused image b.settings.depth b.streams k stream none e) in
+    let accepted = accepted_by stream.lines (run_after image stream.settings.depth (events_of stream.lines))
+    (none_refused image b.streams k stream none e) in
     record {
       gap = gap;
-      are = streams_are b.settings b.streams k stream is.streams e;
+      are = streams_are b.streams k stream is.streams e;
       execution = accepted.0;
       accepted = accepted.1;
       stands = stands;
@@ -123,22 +124,22 @@ line_fails image s id t t' t'' lines k l a b c f d e can p q =
 
 -- ---- a stream
 
-pub whole_stream : (image : Image) (s : Sizes) (id : ℕ) (stream : BenchStream) (t t' : Retiring) (a c : IoState) (result : Result (Unit {0}) Failed)
-    → id ≡ stream.id → IsRetiring image s t [] → PrintsRetired image s id t [] t' (events_of stream.lines) a c result
-    → Writes a c result (stream_text image s.depth stream)
-whole_stream image s id stream t t' a c result same is p =
-    let items : retired_items image s (events_of stream.lines) ≡ p.more = p.grows in
-    let text : lines_of id t.shown p.more ≡ stream_text image s.depth stream =
-    ap (λ shown. lines_of id shown p.more) (shown_by_all image s id t [] is)
-    ∙ ap (lines_of id None) (sym items) ∙ ap (λ i. lines_of i None (retired_items image s (events_of stream.lines))) same in
+pub whole_stream : (image : Image) (id : ℕ) (stream : BenchStream) (t t' : Retiring) (a c : IoState) (result : Result (Unit {0}) Failed)
+    → id ≡ stream.id → IsRetiring image stream.settings t [] → PrintsRetired image stream.settings id t [] t' (events_of stream.lines) a c result
+    → Writes a c result (stream_text image stream)
+whole_stream image id stream t t' a c result same is p =
+    let items : retired_items image stream.settings (events_of stream.lines) ≡ p.more = p.grows in
+    let text : lines_of id t.shown p.more ≡ stream_text image stream =
+    ap (λ shown. lines_of id shown p.more) (shown_by_all image stream.settings id t [] is)
+    ∙ ap (lines_of id None) (sym items) ∙ ap (λ i. lines_of i None (retired_items image stream.settings (events_of stream.lines))) same in
     subst (Writes a c result) text p.printed
 
-pub stream_done : (image : Image) (s : Sizes) (id : ℕ) (stream : BenchStream) (t t' : Retiring) (k : ℕ) (a c : IoState) (u : Unit {0})
-    → id ≡ stream.id → IsRetiring image s t [] → slice_get stream.lines k ≡ None → Printed image s id t [] t' (events_of (take k stream.lines)) a c
-    → Writes {E = Failed} a c (Ok u) (stream_text image s.depth stream)
-stream_done image s id stream t t' k a c u same is none p =
-    whole_stream image s id stream t t' a c (Ok u) same is (printed_all image s id t t' [] (events_of stream.lines) a c u
-    (subst (λ lines. Printed image s id t [] t' (events_of lines) a c) (all_lines stream.lines k none) p))
+pub stream_done : (image : Image) (id : ℕ) (stream : BenchStream) (t t' : Retiring) (k : ℕ) (a c : IoState) (u : Unit {0})
+    → id ≡ stream.id → IsRetiring image stream.settings t [] → slice_get stream.lines k ≡ None → Printed image stream.settings id t [] t' (events_of (take k stream.lines)) a c
+    → Writes {E = Failed} a c (Ok u) (stream_text image stream)
+stream_done image id stream t t' k a c u same is none p =
+    whole_stream image id stream t t' a c (Ok u) same is (printed_all image stream.settings id t t' [] (events_of stream.lines) a c u
+    (subst (λ lines. Printed image stream.settings id t [] t' (events_of lines) a c) (all_lines stream.lines k none) p))
 
 pub id_found : (streams : List BenchStream) (k id : ℕ) (stream : BenchStream) → slice_get streams k ≡ Some stream
     → Some id ≡ option_map (λ st. st.id) (slice_get streams k) → id ≡ stream.id
@@ -146,32 +147,32 @@ id_found streams k id stream e is = let same = is ∙ ap (option_map (λ (st : B
 
 -- ---- all streams
 
-streams_next : (image : Image) (depth : ℕ) (streams : List BenchStream) (k : ℕ) (stream : BenchStream) → slice_get streams k ≡ Some stream
-    → streams_text image depth (drop k streams) ≡ stream_text image depth stream ++ streams_text image depth (drop (k + 1) streams)
-streams_next image depth streams k stream e = ap (streams_text image depth) (dropped_next streams k stream e)
+streams_next : (image : Image) (streams : List BenchStream) (k : ℕ) (stream : BenchStream) → slice_get streams k ≡ Some stream
+    → streams_text image (drop k streams) ≡ stream_text image stream ++ streams_text image (drop (k + 1) streams)
+streams_next image streams k stream e = ap (streams_text image) (dropped_next streams k stream e)
 
 -- the text of a stream stands behind those of the streams before it, and before those of the streams behind it
-pub stream_between : (image : Image) (depth : ℕ) (streams : List BenchStream) (k : ℕ) (stream : BenchStream) (text all : List ℕ)
-    → slice_get streams k ≡ Some stream → text ++ streams_text image depth (drop k streams) ≡ all
-    → text ++ (stream_text image depth stream ++ streams_text image depth (drop (k + 1) streams)) ≡ all
-stream_between image depth streams k stream text all e is = ap (λ l. text ++ l) (sym (streams_next image depth streams k stream e)) ∙ is
+pub stream_between : (image : Image) (streams : List BenchStream) (k : ℕ) (stream : BenchStream) (text all : List ℕ)
+    → slice_get streams k ≡ Some stream → text ++ streams_text image (drop k streams) ≡ all
+    → text ++ (stream_text image stream ++ streams_text image (drop (k + 1) streams)) ≡ all
+stream_between image streams k stream text all e is = ap (λ l. text ++ l) (sym (streams_next image streams k stream e)) ∙ is
 
-pub stream_behind : (image : Image) (depth : ℕ) (streams : List BenchStream) (k : ℕ) (stream : BenchStream) (text all : List ℕ)
-    → slice_get streams k ≡ Some stream → text ++ streams_text image depth (drop k streams) ≡ all
-    → (text ++ stream_text image depth stream) ++ streams_text image depth (drop (k + 1) streams) ≡ all
-stream_behind image depth streams k stream text all e is =
-    append_assoc text (stream_text image depth stream) (streams_text image depth (drop (k + 1) streams))
-    ∙ stream_between image depth streams k stream text all e is
+pub stream_behind : (image : Image) (streams : List BenchStream) (k : ℕ) (stream : BenchStream) (text all : List ℕ)
+    → slice_get streams k ≡ Some stream → text ++ streams_text image (drop k streams) ≡ all
+    → (text ++ stream_text image stream) ++ streams_text image (drop (k + 1) streams) ≡ all
+stream_behind image streams k stream text all e is =
+    append_assoc text (stream_text image stream) (streams_text image (drop (k + 1) streams))
+    ∙ stream_between image streams k stream text all e is
 
 -- ---- the answer
 
 pub bench_refused : (image : Image) (text : List ℕ) (b : BenchParts) (fault : ℕ × BenchWhy) → length text ≤ most_text → parsed text ≡ Ok b
-    → refusal_among image b.settings.depth b.streams ≡ Some fault → bench_of image text ≡ Err fault
+    → refusal_among image b.streams ≡ Some fault → bench_of image text ≡ Err fault
 bench_refused image text b fault le e f =
     simp (not_below most_text (length text) le) (ap (unless_refused image) e ∙ ap (λ r. unless r b) f)
 
 pub bench_accepted : (image : Image) (text : List ℕ) (b : BenchParts) → length text ≤ most_text → parsed text ≡ Ok b
-    → refusal_among image b.settings.depth b.streams ≡ None → bench_of image text ≡ Ok b
+    → refusal_among image b.streams ≡ None → bench_of image text ≡ Ok b
 bench_accepted image text b le e f =
     simp (not_below most_text (length text) le) (ap (unless_refused image) e ∙ ap (λ r. unless r b) f)
 
@@ -183,7 +184,7 @@ refuses_so kind image input input' out out' line reason (Ok answer) bad writes i
 refuses_so kind image input input' out out' line reason (Err failed) bad writes is = inr (line, reason, (bench_line line reason, bad, writes.front))
 
 pub bad_bench : (image : Image) (input input' : IoState) (b : BenchParts) (line : ℕ) (reason : BenchWhy) → TakesBench input input' b
-    → refusal_among image b.settings.depth b.streams ≡ Some (line, reason) → IsBadBench image input input' line reason (bench_line line reason)
+    → refusal_among image b.streams ≡ Some (line, reason) → IsBadBench image input input' line reason (bench_line line reason)
 bad_bench image input input' b line reason taken refused = record {
   run_file = taken.0;
   read = taken.1.0;
@@ -193,7 +194,7 @@ bad_bench image input input' b line reason taken refused = record {
 }
 
 pub retired_so : (image : Image) (input input' : IoState) (b : BenchParts) → TakesBench input input' b
-    → refusal_among image b.settings.depth b.streams ≡ None → IsRetiredText image input input' (retired_text image b)
+    → refusal_among image b.streams ≡ None → IsRetiredText image input input' (retired_text image b)
 retired_so image input input' b taken none = record {
   run_file = taken.0;
   read = taken.1;

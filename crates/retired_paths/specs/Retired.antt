@@ -31,16 +31,16 @@ items_after (Ok x) = retired_of x
 items_after (Err refused) = []
 
 -- the lines of a stream's retired path, where its events are accepted
-abbrev pub stream_text : Image → ℕ → BenchStream → List ℕ
-stream_text image depth s = lines_of s.id None (items_after (run_after image depth (events_of s.lines)))
+abbrev pub stream_text : Image → BenchStream → List ℕ
+stream_text image s = lines_of s.id None (items_after (run_after image s.settings.depth (events_of s.lines)))
 
 -- those of all streams, in the order of their declaration
-abbrev pub streams_text : Image → ℕ → List BenchStream → List ℕ
-streams_text image depth [] = []
-streams_text image depth (s ∷ streams) = stream_text image depth s ++ streams_text image depth streams
+abbrev pub streams_text : Image → List BenchStream → List ℕ
+streams_text image [] = []
+streams_text image (s ∷ streams) = stream_text image s ++ streams_text image streams
 
 abbrev pub retired_text : Image → BenchParts → List ℕ
-retired_text image b = streams_text image b.settings.depth b.streams
+retired_text image b = streams_text image b.streams
 
 -- ---- what is read of a run file, and printed
 

@@ -16,6 +16,7 @@ use crate::bench_input::{Unread, read_bench, refuse};
 use crate::retiring::Retiring;
 use answer_lines::Status;
 use bench_text::{Bench, BenchLine, BenchWhy};
+use etm_types::Settings;
 use program_image::Image;
 use spec_run::{Run, RunFault};
 use std::alloc::Global;
@@ -36,8 +37,8 @@ fn run_line(run: &mut Run, image: &Image, line: &BenchLine) -> Result<(), RunFau
 
 /// The first line of a stream whose event is refused, and why.
 fn stream_refusal(run: &mut Run, image: &Image, bench: &Bench, s: usize) -> Option<(u64, RunFault)>
-    ensures { (sizes : Sizes) (stream : BenchStream) → slice_get bench.now.streams s ≡ Some stream
-        → StandsAt image.now sizes run.old [] → bad_line result ≡ stream_refusal image.now sizes.depth stream }
+    ensures { (stream : BenchStream) → slice_get bench.now.streams s ≡ Some stream
+        → StandsAt image.now stream.settings run.old [] → bad_line result ≡ stream_refusal image.now stream }
 {
     let mut k = 0;
     while let Some(line) = bench.line_at(s, k) {
@@ -51,10 +52,13 @@ fn stream_refusal(run: &mut Run, image: &Image, bench: &Bench, s: usize) -> Opti
 
 /// The first line whose event is refused, and why.
 fn first_refusal(run: &mut Run, image: &Image, bench: &Bench) -> Option<(u64, RunFault)>
-    ensures { bad_line result ≡ refusal_among image.now bench.now.settings.depth bench.now.streams }
+    ensures { bad_line result ≡ refusal_among image.now bench.now.streams }
 {
     for s in 0..bench.streams() {
-        run.restart(bench.settings());
+        let Some(settings) = bench.settings_of(s) else {
+            unreachable!()
+        };
+        run.restart(&settings);
         let refusal = stream_refusal(run, image, bench, s);
         if refusal.is_some() {
             return refusal;
@@ -71,11 +75,11 @@ fn print_stream<K: Sink>(
     s: usize,
     out: &mut K,
 ) -> Result<(), Failed>
-    requires { (sizes : Sizes) × (stream : BenchStream) × (slice_get bench.now.streams s ≡ Some stream)
-        × CanGoOn image.now sizes retiring.old [] (events_of stream.lines) }
-    ensures { (sizes : Sizes) (stream : BenchStream) → slice_get bench.now.streams s ≡ Some stream
-        → CanGoOn image.now sizes retiring.old [] (events_of stream.lines)
-        → Writes (K.state out.old) (K.state out.new) result (stream_text image.now sizes.depth stream) }
+    requires { (stream : BenchStream) × (slice_get bench.now.streams s ≡ Some stream)
+        × CanGoOn image.now stream.settings retiring.old [] (events_of stream.lines) }
+    ensures { (stream : BenchStream) → slice_get bench.now.streams s ≡ Some stream
+        → CanGoOn image.now stream.settings retiring.old [] (events_of stream.lines)
+        → Writes (K.state out.old) (K.state out.new) result (stream_text image.now stream) }
 {
     let Some(id) = bench.id_at(s) else {
         unreachable!()
@@ -97,11 +101,14 @@ fn print_retired<K: Sink>(
 ) -> Result<(), Failed>
     requires gap { HasGap image.now }
     requires parts { IsBench bench.now }
-    requires accepted { refusal_among image.now bench.now.settings.depth bench.now.streams ≡ None }
+    requires accepted { refusal_among image.now bench.now.streams ≡ None }
     ensures { Writes (K.state out.old) (K.state out.new) result (retired_text image.now bench.now) }
 {
     for s in 0..bench.streams() {
-        retiring.restart(bench.settings());
+        let Some(settings) = bench.settings_of(s) else {
+            unreachable!()
+        };
+        retiring.restart(&settings);
         print_stream(retiring, image, bench, s, out)?;
     }
     Ok(())
@@ -128,7 +135,7 @@ pub fn retire_input<J: Source, K: Sink>(
         Err(Unread::ReadFault) => return Ok(Status::ReadFault),
         Err(Unread::Memory) => return Ok(Status::NoMemory),
     };
-    let Ok(mut run) = Run::new(alloc, bench.settings()) else {
+    let Ok(mut run) = Run::new(alloc, &Settings::default()) else {
         return Ok(Status::NoMemory);
     };
     if let Some((line, fault)) = first_refusal(&mut run, image, &bench) {

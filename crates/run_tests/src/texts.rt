@@ -1,17 +1,12 @@
 //! Run files and what is read of them.
-ghost use Rattle.std.specs.Prelude.{◌≤◌, length};
-ghost use Rattle.bench_text.specs.Refusals.{most_text};
-
 use bench_text::{Bench, BenchFault, BenchLine, BenchWhy};
-use etm_types::{Ctx, Id};
+use etm_types::{Ctx, Id, Settings};
 use spec_run::{Event, RunFault};
 use std::alloc::Global;
 use std::test::Fail;
 
 /// The line and the reason of a refusal, and none where there is a run file.
-fn fault(alloc: Global, text: &[u8]) -> Option<(u64, BenchWhy)>
-    requires { length text.now ≤ most_text }
-{
+fn fault(alloc: Global, text: &[u8]) -> Option<(u64, BenchWhy)> {
     match Bench::read(alloc, text) {
         Err(BenchFault::Bad { line, why }) => Some((line, why)),
         _ => None,
@@ -29,12 +24,12 @@ fn a_run_file_has_its_parts(rt: HostRuntime) -> Result<(), Fail> {
     let text =
         b"# a core\netm 1\n\ndepth 2\r\nvmid 0\nstream 6f\non 1000 el1 ns 0 2A\nstep 3\nstream 01\n\tweave 6f:1048576  01:2\n";
     let bench = Bench::read(rt.alloc(), text)?;
-    let settings = bench.settings();
-    assert_eq!(rt; settings.depth(), 2);
-    assert_eq!(rt; settings.vmid_bytes(), 0);
-    assert_eq!(rt; settings.cid_bytes(), 4);
-    assert_eq!(rt; bench.stack(), 15);
     assert_eq!(rt; bench.streams(), 2);
+    assert_eq!(rt; bench.settings_of(0), Settings::new(2, 0, 4).ok());
+    assert_eq!(rt; bench.settings_of(1), Settings::new(2, 0, 4).ok());
+    assert_eq!(rt; bench.settings_of(2), None);
+    assert_eq!(rt; bench.stack_of(0), Some(15));
+    assert_eq!(rt; bench.stack_of(2), None);
     assert_eq!(rt; bench.id_at(0), Id::new(0x6f));
     assert_eq!(rt; bench.id_at(1), Id::new(1));
     assert_eq!(rt; bench.id_at(2), None);
@@ -61,6 +56,20 @@ fn a_run_file_has_its_parts(rt: HostRuntime) -> Result<(), Fail> {
     assert_eq!(rt; weave_of(&bench, 0), Some((0x6f, 1_048_576)));
     assert_eq!(rt; weave_of(&bench, 1), Some((1, 2)));
     assert_eq!(rt; weave_of(&bench, 2), None);
+    Ok(())
+}
+
+#[test]
+fn a_stream_has_settings_of_its_own(rt: HostRuntime) -> Result<(), Fail> {
+    let text =
+        b"etm 2\nstack 3\ndepth 4\nstream 01 cid 0 depth 16384\nstream 02\nstream 03 stack 0 vmid 4\n";
+    let bench = Bench::read(rt.alloc(), text)?;
+    assert_eq!(rt; bench.settings_of(0), Settings::new(16_384, 1, 0).ok());
+    assert_eq!(rt; bench.settings_of(1), Settings::new(4, 1, 4).ok());
+    assert_eq!(rt; bench.settings_of(2), Settings::new(4, 4, 4).ok());
+    assert_eq!(rt; bench.stack_of(0), Some(3));
+    assert_eq!(rt; bench.stack_of(1), Some(3));
+    assert_eq!(rt; bench.stack_of(2), Some(0));
     Ok(())
 }
 
@@ -105,10 +114,10 @@ fn each_event_line_is_read(rt: HostRuntime) -> Result<(), Fail> {
 
 #[test]
 fn a_fault_tells_its_line(rt: HostRuntime) {
-    let texts: [(&[u8], u64, BenchWhy); 14] = [
+    let texts: [(&[u8], u64, BenchWhy); 20] = [
         (b"", 0, BenchWhy::Header),
         (b"# etm 1\n", 0, BenchWhy::Header),
-        (b"\netm 2\n", 2, BenchWhy::Header),
+        (b"\netm 3\n", 2, BenchWhy::Header),
         (b"\xc0\x80\netm 1\n", 1, BenchWhy::Syntax),
         (b"etm 1\n# \xc0\x80\n", 2, BenchWhy::Syntax),
         (b"etm 1\nstream 70\n", 2, BenchWhy::IdRange),
@@ -122,6 +131,20 @@ fn a_fault_tells_its_line(rt: HostRuntime) {
         (
             b"etm 1\nstream 01\non 1000 el0 s 100 0\n",
             3,
+            BenchWhy::Range,
+        ),
+        (b"etm 1\ndepth 4097\n", 2, BenchWhy::Range),
+        (b"etm 1\nstream 01 depth 1\n", 2, BenchWhy::Syntax),
+        (b"etm 2\nstream 01 depth 16385\n", 2, BenchWhy::Range),
+        (b"etm 2\nstream 01 depth 20000 foo 1\n", 2, BenchWhy::Syntax),
+        (
+            b"etm 2\nstream 01\nstream 01 stack 16\n",
+            3,
+            BenchWhy::DuplicateId,
+        ),
+        (
+            b"etm 2\nvmid 4\nstream 01\nstream 02 vmid 0\nsync\ncontext el0 s 1 0\n",
+            6,
             BenchWhy::Range,
         ),
     ];

@@ -1,9 +1,8 @@
 -- The lines of one stream are those of its own bytes.
 use Rattle.std.proofs.Common.{◌≡◌, ◌≢◌, ℕ, zero, suc, ◌+◌, ◌<◌, ◌≤◌, ◌==◌, if◌then◌else◌, Bool, true, false, List, [], ◌∷◌, ◌++◌, inl, inr, Some, None}
 use Rattle.std.proofs.Common.{refl, sym, ap, subst, ◌∙◌, arith, append-nil}
-use Rattle.std.specs.Prelude.{nat_lt, nat_le, ◌&&◌}
 use Rattle.std.specs.List.{range_with_len}
-use Rattle.std.proofs.lemmas.Bool.{eq-eqb, ltb-true, leb-true}
+use Rattle.std.proofs.lemmas.Bool.{eq-eqb}
 use Rattle.std.proofs.lemmas.Bool.Decides.{eqb_tells}
 use Rattle.std.proofs.lemmas.List.{map-append}
 use Rattle.std.proofs.lemmas.List.Elements.{filter-append}
@@ -17,7 +16,7 @@ use Rattle.stream_demux.proofs.Bodies.{of_other, of_this}
 use Rattle.stream_demux.proofs.BySizes.{own_lines}
 use Rattle.stream_demux.proofs.OneText.{stream_ends_once}
 use Rattle.stream_demux.proofs.Parted.{of_others}
-use Rattle.stream_demux.proofs.Standing.{is_one}
+use Rattle.stream_demux.proofs.Standing.{is_one, source_is}
 
 -- ---- the lines of one stream among others
 
@@ -188,17 +187,6 @@ gains_none : (g : Listing) (id other byte : ℕ) (before : List (ℕ × ℕ)) (l
 gains_none g id other byte before lines none false is gains = ap (λ (l : List (List ℕ)). lines_with id (lines_under other l)) gains
 gains_none g id other byte before lines none true is gains =
     with_others id other lines (λ same. none (subst IsId same (source_is other is)))
-  where
-    first_holds : (a b : Bool) → (a && b) ≡ true → a ≡ true
-    first_holds true b e = refl
-    first_holds false b e = absurd cc
-
-    both_hold : (a b : Bool) → (a && b) ≡ true → b ≡ true
-    both_hold true b e = e
-    both_hold false b e = absurd cc
-
-    source_is : (i : ℕ) → is_source i ≡ true → IsId i
-    source_is i e = (ltb-true 0 i (first_holds (nat_lt 0 i) (nat_le i 111) e), leb-true i 111 (both_hold (nat_lt 0 i) (nat_le i 111) e))
 
 none_of_body : (g : Listing) (id : ℕ) → (IsId id → ⊥) → (before pairs : List (ℕ × ℕ)) (lines : List Printed) → BodyFrom g before pairs lines
     → lines_with id lines ≡ []

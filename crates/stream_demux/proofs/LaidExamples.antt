@@ -2,7 +2,7 @@
 use Rattle.std.proofs.Common.{◌≡◌, ℕ, List, [], ◌∷◌, ◌++◌, length, Result, refl, ap, arith}
 use Rattle.std.specs.Prelude.{get_or, replicate}
 use Rattle.stream_demux.specs.Demuxed.{raw_pairs}
-use Rattle.stream_demux.specs.Laid.{Grow, IsLaid, Laid, Rests, frames_laid, raw_laid}
+use Rattle.stream_demux.specs.Laid.{Grow, IsLaid, Rests, frames_laid, raw_laid}
 use Rattle.stream_demux.specs.Texts.{Listing}
 use Rattle.trace_io.specs.State.{IoState}
 

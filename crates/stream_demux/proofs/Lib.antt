@@ -10,6 +10,7 @@ pub mod Standing
 pub mod Examples
 pub mod LaidExamples
 pub mod OneText
+pub mod OtherSizes
 pub mod Parted
 pub mod PathTexts
 pub mod Printing

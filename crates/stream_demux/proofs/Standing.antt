@@ -1,7 +1,7 @@
 -- Streams that stand at their bytes among pairs of ID and byte.
 use Rattle.std.proofs.Common.{◌≡◌, ◌≢◌, ℕ, zero, suc, ◌+◌, ◌≤◌, ◌<◌, List, [], ◌∷◌, ◌++◌, length, map, Some, refl, sym, ap, subst, ◌∙◌, arith}
 use Rattle.std.specs.Prelude.{slice_get, slice_set, ◌&&◌, ◌↔◌, nat_lt, nat_le, true, false, Bool, All, IsTrue, IsOk, IsErr, Result, Ok, Err}
-use Rattle.std.proofs.lemmas.Bool.{lt-ltb, le-leb}
+use Rattle.std.proofs.lemmas.Bool.{lt-ltb, le-leb, ltb-true, leb-true}
 use Rattle.std.proofs.lemmas.Bool.Decides.{nat_tests}
 use Rattle.std.proofs.lemmas.List.{length-set}
 use Rattle.std.proofs.lemmas.List.Elements.{All-set, All-get_or}
@@ -135,6 +135,17 @@ both false b x y = absurd cc
 
 pub is_one : (id : ℕ) → IsId id → is_source id ≡ true
 is_one id is = both (nat_lt 0 id) (nat_le id 111) (lt-ltb 0 id is.0) (le-leb id 111 is.1)
+
+first_holds : (a b : Bool) → (a && b) ≡ true → a ≡ true
+first_holds true b e = refl
+first_holds false b e = absurd cc
+
+both_hold : (a b : Bool) → (a && b) ≡ true → b ≡ true
+both_hold true b e = e
+both_hold false b e = absurd cc
+
+pub source_is : (id : ℕ) → is_source id ≡ true → IsId id
+source_is id e = (ltb-true 0 id (first_holds (nat_lt 0 id) (nat_le id 111) e), leb-true id 111 (both_hold (nat_lt 0 id) (nat_le id 111) e))
 
 one_false : (a b : Bool) → (a ≡ true → b ≡ true → ⊥) → (a && b) ≡ false
 one_false false b not_both = refl

@@ -2,6 +2,7 @@
 ghost use Rattle.std.specs.Prelude.{◌≡◌, ◌<◌, ◌≤◌, ◌+◌, ◌^◌, ◌++◌, ◌∷◌, ◌↔◌, [], ℕ, List, Bool, false, All, not, length, take, map, IsOk, IsErr, IsTrue, IfOk};
 ghost use Rattle.element_queue.specs.Counting.{Balances, no_counts};
 ghost use Rattle.etm_types.specs.Settings.{Sizes};
+ghost use Rattle.etm_types.specs.SettingsTable.{sizes_at};
 ghost use Rattle.formatter_frames.specs.Reader as reader;
 ghost use Rattle.formatter_frames.specs.Unframed.{begun_frame, unframed};
 ghost use Rattle.path_text.specs.Writing.{Writes};
@@ -14,7 +15,7 @@ ghost use Rattle.trace_io.specs.Causes.{HasCause};
 use crate::sources::Sources;
 use crate::stream::Stream;
 use element_queue::{Counts, Ledger};
-use etm_types::Settings;
+use etm_types::SettingsTable;
 use formatter_frames::{FrameBytes, FrameReader};
 use path_text::write_frame_cut;
 use std::alloc::{AllocError, Global};
@@ -51,15 +52,15 @@ impl<S: Stream> Model for Demux<S> {
 }
 
 impl<S: Stream> Demux<S> {
-    /// A demultiplexer that has taken nothing, with a stream for each source. This is the one call that takes memory, and the error
-    /// means want of it.
-    pub fn new(alloc: Global, settings: &Settings) -> Result<Demux<S>, AllocError>
-        ensures stands { IfOk result (λ d. (shared : S.Shared) → StandsAt (S.stands shared) S.sizes (λ id. settings.now) d []) }
+    /// A demultiplexer that has taken nothing, with a stream for each source, which has the settings of its ID. This is the one call that
+    /// takes memory, and the error means want of it.
+    pub fn new(alloc: Global, table: &SettingsTable) -> Result<Demux<S>, AllocError>
+        ensures stands { IfOk result (λ d. (shared : S.Shared) → StandsAt (S.stands shared) S.sizes (sizes_at table.now) d []) }
         ensures most { IfOk result (λ d. All (HoldsToDepth S.held S.sizes) d.streams) }
     {
         Ok(Demux {
             frames: FrameReader::new(),
-            sources: Sources::new(alloc, settings)?,
+            sources: Sources::new(alloc, table)?,
             taken: 0,
             broken: false,
         })

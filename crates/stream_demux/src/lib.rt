@@ -5,8 +5,8 @@
 //! A stream decoder, which prints a path, is one. `Sources` has a stream for each source and finds it by its
 //! ID, in one step a byte. What is printed of bytes with their IDs is defined once, for any stream: the lines
 //! that the bytes add, in order, then those of the ends, by ID, and last that of a frame that is cut.
-//! Each stream has the sizes of its own trace unit: all that is said of many streams is said of a table of sizes
-//! by ID (`by_sizes`, in specs). Today `new` gives all of them the same.
+//! Each stream has the sizes of its own trace unit: `new` takes a table of settings by ID, and all that is said of many
+//! streams is said of the sizes by ID (`by_sizes`, in specs).
 //!
 //! The layer above uses these contracts:
 //! - [`Demux`]: from the bytes of frames at which it stands it comes to those and a piece more, and writes the

@@ -2,6 +2,7 @@
 ghost use Rattle.std.specs.Prelude.{◌≡◌, ◌<◌, ◌≤◌, ◌+◌, ◌^◌, ◌++◌, ◌∷◌, ◌↔◌, [], ℕ, List, Bool, false, not, length, IsOk, IsErr, IsTrue, IfOk};
 ghost use Rattle.element_queue.specs.Counting.{Balances};
 ghost use Rattle.etm_types.specs.Settings.{Sizes};
+ghost use Rattle.etm_types.specs.SettingsTable.{sizes_at};
 ghost use Rattle.path_text.specs.Writing.{Writes};
 ghost use Rattle.stream_demux.specs.Demuxed.{Gains, RawStandsAt, raw_id, raw_pairs};
 ghost use Rattle.stream_demux.specs.Streams.{HoldsToDepth};
@@ -11,7 +12,7 @@ ghost use Rattle.trace_io.specs.Causes.{HasCause};
 
 use crate::stream::Stream;
 use element_queue::Ledger;
-use etm_types::{Id, Settings};
+use etm_types::{Id, SettingsTable};
 use std::alloc::{AllocError, Global};
 use std::marker::Model;
 use trace_io::{Failed, Sink};
@@ -36,13 +37,14 @@ impl<S: Stream> Model for RawStream<S> {
 }
 
 impl<S: Stream> RawStream<S> {
-    /// A stream that has taken nothing. This is the one call that takes memory, and the error means want of it.
-    pub fn new(alloc: Global, settings: &Settings) -> Result<RawStream<S>, AllocError>
-        ensures stands { IfOk result (λ r. (shared : S.Shared) → RawStandsAt (S.stands shared) S.sizes S.broken S.taken (λ id. settings.now) r []) }
+    /// A stream that has taken nothing, with the settings of the ID 01. This is the one call that takes memory, and the error means want
+    /// of it.
+    pub fn new(alloc: Global, table: &SettingsTable) -> Result<RawStream<S>, AllocError>
+        ensures stands { IfOk result (λ r. (shared : S.Shared) → RawStandsAt (S.stands shared) S.sizes S.broken S.taken (sizes_at table.now) r []) }
         ensures most { IfOk result (HoldsToDepth S.held S.sizes) }
     {
         Ok(RawStream {
-            stream: S::new(alloc, settings)?,
+            stream: S::new(alloc, &table.get(raw_id()))?,
         })
     }
 

@@ -2,6 +2,7 @@
 ghost use Rattle.std.specs.Prelude.{◌≡◌, ◌<◌, ◌≤◌, ◌+◌, ◌^◌, ◌++◌, ◌∷◌, [], ℕ, List, Bool, false, All, not, length, map, IsOk, IfOk};
 ghost use Rattle.element_queue.specs.Counting.{Balances, no_counts, sum_of};
 ghost use Rattle.etm_types.specs.Settings.{Sizes};
+ghost use Rattle.etm_types.specs.SettingsTable.{sizes_at};
 ghost use Rattle.formatter_frames.specs.Symbols.{run_of};
 ghost use Rattle.std.specs.List.{range_with_len};
 ghost use Rattle.path_text.specs.Writing.{Writes};
@@ -12,7 +13,7 @@ ghost use Rattle.trace_io.specs.Causes.{HasCause};
 
 use crate::stream::Stream;
 use element_queue::{Counts, Ledger};
-use etm_types::{Id, Settings};
+use etm_types::{Id, SettingsTable};
 use spend_ring::SpendRing;
 use std::alloc::{AllocError, Global};
 use std::marker::Model;
@@ -51,21 +52,23 @@ impl<S> Model for Sources<S> {
 }
 
 impl<S: Stream> Sources<S> {
-    /// Streams of which nothing was taken. This is the one call that takes memory, and the error means want of it.
-    pub fn new(alloc: Global, settings: &Settings) -> Result<Sources<S>, AllocError>
-        ensures stands { IfOk result (λ all. (shared : S.Shared) → AllStand (S.stands shared) S.sizes (λ id. settings.now) all []) }
+    /// Streams of which nothing was taken, each with the settings of its ID. This is the one call that takes memory, and the error means want of it.
+    pub fn new(alloc: Global, table: &SettingsTable) -> Result<Sources<S>, AllocError>
+        ensures stands { IfOk result (λ all. (shared : S.Shared) → AllStand (S.stands shared) S.sizes (sizes_at table.now) all []) }
         ensures ready { IfOk result (λ all. All (IsReady S.broken S.taken 0) all) }
         ensures most { IfOk result (λ all. All (HoldsToDepth S.held S.sizes) all) }
     {
         let mut ring = SpendRing::with_capacity(alloc, SOURCES)?;
-        while ring.len() < SOURCES {
-            match S::new(alloc, settings) {
+        let mut next = 1;
+        while let Some(id) = Id::new(next) {
+            match S::new(alloc, &table.get(id)) {
                 Ok(stream) => add(&mut ring, stream),
                 Err(error) => {
                     abandon_all(ring);
                     return Err(error);
                 }
             }
+            next += 1;
         }
         Ok(Sources { ring })
     }

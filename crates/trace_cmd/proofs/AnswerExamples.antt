@@ -1,5 +1,7 @@
 -- Calls with their programs, layouts, sizes and answers, and near misses.
-use Rattle.std.proofs.Common.{◌≡◌, ℕ, List, [], ◌∷◌, ◌++◌, codes, Some, None, refl}
+use Rattle.std.proofs.Common.{◌≡◌, ℕ, List, [], ◌∷◌, ◌++◌, codes, Some, None, replicate, refl}
+use Rattle.std.specs.Prelude.{slice_set}
+use Rattle.etm_types.specs.Settings.{Sizes}
 use Rattle.answer_lines.specs.UsageLine.{usage_line}
 use Rattle.answer_lines.specs.declared.status.Status.TheVariants as status
 use Rattle.command_words.specs.Words.{Intake, Program, meaning}
@@ -67,8 +69,15 @@ line_of_unaligned = refl
 
 -- ---- inputs
 
+abbrev all : Sizes
+all = record { depth = 8; vmid_bytes = 2; cid_bytes = 0 }
+
+abbrev of_last : Sizes
+of_last = record { depth = 3; vmid_bytes = 4; cid_bytes = 4 }
+
+-- the last ID has sizes of its own
 abbrev taken : Layout → Intake
-taken layout = record { units = record { depth = 8; vmid_bytes = 2; cid_bytes = 0 }; layout = layout }
+taken layout = record { units = slice_set (replicate 111 all) 110 of_last; layout = layout }
 
 -- with `--raw` each byte is of stream 01, at once
 pub raw_bytes : (laid_of (PacketsOf (taken Raw))).carried (8 ∷ 9 ∷ []) ≡ (1, 8) ∷ (1, 9) ∷ []
@@ -81,8 +90,11 @@ framed_bytes = refl
 pub framed_left : (laid_of (PacketsOf (taken Frames))).left (8 ∷ 9 ∷ []) ≡ 2
 framed_left = refl
 
--- each stream has the sizes that the words say
-pub sizes_of_111 : (sizes_by (taken Frames) 111).depth ≡ 8
+-- each stream has the sizes of its ID
+pub sizes_of_110 : sizes_by (taken Frames) 110 ≡ all
+sizes_of_110 = refl
+
+pub sizes_of_111 : sizes_by (taken Frames) 111 ≡ of_last
 sizes_of_111 = refl
 
 -- ---- answers

@@ -4,6 +4,7 @@ use Rattle.command_words.specs.Words.{Intake}
 use Rattle.command_words.specs.declared.words.Layout.{Layout}
 use Rattle.command_words.specs.declared.words.Layout.TheVariants.{Raw, Frames}
 use Rattle.etm_types.specs.Settings.{Sizes}
+use Rattle.etm_types.specs.SettingsTable.{sizes_at}
 use Rattle.packet_list.specs.PacketList.{packet_lists}
 use Rattle.program_image.specs.declared.image.Image.{Image}
 use Rattle.stream_demux.specs.Laid.{Laid, frames_laid, raw_laid}
@@ -21,7 +22,7 @@ intake_of (PacketsOf r) = r
 
 -- the sizes of each stream's trace unit
 abbrev pub sizes_by : Intake → ℕ → Sizes
-sizes_by r id = r.units
+sizes_by r id = sizes_at r.units id
 
 abbrev pub listing_of : What → Listing
 listing_of (PathsOf image r) = by_sizes (paths image) (sizes_by r)

@@ -233,13 +233,15 @@ fn answer_words<I: Source, J: Source, K: Sink>(
     }
 }
 
-/// Runs the command that the words mean: `path [--raw] [--depth N] [--vmid N] [--cid N] IMAGE` prints the path of
-/// each stream of an input, and `packets [--raw] [--vmid N] [--cid N]` its packets. The input is formatter frames
-/// of up to 111 streams, or with `--raw` one stream that is not framed. `retired IMAGE` reads a run file, and prints the
-/// retired path of each of its streams. `trace IMAGE` reads a run file, and writes the traces of its streams in frames, of
-/// which `path` prints those retired paths. `selftest [--cut K] N` makes image and run file from a number, and prints how many
-/// lines the paths in its frames have, or in the first K bytes of them. The words behind the command may stand in any order,
-/// `--depth=N` is `--depth N`, and behind `--` each word is a positional. `image` is what the word IMAGE names.
+/// Runs the command that the words mean: `path [--raw] [--depth N] [--vmid N] [--cid N] [--settings LIST] IMAGE` prints the
+/// path of each stream of an input, and `packets [--raw] [--vmid N] [--cid N] [--settings LIST]` its packets. The input is
+/// formatter frames of up to 111 streams, or with `--raw` one stream that is not framed, with the ID 01. The three numbers are
+/// the settings of each stream's trace unit, and LIST gives single IDs others, as `01:0:1:4,6f:16:0:0`. `retired IMAGE` reads a
+/// run file, and prints the retired path of each of its streams. `trace IMAGE` reads a run file, and writes the traces of its
+/// streams in frames, of which `path` prints those retired paths. `selftest [--cut K] N` makes image and run file from a
+/// number, and prints how many lines the paths in its frames have, or in the first K bytes of them. The words behind the
+/// command may stand in any order, `--depth=N` is `--depth N`, and behind `--` each word is a positional. `image` is what the
+/// word IMAGE names.
 ///
 /// Words are read with memory of their own: where it is wanting, nothing is touched and nothing printed, whatever they mean.
 /// Of paths and packets all memory is taken before the first byte of the input is read. That input is read by pieces of at

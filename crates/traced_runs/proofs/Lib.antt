@@ -4,4 +4,5 @@ pub mod SelftestTexts
 mod TracedExamples
 pub mod TracedPaths
 pub mod TracedStreams
+pub mod TracedTables
 pub mod Tracing

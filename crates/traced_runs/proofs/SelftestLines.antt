@@ -8,6 +8,7 @@ use Rattle.std.proofs.lemmas.List.Elements.{All-head, All-tail}
 use Rattle.std.proofs.lemmas.List.Sums.{sum_by-append, sum_by-cons}
 use Rattle.std.proofs.lemmas.Result.{err_from_is_err_and}
 use Rattle.bench_text.specs.Parts.{BenchParts}
+use Rattle.etm_types.specs.SettingsTable.{sizes_at}
 use Rattle.formatter_frames.specs.Unframed.{begun_frame, unframed}
 use Rattle.stream_demux.specs.Laid.{frames_laid}
 use Rattle.path_text.specs.Lines.{IsLine}
@@ -18,6 +19,7 @@ use Rattle.stream_demux.specs.Texts.{IsText, Printed, by_sizes, text_of}
 use Rattle.traced_runs.proofs.SelftestTexts.{all_taken, none_failed}
 use Rattle.input_pieces.specs.Listed.{Completes, Listed, most_input}
 use Rattle.traced_runs.specs.Selftest.{HasLines, line_feeds}
+use Rattle.traced_runs.specs.Traced.{table_of}
 use Rattle.answer_lines.specs.declared.status.Status.{Status}
 use Rattle.answer_lines.specs.declared.status.Status.TheVariants as status
 use Rattle.trace_io.specs.Bytes.{AppendsAll}
@@ -52,16 +54,16 @@ feeds_of_lines (l ∷ lines) are =
 pub feeds_counted : (image : Image) (b : BenchParts) (bytes : List ℕ) (lines : List Printed) → HasLines image b bytes lines
     → line_feeds (text_of lines) ≡ length lines
 feeds_counted image b bytes lines (faulty, is) =
-    feeds_of_lines lines (each_is_a_line image (λ id. b.settings) (unframed bytes) (length (begun_frame bytes)) lines faulty is)
+    feeds_of_lines lines (each_is_a_line image (sizes_at (table_of b)) (unframed bytes) (length (begun_frame bytes)) lines faulty is)
 
 whole : (image : Image) (b : BenchParts) (s s' : Pieces) (out out' : IoState) (faulty : Bool)
-    → Completes frames_laid (by_sizes (paths image) (λ id. b.settings)) (pieces_state s) (pieces_state s') out out' faulty
+    → Completes frames_laid (by_sizes (paths image) (sizes_at (table_of b))) (pieces_state s) (pieces_state s') out out' faulty
     → (lines : List Printed) × HasLines image b s.left lines × AppendsAll out out' (text_of lines)
 whole image b s s' out out' faulty c = (
   c.lines,
   (
     faulty,
-    subst (λ (l : List ℕ). IsText (by_sizes (paths image) (λ id. b.settings)) (unframed l) (length (begun_frame l)) c.lines faulty) (all_taken s s' c.bytes c.read)
+    subst (λ (l : List ℕ). IsText (by_sizes (paths image) (sizes_at (table_of b))) (unframed l) (length (begun_frame l)) c.lines faulty) (all_taken s s' c.bytes c.read)
         c.shown,
   ),
   c.printed,
@@ -69,7 +71,7 @@ whole image b s s' out out' faulty c = (
 
 -- what was printed of bytes in memory are the lines of all of them
 pub all_printed : (image : Image) (b : BenchParts) (s s' : Pieces) (out out' : IoState) (status : Status) → length s.left ≤ most_input
-    → Listed frames_laid (by_sizes (paths image) (λ id. b.settings)) (pieces_state s) (pieces_state s') out out' (Ok status)
+    → Listed frames_laid (by_sizes (paths image) (sizes_at (table_of b))) (pieces_state s) (pieces_state s') out out' (Ok status)
     → (lines : List Printed) × HasLines image b s.left lines × AppendsAll out out' (text_of lines)
 all_printed image b s s' out out' status.Done few c = whole image b s s' out out' false c
 all_printed image b s s' out out' status.Faulted few c = whole image b s s' out out' true c
@@ -95,7 +97,7 @@ Counts image b bytes count = (lines : List Printed) × HasLines image b bytes li
 
 pub lines_counted : (image : Image) (b : BenchParts) (s s' : Pieces) (text text' : Writing) (status : Status) → length s.left ≤ most_input
     → text.taken ≡ []
-    → Listed frames_laid (by_sizes (paths image) (λ id. b.settings)) (pieces_state s) (pieces_state s')
+    → Listed frames_laid (by_sizes (paths image) (sizes_at (table_of b))) (pieces_state s) (pieces_state s')
     (writing_state text) (writing_state text') (Ok status)
     → Counts image b s.left (line_feeds text'.taken)
 lines_counted image b s s' text text' status few none listed =

@@ -1,12 +1,14 @@
 -- The frames and the lines of a small run file, as they were worked out by hand, beside what a wrong rule would write or show.
 use Rattle.std.proofs.Common.{◌≡◌, ℕ, true, false, List, [], ◌∷◌, ◌++◌, Some, None, drop, take, refl, arith, ap}
-use Rattle.std.specs.Prelude.{codes, length}
+use Rattle.std.specs.Prelude.{codes, length, replicate, slice_set}
 use Rattle.std.specs.List.{concat}
 use Rattle.std.proofs.lemmas.List.Elements.{All-from_recursion, recursion_from_All}
 use Rattle.a64_branches.specs.Classes.{class_of}
 use Rattle.atom_formats.specs.Formats.{atom_formats}
 use Rattle.bench_text.specs.Parts.{BenchParts, BenchStream, events_of}
 use Rattle.bench_text.specs.declared.line.BenchLine.{BenchLine}
+use Rattle.etm_types.specs.Settings.{Sizes}
+use Rattle.etm_types.specs.SettingsTable.{sizes_at}
 use Rattle.etm_types.specs.declared.context.Ctx.{Ctx}
 use Rattle.path_text.specs.Lines.{in_base}
 use Rattle.program_image.specs.Part.{Part}
@@ -15,7 +17,7 @@ use Rattle.spec_run.specs.declared.event.Event.TheVariants as event
 use Rattle.stream_demux.specs.Laws.{lines_with}
 use Rattle.stream_demux.specs.Texts.{Printed, lines_under, text_of}
 use Rattle.retired_paths.specs.Retired.{stream_text}
-use Rattle.traced_runs.specs.Traced.{ShowsTraces, end_lines, is_of_one, trace_lines, trace_pairs, traces}
+use Rattle.traced_runs.specs.Traced.{ShowsTraces, Suits, end_lines, is_of_one, table_of, trace_lines, trace_pairs, traces}
 use Rattle.woven_traces.specs.Woven.{under}
 use Rattle.atom_formats.specs.Bytes.{byte_of}
 
@@ -31,13 +33,17 @@ loop = record { start = 0x2008; bytes = 0x00 ∷ 0x00 ∷ 0x00 ∷ 0x14 ∷ [] }
 abbrev once : Event → BenchLine
 once e = record { line = 9; event = e; times = 1 }
 
+abbrev sizes : ℕ → ℕ → ℕ → Sizes
+sizes depth vmid_bytes cid_bytes = record { depth = depth; vmid_bytes = vmid_bytes; cid_bytes = cid_bytes }
+
+abbrev stream : ℕ → Sizes → List BenchLine → BenchStream
+stream id settings lines = record { id = id; settings = settings; stack = 15; lines = lines }
+
 abbrev bench : BenchParts
 bench = record {
-  settings = record { depth = 64; vmid_bytes = 0; cid_bytes = 0 };
-  stack = 15;
   streams =
-      record { id = 5; lines = once (event.On 0x2008 user) ∷ once event.Taken ∷ once (event.Retire 1) ∷ [] }
-      ∷ record { id = 3; lines = [] } ∷ record { id = 2; lines = once (event.On 0x2008 user) ∷ [] } ∷ [];
+      stream 5 (sizes 64 0 0) (once (event.On 0x2008 user) ∷ once event.Taken ∷ once (event.Retire 1) ∷ [])
+      ∷ stream 3 (sizes 8 0 4) [] ∷ stream 2 (sizes 0 0 0) (once (event.On 0x2008 user) ∷ []) ∷ [];
   weaves = record { id = 5; count = 1 } ∷ record { id = 2; count = 2 } ∷ record { id = 3; count = 7 } ∷ record { id = 5; count = 99 } ∷ [];
 }
 
@@ -56,6 +62,36 @@ of_five = beginning ++ 0xf7 ∷ 0x2d ∷ 0x01 ∷ []
 pub traces_are : traces loop bench ≡ (5, of_five) ∷ (3, []) ∷ (2, beginning) ∷ []
 unfolding class_of atom_formats byte_of
 traces_are = refl
+
+-- The events of one core under three return stacks: a call in a call, and both returns. By a stack of 15 addresses no return needs one told,
+-- by a stack of one the second does, and by none both do.
+
+-- at 0x3000: BL to 0x3010, B to itself, NOP, NOP, BL to 0x3018, RET, RET
+abbrev nested : List Part
+nested = record {
+  start = 0x3000;
+  bytes = 0x04 ∷ 0x00 ∷ 0x00 ∷ 0x94 ∷ 0x00 ∷ 0x00 ∷ 0x00 ∷ 0x14 ∷ 0x1f ∷ 0x20 ∷ 0x03 ∷ 0xd5 ∷ 0x1f ∷ 0x20 ∷ 0x03 ∷ 0xd5
+      ∷ 0x02 ∷ 0x00 ∷ 0x00 ∷ 0x94 ∷ 0xc0 ∷ 0x03 ∷ 0x5f ∷ 0xd6 ∷ 0xc0 ∷ 0x03 ∷ 0x5f ∷ 0xd6 ∷ [];
+} ∷ []
+
+abbrev with_stack : ℕ → ℕ → BenchStream
+with_stack id stack = record {
+  id = id;
+  settings = sizes 8 0 0;
+  stack = stack;
+  lines = once (event.On 0x3000 user) ∷ once event.Taken ∷ once event.Taken ∷ once (event.To 0x3014) ∷ once (event.To 0x3004) ∷ once event.Taken
+      ∷ once (event.Retire 5) ∷ [];
+}
+
+abbrev beginning_at_3000 : List ℕ
+beginning_at_3000 = take 17 beginning ++ 0x00 ∷ 0x18 ∷ drop 19 beginning
+
+pub traces_by_stacks : traces nested (record { streams = with_stack 1 1 ∷ with_stack 2 15 ∷ with_stack 3 0 ∷ []; weaves = [] })
+    ≡ (1, beginning_at_3000 ++ 0xc0 ∷ 0x95 ∷ 0x01 ∷ 0xf7 ∷ 0x2d ∷ 0x05 ∷ [])
+    ∷ (2, beginning_at_3000 ++ 0xc1 ∷ 0x2d ∷ 0x05 ∷ [])
+    ∷ (3, beginning_at_3000 ++ 0xff ∷ 0x95 ∷ 0x05 ∷ 0xf7 ∷ 0x95 ∷ 0x01 ∷ 0xf7 ∷ 0x2d ∷ 0x05 ∷ []) ∷ []
+unfolding class_of atom_formats byte_of
+traces_by_stacks = refl
 
 -- woven: the weaves of the stream without bytes take nothing, and what no weave takes comes behind
 abbrev rest_of_five : List (ℕ × ℕ)
@@ -80,10 +116,10 @@ abbrev ends : List Printed
 ends = line 2 (codes "02 end") ∷ line 5 (codes "05 end") ∷ []
 
 abbrev Has : List Printed → BenchStream → Type 0
-Has lines s = lines_with s.id lines ≡ lines_under s.id (trace_lines loop 64 s)
+Has lines s = lines_with s.id lines ≡ lines_under s.id (trace_lines loop s)
 
 abbrev HasText : List Printed → BenchStream → Type 0
-HasText lines s = text_of (lines_with s.id lines) ≡ stream_text loop 64 s ++ concat (end_lines s.id (events_of s.lines))
+HasText lines s = text_of (lines_with s.id lines) ≡ stream_text loop s ++ concat (end_lines s.id (events_of s.lines))
 
 abbrev IsOne : Printed → Type 0
 IsOne l = is_of_one bench.streams l.id ≡ true
@@ -139,3 +175,31 @@ unfolding class_of in_base
 not_turned shows =
     let (first, (second, (third, none))) = recursion_from_All (Has turned) bench.streams shows.streams in
     absurd (omega (arith, ap (λ (l : List Printed). length (text_of (take 1 l))) first))
+
+-- ---- tables
+
+abbrev others : Sizes
+others = sizes 1 4 4
+
+abbrev HasOwn : List Sizes → BenchStream → Type 0
+HasOwn table s = sizes_at table s.id ≡ s.settings
+
+-- the sizes of an ID that no stream has may be any
+pub table_suits : Suits bench (slice_set (table_of bench) 6 others)
+table_suits = All-from_recursion (HasOwn (slice_set (table_of bench) 6 others)) bench.streams (refl, (refl, (refl, tt)))
+
+-- those of a stream may not, though it has no event
+not_suits : Suits bench (slice_set (table_of bench) 2 others) → ⊥
+not_suits suits =
+    let (first, (second, (third, none))) = recursion_from_All (HasOwn (slice_set (table_of bench) 2 others)) bench.streams suits in
+    absurd (omega (arith, ap (λ (s : Sizes). s.depth) second))
+
+-- nor may all streams have those of the first
+not_of_the_first : Suits bench (replicate 111 (sizes 64 0 0)) → ⊥
+not_of_the_first suits =
+    let (first, (second, (third, none))) = recursion_from_All (HasOwn (replicate 111 (sizes 64 0 0))) bench.streams suits in
+    absurd (omega (arith, ap (λ (s : Sizes). s.depth) third))
+
+-- an ID without a stream has the default sizes
+others_by_default : sizes_at (table_of bench) 4 ≡ sizes 16 1 4
+others_by_default = refl

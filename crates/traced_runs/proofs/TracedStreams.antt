@@ -11,6 +11,8 @@ use Rattle.bench_text.specs.Parts.{AreApart, BenchParts, BenchStream, IsBench, I
 use Rattle.bench_text.specs.Refusals.{refusal_among, stream_refusal}
 use Rattle.etm_types.specs.Id.{IsId}
 use Rattle.etm_types.specs.Settings.{AreSettings, Sizes}
+use Rattle.etm_types.specs.SettingsTable.{IsTable, sizes_at}
+use Rattle.etm_types.proofs.Tables.{are_settings}
 use Rattle.formatter_frames.proofs.RoundTrip.{nothing_left, pairs_again}
 use Rattle.formatter_frames.specs.Unframed.{unframed}
 use Rattle.packet_grammar.specs.declared.end.End.TheVariants as end
@@ -33,17 +35,19 @@ use Rattle.spec_run.specs.declared.run_fault.RunFault.{RunFault}
 use Rattle.stream_demux.proofs.Alone.{others_have_none}
 use Rattle.stream_demux.proofs.AlonePaths.{path_is_alone}
 use Rattle.stream_demux.proofs.Bodies.{of-append, text_under}
+use Rattle.stream_demux.proofs.OtherSizes.{text_alike}
 use Rattle.stream_demux.proofs.Parted.{zeros_are_of_none}
 use Rattle.stream_demux.proofs.PathTexts.{one_text_of_paths, some_text_of_paths}
 use Rattle.stream_demux.specs.Laws.{HasByte, PathPrinted, lines_with}
 use Rattle.stream_demux.specs.Paths.{paths}
 use Rattle.stream_demux.specs.Texts.{Printed, by_sizes, lines_under, of, text_of}
 use Rattle.retired_paths.proofs.RetiredStreams.{accepted_by, both_none, lines_are}
+use Rattle.traced_runs.proofs.TracedTables.{some_table_suits}
 use Rattle.traced_runs.proofs.TracedPaths.{EndsWell, clean_lines, ids_are, text_has, text_well}
 use Rattle.woven_traces.proofs.WovenWhole.{others_have_no_byte, woven_bytes, woven_whole}
 use Rattle.retired_paths.specs.Retired.{items_after, stream_text}
-use Rattle.traced_runs.specs.Traced.{AreAccepted, IsTraceText, NoEventNoLine, ShowsTraces, TracesAreShown, end_lines, is_of_one, trace_frames}
-use Rattle.traced_runs.specs.Traced.{trace_lines, trace_pairs, traces}
+use Rattle.traced_runs.specs.Traced.{AreAccepted, IsTraceText, NoEventNoLine, ShowsTraces, Suits, TracesAreShown, end_lines}
+use Rattle.traced_runs.specs.Traced.{is_of_one, table_of, trace_frames, trace_lines, trace_pairs, traces}
 use Rattle.woven_traces.specs.Woven as weave
 use Rattle.trace_unit.proofs.AllPackets.{run_spelled}
 use Rattle.trace_unit.proofs.TraceShown.{trace_shows}
@@ -57,20 +61,21 @@ IsByte b = b < 256
 
 -- ---- the events of streams
 
--- its events are those of a trace unit of these sizes, and all accepted
-abbrev IsAccepted : Image → Sizes → BenchStream → Type 0
-IsAccepted image s st = AreEvents s (events_of st.lines) × ((x : Execution) × (run_after image s.depth (events_of st.lines) ≡ Ok x))
+-- its events are those of a trace unit of its sizes, and all accepted
+abbrev IsAccepted : Image → BenchStream → Type 0
+IsAccepted image st =
+    AreEvents st.settings (events_of st.lines) × ((x : Execution) × (run_after image st.settings.depth (events_of st.lines) ≡ Ok x))
 
-all_accepted : (image : Image) (s : Sizes) (streams : List BenchStream) → All (IsBenchStream s) streams → refusal_among image s.depth streams ≡ None
-    → All (IsAccepted image s) streams
-all_accepted image s [] are none = All-nil (IsAccepted image s)
-all_accepted image s (st ∷ streams) are none =
-    let first = both_none (stream_refusal image s.depth st) (refusal_among image s.depth streams) none in
-    All-cons (IsAccepted image s) st streams (
-      lines_are s st.lines (All-head (IsBenchStream s) st streams are).lines,
-      accepted_by st.lines (run_after image s.depth (events_of st.lines)) first.0,
+all_accepted : (image : Image) (streams : List BenchStream) → All IsBenchStream streams → refusal_among image streams ≡ None
+    → All (IsAccepted image) streams
+all_accepted image [] are none = All-nil (IsAccepted image)
+all_accepted image (st ∷ streams) are none =
+    let first = both_none (stream_refusal image st) (refusal_among image streams) none in
+    All-cons (IsAccepted image) st streams (
+      lines_are st.settings st.lines (All-head IsBenchStream st streams are).lines,
+      accepted_by st.lines (run_after image st.settings.depth (events_of st.lines)) first.0,
     )
-    (all_accepted image s streams (All-tail (IsBenchStream s) st streams are) first.1)
+    (all_accepted image streams (All-tail IsBenchStream st streams are) first.1)
 
 -- ---- the bytes of a trace
 
@@ -125,9 +130,9 @@ all_of_map P f (x ∷ xs) are =
     All-cons (λ y. P (f y)) x xs (All-head P (f x) (map f xs) are) (all_of_map P f xs (All-tail P (f x) (map f xs) are))
 
 pub no_event_no_line : NoEventNoLine
-no_event_no_line image b st none = (
-  ap (settled image b.settings b.stack) none,
-  ap (λ (e : List Event). line_list st.id None (items_after (run_after image b.settings.depth e)) ++ end_lines st.id e) none,
+no_event_no_line image st none = (
+  ap (settled image st.settings st.stack) none,
+  ap (λ (e : List Event). line_list st.id None (items_after (run_after image st.settings.depth e)) ++ end_lines st.id e) none,
 )
 
 -- an ID is one of a source, or not
@@ -151,20 +156,22 @@ found P id (st ∷ streams) all is = by (st.id == id) refl (found P id streams (
 
 module _ (image : Image) (b : BenchParts) (is : IsImage image) (bench : IsBench b) (none : AreAccepted image b) where
   abbrev bytes_of : BenchStream → List ℕ
-  bytes_of st = settled image b.settings b.stack (events_of st.lines)
+  bytes_of st = settled image st.settings st.stack (events_of st.lines)
 
   abbrev frames_carry : List (ℕ × ℕ)
   frames_carry = unframed (trace_frames image b)
 
-  accepted : All (IsAccepted image b.settings) b.streams
-  accepted = all_accepted image b.settings b.streams bench.streams none
+  accepted : All (IsAccepted image) b.streams
+  accepted = all_accepted image b.streams bench.streams none
 
   -- ---- the bytes in the frames
 
   bytes_are : All (λ (st : BenchStream). All IsByte (bytes_of st)) b.streams
   bytes_are k d within =
-      let one = accepted k d within in let st = slice_index_or b.streams k d in
-      settled_bytes image is b.settings bench.settings b.stack bench.stack (events_of st.lines) one.1.0 one.0 one.1.1
+      let one = accepted k d within in
+      let st = slice_index_or b.streams k d in
+      let unit = bench.streams k d within in
+      settled_bytes image is st.settings unit.settings st.stack unit.stack (events_of st.lines) one.1.0 one.0 one.1.1
 
   pairs_small : All HasByte (trace_pairs image b)
   pairs_small = woven_bytes b.weaves (traces image b)
@@ -195,79 +202,124 @@ module _ (image : Image) (b : BenchParts) (is : IsImage image) (bench : IsBench 
   absent : (id : ℕ) → has_stream id b.streams ≡ false → of id (trace_pairs image b) ≡ []
   absent id other = others_have_no_byte b.weaves (traces image b) id (same_ids bytes_of id b.streams ∙ other)
 
-  -- ---- no fault
+  -- ---- under a table that suits
 
-  abbrev IsTraced : BenchStream → Type 0
-  IsTraced st = IsAccepted image b.settings st × (of st.id (trace_pairs image b) ≡ bytes_of st)
+  record IsTraced (st : BenchStream) : Type 0 where
+    stream : IsBenchStream st
+    run : IsAccepted image st
+    bytes : of st.id (trace_pairs image b) ≡ bytes_of st
 
   traced : All IsTraced b.streams
-  traced k d within = (accepted k d within, whole k d within)
+  traced k d within = record { stream = bench.streams k d within; run = accepted k d within; bytes = whole k d within }
 
-  ends_well : (id : ℕ) → 0 < id → EndsWell image b.settings (of id frames_carry)
-  ends_well id some = subst (EndsWell image b.settings) (sym (carried id some)) (by (has_stream id b.streams) refl)
-    where
-      by : (t : Bool) → has_stream id b.streams ≡ t → EndsWell image b.settings (of id (trace_pairs image b))
-      by true e =
-          let one = found IsTraced id b.streams traced e in
-          let st = one.0 in
-          let run = one.1.0 in
-          let bytes : of id (trace_pairs image b) ≡ bytes_of st = ap (λ (i : ℕ). of i (trace_pairs image b)) (sym one.2) ∙ one.1.1 in
-          subst (EndsWell image b.settings) (sym bytes)
-          (settled_well image is b.settings bench.settings b.stack bench.stack (events_of st.lines) run.1.0 run.0 run.1.1)
-      by false e = inl (absent id e)
+  module _ (table : List Sizes) (is_table : IsTable table) (suits : Suits b table) where
+    abbrev own : ℕ → Sizes
+    own = sizes_at table
 
-  -- ---- the lines
+    own_settings : (id : ℕ) → AreSettings (own id)
+    own_settings id = are_settings table id is_table
 
-  module _ (lines : List Printed) (faulty : Bool) (text : IsTraceText image b lines faulty) where
-    of_source : (id : ℕ) → IsId id → PathPrinted image b.settings id (of id frames_carry) (lines_with id lines)
-    of_source id source = path_is_alone image (λ i. b.settings) id source bench.settings frames_carry 0 lines faulty text
+    -- a stream with the sizes of its ID
+    abbrev HasSizes : BenchStream → Type 0
+    HasSizes st = IsTraced st × (own st.id ≡ st.settings)
 
-    of_stream : (st : BenchStream) → IsId st.id → IsTraced st → lines_with st.id lines ≡ lines_under st.id (trace_lines image b.settings.depth st)
-    of_stream st source (run, bytes) =
-        settled_lines image is b.settings bench.settings b.stack bench.stack st.id (events_of st.lines) run.1.0 (lines_with st.id lines) run.0 run.1.1
-        (subst (λ (l : List ℕ). PathPrinted image b.settings st.id l (lines_with st.id lines)) (carried st.id source.0 ∙ bytes) (of_source st.id source))
+    sized : All HasSizes b.streams
+    sized k d within = (traced k d within, suits k d within)
 
-    of_other : (id : ℕ) → has_stream id b.streams ≡ false → lines_with id lines ≡ []
-    of_other id other = by (one_of_sources id)
+    -- ---- no fault
+
+    stream_ends_well : (st : BenchStream) → HasSizes st → EndsWell image (own st.id) (of st.id (trace_pairs image b))
+    stream_ends_well st (t, same) =
+        subst (λ (s : Sizes). EndsWell image s (of st.id (trace_pairs image b))) (sym same)
+        (subst (EndsWell image st.settings) (sym t.bytes)
+        (settled_well image is st.settings t.stream.settings st.stack t.stream.stack (events_of st.lines) t.run.1.0 t.run.0 t.run.1.1))
+
+    ends_well : (id : ℕ) → 0 < id → EndsWell image (own id) (of id frames_carry)
+    ends_well id some = subst (EndsWell image (own id)) (sym (carried id some)) (by (has_stream id b.streams) refl)
       where
-        by : IsId id ⊎ (IsId id → ⊥) → lines_with id lines ≡ []
-        by (inl source) =
-            subst (λ (l : List ℕ). PathPrinted image b.settings id l (lines_with id lines)) (carried id source.0 ∙ absent id other) (of_source id source)
-        by (inr neither) = others_have_none (by_sizes (paths image) (λ i. b.settings)) frames_carry 0 lines faulty id neither text
+        by : (t : Bool) → has_stream id b.streams ≡ t → EndsWell image (own id) (of id (trace_pairs image b))
+        by true e =
+            let one = found HasSizes id b.streams sized e in
+            subst (λ (i : ℕ). EndsWell image (own i) (of i (trace_pairs image b))) one.2 (stream_ends_well one.0 one.1)
+        by false e = inl (absent id e)
 
-    as_text : (st : BenchStream) → lines_with st.id lines ≡ lines_under st.id (trace_lines image b.settings.depth st)
-        → text_of (lines_with st.id lines) ≡ stream_text image b.settings.depth st ++ concat (end_lines st.id (events_of st.lines))
-    as_text st are =
-        let items = items_after (run_after image b.settings.depth (events_of st.lines)) in
-        ap text_of are ∙ text_under st.id (trace_lines image b.settings.depth st)
-        ∙ concat-append (line_list st.id None items) (end_lines st.id (events_of st.lines))
-        ∙ ap (λ (l : List ℕ). l ++ concat (end_lines st.id (events_of st.lines))) (list_joined st.id None items)
+    -- ---- the lines
 
-    of_streams : All (λ (st : BenchStream). lines_with st.id lines ≡ lines_under st.id (trace_lines image b.settings.depth st)) b.streams
-    of_streams k d within = of_stream (slice_index_or b.streams k d) (bench.streams k d within).id (traced k d within)
+    module _ (lines : List Printed) (faulty : Bool) (text : IsTraceText image table b lines faulty) where
+      of_source : (id : ℕ) → IsId id → PathPrinted image (own id) id (of id frames_carry) (lines_with id lines)
+      of_source id source = path_is_alone image own id source (own_settings id) frames_carry 0 lines faulty text
 
-    pub shows_traces : ShowsTraces image b lines
-    shows_traces = record {
-      streams = of_streams;
-      retired = λ k d within. as_text (slice_index_or b.streams k d) (of_streams k d within);
-      alone = ids_are (λ id. has_stream id b.streams) lines (text_has (by_sizes (paths image) (λ i. b.settings)) frames_carry lines faulty text) of_other
-          (is_of_one b.streams) (λ id. refl);
-    }
+      of_stream : (st : BenchStream) → IsId st.id → HasSizes st → lines_with st.id lines ≡ lines_under st.id (trace_lines image st)
+      of_stream st source (t, same) =
+          settled_lines image is st.settings t.stream.settings st.stack t.stream.stack st.id (events_of st.lines) t.run.1.0 (lines_with st.id lines)
+          t.run.0 t.run.1.1
+          (subst (λ (l : List ℕ). PathPrinted image st.settings st.id l (lines_with st.id lines)) (carried st.id source.0 ∙ t.bytes)
+          (subst (λ (s : Sizes). PathPrinted image s st.id (of st.id frames_carry) (lines_with st.id lines)) same (of_source st.id source)))
 
-    no_fault : faulty ≡ false
-    no_fault = text_well image (λ i. b.settings) (λ i. bench.settings) frames_carry ends_well lines faulty text
+      of_other : (id : ℕ) → has_stream id b.streams ≡ false → lines_with id lines ≡ []
+      of_other id other = by (one_of_sources id)
+        where
+          by : IsId id ⊎ (IsId id → ⊥) → lines_with id lines ≡ []
+          by (inl source) =
+              subst (λ (l : List ℕ). PathPrinted image (own id) id l (lines_with id lines)) (carried id source.0 ∙ absent id other) (of_source id source)
+          by (inr neither) = others_have_none (by_sizes (paths image) own) frames_carry 0 lines faulty id neither text
+
+      as_text : (st : BenchStream) → lines_with st.id lines ≡ lines_under st.id (trace_lines image st)
+          → text_of (lines_with st.id lines) ≡ stream_text image st ++ concat (end_lines st.id (events_of st.lines))
+      as_text st are =
+          let items = items_after (run_after image st.settings.depth (events_of st.lines)) in
+          ap text_of are ∙ text_under st.id (trace_lines image st)
+          ∙ concat-append (line_list st.id None items) (end_lines st.id (events_of st.lines))
+          ∙ ap (λ (l : List ℕ). l ++ concat (end_lines st.id (events_of st.lines))) (list_joined st.id None items)
+
+      of_streams : All (λ (st : BenchStream). lines_with st.id lines ≡ lines_under st.id (trace_lines image st)) b.streams
+      of_streams k d within = of_stream (slice_index_or b.streams k d) (bench.streams k d within).id (sized k d within)
+
+      pub shows_traces : ShowsTraces image b lines
+      shows_traces = record {
+        streams = of_streams;
+        retired = λ k d within. as_text (slice_index_or b.streams k d) (of_streams k d within);
+        alone = ids_are (λ id. has_stream id b.streams) lines (text_has (by_sizes (paths image) own) frames_carry lines faulty text) of_other
+            (is_of_one b.streams) (λ id. refl);
+      }
+
+      no_fault : faulty ≡ false
+      no_fault = text_well image own own_settings frames_carry ends_well lines faulty text
+
+    -- ---- under another
+
+    -- such tables have the same sizes where an ID has a byte
+    alike : (other : List Sizes) → Suits b other → (id : ℕ) → IsId id → (of id frames_carry ≡ [] → ⊥) → own id ≡ sizes_at other id
+    alike other also id source some = by (has_stream id b.streams) refl
+      where
+        all_same : All (λ (st : BenchStream). own st.id ≡ sizes_at other st.id) b.streams
+        all_same k d within = suits k d within ∙ sym (also k d within)
+
+        by : (t : Bool) → has_stream id b.streams ≡ t → own id ≡ sizes_at other id
+        by true e =
+            let one = found (λ (st : BenchStream). own st.id ≡ sizes_at other st.id) id b.streams all_same e in
+            subst (λ (i : ℕ). own i ≡ sizes_at other i) one.2 one.1
+        by false e = absurd (some (carried id source.0 ∙ absent id e))
+
+    other_text : (other : List Sizes) → Suits b other → (lines : List Printed) (faulty : Bool) → IsTraceText image table b lines faulty
+        → IsTraceText image other b lines faulty
+    other_text other also lines faulty text = text_alike (paths image) own (sizes_at other) frames_carry 0 lines faulty (alike other also) text
 
   pub traces_are_shown : TracesAreShown image b
   traces_are_shown =
-      let some = some_text_of_paths image (λ i. b.settings) is (λ i. bench.settings) frames_carry 0 carry_small in
+      let table = table_of b in
+      let fits = some_table_suits b bench in
+      let some = some_text_of_paths image (sizes_at table) is (own_settings table fits.0 fits.1) frames_carry 0 carry_small in
       let lines = some.0 in
-      let whole : some.1 ≡ false = no_fault lines some.1 some.2 in
-      let text : IsTraceText image b lines false = subst (λ (f : Bool). IsTraceText image b lines f) whole some.2 in
+      let clean : some.1 ≡ false = no_fault table fits.0 fits.1 lines some.1 some.2 in
+      let text : IsTraceText image table b lines false = subst (λ (f : Bool). IsTraceText image table b lines f) clean some.2 in
       record {
         nothing_left = nothing_left (trace_pairs image b);
         carried = whole_in_frames;
         lines = lines;
-        text = text;
-        shows = shows_traces lines false text;
-        only = λ others also is. one_text_of_paths image (λ i. b.settings) (λ i. bench.settings) frames_carry 0 others lines also false is text;
+        text = λ other is_table suits. other_text table fits.0 fits.1 other suits lines false text;
+        shows = shows_traces table fits.0 fits.1 lines false text;
+        only = λ other is_table suits others also printed.
+            one_text_of_paths image (sizes_at other) (own_settings other is_table suits) frames_carry 0 others lines also false printed
+            (other_text table fits.0 fits.1 other suits lines false text);
       }

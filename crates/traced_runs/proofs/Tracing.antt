@@ -13,7 +13,7 @@ use Rattle.program_image.specs.Part.{IsImage}
 use Rattle.program_image.specs.declared.image.Image.{Image}
 use Rattle.spec_run.proofs.OneEvent.{refused_behind}
 use Rattle.spec_run.specs.Checks.{check}
-use Rattle.spec_run.specs.RunAfter.{IsEvent}
+use Rattle.spec_run.specs.RunAfter.{IsEvent, run_after}
 use Rattle.spec_run.specs.declared.event.Event.{Event}
 use Rattle.spec_run.specs.declared.run_fault.RunFault.{RunFault}
 use Rattle.retired_paths.proofs.Refused.{all_lines, among_next, refuses_line}
@@ -37,17 +37,19 @@ all_at P [] k x all e = absurd cc
 all_at P (y ∷ xs) zero x all e = let same : y ≡ x = cc in subst P same (All-head P y xs all)
 all_at P (y ∷ xs) (suc k) x all e = all_at P xs k x (All-tail P y xs all) e
 
-line_of : (s : Sizes) (place : Option BenchStream) (streams : List BenchStream) (n k : ℕ) (l : BenchLine) → All (IsBenchStream s) streams
-    → slice_get streams n ≡ place → Some l ≡ option_and_then (λ st. slice_get st.lines k) place → IsEvent s l.event
-line_of s None streams n k l all there e = absurd cc
-line_of s (Some stream) streams n k l all there e =
-    (all_at (IsBenchLine s) stream.lines k l (all_at (IsBenchStream s) streams n stream all there).lines (sym e)).event
+line_of : (s : Sizes) (place : Option BenchStream) (streams : List BenchStream) (n k : ℕ) (l : BenchLine) → All IsBenchStream streams
+    → slice_get streams n ≡ place → ((stream : BenchStream) → place ≡ Some stream → s ≡ stream.settings)
+    → Some l ≡ option_and_then (λ st. slice_get st.lines k) place → IsEvent s l.event
+line_of s None streams n k l all there same e = absurd cc
+line_of s (Some stream) streams n k l all there same e =
+    subst (λ (t : Sizes). IsEvent t l.event) (sym (same stream refl))
+    (all_at (IsBenchLine stream.settings) stream.lines k l (all_at IsBenchStream streams n stream all there).lines (sym e)).event
 
--- the event of a line is one of a trace unit of these sizes
-pub line_is : (b : BenchParts) (settings : Sizes) (s k : ℕ) (l : BenchLine) → IsBench b → settings ≡ b.settings
+-- the event of a line is one of a trace unit of its stream's sizes
+pub line_is : (b : BenchParts) (settings : Sizes) (s k : ℕ) (l : BenchLine) → IsBench b
+    → ((stream : BenchStream) → slice_get b.streams s ≡ Some stream → settings ≡ stream.settings)
     → Some l ≡ option_and_then (λ st. slice_get st.lines k) (slice_get b.streams s) → IsEvent settings l.event
-line_is b settings s k l is same e =
-    subst (λ (t : Sizes). IsEvent t l.event) (sym same) (line_of b.settings (slice_get b.streams s) b.streams s k l is.streams refl e)
+line_is b settings s k l is same e = line_of settings (slice_get b.streams s) b.streams s k l is.streams refl same e
 
 -- ---- one event
 
@@ -77,13 +79,14 @@ line_refused image unit s events line k fault lt stands same refused =
 
 -- ---- a stream
 
-pub all_traced : (image : Image) (s : Sizes) (unit : Kept) (bytes : List ℕ) (stream : BenchStream) (k : ℕ) → slice_get stream.lines k ≡ None
-    → unit.settings ≡ s → IsTracing image unit bytes (events_of (take k stream.lines))
-    → IsTracing image unit bytes (events_of stream.lines) × (stream_refusal image s.depth stream ≡ None)
-all_traced image s unit bytes stream k none same t =
+pub all_traced : (image : Image) (unit : Kept) (bytes : List ℕ) (stream : BenchStream) (k : ℕ) → slice_get stream.lines k ≡ None
+    → unit.settings ≡ stream.settings → IsTracing image unit bytes (events_of (take k stream.lines))
+    → IsTracing image unit bytes (events_of stream.lines) × (stream_refusal image stream ≡ None)
+all_traced image unit bytes stream k none same t =
     let all = subst (λ (l : List BenchLine). IsTracing image unit bytes (events_of l)) (all_lines stream.lines k none) t in (
       all,
-      ap (λ (z : Sizes). stream_refusal image z.depth stream) (sym same) ∙ ap (refused_line stream.lines) all.stands.run.after,
+      ap (λ (z : Sizes). refused_line stream.lines (run_after image z.depth (events_of stream.lines))) (sym same)
+          ∙ ap (refused_line stream.lines) all.stands.run.after,
     )
 
 -- ---- streams
@@ -94,27 +97,27 @@ traces_of image b streams = traces image (record b { streams = streams })
 
 pub trace_more : (image : Image) (b : BenchParts) (made : List Trace) (t : Trace) (k : ℕ) (stream : BenchStream) → slice_get b.streams k ≡ Some stream
     → all_left made ≡ traces_of image b (take k b.streams) → t.id ≡ stream.id
-    → (left_of t).1 ≡ settled image b.settings b.stack (events_of stream.lines)
+    → (left_of t).1 ≡ settled image stream.settings stream.stack (events_of stream.lines)
     → all_left (made ++ t ∷ []) ≡ traces_of image b (take (k + 1) b.streams)
 trace_more image b made t k stream there so_far id bytes =
-    let one : BenchStream → ℕ × List ℕ = λ s. (s.id, settled image b.settings b.stack (events_of s.lines)) in
+    let one : BenchStream → ℕ × List ℕ = λ s. (s.id, settled image s.settings s.stack (events_of s.lines)) in
     let last : left_of t ≡ one stream = ap (λ (i : ℕ). (i, (left_of t).1)) id ∙ ap (λ (l : List ℕ). (stream.id, l)) bytes in
     map-append left_of made (t ∷ []) ∙ ap (λ (l : List (ℕ × List ℕ)). l ++ left_of t ∷ []) so_far
     ∙ ap (λ (p : ℕ × List ℕ). map one (take k b.streams) ++ p ∷ []) last
     ∙ sym (map-append one (take k b.streams) (stream ∷ [])) ∙ ap (map one) (sym (take_one b.streams k stream there))
 
 -- what is refused of them is refused behind those that are accepted
-pub none_among : (image : Image) (depth : ℕ) (streams : List BenchStream) (k : ℕ) (stream : BenchStream) → slice_get streams k ≡ Some stream
-    → refusal_among image depth streams ≡ refusal_among image depth (drop k streams) → stream_refusal image depth stream ≡ None
-    → refusal_among image depth streams ≡ refusal_among image depth (drop (k + 1) streams)
-none_among image depth streams k stream there so_far none =
-    so_far ∙ among_next image depth streams k stream there ∙ ap (λ r. first_of r (refusal_among image depth (drop (k + 1) streams))) none
+pub none_among : (image : Image) (streams : List BenchStream) (k : ℕ) (stream : BenchStream) → slice_get streams k ≡ Some stream
+    → refusal_among image streams ≡ refusal_among image (drop k streams) → stream_refusal image stream ≡ None
+    → refusal_among image streams ≡ refusal_among image (drop (k + 1) streams)
+none_among image streams k stream there so_far none =
+    so_far ∙ among_next image streams k stream there ∙ ap (λ r. first_of r (refusal_among image (drop (k + 1) streams))) none
 
-pub one_among : (image : Image) (depth : ℕ) (streams : List BenchStream) (k : ℕ) (stream : BenchStream) (line : ℕ) (fault : RunFault)
-    → slice_get streams k ≡ Some stream → refusal_among image depth streams ≡ refusal_among image depth (drop k streams)
-    → stream_refusal image depth stream ≡ refused_at line fault → refusal_among image depth streams ≡ refused_at line fault
-one_among image depth streams k stream line fault there so_far refused =
-    so_far ∙ among_next image depth streams k stream there ∙ ap (λ r. first_of r (refusal_among image depth (drop (k + 1) streams))) refused
+pub one_among : (image : Image) (streams : List BenchStream) (k : ℕ) (stream : BenchStream) (line : ℕ) (fault : RunFault)
+    → slice_get streams k ≡ Some stream → refusal_among image streams ≡ refusal_among image (drop k streams)
+    → stream_refusal image stream ≡ refused_at line fault → refusal_among image streams ≡ refused_at line fault
+one_among image streams k stream line fault there so_far refused =
+    so_far ∙ among_next image streams k stream there ∙ ap (λ r. first_of r (refusal_among image (drop (k + 1) streams))) refused
 
 -- ---- the answer
 

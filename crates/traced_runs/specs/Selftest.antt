@@ -4,6 +4,7 @@ use Rattle.bench_gen.specs.Bench.{generated}
 use Rattle.bench_text.specs.Parts.{BenchParts}
 use Rattle.bench_text.specs.Refusals.{bench_of}
 use Rattle.bench_text.specs.declared.fault.BenchWhy.{BenchWhy}
+use Rattle.etm_types.specs.SettingsTable.{sizes_at}
 use Rattle.formatter_frames.specs.Unframed.{begun_frame, unframed}
 use Rattle.program_image.specs.ImageText.{image_of}
 use Rattle.program_image.specs.declared.fault.ImageWhy.{ImageWhy}
@@ -15,7 +16,7 @@ use Rattle.input_pieces.specs.Listed.{most_input}
 use Rattle.answer_lines.specs.Prints.{Prints, PrintsFront}
 use Rattle.answer_lines.specs.BenchLine.{bench_line}
 use Rattle.answer_lines.specs.SummaryLine.{summary_line}
-use Rattle.traced_runs.specs.Traced.{trace_frames}
+use Rattle.traced_runs.specs.Traced.{table_of, trace_frames}
 use Rattle.answer_lines.specs.declared.status.Status.{Status}
 use Rattle.answer_lines.specs.declared.status.Status.TheVariants as status
 use Rattle.trace_io.specs.Bytes.{AppendsAll}
@@ -46,10 +47,10 @@ abbrev pub kept_of : Option ℕ → List ℕ → List ℕ
 kept_of None frames = frames
 kept_of (Some cut) frames = take cut frames
 
--- these are the lines of the paths in what is read
+-- these are the lines of the paths in what is read, under the sizes of each stream
 abbrev pub HasLines : Image → BenchParts → List ℕ → List Printed → Type 0
 HasLines image b bytes lines =
-    (faulty : Bool) × IsText (by_sizes (paths image) (λ id. b.settings)) (unframed bytes) (length (begun_frame bytes)) lines faulty
+    (faulty : Bool) × IsText (by_sizes (paths image) (sizes_at (table_of b))) (unframed bytes) (length (begun_frame bytes)) lines faulty
 
 -- the number of line feeds
 abbrev pub line_feeds : List ℕ → ℕ

@@ -1,8 +1,10 @@
 -- What `trace` writes of a run file over an image, and what is printed of the paths in that.
-use Rattle.std.specs.Prelude.{◌≡◌, ℕ, Bool, true, false, All, List, [], ◌∷◌, ◌++◌, map, Option, Some, None, Result, Ok}
+use Rattle.std.specs.Prelude.{◌≡◌, ℕ, ◌-◌, Bool, true, false, All, List, [], ◌∷◌, ◌++◌, map, replicate, slice_set, Option, Some, None, Result, Ok}
 use Rattle.std.specs.List.{concat}
-use Rattle.bench_text.specs.Parts.{BenchParts, BenchStream, events_of, has_stream}
+use Rattle.bench_text.specs.Parts.{BenchParts, BenchStream, IsBench, events_of, has_stream}
 use Rattle.bench_text.specs.Refusals.{bench_of, refusal_among}
+use Rattle.etm_types.specs.Settings.{Sizes, default_sizes}
+use Rattle.etm_types.specs.SettingsTable.{IsTable, sizes_at}
 use Rattle.formatter_frames.specs.Framed.{framed}
 use Rattle.formatter_frames.specs.Unframed.{begun_frame, unframed}
 use Rattle.packet_grammar.specs.declared.end.End.TheVariants as end
@@ -24,7 +26,7 @@ use Rattle.trace_unit.specs.Written.{settled}
 
 -- what the trace unit of each stream writes for its events, with the ID of the stream
 abbrev pub traces : Image → BenchParts → List (ℕ × List ℕ)
-traces image b = map (λ (s : BenchStream). (s.id, settled image b.settings b.stack (events_of s.lines))) b.streams
+traces image b = map (λ (s : BenchStream). (s.id, settled image s.settings s.stack (events_of s.lines))) b.streams
 
 -- woven as the run file says
 abbrev pub trace_pairs : Image → BenchParts → List (ℕ × ℕ)
@@ -42,9 +44,9 @@ end_lines id [] = []
 end_lines id (e ∷ events) = end_line id end.Clean ∷ []
 
 -- the lines of a stream's trace: those of its retired path, and then of its end
-abbrev pub trace_lines : Image → ℕ → BenchStream → List (List ℕ)
-trace_lines image depth s =
-    line_list s.id None (items_after (run_after image depth (events_of s.lines))) ++ end_lines s.id (events_of s.lines)
+abbrev pub trace_lines : Image → BenchStream → List (List ℕ)
+trace_lines image s =
+    line_list s.id None (items_after (run_after image s.settings.depth (events_of s.lines))) ++ end_lines s.id (events_of s.lines)
 
 -- the ID is there, and is that of a stream
 abbrev pub is_of_one : List BenchStream → Option ℕ → Bool
@@ -53,33 +55,51 @@ is_of_one streams (Some id) = has_stream id streams
 
 -- Each stream has the lines of its trace. As a text they are what `retired` prints of it, and then its end. Each line is one of a stream.
 pub record ShowsTraces (image : Image) (b : BenchParts) (lines : List Printed) : Type 0 where
-  pub streams : All (λ (s : BenchStream). lines_with s.id lines ≡ lines_under s.id (trace_lines image b.settings.depth s)) b.streams
+  pub streams : All (λ (s : BenchStream). lines_with s.id lines ≡ lines_under s.id (trace_lines image s)) b.streams
   pub retired : All (λ (s : BenchStream). text_of (lines_with s.id lines)
-      ≡ stream_text image b.settings.depth s ++ concat (end_lines s.id (events_of s.lines))) b.streams
+      ≡ stream_text image s ++ concat (end_lines s.id (events_of s.lines))) b.streams
   pub alone : All (λ (l : Printed). is_of_one b.streams l.id ≡ true) lines
 
--- what is printed of the paths in the frames; faulty says whether one of them has a fault
-abbrev pub IsTraceText : Image → BenchParts → List Printed → Bool → Type 0
-IsTraceText image b lines faulty = IsText (by_sizes (paths image) (λ id. b.settings)) (unframed (trace_frames image b)) 0 lines faulty
+-- a table of sizes gives the ID of each stream those of its trace unit; of other IDs it says nothing
+abbrev pub Suits : BenchParts → List Sizes → Type 0
+Suits b table = All (λ (s : BenchStream). sizes_at table s.id ≡ s.settings) b.streams
 
--- The frames are whole, and carry each trace. Their paths have no fault, and show the traces; nothing else is printed of them.
+-- what is printed, under these sizes, of the paths in the frames; faulty says whether one of them has a fault
+abbrev pub IsTraceText : Image → List Sizes → BenchParts → List Printed → Bool → Type 0
+IsTraceText image table b lines faulty = IsText (by_sizes (paths image) (sizes_at table)) (unframed (trace_frames image b)) 0 lines faulty
+
+-- The frames are whole, and carry each trace. Their paths, under every table that suits, have no fault, and show the traces; nothing else is
+-- printed of them.
 pub record TracesAreShown (image : Image) (b : BenchParts) : Type 0 where
   pub nothing_left : begun_frame (trace_frames image b) ≡ []
   pub carried : All (λ (t : ℕ × List ℕ). of t.0 (unframed (trace_frames image b)) ≡ t.1) (traces image b)
   pub lines : List Printed
-  pub text : IsTraceText image b lines false
+  pub text : (table : List Sizes) → IsTable table → Suits b table → IsTraceText image table b lines false
   pub shows : ShowsTraces image b lines
-  pub only : (others : List Printed) (faulty : Bool) → IsTraceText image b others faulty → (others ≡ lines) × (faulty ≡ false)
+  pub only : (table : List Sizes) → IsTable table → Suits b table → (others : List Printed) (faulty : Bool) → IsTraceText image table b others faulty
+      → (others ≡ lines) × (faulty ≡ false)
+
+-- a table in which these streams are given their sizes
+abbrev pub with_streams : List BenchStream → List Sizes → List Sizes
+with_streams [] table = table
+with_streams (s ∷ streams) table = with_streams streams (slice_set table (s.id - 1) s.settings)
+
+-- a table that suits: IDs without a stream have the default sizes
+abbrev pub table_of : BenchParts → List Sizes
+table_of b = with_streams b.streams (replicate 111 default_sizes)
+
+abbrev pub SomeTableSuits : Type 0
+SomeTableSuits = (b : BenchParts) → IsBench b → IsTable (table_of b) × Suits b (table_of b)
 
 -- a stream without an event has no byte, and no line
 abbrev pub NoEventNoLine : Type 0
 NoEventNoLine =
-    (image : Image) (b : BenchParts) (s : BenchStream) → events_of s.lines ≡ []
-    → (settled image b.settings b.stack (events_of s.lines) ≡ []) × (trace_lines image b.settings.depth s ≡ [])
+    (image : Image) (s : BenchStream) → events_of s.lines ≡ []
+    → (settled image s.settings s.stack (events_of s.lines) ≡ []) × (trace_lines image s ≡ [])
 
 -- all events are accepted
 abbrev pub AreAccepted : Image → BenchParts → Type 0
-AreAccepted image b = refusal_among image b.settings.depth b.streams ≡ None
+AreAccepted image b = refusal_among image b.streams ≡ None
 
 -- ---- what is read of a run file, and written
 

@@ -2,11 +2,12 @@
 ghost use Rattle.bench_text.specs.Parts.{BenchParts, IsBench};
 ghost use Rattle.program_image.specs.Part.{IsImage};
 ghost use Rattle.program_image.specs.declared.image.Image.{Image};
-ghost use Rattle.traced_runs.specs.Traced.{AreAccepted, NoEventNoLine, TracesAreShown};
+ghost use Rattle.traced_runs.specs.Traced.{AreAccepted, NoEventNoLine, SomeTableSuits, TracesAreShown};
 
 /// Where all events of a run file are accepted, the frames of its traces show each stream's retired path, which ends clean, and
-/// nothing else. A stream without an event has no line.
+/// nothing else, under every table that gives the streams their sizes. There is such a table. A stream without an event has no line.
 pub fn traced_streams_show_their_retired_paths()
     ensures no_event { NoEventNoLine }
+    ensures some_table { SomeTableSuits }
     ensures shown { (image : Image) (b : BenchParts) → IsImage image → IsBench b → AreAccepted image b → TracesAreShown image b }
 {}

@@ -11,7 +11,7 @@ ghost use Rattle.program_image.specs.declared.image.Image.{Image as Parts};
 ghost use Rattle.stream_demux.specs.Texts.{Printed};
 ghost use Rattle.input_pieces.specs.Listed.{most_input};
 ghost use Rattle.traced_runs.specs.Selftest.{AreGood, HasLines, IsTooLong, TestsSo, kept_of, line_feeds};
-ghost use Rattle.traced_runs.specs.Traced.{trace_frames};
+ghost use Rattle.traced_runs.specs.Traced.{table_of, trace_frames};
 ghost use Rattle.trace_io.specs.Bytes.{ShowsAsBefore};
 ghost use Rattle.trace_io.specs.Causes.{HasCause};
 
@@ -19,6 +19,7 @@ use crate::traced::{Untraced, traced_streams};
 use answer_lines::{Status, write_image_bad, write_summary};
 use bench_gen::{Generated, generate};
 use bench_text::{Bench, BenchWhy};
+use etm_types::{Settings, SettingsTable};
 use input_pieces::{MOST_INPUT, print_input};
 use program_image::{Image, ImageFault, ImageWhy};
 use retired_paths::{Unread, read_bench, refuse};
@@ -94,9 +95,9 @@ fn bench_in(alloc: Global, text: &[u8]) -> Result<Bench, Untested>
 fn frames_of(alloc: Global, image: &Image, bench: &Bench) -> Result<MemSink, Untested>
     requires { IsBench bench.now }
     ensures frames { IfOk result (λ frames. (frames.taken ≡ trace_frames image.now bench.now)
-        × (refusal_among image.now bench.now.settings.depth bench.now.streams ≡ None)) }
+        × (refusal_among image.now bench.now.streams ≡ None)) }
     ensures refused { (line : ℕ) (why : BenchWhy) → result ≡ Err (Untested.Bench line why)
-        → refusal_among image.now bench.now.settings.depth bench.now.streams ≡ Some (line, why) }
+        → refusal_among image.now bench.now.streams ≡ Some (line, why) }
     ensures other { ((line : ℕ) (why : ImageWhy) → result ≢ Err (Untested.Image line why)) × (result ≢ Err Untested.TooLong) }
 {
     let mut traces = match traced_streams(alloc, image, bench) {
@@ -121,6 +122,20 @@ fn line_feeds(text: &[u8]) -> usize
     text.iter().filter(|byte| **byte == b'\n').count()
 }
 
+/// The table in which each stream of a run file has its settings, and every other ID the defaults.
+fn table_of(bench: &Bench) -> SettingsTable
+    ensures { result ≡ table_of bench.now }
+{
+    let mut table = SettingsTable::new(Settings::default());
+    for s in 0..bench.streams() {
+        let (Some(id), Some(settings)) = (bench.id_at(s), bench.settings_of(s)) else {
+            unreachable!()
+        };
+        table.set(id, settings);
+    }
+    table
+}
+
 /// The number of lines of the paths in frames, which are read by pieces.
 fn count_lines(
     alloc: Global,
@@ -136,7 +151,7 @@ fn count_lines(
     ensures { IfOk result (λ count. (lines : List Printed) × HasLines image.now bench.now frames.now lines × (count ≡ length lines)) }
 {
     let mut source = source_of(alloc, frames, piece)?;
-    let demux = Demux::<StreamDecoder>::new(alloc, bench.settings())?;
+    let demux = Demux::<StreamDecoder>::new(alloc, &table_of(bench))?;
     let mut text = MemSink::new(alloc, Vec::new(alloc));
     // No read fails, and there are not too many bytes: where no write failed, all of them were read.
     match print_input(demux, image, &mut source, &mut text) {

@@ -1,7 +1,7 @@
 //! The command `trace`: the streams of a run file are traced, one after the other, and then their traces are woven into frames.
 //!
 //! Nothing is written before the last stream is traced, so that a run file that is bad, or want of memory, leaves no frame.
-ghost use Rattle.std.specs.Prelude.{◌≡◌, ◌⊎◌, ℕ, ◌+◌, ◌≤◌, List, [], None, Some, Ok, Err, IsOk, IfOk, slice_get};
+ghost use Rattle.std.specs.Prelude.{◌≡◌, ◌⊎◌, ℕ, ◌+◌, ◌≤◌, ◌<◌, List, [], length, None, Some, Ok, Err, IsOk, IfOk, slice_get};
 ghost use Rattle.bench_text.specs.Parts.{BenchStream, IsBench, events_of};
 ghost use Rattle.bench_text.specs.Refusals.{most_text, refusal_among, stream_refusal};
 ghost use Rattle.spec_run.specs.RunAfter.{IsEvent};
@@ -63,15 +63,15 @@ fn trace_lines(
     bytes: &mut Vec<u8>,
 ) -> Result<(), Untraced>
     requires parts { IsBench bench.now }
-    requires settings { unit.old.settings ≡ bench.now.settings }
+    requires settings { (stream : BenchStream) → slice_get bench.now.streams s ≡ Some stream → unit.old.settings ≡ stream.settings }
     ensures traces { (stream : BenchStream) → slice_get bench.now.streams s ≡ Some stream
         → IsTracing image.now unit.old bytes.old.items [] → IsOk result
         → IsTracing image.now unit.new bytes.new.items (events_of stream.lines)
-        × (stream_refusal image.now bench.now.settings.depth stream ≡ None) }
+        × (stream_refusal image.now stream ≡ None) }
     ensures refused { (stream : BenchStream) → slice_get bench.now.streams s ≡ Some stream
         → IsTracing image.now unit.old bytes.old.items []
         → (line : ℕ) (fault : Refusal) → result ≡ Err (Untraced.Refused line fault)
-        → stream_refusal image.now bench.now.settings.depth stream ≡ refused_at line fault }
+        → stream_refusal image.now stream ≡ refused_at line fault }
     ensures settings { (unit.new.settings ≡ unit.old.settings) × (unit.new.stack_depth ≡ unit.old.stack_depth) }
 {
     let mut k = 0;
@@ -92,15 +92,19 @@ fn trace_lines(
 
 /// The trace of a stream.
 fn traced_stream(alloc: Global, image: &Image, bench: &Bench, s: usize) -> Result<Vec<u8>, Untraced>
-    requires { IsBench bench.now }
+    requires parts { IsBench bench.now }
+    requires place { s < length bench.now.streams }
     ensures bytes { (stream : BenchStream) → slice_get bench.now.streams s ≡ Some stream
-        → IfOk result (λ bytes. (bytes.items ≡ settled image.now bench.now.settings bench.now.stack (events_of stream.lines))
-        × (stream_refusal image.now bench.now.settings.depth stream ≡ None)) }
+        → IfOk result (λ bytes. (bytes.items ≡ settled image.now stream.settings stream.stack (events_of stream.lines))
+        × (stream_refusal image.now stream ≡ None)) }
     ensures refused { (stream : BenchStream) → slice_get bench.now.streams s ≡ Some stream
         → (line : ℕ) (fault : Refusal) → result ≡ Err (Untraced.Refused line fault)
-        → stream_refusal image.now bench.now.settings.depth stream ≡ refused_at line fault }
+        → stream_refusal image.now stream ≡ refused_at line fault }
 {
-    let Ok(mut unit) = Unit::new(alloc, bench.settings(), bench.stack()) else {
+    let (Some(settings), Some(stack)) = (bench.settings_of(s), bench.stack_of(s)) else {
+        unreachable!()
+    };
+    let Ok(mut unit) = Unit::new(alloc, &settings, stack) else {
         return Err(Untraced::Memory);
     };
     let mut bytes = Vec::new(alloc);
@@ -120,9 +124,9 @@ fn traced_stream(alloc: Global, image: &Image, bench: &Bench, s: usize) -> Resul
 pub fn traced_streams(alloc: Global, image: &Image, bench: &Bench) -> Result<Vec<Trace>, Untraced>
     requires { IsBench bench.now }
     ensures traces { IfOk result (λ made. (all_left made.items ≡ traces image.now bench.now)
-        × (refusal_among image.now bench.now.settings.depth bench.now.streams ≡ None)) }
+        × (refusal_among image.now bench.now.streams ≡ None)) }
     ensures refused { (line : ℕ) (fault : Refusal) → result ≡ Err (Untraced.Refused line fault)
-        → refusal_among image.now bench.now.settings.depth bench.now.streams ≡ refused_at line fault }
+        → refusal_among image.now bench.now.streams ≡ refused_at line fault }
 {
     let mut made = Vec::new(alloc);
     for s in 0..bench.streams() {

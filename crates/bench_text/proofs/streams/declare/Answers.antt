@@ -4,4 +4,4 @@ use Rattle.bench_text.proofs.Entries.{declared}
 use Rattle.bench_text.proofs.streams.declare.Goals as goal
 
 pub returns : goal.returns
-returns c = ap streams_in c.in_ok-insert.ensures.entries ∙ declared c.args.id c.new.result c.args.streams.now.entries c.requires c.new.ensures.items
+returns c = ap streams_in c.in_ok-insert.ensures.entries ∙ declared c.args.id c.args.stream c.args.streams.now.entries c.requires

@@ -6,6 +6,5 @@ use Rattle.retired_paths.proofs.retired.print_retired.Given as goal
 abbrev pub invariant-loop-s : goal.invariant-loop-s
 invariant-loop-s g l =
     let state = g.K.Sink.state in
-    let most = l.bench.settings.depth in
     (text : List ℕ) × Wrote (state l.fn.out) (state l.out) text
-    × (text ++ streams_text l.image most (drop l.s l.bench.streams) ≡ streams_text l.image most l.bench.streams)
+    × (text ++ streams_text l.image (drop l.s l.bench.streams) ≡ streams_text l.image l.bench.streams)

@@ -9,33 +9,32 @@ use Rattle.retired_paths.proofs.retired.print_stream.Goals as goal
 
 pub print_line-requires : goal.print_line-requires
 print_line-requires g c =
-    let sizes = c.requires.0 in
-    let stream = c.requires.1 in
-    let there = c.requires.2 in
-    let can = c.requires.3 in
+    let stream = c.requires.0 in
+    let there = c.requires.1 in
+    let can = c.requires.2 in
     let k = c.loop-line.k in
     let line = c.in-Some-line_at.line.now in
     let found = sym (c.in-Some-line_at.ensures.value ∙ looked_up c.args.bench.now.streams c.args.s k stream there) in (
-      sizes,
+      stream.settings,
       events_of (take k stream.lines),
-      can_line c.args.image.now sizes c.args.retiring.now c.loop-line.retiring stream.lines k line found can
-          (c.loop-line.invariant sizes stream there can).stands,
+      can_line c.args.image.now stream.settings c.args.retiring.now c.loop-line.retiring stream.lines k line found can
+          (c.loop-line.invariant stream there can).stands,
     )
 
 pub returns-in_err-print_line : goal.returns-in_err-print_line
-returns-in_err-print_line g c sizes stream there can =
+returns-in_err-print_line g c stream there can =
     let image = c.args.image.now in
     let k = c.loop-line.k in
     let was = c.args.retiring.now in
     let line = c.in-Some-line_at.line.now in
     let id = c.in-Some.id in
     let found = sym (c.in-Some-line_at.ensures.value ∙ looked_up c.args.bench.now.streams c.args.s k stream there) in
-    let so_far = c.loop-line.invariant sizes stream there can in
-    let next = can_line image sizes was c.loop-line.retiring stream.lines k line found can so_far.stands in
+    let so_far = c.loop-line.invariant stream there can in
+    let next = can_line image stream.settings was c.loop-line.retiring stream.lines k line found can so_far.stands in
     let p = err_from_is_err_and c.from_residual.result c.from_residual.ensures.1 in
-    rw p.1 (whole_stream image sizes id stream was c.print_line.new.self _ _ _ (id_found c.args.bench.now.streams c.args.s id stream there c.in-Some.ensures)
-    can.stands (line_fails image sizes id was c.loop-line.retiring c.print_line.new.self stream.lines k line _ _ _ c.in_err-print_line.field-0.0 p.0 found can
-    so_far (c.in_err-print_line.ensures sizes (events_of (take k stream.lines)) next)))
+    rw p.1 (whole_stream image id stream was c.print_line.new.self _ _ _ (id_found c.args.bench.now.streams c.args.s id stream there c.in-Some.ensures)
+    can.stands (line_fails image stream.settings id was c.loop-line.retiring c.print_line.new.self stream.lines k line _ _ _ c.in_err-print_line.field-0.0 p.0 found can
+    so_far (c.in_err-print_line.ensures stream.settings (events_of (take k stream.lines)) next)))
 
 pub loop-line-smaller : goal.loop-line-smaller
 loop-line-smaller g c =
@@ -44,22 +43,22 @@ loop-line-smaller g c =
     omega (arith, lt)
 
 pub loop-line-preserved : goal.loop-line-preserved
-loop-line-preserved g c = λ sizes stream there can.
+loop-line-preserved g c = λ stream there can.
     let image = c.args.image.now in
     let k = c.loop-line.k in
     let was = c.args.retiring.now in
     let line = c.in-Some-line_at.line.now in
     let id = c.in-Some.id in
     let found = sym (c.in-Some-line_at.ensures.value ∙ looked_up c.args.bench.now.streams c.args.s k stream there) in
-    let so_far = c.loop-line.invariant sizes stream there can in
-    let next = can_line image sizes was c.loop-line.retiring stream.lines k line found can so_far.stands in
-    line_more image sizes id was c.loop-line.retiring c.print_line.new.self stream.lines k line _ _ _ c.in_ok-print_line.field-0 found can so_far
-    (c.in_ok-print_line.ensures sizes (events_of (take k stream.lines)) next)
+    let so_far = c.loop-line.invariant stream there can in
+    let next = can_line image stream.settings was c.loop-line.retiring stream.lines k line found can so_far.stands in
+    line_more image stream.settings id was c.loop-line.retiring c.print_line.new.self stream.lines k line _ _ _ c.in_ok-print_line.field-0 found can so_far
+    (c.in_ok-print_line.ensures stream.settings (events_of (take k stream.lines)) next)
 
 pub returns : goal.returns
-returns g c sizes stream there can =
+returns g c stream there can =
     let k = c.loop-line.k in
     let id = c.in-Some.id in
     let none = sym (c.in_default-line_at.ensures.value ∙ looked_up c.args.bench.now.streams c.args.s k stream there) in
-    stream_done c.args.image.now sizes id stream c.args.retiring.now c.loop-line.retiring k _ _ _
-    (id_found c.args.bench.now.streams c.args.s id stream there c.in-Some.ensures) can.stands none (c.loop-line.invariant sizes stream there can)
+    stream_done c.args.image.now id stream c.args.retiring.now c.loop-line.retiring k _ _ _
+    (id_found c.args.bench.now.streams c.args.s id stream there c.in-Some.ensures) can.stands none (c.loop-line.invariant stream there can)

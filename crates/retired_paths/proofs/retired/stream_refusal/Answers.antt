@@ -8,12 +8,12 @@ use Rattle.retired_paths.proofs.Refused.{all_lines, events_next, looked_up, refu
 use Rattle.retired_paths.proofs.retired.stream_refusal.Goals as goal
 
 pub returns-in-Err : goal.returns-in-Err
-returns-in-Err c sizes stream there at =
+returns-in-Err c stream there at =
     let k = c.loop-line.k in
     let line = c.in-Some.line.now in
     let found = sym (c.in-Some.ensures.value ∙ looked_up c.args.bench.now.streams c.args.s k stream there) in
-    sym (refused_there c.args.image.now sizes stream.lines k line c.in-Err.fault found
-    (c.in-Err.ensures.refused sizes (events_of (take k stream.lines)) (c.loop-line.invariant sizes stream there at) c.in-Err.fault refl))
+    sym (refused_there c.args.image.now stream.settings stream.lines k line c.in-Err.fault found
+    (c.in-Err.ensures.refused stream.settings (events_of (take k stream.lines)) (c.loop-line.invariant stream there at) c.in-Err.fault refl))
 
 pub loop-line-smaller : goal.loop-line-smaller
 loop-line-smaller c =
@@ -22,17 +22,17 @@ loop-line-smaller c =
     omega (arith, lt)
 
 pub loop-line-preserved : goal.loop-line-preserved
-loop-line-preserved c = λ sizes stream there at.
+loop-line-preserved c = λ stream there at.
     let k = c.loop-line.k in
     let line = c.in-Some.line.now in
     let found = sym (c.in-Some.ensures.value ∙ looked_up c.args.bench.now.streams c.args.s k stream there) in
-    subst (StandsAt c.args.image.now sizes c.run_line.new.run) (sym (events_next stream.lines k line found))
-    (c.in_default-run_line.ensures.stands sizes (events_of (take k stream.lines)) (c.loop-line.invariant sizes stream there at) refl)
+    subst (StandsAt c.args.image.now stream.settings c.run_line.new.run) (sym (events_next stream.lines k line found))
+    (c.in_default-run_line.ensures.stands stream.settings (events_of (take k stream.lines)) (c.loop-line.invariant stream there at) refl)
 
 pub returns : goal.returns
-returns c sizes stream there at =
+returns c stream there at =
     let k = c.loop-line.k in
     let none = sym (c.in_default.ensures.value ∙ looked_up c.args.bench.now.streams c.args.s k stream there) in
-    let st = subst (λ l. StandsAt c.args.image.now sizes c.loop-line.run (events_of l)) (all_lines stream.lines k none)
-    (c.loop-line.invariant sizes stream there at) in
+    let st = subst (λ l. StandsAt c.args.image.now stream.settings c.loop-line.run (events_of l)) (all_lines stream.lines k none)
+    (c.loop-line.invariant stream there at) in
     sym (ap (refused_line stream.lines) st.after)

@@ -1,5 +1,6 @@
 use Rattle.std.proofs.Common.{◌≤◌, List, ℕ, length, Ok, ap, subst, sym, ◌∙◌}
 use Rattle.etm_types.specs.Settings.{Sizes}
+use Rattle.etm_types.specs.SettingsTable.{sizes_at}
 use Rattle.stream_demux.specs.Laid.{frames_laid}
 use Rattle.stream_demux.specs.Paths.{paths}
 use Rattle.stream_demux.specs.Texts.{by_sizes}
@@ -22,9 +23,9 @@ returns-in-Ok c =
     let text' = c.print_input.new.out in
     let same = c.in_ok-source.ensures.0 in
     let few : length source.left ≤ most_input = subst (λ (l : List ℕ). length l ≤ most_input) (sym same) c.requires.few in
-    let listed = subst (λ (s : Sizes). Listed frames_laid (by_sizes (paths image) (λ id. s)) (pieces_state source)
-    (pieces_state source') (writing_state text) (writing_state text') (Ok c.in-Ok.field-0)) c.settings.ensures
-    (c.in-Ok.ensures.answer (λ id. c.settings.result.now) (c.in_ok-demux.ensures.stands image)) in
+    let listed = subst (λ (l : List Sizes). Listed frames_laid (by_sizes (paths image) (sizes_at l)) (pieces_state source)
+    (pieces_state source') (writing_state text) (writing_state text') (Ok c.in-Ok.field-0)) c.table_of.ensures
+    (c.in-Ok.ensures.answer (sizes_at c.table_of.result) (c.in_ok-demux.ensures.stands image)) in
     let counted = lines_counted image b source source' text text' c.in-Ok.field-0 few (ap (λ (w : Writing). w.taken) c.new-text.ensures) listed in
     let all = subst (λ (l : List ℕ). Counts image b l (line_feeds text'.taken)) same counted in
     (all.0, all.1, c.line_feeds.ensures ∙ ap line_feeds c.written.ensures ∙ all.2)

@@ -12,7 +12,7 @@ use Rattle.traced_runs.proofs.traced.trace_lines.Goals as goal
 pub trace_line-requires : goal.trace_line-requires
 trace_line-requires c =
     line_is c.args.bench.now c.loop-line.unit.settings c.args.s c.loop-line.k c.in-Some.line.now c.requires.parts
-    (c.loop-line.invariant.settings.0 ∙ c.requires.settings) c.in-Some.ensures.value
+    (λ stream there. c.loop-line.invariant.settings.0 ∙ c.requires.settings stream there) c.in-Some.ensures.value
 
 pub loop-line-smaller : goal.loop-line-smaller
 loop-line-smaller c =
@@ -37,10 +37,10 @@ loop-line-preserved c = record {
 pub returns-in-Err-Run-clause-refused : goal.returns-in-Err-Run-clause-refused
 returns-in-Err-Run-clause-refused c stream there t line fault is =
     let image = c.args.image.now in
-    let settings = c.args.bench.now.settings in
+    let settings = stream.settings in
     let k = c.loop-line.k in
     let at = c.in-Some.line.now in
-    let same : c.loop-line.unit.settings ≡ settings = c.loop-line.invariant.settings.0 ∙ c.requires.settings in
+    let same : c.loop-line.unit.settings ≡ settings = c.loop-line.invariant.settings.0 ∙ c.requires.settings stream there in
     let found = sym (c.in-Some.ensures.value ∙ looked_up c.args.bench.now.streams c.args.s k stream there) in
     let refuses = c.in-Err-Run.ensures.refused (events_of (take k stream.lines)) (c.loop-line.invariant.so_far stream there t) c.in-Err-Run.fault
     (ap Err c.in-Err-Run.field-0-is) in
@@ -54,5 +54,5 @@ pub returns-clause-traces : goal.returns-clause-traces
 returns-clause-traces c stream there t ok =
     let k = c.loop-line.k in
     let none = sym (c.in_default.ensures.value ∙ looked_up c.args.bench.now.streams c.args.s k stream there) in
-    all_traced c.args.image.now c.args.bench.now.settings c.loop-line.unit c.loop-line.bytes.items stream k none
-    (c.loop-line.invariant.settings.0 ∙ c.requires.settings) (c.loop-line.invariant.so_far stream there t)
+    all_traced c.args.image.now c.loop-line.unit c.loop-line.bytes.items stream k none
+    (c.loop-line.invariant.settings.0 ∙ c.requires.settings stream there) (c.loop-line.invariant.so_far stream there t)

@@ -16,7 +16,7 @@ returns-in_err-bytes-clause-refused c line fault is =
     let found = there_is streams s lt in
     let p = err_from_is_err_and c.from_residual.result c.from_residual.ensures.1 in
     let same : c.in_err-bytes.field-0.0 ≡ Refused line fault = let e = sym p.1 ∙ is in let f = p.2 in cc in
-    one_among c.args.image.now c.args.bench.now.settings.depth streams s found.0 line fault found.1 c.loop-s.invariant.accepted
+    one_among c.args.image.now streams s found.0 line fault found.1 c.loop-s.invariant.accepted
     (c.in_err-bytes.ensures.refused found.0 found.1 line fault (ap Err same))
 
 pub loop-s-preserved : goal.loop-s-preserved
@@ -32,5 +32,5 @@ loop-s-preserved c =
     let pushed : c.push.new.self.items ≡ c.loop-s.made.items ++ trace ∷ [] = search rules in
     record {
       made = ap all_left pushed ∙ trace_more image bench c.loop-s.made.items trace s found.0 found.1 c.loop-s.invariant.made id bytes.0;
-      accepted = none_among image bench.settings.depth bench.streams s found.0 found.1 c.loop-s.invariant.accepted bytes.1;
+      accepted = none_among image bench.streams s found.0 found.1 c.loop-s.invariant.accepted bytes.1;
     }

@@ -14,6 +14,6 @@ invariant_of-self c =
     let line : BenchLine = record { line = c.args.number; event = c.in_ok-repeated.repeated.event; times = c.in_ok-repeated.repeated.times } in
     let new : streams_in c.push_line.new.streams.entries ≡ with_line line old = search rules in
     record {
-      settings = c.self.invariant.settings;
+      given = c.self.invariant.given;
       ids = subst (λ (streams : List BenchStream). All (λ s. IsId s.id) streams) (sym new) (line_ids line old c.self.invariant.ids);
     }

@@ -1,6 +1,6 @@
 use Rattle.std.proofs.Common.{◌≡◌, ◌∙◌, refl}
 use Rattle.command_words.proofs.WordLemmas.{converted, sized}
-use Rattle.command_words.proofs.words.settings_of.Goals as goal
+use Rattle.command_words.proofs.lists.settings_of.Goals as goal
 
 pub returns-clause-value : goal.returns-clause-value
 returns-clause-value c =

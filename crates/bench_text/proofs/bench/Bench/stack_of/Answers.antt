@@ -1,0 +1,5 @@
+use Rattle.bench_text.proofs.Entries.{stack_within}
+use Rattle.bench_text.proofs.bench.Bench.stack_of.Goals as goal
+
+pub returns-clause-within : goal.returns-clause-within
+returns-clause-within c = stack_within c.self.inside.streams.entries c.args.s _ c.in_ok-stream.ensures.entry c.self.invariant.streams
