@@ -7,7 +7,9 @@ MODEL_DIR is as for tests/packet_cases.py. The streams are those of tests/specul
 any bytes, of one to six IDs. They are put into frames here, by docs/FORMATS.md ("Frames") and with a fixed seed: as the trace
 formatter of this project writes them, or as any other may, which repeats an ID, tells one late, or has bytes before the first.
 Bytes of the null ID and of reserved IDs stand between, some captures have frames of any bytes or barrier packets, and some end
-in a frame. The answers come from the model alone, in its profile `low`.
+in a frame. Behind those whose streams all have the sizes of the options are captures, and streams without frames, that are read
+under a list of settings for single IDs: some streams have theirs, some those of the options, and some those of another. The answers
+come from the model alone.
 
 The file has the form of that of tests/path_cases.py, but that a block has two command lines, each with its answer behind it.
 A line `input` may end with ` x` and how often its bytes stand there.
@@ -23,10 +25,12 @@ import frame_cases
 import path_cases
 from packet_cases import SYNC
 from path_cases import changed
-from speculation_cases import Outlook, Sizes, answer, begun, grown, loop
+from reference_model import PROFILE, answer, loaded
+from speculation_cases import Outlook, Sizes, begun, grown, loop
 
 OUT = pathlib.Path(__file__).resolve().parent / "cases_of_captures" / "cases.txt"
 CAPTURES = 300
+LISTED, LISTED_RAW = 120, 60  # read under a list of settings: captures, and streams without frames
 MOST_LINES = 160
 PIECE = 4096
 FRAME = 16
@@ -46,7 +50,7 @@ def stream(rng, model, lines, places, sizes):
     if kind == 0:
         return rng.randbytes(rng.randrange(1, 40))
     if kind == 1:
-        return model.randoms.random_bytes(rng, model.base.Settings(*sizes), rng.randrange(1, 60), "low")
+        return model.randoms.random_bytes(rng, model.base.Settings(*sizes), rng.randrange(1, 60), PROFILE)
     given = grown(rng, Outlook(model, lines, sizes), begun(rng, places, sizes), places, sizes)
     if kind == 2:
         return SYNC + given
@@ -174,7 +178,101 @@ def case(rng, model):
     return sizes, lines, capture(rng, model, streams)
 
 
+# ---- captures under a list of settings ----------------------------------------
+
+def list_of(rng, sizes_by_id):
+    """The word of a list, with its IDs in any order."""
+    def word(source):
+        spelled = f"{source:02x}" if rng.random() < 0.7 else f"{source:02X}"
+        return ":".join([spelled, *(f"{value:0{rng.choice([1, 1, 1, 10])}}" for value in sizes_by_id[source])])
+    return ",".join(map(word, rng.sample(sorted(sizes_by_id), len(sizes_by_id))))
+
+
+def any_sizes(rng):
+    return Sizes(rng.choice([0, 0, 1, 3, 16, 64, 16384]), rng.choice([1, 0, 2, 4]), rng.choice([4, 0]))
+
+
+def program_of(rng):
+    """The lines of an image, and its places."""
+    parts = loop(rng) if rng.random() < 0.4 else path_cases.program(rng)
+    return path_cases.image_lines(rng, parts), path_cases.places_of(parts)
+
+
+def own_sizes(rng, ids, others):
+    """By the IDs, the sizes of those that have their own: some or all of them, and at times IDs without a stream."""
+    chosen = rng.sample(ids, rng.randrange(len(ids) + 1)) + rng.sample(others, rng.choice([0, 0, 1, 3]))
+    return {source: any_sizes(rng) for source in chosen or ids[:1]}
+
+
+def stream_of(rng, model, lines, places, sizes, others):
+    """A stream by its own sizes, or seldom by those of another one."""
+    return stream(rng, model, lines, places, rng.choice(others) if rng.random() < 0.15 else sizes)
+
+
+def listed_case(rng, model):
+    """The sizes of the options, those of the list, the lines of an image, and a capture."""
+    (lines, places), sizes = program_of(rng), any_sizes(rng)
+    ids = rng.sample(range(1, LAST_SOURCE + 1), rng.choice([1, 2, 2, 3, 4]))
+    own = own_sizes(rng, ids, [source for source in range(1, LAST_SOURCE + 1) if source not in ids])
+    others = [sizes, *own.values()]
+    streams = [(source, stream_of(rng, model, lines, places, own.get(source, sizes), others)) for source in ids]
+    return sizes, own, lines, capture(rng, model, streams)
+
+
+def listed_raw_case(rng, model):
+    """The same of a stream without frames, which has the sizes of the ID 01."""
+    (lines, places), sizes = program_of(rng), any_sizes(rng)
+    own = own_sizes(rng, [1, 2], [3, 0x10, LAST_SOURCE])
+    return sizes, own, lines, stream_of(rng, model, lines, places, own.get(1, sizes), [sizes, *own.values()])
+
+
+def listed_words(rng, command, layout, sizes, own):
+    """The command line, with its options in any order."""
+    _, *words = words_of(command, sizes)
+    options = [words[place:place + 2] for place in range(0, len(words) - len(words) % 2, 2)]
+    options.append(["--settings", list_of(rng, own)] if rng.random() < 0.5 else ["--settings=" + list_of(rng, own)])
+    options += [layout] * bool(layout)
+    return [command, *(word for option in rng.sample(options, len(options)) for word in option), *["IMAGE"] * (command == "path")]
+
+
+def listed_blocks(rng, model, counts):
+    """The cases, and in `counts` what they have."""
+    for kind, count, make, layout in (("listed", LISTED, listed_case, []), ("listed_raw", LISTED_RAW, listed_raw_case, ["--raw"])):
+        number = 0
+        while number < count:
+            sizes, own, lines, given = make(rng, model)
+            commands = [listed_words(rng, command, layout, sizes, own) for command in ("path", "packets")]
+            answers = [answer(model, command, lines, given) for command in commands]
+            if max(len(printed) for _, printed in answers) > MOST_LINES:
+                continue
+            counts.update(seen_listed(model, layout, sizes, own, lines, given, answers))
+            yield block(f"{kind}_{number}", lines, given, zip(commands, answers))
+            number += 1
+
+
 # ---- what must occur -------------------------------------------------------
+
+def seen_listed(model, layout, sizes, own, lines, given, answers):
+    """Which sizes a path depends on: those of the list, and those of the options."""
+    def path(sizes, own):
+        listed = ["--settings", ",".join(f"{source:02x}:{of.depth}:{of.vmid}:{of.cid}" for source, of in own.items())]
+        return answer(model, [*words_of("path", sizes)[:-1], *layout, *listed * bool(own), "IMAGE"], lines, given)
+    whole, kind = answers[0], "a stream without frames" if layout else "a capture"
+    if path(sizes, {}) != whole:
+        yield f"{kind} whose path depends on the list"
+    if own and any(path(own[source], {}) != whole for source in own):
+        yield f"{kind} whose path depends on more than one of the list"
+    if path(Sizes(0, 0, 0), own) != whole and path(Sizes(16384, 4, 4), own) != whole:
+        yield f"{kind} whose path depends on the options too"
+    if any(path(sizes, {source: of for source, of in own.items() if source != one}) == whole for one in own):
+        yield f"{kind} with an ID of the list that changes nothing"
+    yield from (f"under a list, {name}" for name in ("fault", "end") if any(line.split()[1] == name for line in whole[1]))
+
+
+LISTED_DUE = [f"{kind} {what}" for kind in ("a capture", "a stream without frames") for what in (
+    "whose path depends on the list", "whose path depends on more than one of the list", "whose path depends on the options too",
+    "with an ID of the list that changes nothing")] + ["under a list, fault", "under a list, end"]
+
 
 def seen(given, ends):
     """What a capture has."""
@@ -236,10 +334,7 @@ def words_of(command, sizes):
 def main(words):
     if len(words) != 1:
         sys.exit(__doc__)
-    sys.path.insert(0, words[0])
-    import etm_model as model
-    from etm_model import base, frames, image, path, randoms, text, top  # noqa: F401
-
+    model = loaded(words[0])
     rng, counts, blocks, number = random.Random(29), collections.Counter(), [], 0
     while number < CAPTURES:
         sizes, lines, given = case(rng, model)
@@ -252,8 +347,9 @@ def main(words):
         counts.update({line.split()[1] for line in answers[0][1]} & set(due()))
         blocks.append(block(f"capture_{number}", lines, given, zip(commands, answers)))
         number += 1
+    blocks += listed_blocks(random.Random(30), model, counts)
     print(*(f"{count:6} {name}" for name, count in sorted(counts.items())), sep="\n")
-    missing = [name for name in due() if not counts[name]]
+    missing = [name for name in (*due(), *LISTED_DUE) if not counts[name]]
     assert not missing, f"no capture has {missing}"
     OUT.parent.mkdir(exist_ok=True)
     OUT.write_text("\n".join([HEAD, *blocks]))

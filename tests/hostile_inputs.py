@@ -20,8 +20,12 @@ is checked that the program
 - prints lines of docs/FORMATS.md alone, in their order: those of streams, then one for the end of each stream, by their IDs, then one
   for a frame that is cut; or the one line of a bad image or run file; or whole frames. What is printed fits the status.
 
-Prints how many were run, how often each status came, and the most memory and time. Where one is answered otherwise it ends with 1 and
-standard error says which and how, and so it does where a status that may come never did.
+Before them captures are run that hold as much as may be held: of all 111 IDs, each at the greatest depth by a list of settings, and as many
+atoms of each as its queue has room for, or one more. They are read in 104 MiB of memory and 112 MiB of addresses; in 96 MiB of addresses
+memory is refused, and nothing is printed.
+
+Prints how many were run, how often each status came, and the most memory and time, and the most memory of the queues that are full.
+Where one is answered otherwise it ends with 1 and standard error says which and how, and so it does where a status that may come never did.
 """
 import collections
 import multiprocessing
@@ -49,6 +53,8 @@ AT_ONCE = 250  # inputs that a worker takes at once
 SECONDS = 10
 MOST_MEMORY, MOST_ADDRESSES, MOST_OUTPUT = 64 << 10, 256 << 20, 256 << 20  # KiB, and bytes
 MOST_INPUT, MOST_BESIDE_AN_IMAGE, MOST_IMAGE = 8192, 1024, 4096
+DEEPEST, MOST_FULL_MEMORY, FULL_ADDRESSES, FEW_ADDRESSES = 16384, 104 << 10, 112 << 10, 96 << 10  # KiB
+LIMITED = ["/bin/sh", "-c", 'ulimit -v "$0" && exec "$@"']  # a program with so many KiB of addresses
 FRAME = 16
 ENVIRONMENT = dict(os.environ)
 
@@ -90,7 +96,7 @@ def stored_examples():
                         ("speculation", ["path", "--raw"]), ("capture", ["path", "--depth", "0"])):
         folder = EXAMPLES / name
         yield Stored([*words, "IMAGE"], (folder / "image.txt").read_bytes(), (folder / "capture.bin").read_bytes())
-    for name in ("run.txt", "interrupt.txt", "two_cores.txt"):
+    for name in ("run.txt", "interrupt.txt", "two_cores.txt", "two_units.txt"):
         yield Stored(["retired", "IMAGE"], (EXAMPLES / "run" / "image.txt").read_bytes(), (EXAMPLES / "run" / name).read_bytes())
 
 
@@ -100,7 +106,8 @@ class Corpus:
     def __init__(self):
         names = ["cases_of_packets/cases.txt", "cases_of_paths/cases.txt", "cases_of_speculation/cases.txt", "cases_of_captures/cases.txt",
                  "cases_of_opencsd/raw.txt", "cases_of_opencsd/framed.txt", "cases_of_opencsd/raw_at_targets.txt",
-                 "cases_of_opencsd/framed_at_targets.txt", "cases_of_runs/cases.txt", "cases_of_runs/worked.txt"]
+                 "cases_of_opencsd/framed_at_targets.txt", "cases_of_opencsd/framed_listed.txt", "cases_of_runs/cases.txt",
+                 "cases_of_runs/worked.txt"]
         every = [*stored_folders(), *stored_examples(), *stored_traces()]
         every += [case for name in names for case in stored_blocks(name)]
         every = [case for case in every if 0 < len(case.given) <= MOST_INPUT]
@@ -195,7 +202,9 @@ NUMBERS = ["0", "1", "2", "3", "15", "16", "31", "32", "70", "4096", "4097", "16
            "1048577", "4294967295", "4294967296", "9999999999", "00000000001", "10000000000", "ffffffff", "100000000", "fffffffffffffffc", "ffffffffffffffff",
            "10000000000000000", "-1", "+1", "0x10", "1.5", "g", "ff", "01:1", "6f:1048576", "el3", "el4", "s", "ns"]
 LINES = ["", "#", "@", "@0", "@2", "@1000", "@fffffffffffffffc", "@ffffffffffffffff", "@10000000000000000", "1f2003d5", "1f2003d", "10000054",
-         "etm 1", "etm 2", "depth 0", "depth 4096", "vmid 0", "cid 0", "stack 0", "stream 01", "stream 6f", "stream 70", "on 1000 el0 s 0 0",
+         "etm 1", "etm 2", "etm 3", "depth 0", "depth 4096", "depth 16384", "vmid 0", "cid 0", "stack 0", "stream 01", "stream 6f",
+         "stream 70", "stream 02 depth 0", "stream 6e depth 16384 vmid 4 cid 0 stack 15", "stream 01 stack 16",
+         "stream 01 depth 1 depth 1", "stream 01 cid", "on 1000 el0 s 0 0",
          "step", "step 65535", "taken", "not", "to 1000", "eret 1000 el1 ns 0 0", "exc 14 1000 el1 ns 0 0", "exc 31 fffffffffffffffc el3 s 0 0",
          "context el0 s 0 0", "retire 1", "cancel 1", "retire 65535", "cancel 65535", "flip", "sync", "overflow", "off", "weave 01:1", "\t \t",
          "weave 01:1 01:1048576"]
@@ -286,15 +295,26 @@ def weaves_put(rng, lines):
 
 
 def setting_put(rng, lines):
-    name, number = rng.choice([(b"stack", rng.randrange(17)), (b"depth", rng.choice([0, 1, 4, 64, 4096])), (b"vmid", 4), (b"cid", 0)])
+    depth = rng.choice([0, 1, 4, 64, 4096, 16384])
+    name, number = rng.choice([(b"stack", rng.randrange(17)), (b"depth", depth), (b"vmid", 4), (b"cid", 0)])
     return lines[:1] + [b"%b %d" % (name, number)] + [line for line in lines[1:] if not line.startswith(name)]
+
+
+def own_settings_put(rng, lines):
+    """Settings behind the IDs of some streams; mostly they may stand there."""
+    numbers = {b"depth": [0, 1, 4, 16384, 16384, 16385], b"vmid": [0, 1, 4, 3], b"cid": [0, 4, 4], b"stack": [0, 1, 15]}
+    def own(line):
+        names = rng.sample(sorted(numbers), rng.choice([0, 1, 1, 2, 4]))
+        return b" ".join([line, *(b"%b %d" % (name, rng.choice(numbers[name])) for name in names)])
+    headed = [b"etm 2" if line == b"etm 1" else line for line in lines]
+    return [own(line) if line.startswith(b"stream ") and line.count(b" ") == 1 else line for line in headed]
 
 
 def going_on(rng, text):
     """A run file with some lines more, which mostly stays one."""
     lines = text.rstrip(b"\n").split(b"\n")
     for _ in range(rng.choice([1, 1, 2, 5])):
-        lines = rng.choice([event_put, event_put, weaves_put, setting_put])(rng, lines)
+        lines = rng.choice([event_put, event_put, event_put, weaves_put, setting_put, own_settings_put])(rng, lines)
     return b"\n".join(lines) + b"\n"
 
 
@@ -327,12 +347,22 @@ def framed(rng, streams):
 
 # ---- inputs ----------------------------------------------------------------------
 
-def options_of(rng, words):
-    """The sizes that the words tell, or any."""
-    if rng.random() < 0.8:
-        return [word for word in words[1:] if word not in ("--raw", "IMAGE")]
-    sizes = sizes_of(rng)
-    return ["--depth", f"{sizes.depth}", "--vmid", f"{sizes.vmid}", "--cid", f"{sizes.cid}"]
+def listed(rng, layout=()):
+    """The sizes of single IDs, of few or of all. The one of a stream without frames is among them."""
+    ids = rng.sample(range(1, 0x70), rng.choice([1, 2, 5, 111]))
+    ids = ids if not layout or 1 in ids else [*ids[1:], 1]
+    return ",".join("%02x:%d:%d:%d" % (source, *sizes_of(rng)) for source in ids)
+
+
+def options_of(rng, words, layout=()):
+    """The sizes that the words tell, or any, and at times those of single IDs."""
+    options = [word for word in words[1:] if word not in ("--raw", "IMAGE")]
+    if rng.random() < 0.2:
+        sizes = sizes_of(rng)
+        options = ["--depth", f"{sizes.depth}", "--vmid", f"{sizes.vmid}", "--cid", f"{sizes.cid}"]
+    if rng.random() < 0.2 and not any(word.startswith("--settings") for word in options):
+        options += ["--settings", listed(rng, layout)]
+    return options
 
 
 def without_depth(options):
@@ -349,7 +379,7 @@ def words_of(rng, layout, options):
 def of_streams(rng, corpus):
     chosen, other = rng.choice(corpus.streams), rng.choice(corpus.streams)
     image = chosen.image or rng.choice(corpus.imaged).image
-    return Case(words_of(rng, ["--raw"], options_of(rng, chosen.words)), image, changed(rng, chosen.given, other.given))
+    return Case(words_of(rng, ["--raw"], options_of(rng, chosen.words, ["--raw"])), image, changed(rng, chosen.given, other.given))
 
 
 def of_captures(rng, corpus):
@@ -407,19 +437,20 @@ class Room:
         self.files = [(os.POSIX_SPAWN_OPEN, 0, self.given, os.O_RDONLY, 0), (os.POSIX_SPAWN_OPEN, 1, self.out, written, 0o600),
                       (os.POSIX_SPAWN_OPEN, 2, self.err, written, 0o600)]
 
-    def run(self, case):
+    def run(self, case, before=()):
+        """Runs the program over a case, with some words before its own."""
         for name, content in ((self.image, case.image), (self.given, case.given)):
             with open(name, "wb", buffering=0) as file:
                 file.write(content)
         words = [self.image if word == "IMAGE" else word for word in case.words]
         begun = time.monotonic()
-        status, memory = self.ended([self.program, *words])
+        status, memory = self.ended([*before, self.program, *words])
         seconds = time.monotonic() - begun
         return Ended(status, self.content(self.out), self.content(self.err), memory, seconds)
 
     def ended(self, words):
         """The status, less than 0 for a signal and None where the time is over, and the most memory in KiB."""
-        child = os.posix_spawn(self.program, words, ENVIRONMENT, file_actions=self.files, setsigdef=[signal.SIGPIPE, signal.SIGXFSZ])
+        child = os.posix_spawn(words[0], words, ENVIRONMENT, file_actions=self.files, setsigdef=[signal.SIGPIPE, signal.SIGXFSZ])
         signal.setitimer(signal.ITIMER_REAL, SECONDS)
         try:
             _, status, used = os.wait4(child, 0)
@@ -523,6 +554,42 @@ def complaint(case, ended):
     return wrong and f"{wrong}: {ended.out[-200:]!r}"
 
 
+# ---- queues that are full --------------------------------------------------------------------
+
+LOOP = b"@1000\n1f2003d5 40000054 1f2003d5 fdffff17\n"  # NOP, B.EQ to 100c, NOP, B to 1000
+LOOPED = ["on", "ctx el0 s 0 0", "1000", "1004"]  # what the oldest atom shows
+IDS = range(1, 0x70)
+
+
+def full_stream(more):
+    """A stream with as many atoms as a queue holds at the greatest depth, and some more, each of which commits the oldest."""
+    head = SYNC + bytes.fromhex("010100 04 85 00080000 00000000 10")
+    return head + b"\xd4" * (DEEPEST // 24) + b"\xcc" + b"\xf7" * more
+
+
+def full_case(more):
+    """A capture of such a stream for each ID, and what must be printed."""
+    settings = ",".join(f"{source:02x}:{DEEPEST}:0:0" for source in IDS)
+    given = [(source, byte) for source in IDS for byte in full_stream(more)]
+    shown = [f"{source:02x} {item}" for source in IDS for item in LOOPED * more] + [f"{source:02x} end" for source in IDS]
+    frames = capture_cases.framed_freely(random.Random(SEED), given)
+    return Case(["path", "--settings", settings, "IMAGE"], LOOP, frames), "".join(line + "\n" for line in shown).encode()
+
+
+def full_queues(room):
+    """The most memory in KiB, and what is wrong, or None."""
+    most = 0
+    for more in (0, 1):
+        case, wanted = full_case(more)
+        for addresses, status, printed in ((FULL_ADDRESSES, 0, wanted), (FEW_ADDRESSES, 7, b"")):
+            ended = room.run(case, [*LIMITED, str(addresses)])
+            most = max(most, ended.memory)
+            if (ended.status, ended.out, ended.err) != (status, printed, b""):
+                return most, f"in {addresses >> 10} MiB of addresses: status {ended.status}, not {status}, or {ended.out[-80:]!r}"
+    most_due = max(MOST_FULL_MEMORY, resource.getrusage(resource.RUSAGE_SELF).ru_maxrss)
+    return most, f"{most >> 10} MiB of memory" if most > most_due else None
+
+
 # ---- many of them ----------------------------------------------------------------------
 
 Tally = collections.namedtuple("Tally", "ran statuses memory seconds complaints")
@@ -567,17 +634,24 @@ def work(numbers):
     return worker.run(numbers)
 
 
+def work_full():
+    return full_queues(worker.room)
+
+
 def run_all(program, count, workers, deadline):
-    """The sum of all tallies, up to the first that complains."""
+    """The sum of all tallies, up to the first that complains, and the most memory of queues that are full, in KiB."""
     chunks = [range(first, min(first + AT_ONCE, count)) for first in range(0, count, AT_ONCE)]
     total = Tally(0, collections.Counter(), 0, 0.0, [])
     with multiprocessing.get_context("fork").Pool(workers, begin, (program, deadline, Corpus())) as pool:
+        full, wrong = pool.apply(work_full)
+        if wrong:
+            return total._replace(complaints=[f"queues that are full: {wrong}"]), full
         for tally in pool.imap_unordered(work, chunks):
             total = Tally(total.ran + tally.ran, total.statuses + tally.statuses, max(total.memory, tally.memory),
                           max(total.seconds, tally.seconds), tally.complaints)
             if total.complaints:
                 break
-    return total
+    return total, full
 
 
 def keep(number, folder):
@@ -596,12 +670,12 @@ def main(words):
         sys.exit(__doc__)
     numbers = [float(word) for word in words[1:]]
     count, workers, minutes = (numbers + [COUNT, WORKERS, 24 * 60][len(numbers):])
-    total = run_all(os.path.abspath(words[0]), int(count), int(workers), time.time() + 60 * minutes)
+    total, full = run_all(os.path.abspath(words[0]), int(count), int(workers), time.time() + 60 * minutes)
     missing = [f"{command} with status {status}" for command, due in DUE.items() for status in due if not total.statuses[command, status]]
     if total.complaints or missing:
         sys.exit(total.complaints[0] if total.complaints else f"of {total.ran} inputs none was answered by {', '.join(missing)}")
     statuses = ", ".join(f"{command} " + " ".join(f"{total.statuses[command, status]}x{status}" for status in due) for command, due in DUE.items())
-    print(f"{total.ran}: {statuses}; at most {total.memory >> 10} MiB and {total.seconds:.2f} s")
+    print(f"{total.ran}: {statuses}; at most {total.memory >> 10} MiB and {total.seconds:.2f} s; full queues in {full >> 10} MiB")
 
 
 if __name__ == "__main__":

@@ -9,6 +9,7 @@ Beside each stands NAME.out, what `etm retired` prints of it.
 - `held` holds as many steps as may be, `full` one more, and `room` one more again behind a retire.
 - `whole` retires all NOPs and the branch, and in `closed` a step follows, which is lost as tracing is turned off.
 - `back` takes back as many steps as may be held, and `beyond` retires one more.
+- `deep` holds as many P0 steps as the greatest depth of a stream has room for, and `deeper` one more.
 - `streams` has every stream that there may be, and `one_more` one more.
 - `words` has a weave of a million words, and `word` a word of a million letters.
 """
@@ -17,10 +18,12 @@ import sys
 
 MEBI = 1 << 20
 MOST = 64 * MEBI
-NOPS, WINDOW, STREAMS = 65_536, 65_535, 111
+NOPS, WINDOW, STREAMS, DEEPEST = 65_536, 65_535, 111, 16_384
 NOP, BRANCH = "1f2003d5", (0x14000000 | -NOPS & 0x3FFFFFF).to_bytes(4, "little").hex()
 HEADER, ON = "etm 1\n", "on 0 el0 ns 0 0\n"
 BEGUN = HEADER + "stream 01\n" + ON
+DEEP = f"etm 2\ndepth 4\nstream 01 depth {DEEPEST}\n{ON}"
+INTERRUPT = "exc 14 0 el0 ns 0 0\n"
 COMMENT = "#" + "-" * 62 + "\n"
 
 
@@ -51,6 +54,8 @@ def run_files():
     yield "closed", BEGUN + whole + "step\noff\n", path(NOPS + 1) + "01 stop\n"
     yield "back", BEGUN + f"step {WINDOW}\ncancel {WINDOW}\nstep\nexc 14 0 el0 ns 0 0\nretire 2\n", path(1) + "01 exc irq 4\n"
     yield "beyond", BEGUN + f"step {WINDOW}\nretire {WINDOW + 1}\n", "bench line 5: range\n"
+    yield "deep", DEEP + INTERRUPT * DEEPEST + f"retire {DEEPEST}\n", "01 on\n" + "01 exc irq 0\n" * DEEPEST
+    yield "deeper", DEEP + INTERRUPT * (DEEPEST + 1), f"bench line {DEEPEST + 5}: too-deep {DEEPEST + 1} {DEEPEST}\n"
     streams = HEADER + "".join(f"stream {i:02x}\n{ON}" for i in range(STREAMS, 0, -1))
     yield "streams", streams, ""
     yield "one_more", streams + "stream 01\n", f"bench line {2 * STREAMS + 2}: duplicate-id\n"

@@ -1,6 +1,6 @@
 // Prints the instructions that OpenCSD finds in a capture: `ID ADDRESS` for each, as `etm path` does for an instruction.
 //
-//   opencsd_reader [--raw] [--depth N] [--vmid N] [--cid N] [--no-return-stack] [--count] IMAGE <CAPTURE
+//   opencsd_reader [--raw] [--depth N] [--vmid N] [--cid N] [--settings LIST] [--no-return-stack] [--count] IMAGE <CAPTURE
 //
 // The words and IMAGE are those of `etm path` (docs/FORMATS.md). With --no-return-stack the units have none. With --count only the
 // number of instructions is printed, so that a clock sees the decoder and not the printing. Ends with 1 where OpenCSD reports an error, which is then told on
@@ -12,6 +12,7 @@
 #include <cstdio>
 #include <cstdlib>
 #include <fstream>
+#include <map>
 #include <sstream>
 #include <string>
 #include <vector>
@@ -24,9 +25,14 @@ constexpr int kFirstId = 0x01, kLastId = 0x6f;
 constexpr size_t kPiece = 1 << 16;
 constexpr size_t kOutput = 1 << 16;
 
+struct Sizes {
+  uint32_t depth = 16, vmid = 1, cid = 4;
+};
+
 struct Words {
   bool raw = false, count = false, return_stack = true;
-  uint32_t depth = 16, vmid = 1, cid = 4;
+  Sizes all;
+  std::map<uint32_t, Sizes> own;  // of the IDs that have their own
   std::string image;
 };
 
@@ -56,20 +62,35 @@ void must(ocsd_err_t answer, const char* call) {
   if (answer != OCSD_OK) stop(std::string(call) + ": error " + std::to_string(answer));
 }
 
+// The sizes of single IDs: ID:DEPTH:VMID:CID, with commas between them.
+std::map<uint32_t, Sizes> sizes_in(const std::string& list) {
+  std::map<uint32_t, Sizes> own;
+  std::istringstream rest(list);
+  for (std::string word; std::getline(rest, word, ',');) {
+    uint32_t id = 0;
+    Sizes sizes;
+    if (sscanf(word.c_str(), "%x:%u:%u:%u", &id, &sizes.depth, &sizes.vmid, &sizes.cid) != 4) stop("a list of settings is wrong");
+    own[id] = sizes;
+  }
+  return own;
+}
+
 Words words_of(int count, char** given) {
   Words words;
   for (int i = 1; i < count; ++i) {
     const std::string word = given[i];
-    const auto number = [&] {
-      if (++i == count) stop("a number is missing");
-      return uint32_t(strtoul(given[i], nullptr, 10));
+    const auto value = [&]() -> const char* {
+      if (++i == count) stop("a word is missing");
+      return given[i];
     };
+    const auto number = [&] { return uint32_t(strtoul(value(), nullptr, 10)); };
     if (word == "--raw") words.raw = true;
     else if (word == "--count") words.count = true;
     else if (word == "--no-return-stack") words.return_stack = false;
-    else if (word == "--depth") words.depth = number();
-    else if (word == "--vmid") words.vmid = number();
-    else if (word == "--cid") words.cid = number();
+    else if (word == "--depth") words.all.depth = number();
+    else if (word == "--vmid") words.all.vmid = number();
+    else if (word == "--cid") words.all.cid = number();
+    else if (word == "--settings") words.own = sizes_in(value());
     else if (word.rfind("--", 0) == 0) stop("the word " + word + " has no meaning");
     else words.image = word;
   }
@@ -98,12 +119,14 @@ std::vector<Part> parts_of(const std::string& name) {
 
 // The registers of a unit with these sizes, with 64-bit addresses and timestamps, mostly a return stack, and nothing else (IHI 0064).
 ocsd_etmv4_cfg unit_of(const Words& words, int id) {
+  const auto own = words.own.find(uint32_t(id));
+  const Sizes& sizes = own == words.own.end() ? words.all : own->second;
   ocsd_etmv4_cfg unit{};
   unit.reg_idr0 = words.return_stack << 9 | 8 << 24;          // RETSTACK; TSSIZE: 64 bits
   unit.reg_idr1 = 4 << 8 | 3 << 4;                           // ETMv4.3; of earlier ones OpenCSD takes no ignore packet
-  unit.reg_idr2 = 8 | words.cid << 5 | words.vmid << 10;      // IASIZE: 64 bits; CIDSIZE; VMIDSIZE
-  unit.reg_idr8 = words.depth;                                // MAXSPEC
-  unit.reg_configr = (words.cid ? 1 << 6 : 0) | (words.vmid ? 1 << 7 : 0) | 1 << 11 | words.return_stack << 12;  // CID, VMID, TS, RS
+  unit.reg_idr2 = 8 | sizes.cid << 5 | sizes.vmid << 10;      // IASIZE: 64 bits; CIDSIZE; VMIDSIZE
+  unit.reg_idr8 = sizes.depth;                                // MAXSPEC
+  unit.reg_configr = (sizes.cid ? 1 << 6 : 0) | (sizes.vmid ? 1 << 7 : 0) | 1 << 11 | words.return_stack << 12;  // CID, VMID, TS, RS
   unit.reg_traceidr = uint32_t(id);
   unit.arch_ver = ARCH_V8r3;                                  // of earlier ones OpenCSD reads no pointer authentication
   unit.core_prof = profile_CortexA;

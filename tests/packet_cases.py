@@ -3,9 +3,8 @@
 
 Usage: packet_cases.py MODEL_DIR
 
-MODEL_DIR is the folder of a slow Python model of the packet rules, with the package etm_model. It is no part of this
-repository, and so tests/run does not run this script. The streams are made here, from the table of docs/FORMATS.md
-and with a fixed seed; the answers come from the model alone, in its profile `low`, which has this table.
+MODEL_DIR is the folder of the model that tests/reference_model.py loads. The streams are made here, from the table of
+docs/FORMATS.md and with a fixed seed; the answers come from the model alone.
 
 The file is blocks, an empty line between two. A block is a line `case NAME`, then `words` and the words of the command
 line, then lines `input` with the bytes in hex (none where the input is empty), then `status N`, and then all the lines
@@ -17,6 +16,8 @@ import pathlib
 import random
 import re
 import sys
+
+from reference_model import PROFILE, loaded
 
 OUT = pathlib.Path(__file__).resolve().parent / "cases_of_packets" / "cases.txt"
 WORDS = "packets --raw"
@@ -348,9 +349,9 @@ def answer(model, settings, given):
     """The status and the lines for an input, by the model."""
     if not given:
         return 0, []
-    found, end = model.parsed(settings, given, "low")
-    lines = [model.packet_line(1, at, packet) for at, packet in found]
-    return 4 if end.name == "Fault" else 0, [*lines, model.end_line(1, end)]
+    found, end = model.packets.parsed(settings, given, PROFILE)
+    lines = [model.packets.packet_line(1, at, packet) for at, packet in found]
+    return 4 if end.name == "Fault" else 0, [*lines, model.packets.end_line(1, end)]
 
 
 def block(name, given, status, lines):
@@ -362,10 +363,8 @@ def block(name, given, status, lines):
 def main(words):
     if len(words) != 1:
         sys.exit(__doc__)
-    sys.path.insert(0, words[0])
-    from etm_model import packets as model
-    from etm_model.base import Settings
-    settings = Settings(DEPTH, VMID_BYTES, CID_BYTES)
+    model = loaded(words[0])
+    settings = model.base.Settings(DEPTH, VMID_BYTES, CID_BYTES)
     made = cases()
     assert len({name for name, _ in made}) == len(made), "two cases have one name"
     answers = [answer(model, settings, given) for _, given in made]

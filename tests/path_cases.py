@@ -5,7 +5,7 @@ Usage: path_cases.py MODEL_DIR
 
 MODEL_DIR is as for tests/packet_cases.py. Images and streams are made here, from the tables of docs/FORMATS.md and with
 a fixed seed. A stream grows by one packet after the other. One behind which the model finds a fault is mostly taken back,
-so that paths become long; it has no other say in a stream. The answers come from the model alone, in its profile `low`.
+so that paths become long; it has no other say in a stream. The answers come from the model alone.
 
 The file has the form of that of tests/packet_cases.py. Its blocks have lines `image` too, with the lines of the image's
 text, each of which ends with LF; the word IMAGE stands for a file of this text.
@@ -17,6 +17,7 @@ import re
 import sys
 
 from packet_cases import LONGEST_LINE, SYNC, number, timestamp
+from reference_model import answer, loaded
 
 OUT = pathlib.Path(__file__).resolve().parent / "cases_of_paths" / "cases.txt"
 WORDS = "path --raw --depth 0 IMAGE"
@@ -310,18 +311,9 @@ def block(name, image, given, status, lines):
 def main(words):
     if len(words) != 1:
         sys.exit(__doc__)
-    sys.path.insert(0, words[0])
-    from etm_model import top as model
-
-    def answer(image, given):
-        sink = model.MemSink()
-        text = "".join(line + "\n" for line in image).encode()
-        status = model.run(WORDS.split(), model.MemSource(text), model.MemSource(given), sink, profile="low")
-        return model.STATUS[status], bytes(sink.got).decode().splitlines()
-
-    rng = random.Random(4)
-    made = [*good_cases(rng, lambda image, given: answer(image, given)[1]), *bad_cases(rng)]
-    answers = [answer(image, given) for _, image, given in made]
+    model, rng = loaded(words[0]), random.Random(4)
+    made = [*good_cases(rng, lambda image, given: answer(model, WORDS.split(), image, given)[1]), *bad_cases(rng)]
+    answers = [answer(model, WORDS.split(), image, given) for _, image, given in made]
     for form, count in sorted(counted([lines for _, lines in answers]).items()):
         print(f"{count:6} {form}")
     OUT.parent.mkdir(exist_ok=True)

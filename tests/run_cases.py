@@ -6,7 +6,8 @@ Usage: run_cases.py MODEL_DIR
 MODEL_DIR is as for tests/packet_cases.py. The events come from the model, which makes lists of them that a run accepts, over
 images that it makes too; all else is made here, with a fixed seed: how the lines are spelled, settings, several streams, weaves,
 and what is wrong in the files that are refused. For those an event is put into a list that is refused there for a reason chosen
-before, or a line of text that has a fault. The answers come from the model alone, in its profile `low`.
+before, or a line of text that has a fault. So it is with files `etm 1`, and then with files `etm 2`, whose streams have settings of
+their own. The answers come from the model alone.
 
 The file has the form of that of tests/path_cases.py. Most lines of a run file stand in lines `run`, each of which ends with LF;
 those of which a reader of the file would not see all stand in lines `input`, in hex, as do lines that are repeated.
@@ -19,11 +20,13 @@ import re
 import sys
 
 import path_cases
-from speculation_cases import answer, show
+from reference_model import PROFILE, answer, loaded
+from speculation_cases import show
 
 OUT = pathlib.Path(__file__).resolve().parent / "cases_of_runs" / "cases.txt"
 WORDS = ["retired", "IMAGE"]
 GOOD, WRONG_TEXTS, REFUSED = 200, 100, 96
+OWN_GOOD, OWN_WRONG_TEXTS, OWN_REFUSED = 80, 60, 33  # whose streams have settings of their own
 MOST_LINES = 160
 PLACES = 3  # so many different lines at least are at fault by each reason
 DEFAULTS = {"depth": 16, "vmid": 1, "cid": 4, "stack": 15}
@@ -33,8 +36,20 @@ HEAD = """\
 # Made by tests/run_cases.py, which says what the lines of a block are; tests/run_stored_cases.py runs them.
 """
 
-Stream = collections.namedtuple("Stream", "id events")
-Draft = collections.namedtuple("Draft", "image settings stack streams weaves")
+Stream = collections.namedtuple("Stream", "id events own", defaults=[{}])  # own: its own settings, by their names
+Draft = collections.namedtuple("Draft", "image settings stack streams weaves version", defaults=[1])
+
+
+def numbers_of(draft, own):
+    """The numbers of the settings of a draft, but for a stream's own ones, by their names."""
+    sizes = draft.settings
+    return {**dict(zip(DEFAULTS, (sizes.depth, sizes.vmid_bytes, sizes.cid_bytes, draft.stack))), **own}
+
+
+def settings_of(model, draft, stream):
+    """The settings of a stream, without the depth of its return stack."""
+    numbers = numbers_of(draft, stream.own)
+    return model.base.Settings(*(numbers[name] for name in ("depth", "vmid", "cid")))
 
 
 # ---- lines -----------------------------------------------------------------
@@ -87,17 +102,18 @@ def event_lines(rng, events):
 
 def setting_lines(rng, draft):
     """The settings in any order; one that has its default is mostly left out."""
-    given = dict(zip(DEFAULTS, (draft.settings.depth, draft.settings.vmid_bytes, draft.settings.cid_bytes, draft.stack)))
+    given = numbers_of(draft, {})
     names = [name for name in DEFAULTS if given[name] != DEFAULTS[name] or rng.random() < 0.2]
     return [[name, count(rng, given[name])] for name in rng.sample(names, len(names))]
 
 
 def lines_of(rng, draft):
     """The lines of a run file, each as its words."""
-    lines = [["etm", "1"], *setting_lines(rng, draft)]
+    lines = [["etm", f"{draft.version}"], *setting_lines(rng, draft)]
     for stream in draft.streams:
         spelled = f"{stream.id:02x}" if rng.random() < 0.8 else f"{stream.id:02X}"
-        lines += [["stream", spelled], *event_lines(rng, stream.events)]
+        own = [word for name, number in stream.own.items() for word in (name, count(rng, number))]
+        lines += [["stream", spelled, *own], *event_lines(rng, stream.events)]
     return lines + [["weave", *words] for words in draft.weaves]
 
 
@@ -125,7 +141,7 @@ def text_of(rng, lines):
 
 def shown_lines(model, draft):
     """How many lines the retired path of a draft has, less those of contexts."""
-    return sum(len(model.runs.retired(draft.image, draft.settings, stream.events)) for stream in draft.streams)
+    return sum(len(model.runs.retired(draft.image, settings_of(model, draft, stream), stream.events)) for stream in draft.streams)
 
 
 def events_for(rng, model, image, settings, length):
@@ -143,13 +159,35 @@ def weaves_for(rng, ids):
 def draft_of(rng, model, settings=None):
     """A run file that is accepted, and whose retired path is not too long."""
     while True:
-        image = model.randoms.random_image(rng, "low")
-        sizes = settings or model.randoms.random_settings(rng, "base")  # whose depths are those of run files
+        image = model.randoms.random_image(rng, PROFILE)
+        sizes = settings or model.randoms.random_settings(rng, "base")  # whose depths a file `etm 1` may have
         ids = rng.sample(range(1, 112), rng.choice([1, 1, 1, 2, 3]))
         length = rng.choice([4, 10, 25, 25, 60, 120]) // len(ids)
         streams = [Stream(i, events_for(rng, model, image, sizes, length) if rng.random() < 0.95 else []) for i in ids]
         draft = Draft(image, sizes, rng.choice([15, 15, 0, rng.randrange(16)]), streams, weaves_for(rng, ids))
         if shown_lines(model, draft) <= MOST_LINES // 2:
+            return draft
+
+
+def own_settings(rng, model):
+    """Some settings of a stream, in any order."""
+    sizes = model.randoms.random_settings(rng, PROFILE)
+    given = dict(zip(DEFAULTS, (sizes.depth, sizes.vmid_bytes, sizes.cid_bytes, rng.randrange(16))))
+    return {name: given[name] for name in rng.sample(list(given), rng.choice([0, 1, 1, 2, 3, 4]))}
+
+
+def own_draft_of(rng, model, settings=None):
+    """The same of a file whose streams have settings of their own."""
+    while True:
+        sizes = settings or model.randoms.random_settings(rng, PROFILE)
+        ids = rng.sample(range(1, 112), rng.choice([1, 2, 2, 3, 4]))
+        draft = Draft(model.randoms.random_image(rng, PROFILE), sizes, rng.randrange(16), [], weaves_for(rng, ids), 2)
+        for number in ids:
+            stream = Stream(number, [], own_settings(rng, model))
+            length = rng.choice([0, 4, 10, 25, 60, 120]) // len(ids)
+            events = events_for(rng, model, draft.image, settings_of(model, draft, stream), length)
+            draft.streams.append(stream._replace(events=events))
+        if shown_lines(model, draft) <= MOST_LINES // 2 and any(stream.own for stream in draft.streams):
             return draft
 
 
@@ -198,14 +236,15 @@ def refusal(model, image, settings, state, events):
 def with_refused(rng, model, draft, name):
     """The draft with an event that is refused for this reason at some place of a stream, or None where none was found."""
     chosen = rng.randrange(len(draft.streams))
-    events = draft.streams[chosen].events
+    stream = draft.streams[chosen]
+    events, settings = stream.events, settings_of(model, draft, stream)
     for place in rng.sample(range(len(events) + 1), len(events) + 1):
-        state = model.runs.run_after(draft.image, draft.settings, events[:place])
-        found = [wrong for wrong in wrong_events(rng, model, draft.image, draft.settings, state)
-                 if refusal(model, draft.image, draft.settings, state, wrong) == name]
+        state = model.runs.run_after(draft.image, settings, events[:place])
+        found = [wrong for wrong in wrong_events(rng, model, draft.image, settings, state)
+                 if refusal(model, draft.image, settings, state, wrong) == name]
         if found:
             streams = list(draft.streams)
-            streams[chosen] = Stream(streams[chosen].id, [*events[:place], *rng.choice(found), *events[place:]])
+            streams[chosen] = stream._replace(events=[*events[:place], *rng.choice(found), *events[place:]])
             return draft._replace(streams=streams)
     return None
 
@@ -214,7 +253,7 @@ REFUSALS = ["NotOn", "AlreadyOn", "WrongKind", "NoCode", "Odd", "Unaligned", "To
             "NoBranchToFlip", "ContextPlace"]
 
 
-def refused_draft(rng, model, name):
+def refused_draft(rng, model, name, draft_of=draft_of):
     """A draft with an event that is refused for this reason."""
     while True:
         settings = model.base.Settings(rng.choice([1, 1, 2, 4]), 1, 4) if name == "TooDeep" else None
@@ -254,15 +293,15 @@ NO_STREAM = ["{other}:1", "{id}:1 {other}:0", "{id}:0 {other}:1", "00:1", "70:1"
 NOT_UTF8 = [[b"# \xff"], [b"step", b"\xc3"], [b"# \xed\xa0\x80"], [b"\xc0\x80"], [b"taken", b"# \xf8"]]
 NO_WORDS = [["taken", "#"], [b"st\x00ep"], [b"taken\x0c"], [b"taken\xc2\xa0"], [b"\xef\xbb\xbfstep"], ["\u0435tm", "1"]]
 HEADERS = [
-    [], [["etm", "2"]], [["etm", "01"]], [["etm"]], [["etm", "1", "1"]], [["ETM", "1"]], [["etm", "1:"]], [["#etm", "1"]],
+    [], [["etm", "3"]], [["etm", "01"]], [["etm"]], [["etm", "1", "1"]], [["ETM", "1"]], [["etm", "1:"]], [["#etm", "1"]],
     [["1", "etm"]], [["etm1"]]]
 
 
 def place_for(rng, lines, kind):
-    """Where a line of a kind may stand among the lines: a setting, a stream, an event or a weave."""
+    """Where a line of a kind may stand among the lines: a setting, a stream, an event, a weave, or a line behind all streams."""
     first = next((k for k, words in enumerate(lines) if words[0] == "stream"), len(lines))
     end = next((k for k, words in enumerate(lines) if words[0] == "weave"), len(lines))
-    within = {"setting": range(1, first + 1), "stream": range(first, end + 1), "event": range(first + 1, end + 1),
+    within = {"setting": range(1, first + 1), "stream": range(first, end + 1), "event": range(first + 1, end + 1), "end of streams": [end],
               "weave": range(end, len(lines) + 1), "any": range(1, len(lines) + 1)}[kind]
     return rng.choice(within)
 
@@ -308,11 +347,57 @@ def wrong_text(rng, model, number):
     return draft.image, lines
 
 
+# ---- lines of text that have a fault where streams have settings of their own ----
+
+OF_NO_FORM = [
+    "{other} depth", "{other} depth 1 vmid", "{other} 1", "{other} depth 1 2", "{other} foo 1", "{other} Depth 1", "{other} depth x",
+    "{other} depth -1", "{other} stack 0x1", "{other} cid 00000000004", "{other} depth 1 depth 1", "{other} stack 1 cid 4 stack 1",
+    "{other} depth 20000 foo 1", "{other} vmid 3 vmid 3", "{id} depth", "{id} stack 1 foo 1", "70 depth 1 depth 1", "00 cid",
+    "depth 1 {other}", "1 depth 1", "{other} depth=1", "{other} depth 1,"]
+OF_NO_ID = ["70 vmid 3", "00 depth 16385", "ff stack 16 cid 4", "7f depth 1 vmid 1 cid 4 stack 15"]
+OF_AN_ID_TWICE = ["{id} depth 1", "{id} depth 16385", "{id} cid 1 vmid 4", "{id} stack 15 depth 99999"]
+OF_NO_NUMBER = [
+    "{other} depth 16385", "{other} depth 4294967296", "{other} depth 9999999999", "{other} vmid 3", "{other} cid 1", "{other} stack 16",
+    "{other} vmid 4 cid 2", "{other} stack 0 depth 16385", "{other} depth 16384 vmid 8 cid 4 stack 15"]
+# a stream, and an event whose context does not fit the stream's sizes
+OF_NO_CONTEXT = [
+    ["{other} vmid 0", f"on {PLACE} el0 s 1 0"], ["{other} cid 0 depth 1", f"on {PLACE} el0 s 0 1"],
+    ["{other} vmid 1", f"exc 1 {PLACE} el3 ns 100 0"], ["{other} stack 3 vmid 2", "context el2 s 10000 0"],
+    ["{other} vmid 2 cid 0", f"on {PLACE} el0 s ffff 0", f"eret {PLACE} el1 s 0 ffffffff"]]
+
+
+def wrong_streams(rng, draft):
+    """The same as of `wrong_lines`: lines of streams, of which one has a fault."""
+    ids = [stream.id for stream in draft.streams]
+    names = {"id": f"{rng.choice(ids):02x}", "other": f"{rng.choice([i for i in range(1, 112) if i not in ids]):02X}"}
+    for lines in (OF_NO_FORM, OF_NO_ID, OF_AN_ID_TWICE, OF_NO_NUMBER):
+        yield "end of streams" if lines is OF_AN_ID_TWICE else "stream", [["stream", *rng.choice(lines).format(**names).split()]]
+    first, *events = rng.choice(OF_NO_CONTEXT)
+    yield "end of streams", [["stream", *first.format(**names).split()], *(line.split() for line in events)]
+    yield "setting", [["depth", rng.choice(["16385", "99999"])]]
+    yield "event", [[*rng.choice([["depth", "1"], ["stack", "3"]])]]
+    yield "header", [["etm", "1"]]
+
+
+def own_wrong_text(rng, model, number):
+    """The image and the lines of a run file `etm 2` whose text has a fault, some after a refused event."""
+    settings = model.base.Settings(rng.choice([0, 1, 16, 16384]), 4, 4)
+    if number % 8 == 0:
+        draft = refused_draft(rng, model, rng.choice(REFUSALS), own_draft_of)
+    else:
+        draft = own_draft_of(rng, model, settings)
+    lines, ways = lines_of(rng, draft), list(wrong_streams(rng, draft))
+    kind, wrong = ways[number % len(ways)]
+    place = 0 if kind == "header" else place_for(rng, lines, kind)
+    lines[place:place + (kind == "header")] = wrong
+    return draft.image, lines
+
+
 # ---- cases -----------------------------------------------------------------
 
 def full_window(rng, model, what):
     """A loop that is executed until as many steps are held as may be; then the run file goes on by `what`."""
-    image = model.image.Image({0x1000 + 4 * k: path_cases.NOP for k in range(16)} | {0x1040: 0x17FFFFF0}, "low")
+    image = model.image.Image({0x1000 + 4 * k: path_cases.NOP for k in range(16)} | {0x1040: 0x17FFFFF0}, PROFILE)
     front, loop = b"etm 1\ndepth 4096\nstream 01\non 1000 el0 ns 0 0\n", b"step 16\ntaken\n"
     assert 65535 % 17 == 0
     return image, [(front, 1), (loop, 65535 // 17), (what, 1)]
@@ -340,6 +425,20 @@ def cases(rng, model):
     for name, what in WINDOWS.items():
         image, pieces = full_window(rng, model, what)
         yield name, image_of(rng, image), pieces
+    yield from own_cases(random.Random(16), model)
+
+
+def own_cases(rng, model):
+    """The same of files whose streams have settings of their own."""
+    for number in range(OWN_GOOD):
+        draft = own_draft_of(rng, model)
+        yield f"own_good_{number}", image_of(rng, draft.image), [(text_of(rng, lines_of(rng, draft)), 1)]
+    for number in range(OWN_WRONG_TEXTS):
+        image, lines = own_wrong_text(rng, model, number)
+        yield f"own_text_{number}", image_of(rng, image), [(text_of(rng, lines), 1)]
+    for number in range(OWN_REFUSED):
+        draft = refused_draft(rng, model, REFUSALS[number % len(REFUSALS)], own_draft_of)
+        yield f"own_refused_{number}", image_of(rng, draft.image), [(text_of(rng, lines_of(rng, draft)), 1)]
 
 
 # ---- what must occur -------------------------------------------------------
@@ -370,20 +469,31 @@ EVENTS = [
     "a cancel of plain steps alone", "a cancel of all that is held", "a cancel that comes to an ISB",
     "a flip of one that was taken", "a flip of one that was not taken", "a flip behind a cancel", "a sync",
     "an overflow with steps held", "off with steps held", "an overflow with none held", "tracing turned on again",
-    "an end with steps held", "a stretch that shows nothing", "a depth of 0", "a depth of 4096", "a branch with a key"]
+    "an end with steps held", "a stretch that shows nothing", "a depth of 0", "a depth of 4096", "a branch with a key",
+    "a depth of 16384", "streams of several depths", "streams with fields of several sizes", "streams of several stack depths"]
 
 
 def seen(model, image, text):
     """What happens in an accepted run file, by the model."""
-    bench = model.runs.bench_of(image, text, "low")
+    bench = model.runs.bench_of(image, text, PROFILE)
+    yield from seen_in(bench.streams)
     for stream in bench.streams:
         state, before = model.runs.RunState(), None
-        yield from (f"a depth of {depth}" for depth in (0, 4096) if stream.settings.depth == depth and stream.lines)
+        yield from (f"a depth of {depth}" for depth in (0, 4096, 16384) if stream.settings.depth == depth and stream.lines)
         for event in stream.events():
             yield from seen_at(model, image, stream.settings, state, event, before)
             model.runs.run_apply(image, stream.settings, state, event)
             before = event
         yield from (["an end with steps held"] if state.on and state.unretired() else [])
+
+
+def seen_in(streams):
+    """What the streams with an event differ in."""
+    streams = [stream for stream in streams if stream.lines]
+    for name, of in (("streams of several depths", lambda stream: stream.settings.depth),
+                     ("streams with fields of several sizes", lambda stream: (stream.settings.vmid_bytes, stream.settings.cid_bytes)),
+                     ("streams of several stack depths", lambda stream: stream.stack)):
+        yield from [name] * (len(set(map(of, streams))) > 1)
 
 
 EXECUTED = {"Plain": "a step of a plain instruction", "Isb": "an ISB", "Eret": "an exception's return", "Exc": "an exception"}
@@ -454,13 +564,10 @@ def block(name, image, pieces, status, lines):
 def main(words):
     if len(words) != 1:
         sys.exit(__doc__)
-    sys.path.insert(0, words[0])
-    import etm_model as model
-    from etm_model import base, image, path, randoms, runs, text, top, unit  # noqa: F401
-
+    model = loaded(words[0])
     rng = random.Random(13)
     lines, blocks, happened, bad = [], [], collections.Counter(), collections.defaultdict(set)
-    refused = collections.Counter()
+    refused, own_refused = collections.Counter(), collections.Counter()
     for name, image_lines, pieces in cases(rng, model):
         given = b"".join(text * times for text, times in pieces)
         status, printed = answer(model, WORDS, image_lines, given)
@@ -468,15 +575,16 @@ def main(words):
         blocks.append(block(name, image_lines, pieces, status, printed))
         if status == 0:
             lines.append(printed)
-            found = model.image.image_of("".join(line + "\n" for line in image_lines).encode(), "low")
+            found = model.image.image_of("".join(line + "\n" for line in image_lines).encode(), PROFILE)
             happened.update(seen(model, found, given))
         else:
             [(place, why)] = re.findall("^bench line ([0-9]+): ([a-z-]+)", printed[0])
             bad[why].add(place)
-            refused[why] += 1
+            (own_refused if name.startswith("own_") else refused)[why] += 1
     show("lines", counted_lines(lines), forms())
     show("what happens", happened, EVENTS)
     show("refused", refused, WHY)
+    show("refused where streams have settings of their own", own_refused, [why for why in WHY if why not in ("header", "window-full")])
     few = [why for why, places in bad.items() if len(places) < PLACES and why not in ("header", "window-full")]
     assert not few, f"too few lines are refused as {few}"
     OUT.parent.mkdir(exist_ok=True)

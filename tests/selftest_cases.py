@@ -4,11 +4,13 @@
 
 Usage: selftest_cases.py MODEL_DIR
 
-MODEL_DIR is as for tests/packet_cases.py, where the form of the file is told. The summaries come from the model alone, in its profile
-`base`: it makes the texts of a number, traces them and reads the frames again by itself.
+MODEL_DIR is as for tests/packet_cases.py, where the form of the file is told. The summaries come from the model alone: it
+makes the texts of a number, traces them and reads the frames again by itself.
 """
 import pathlib
 import sys
+
+from reference_model import PROFILE, loaded
 
 OUT = pathlib.Path(__file__).resolve().parent / "cases_of_selftest" / "cases.txt"
 
@@ -53,11 +55,9 @@ def block(number, cut, summary):
 def main(words):
     if len(words) != 1:
         sys.exit(__doc__)
-    sys.path.insert(0, words[0])
-    from etm_model import top
-
+    top = loaded(words[0]).top
     OUT.parent.mkdir(exist_ok=True)
-    OUT.write_text("\n".join([HEAD, *(block(number, cut, top.selftest(number, cut, "base")) for number, cut in NUMBERS)]))
+    OUT.write_text("\n".join([HEAD, *(block(number, cut, top.selftest(number, cut, PROFILE)) for number, cut in NUMBERS)]))
     print(f"{len(NUMBERS)} cases, {OUT.stat().st_size} bytes")
 
 

@@ -1,0 +1,27 @@
+"""Loads the model from which the answers of stored cases come, at the stage that this repository has come to.
+
+The model is a slow Python model of the rules, with the package etm_model. It is no part of this repository, and so tests/run runs
+none of the scripts that make cases. It has stages before this one and behind it, which the constants here tell for all of them.
+"""
+import importlib
+import sys
+
+PROFILE = "final"  # units tell an exception at its target; each stream may have settings of its own
+REACH = 16  # the options of the command line go up to `--settings`
+PARTS = ("base", "frames", "image", "packets", "path", "randoms", "runs", "text", "top", "unit")
+
+
+def loaded(folder):
+    """The model of a folder."""
+    sys.path.insert(0, folder)
+    for part in PARTS:
+        importlib.import_module(f"etm_model.{part}")
+    return sys.modules["etm_model"]
+
+
+def answer(model, words, image, given):
+    """The status and the lines of a command over the lines of an image and an input."""
+    sink = model.top.MemSink()
+    text = "".join(line + "\n" for line in image).encode()
+    status = model.top.run(words, model.top.MemSource(text), model.top.MemSource(given), sink, PROFILE, REACH)
+    return model.top.STATUS[status], bytes(sink.got).decode().splitlines()
