@@ -1,0 +1,10 @@
+pub mod Ends
+pub mod Rotated
+pub mod Unwrapping
+pub mod Laid
+pub mod Wrapped
+pub mod Marks
+pub mod Rows
+pub mod Walked
+pub mod Part
+pub mod LastBytes

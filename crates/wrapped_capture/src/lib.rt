@@ -1,0 +1,38 @@
+//! Captures of which the first part is missing, and capture buffers that were written round (Arm IHI 0064, "Alignment Synchronization
+//! packet", "Trace Info packet"; IHI 0029, the trace formatter).
+//!
+//! A trace buffer is a ring. Once it is full, the newest frame is written over the oldest, so that what is read of it begins in the
+//! middle of a trace, and its oldest frame may stand anywhere in it. What the end of a trace still tells is a law: from the first A-sync
+//! in it on, the retired path, each block as it is or as one unknown stretch.
+//!
+//! The layers above use these contracts:
+//! - [`WrappedDemux`]: a printer, as a `Demux` is, of a buffer whose oldest frame is one of the later ones. The lines of the frames from
+//!   that one on come with the bytes, those of the first ones at the end, and then those of the ends.
+//! - [`Unwrap`], on which it stands: the frames of such a buffer in their order, with the first ones kept. It takes a byte a call, and
+//!   copies it once.
+//! - [`last_frames`]: the last frames of a capture, as they are left in a buffer of so many.
+//! - the laws: [`the_last_bytes_show_their_part`], of each run and any number of missing bytes; [`a_late_reader_shows_its_part`], the same
+//!   of elements alone; [`the_last_frames_carry_the_last_bytes`], of any bytes; and [`a_buffer_is_read_from_its_oldest_frame`].
+//!
+//! The definitions speak of a *late reader*, which enters a trace at a trace info in it, beside a reader of the whole: `Marks` and `Rows`
+//! say which things it has in the place of which, `Walked` what its walk shows of them, `Part` puts both together, and `LastBytes` says so
+//! of the bytes that a trace unit wrote.
+//!
+//! All memory is taken by the two `new`.
+#![tactic(auto)]
+
+mod last;
+mod laws;
+mod unwrap;
+mod wrapped;
+
+pub use last::last_frames;
+pub use laws::{
+    a_buffer_is_read_from_its_oldest_frame, a_late_reader_shows_its_part,
+    the_last_bytes_show_their_part, the_last_frames_carry_the_last_bytes,
+};
+pub use unwrap::{MOST_FRAMES, Unwrap};
+pub use wrapped::WrappedDemux;
+
+#[cfg(test)]
+mod tests;
