@@ -351,8 +351,8 @@ module _ (c d : Call) (alike : AreAlike c d) where
       let both : false ≡ true = decided c what asks alike.input_bytes false true text too in cc
   not_both old new old' new' (inr (inl (text, (words, rest), printed))) (what, asked, faulted) =
       no_run_file_input what (one_kind RunFileKind (input_kind what) c.words (retired_kind c.words words) (other_kind what asked))
-  not_both old new old' new' (inr (inr (inl (frames, (words, rest), printed)))) (what, asked, faulted) =
-      no_run_file_input what (one_kind RunFileKind (input_kind what) c.words (trace_kind c.words words) (other_kind what asked))
+  not_both old new old' new' (inr (inr (inl (frames, (last, (words, rest)), printed)))) (what, asked, faulted) =
+      no_run_file_input what (one_kind RunFileKind (input_kind what) c.words (trace_kind last c.words words) (other_kind what asked))
   not_both old new old' new' (inr (inr (inr (text, (n, cut, words, summary), printed)))) (what, asked, faulted) =
       no_number_input what (one_kind NumberKind (input_kind what) c.words (number_kind n cut c.words words) (other_kind what asked))
 

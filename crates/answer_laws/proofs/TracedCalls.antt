@@ -76,7 +76,7 @@ module _ (c : Call) (old new : IoState) (image : Image) (b : BenchParts) (bench 
     not_retired text ((p, words), over) = let both = sym words ∙ asks.words.1 in cc
 
     not_traced : (frames : List ℕ) → IsTraced c frames → ⊥
-    not_traced frames ((p, words), over) = let both = sym words ∙ asks.words.1 in cc
+    not_traced frames (last, ((p, words), over)) = let both = sym words ∙ asks.words.1 in cc
 
     not_tested : (text : List ℕ) → IsTested c text → ⊥
     not_tested text (n, cut, words, summary) = let both = sym words ∙ asks.words.1 in cc

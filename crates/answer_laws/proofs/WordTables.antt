@@ -3,18 +3,20 @@ use Rattle.std.proofs.Common.{◌≡◌, ℕ, List, [], ◌∷◌, Option, Some,
 use Rattle.std.specs.Prelude.{⊤}
 use Rattle.std.specs.Option.{option_and_then, option_map}
 use Rattle.command_words.proofs.WordLists.{told_units}
-use Rattle.command_words.specs.Words.{Command, Intake, Packets, Path, Retired, Seen, Selftest, Trace, command_in, cut_of, intake_in, layout_in}
-use Rattle.command_words.specs.Words.{meaning, most_number, nothing_seen, number_to, program_in, seen_of, units_in}
+use Rattle.command_words.specs.Words.{Command, Intake, Packets, Path, Retired, Seen, Selftest, Trace, command_in, cut_of, intake_in, last_of}
+use Rattle.command_words.specs.Words.{layout_in, meaning, most_number, nothing_seen, number_to, program_in, seen_of, units_in}
 use Rattle.command_words.specs.declared.words.CommandName.{CommandName}
 use Rattle.command_words.specs.declared.words.CommandName.TheVariants as name
+use Rattle.command_words.specs.declared.words.Layout.{Layout}
 use Rattle.etm_types.specs.Settings.{Sizes}
 use Rattle.etm_types.specs.SettingsTable.{IsTable}
 use Rattle.trace_cmd.specs.Answers.{IsPacketsUnder, IsPathUnder}
 
 -- what comes behind a value that is there
-behind : {A B : Type 0} (found : Option A) (f : A → Option B) (y : B) → option_and_then f found ≡ Some y → (x : A) × (f x ≡ Some y)
+behind : {A B : Type 0} (found : Option A) (f : A → Option B) (y : B) → option_and_then f found ≡ Some y
+    → (x : A) × (found ≡ Some x) × (f x ≡ Some y)
 behind None f y is = absurd cc
-behind (Some x) f y is = (x, is)
+behind (Some x) f y is = (x, refl, is)
 
 mapped : {A B : Type 0} (found : Option A) (f : A → B) (y : B) → option_map f found ≡ Some y → (x : A) × (found ≡ Some x) × (f x ≡ y)
 mapped None f y is = absurd cc
@@ -22,35 +24,38 @@ mapped (Some x) f y is = (x, refl, cc)
 
 told_intake : (seen : Seen) (r : Intake) → intake_in seen ≡ Some r → IsTable r.units
 told_intake seen r is =
-    let units = mapped (units_in seen) (λ (s : List Sizes). record { units = s; layout = layout_in seen }) r is in
-    subst (λ (i : Intake). IsTable i.units) units.2 (told_units seen units.0 units.1)
+    let units = behind (units_in seen) (λ (s : List Sizes). option_map (λ (l : Layout). record { units = s; layout = l }) (layout_in seen)) r is in
+    let layout = mapped (layout_in seen) (λ (l : Layout). record { units = units.0; layout = l }) r units.2 in
+    subst (λ (i : Intake). IsTable i.units) layout.2 (told_units seen units.0 units.1)
 
 -- the sizes of a command that has any
 abbrev HasTable : Command → Type 0
 HasTable (Path p r) = IsTable r.units
 HasTable (Packets r) = IsTable r.units
 HasTable (Retired p) = ⊤
-HasTable (Trace p) = ⊤
+HasTable (Trace p last) = ⊤
 HasTable (Selftest n cut) = ⊤
 
 command_table : (command : CommandName) (seen : Seen) (said : Command) → command_in command seen ≡ Some said → HasTable said
 command_table name.Path seen said is =
-    let program = behind (program_in seen) _ said is in let intake = mapped (intake_in seen) (Path program.0) said program.1 in
+    let program = behind (program_in seen) _ said is in let intake = mapped (intake_in seen) (Path program.0) said program.2 in
     subst HasTable intake.2 (told_intake seen intake.0 intake.1)
 command_table name.Packets seen said is =
     let intake = mapped (intake_in seen) Packets said is in subst HasTable intake.2 (told_intake seen intake.0 intake.1)
 command_table name.Retired seen said is = let program = mapped (program_in seen) Retired said is in subst HasTable program.2 tt
-command_table name.Trace seen said is = let program = mapped (program_in seen) Trace said is in subst HasTable program.2 tt
+command_table name.Trace seen said is =
+    let program = behind (program_in seen) _ said is in let last = mapped (last_of seen.last) (Trace program.0) said program.2 in
+    subst HasTable last.2 tt
 command_table name.Selftest seen said is =
-    let word = behind seen.positional _ said is in let n = behind (number_to most_number word.0) _ said word.1 in
-    let cut = mapped (cut_of seen.cut) (Selftest n.0) said n.1 in subst HasTable cut.2 tt
+    let word = behind seen.positional _ said is in let n = behind (number_to most_number word.0) _ said word.2 in
+    let cut = mapped (cut_of seen.cut) (Selftest n.0) said n.2 in subst HasTable cut.2 tt
 
 words_table : (words : List (List ℕ)) (said : Command) → meaning words ≡ Some said → HasTable said
 words_table [] said is = absurd cc
 words_table (word ∷ words) said is =
     let row = behind _ (λ r. option_and_then (command_in r.name) (seen_of r nothing_seen words)) said is in
-    let seen = behind (seen_of row.0 nothing_seen words) (command_in row.0.name) said row.1 in
-    command_table row.0.name seen.0 said seen.1
+    let seen = behind (seen_of row.0 nothing_seen words) (command_in row.0.name) said row.2 in
+    command_table row.0.name seen.0 said seen.2
 
 pub path_table : (r : Intake) (words : List (List ℕ)) → IsPathUnder r words → IsTable r.units
 path_table r words (p, is) = words_table words (Path p r) is

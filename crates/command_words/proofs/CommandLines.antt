@@ -1,6 +1,6 @@
 -- What words mean is how they are spelled.
-use Rattle.std.proofs.Common.{◌≡◌, ◌⊎◌, ◌&&◌, ℕ, Bool, true, false, nat_le, List, [], ◌∷◌, ◌++◌, All, find, if◌then◌else◌, codes, Option, Some, None, is_some}
-use Rattle.std.proofs.Common.{IfSome, replicate, ◌≤◌, refl, sym, ap, subst, ◌∙◌, inl, inr, arith}
+use Rattle.std.proofs.Common.{◌≡◌, ◌≢◌, ◌==◌, ◌⊎◌, ◌&&◌, ℕ, Bool, true, false, nat_le, List, [], ◌∷◌, ◌++◌, All, find, if◌then◌else◌, codes}
+use Rattle.std.proofs.Common.{Option, Some, None, is_some, IfSome, replicate, ◌≤◌, refl, sym, ap, subst, ◌∙◌, inl, inr, arith}
 use Rattle.std.proofs.lemmas.Bool.Decides.{nat_tests}
 use Rattle.std.proofs.lemmas.List.Elements.{All-nil, All-cons, All-head, All-tail}
 use Rattle.std.proofs.lemmas.Slice.Eq.{bytes_eq-Decides}
@@ -14,16 +14,16 @@ use Rattle.command_words.specs.declared.words.CommandName.TheVariants as name
 use Rattle.command_words.specs.declared.words.CommandOption.{CommandOption}
 use Rattle.command_words.specs.declared.words.CommandOption.TheVariants as option
 use Rattle.command_words.specs.declared.words.Layout.{Layout}
-use Rattle.command_words.specs.declared.words.Layout.TheVariants.{Raw, Frames}
+use Rattle.command_words.specs.declared.words.Layout.TheVariants.{Wrapped}
 use Rattle.command_words.specs.Words.{Command, CommandRow, Intake, Path, Packets, Program, Retired, Seen, Selftest, Trace, command_in, cut_of, intake_in}
-use Rattle.command_words.specs.Words.{is_dashed, is_seen, is_whole, layout_in, meaning, most_cut, most_number, name_of, nothing_seen, number_of, number_to}
-use Rattle.command_words.specs.Words.{program_in, row, seen_of, sizes_in, takes_value, with_dashed, with_option, with_value, with_word}
+use Rattle.command_words.specs.Words.{is_dashed, is_seen, is_whole, last_of, layout_by, layout_in, meaning, most_cut, most_last, most_number, most_wrap}
+use Rattle.command_words.specs.Words.{name_of, nothing_seen, number_of, number_to, program_in, row, seen_of, sizes_in, takes_value, units_in, with_dashed}
+use Rattle.command_words.specs.Words.{with_option, with_value, with_word}
 use Rattle.command_words.specs.declared.lists.Listed.{Listed}
 use Rattle.command_words.specs.Lists.{is_comma, listed_in, nothing_listed, units_by}
-use Rattle.command_words.specs.Words.{units_in}
-use Rattle.command_words.specs.CommandLines.{Piece, Apart, Joined, Flag, Positional, IsCut, IsEnd, IsLayout, IsLine, IsNumber, IsPiece, IsPathLine, AreUnits, IsUnits}
-use Rattle.command_words.specs.CommandLines.{IsPacketsLine, IsRetiredLine, IsSelftestLine, IsTraceLine, in_row, positionals_of, value_for, values_of, word_of}
-use Rattle.command_words.specs.CommandLines.{words_of}
+use Rattle.command_words.specs.CommandLines.{Piece, Apart, Joined, Flag, Positional, AreUnits, IsCut, IsEnd, IsLast, IsLayout, IsLine, IsNumber, IsPathLine}
+use Rattle.command_words.specs.CommandLines.{IsPacketsLine, IsPiece, IsRetiredLine, IsSelftestLine, IsTraceLine, IsUnits, NoOther, in_row, positionals_of}
+use Rattle.command_words.specs.CommandLines.{value_for, values_of, word_of, words_of}
 use Rattle.command_words.proofs.WordLemmas.{map_some, sized_by, sizes_there, then_some, within}
 use Rattle.command_words.proofs.WordLists.{alike_found, alike_said, list_found, list_said}
 use Rattle.command_words.proofs.WordTurns.{Has, Turn, Ends, Waits, Joins, Flags, Values, Positionals, turn}
@@ -37,10 +37,12 @@ listed (Some value) = value ∷ []
 -- the values of an option that were seen, and of a flag an empty one
 abbrev given : CommandOption → Seen → List (List ℕ)
 given option.Raw seen = if seen.raw then [] ∷ [] else []
+given option.Wrap seen = listed seen.wrap
 given option.Depth seen = listed seen.depth
 given option.Vmid seen = listed seen.vmid
 given option.Cid seen = listed seen.cid
 given option.Settings seen = listed seen.settings
+given option.Last seen = listed seen.last
 given option.Cut seen = listed seen.cut
 
 none_listed : (o : Option (List ℕ)) → is_some o ≡ false → listed o ≡ []
@@ -59,10 +61,12 @@ no_value value (inr e) = e
 given_more : (p o : CommandOption) (value : List ℕ) (seen : Seen) (values : List (List ℕ)) → IsValueOf o value → is_seen o seen ≡ false
     → given p (with_value o value seen) ++ values ≡ given p seen ++ value_for p o value values
 given_more option.Raw option.Raw value seen values is none = simp (none, no_value value is)
+given_more option.Wrap option.Wrap value seen values is none = rw (none_listed seen.wrap none) refl
 given_more option.Depth option.Depth value seen values is none = rw (none_listed seen.depth none) refl
 given_more option.Vmid option.Vmid value seen values is none = rw (none_listed seen.vmid none) refl
 given_more option.Cid option.Cid value seen values is none = rw (none_listed seen.cid none) refl
 given_more option.Settings option.Settings value seen values is none = rw (none_listed seen.settings none) refl
+given_more option.Last option.Last value seen values is none = rw (none_listed seen.last none) refl
 given_more option.Cut option.Cut value seen values is none = rw (none_listed seen.cut none) refl
 given_more p o value seen values is none = refl
 
@@ -74,34 +78,42 @@ record Stays (seen next : Seen) : Type 0 where
 
 value_stays : (o : CommandOption) (value : List ℕ) (seen : Seen) → Stays seen (with_value o value seen)
 value_stays option.Raw value seen = record { waits = refl; ended = refl; positional = refl }
+value_stays option.Wrap value seen = record { waits = refl; ended = refl; positional = refl }
 value_stays option.Depth value seen = record { waits = refl; ended = refl; positional = refl }
 value_stays option.Vmid value seen = record { waits = refl; ended = refl; positional = refl }
 value_stays option.Cid value seen = record { waits = refl; ended = refl; positional = refl }
 value_stays option.Settings value seen = record { waits = refl; ended = refl; positional = refl }
+value_stays option.Last value seen = record { waits = refl; ended = refl; positional = refl }
 value_stays option.Cut value seen = record { waits = refl; ended = refl; positional = refl }
 
 given_waits : (p : CommandOption) (waits : Option CommandOption) (seen : Seen) → given p (record seen { waits = waits }) ≡ given p seen
 given_waits option.Raw waits seen = refl
+given_waits option.Wrap waits seen = refl
 given_waits option.Depth waits seen = refl
 given_waits option.Vmid waits seen = refl
 given_waits option.Cid waits seen = refl
 given_waits option.Settings waits seen = refl
+given_waits option.Last waits seen = refl
 given_waits option.Cut waits seen = refl
 
 given_ended : (p : CommandOption) (ended : Bool) (seen : Seen) → given p (record seen { ended = ended }) ≡ given p seen
 given_ended option.Raw ended seen = refl
+given_ended option.Wrap ended seen = refl
 given_ended option.Depth ended seen = refl
 given_ended option.Vmid ended seen = refl
 given_ended option.Cid ended seen = refl
 given_ended option.Settings ended seen = refl
+given_ended option.Last ended seen = refl
 given_ended option.Cut ended seen = refl
 
 given_positional : (p : CommandOption) (positional : Option (List ℕ)) (seen : Seen) → given p (record seen { positional = positional }) ≡ given p seen
 given_positional option.Raw positional seen = refl
+given_positional option.Wrap positional seen = refl
 given_positional option.Depth positional seen = refl
 given_positional option.Vmid positional seen = refl
 given_positional option.Cid positional seen = refl
 given_positional option.Settings positional seen = refl
+given_positional option.Last positional seen = refl
 given_positional option.Cut positional seen = refl
 
 -- ---- words that mean something are pieces
@@ -192,10 +204,12 @@ nothing_more (x ∷ xs) = ap (λ (l : List (List ℕ)). x ∷ l) (nothing_more x
 has_more : (row : CommandRow) (p o : CommandOption) (value : List ℕ) (values : List (List ℕ)) → Has row o → Has row p ⊎ (values ≡ [])
     → Has row p ⊎ (value_for p o value values ≡ [])
 has_more row option.Raw option.Raw value values there rest = inl there
+has_more row option.Wrap option.Wrap value values there rest = inl there
 has_more row option.Depth option.Depth value values there rest = inl there
 has_more row option.Vmid option.Vmid value values there rest = inl there
 has_more row option.Cid option.Cid value values there rest = inl there
 has_more row option.Settings option.Settings value values there rest = inl there
+has_more row option.Last option.Last value values there rest = inl there
 has_more row option.Cut option.Cut value values there rest = inl there
 has_more row p o value values there rest = rest
 
@@ -243,10 +257,12 @@ waiting row seen o is may = subst (MayWait row seen) is may
 
 seen_waits : (p : CommandOption) (waits : Option CommandOption) (seen : Seen) → is_seen p (record seen { waits = waits }) ≡ is_seen p seen
 seen_waits option.Raw waits seen = refl
+seen_waits option.Wrap waits seen = refl
 seen_waits option.Depth waits seen = refl
 seen_waits option.Vmid waits seen = refl
 seen_waits option.Cid waits seen = refl
 seen_waits option.Settings waits seen = refl
+seen_waits option.Last waits seen = refl
 seen_waits option.Cut waits seen = refl
 
 value_next : (row : CommandRow) (seen next end : Seen) (words before : List (List ℕ)) (o : CommandOption) (value : List ℕ) → seen.ended ≡ false
@@ -407,13 +423,39 @@ units_said None all units is = ap Some (sym (alike_said all units is))
 units_said (Some list) all units is =
     let l = list_said list is.0 all units is.1 is.2 in ap (option_map (λ (l : Listed). l.table)) l.1 ∙ ap Some l.2
 
-layout_found : (raw : Bool) → IsLayout (if raw then [] ∷ [] else []) (if raw then Raw else Frames)
-layout_found true = refl
-layout_found false = refl
+-- how many frames are written is the number of the one value that is listed
+last_found_by : (m : ℕ) (last : Option ℕ) (b : Bool) → (m == 0) ≡ b → (if m == 0 then None else Some (Some m)) ≡ Some last → (1 ≤ m) × (last ≡ Some m)
+last_found_by m last true is e = absurd (let f = simp is at e in cc)
+last_found_by m last false is e = let same : Some m ≡ last = (let f = simp is at e in cc) in (grind (arith, nat_tests, is), sym same)
 
-layout_said : (raw : Bool) (layout : Layout) → IsLayout (if raw then [] ∷ [] else []) layout → (if raw then Raw else Frames) ≡ layout
-layout_said true layout e = sym e
-layout_said false layout e = sym e
+last_found : (value : Option (List ℕ)) (last : Option ℕ) → last_of value ≡ Some last → IsLast (listed value) last
+last_found None last e = sym cc
+last_found (Some text) last e =
+    let n = then_some (number_to most_last text) _ last e in let w = number_within most_last text n.0 n.1 in
+    let some = last_found_by n.0 last (n.0 == 0) refl n.2 in (n.0, w.0, some.0, w.1, some.1)
+
+last_said : (value : Option (List ℕ)) (last : Option ℕ) → IsLast (listed value) last → last_of value ≡ Some last
+last_said None last is = ap Some (sym is)
+last_said (Some text) last is =
+    let some : (is.0 == 0) ≡ false = grind (arith, nat_tests, is.2) in
+    let told : (if is.0 == 0 then None else Some (Some is.0)) ≡ Some (Some is.0) = simp some in
+    ap (option_and_then (λ n. if n == 0 then None else Some (Some n))) (number_to_said most_last text is.0 is.1 is.3) ∙ told ∙ ap Some (sym is.4)
+
+-- the layout is that of the values of its options
+layout_found : (raw : Bool) (wrap : Option (List ℕ)) (layout : Layout) → layout_by raw wrap ≡ Some layout
+    → IsLayout (if raw then [] ∷ [] else []) (listed wrap) layout
+layout_found true None layout e = sym cc
+layout_found false None layout e = sym cc
+layout_found true (Some text) layout e = absurd cc
+layout_found false (Some text) layout e =
+    let k = map_some (number_to most_wrap text) Wrapped layout e in let w = number_within most_wrap text k.0 k.1 in (k.0, w.0, w.1, sym k.2)
+
+layout_said : (raw : Bool) (wrap : Option (List ℕ)) (layout : Layout) → IsLayout (if raw then [] ∷ [] else []) (listed wrap) layout
+    → layout_by raw wrap ≡ Some layout
+layout_said true None layout is = ap Some (sym is)
+layout_said false None layout is = ap Some (sym is)
+layout_said true (Some text) layout is = absurd is
+layout_said false (Some text) layout is = ap (option_map Wrapped) (number_to_said most_wrap text is.0 is.1 is.2) ∙ ap Some (sym is.3)
 
 positional_said : (positional : Option (List ℕ)) (word : List ℕ) → listed positional ≡ word ∷ [] → positional ≡ Some word
 positional_said None word e = absurd cc
@@ -437,10 +479,12 @@ not_raw true value values once = absurd once
 not_seen : (o : CommandOption) (value : List ℕ) (seen : Seen) (values : List (List ℕ)) → OnceAtMost (given o seen ++ value_for o o value values)
     → is_seen o seen ≡ false
 not_seen option.Raw value seen values once = not_raw seen.raw value values once
+not_seen option.Wrap value seen values once = not_listed seen.wrap value values once
 not_seen option.Depth value seen values once = not_listed seen.depth value values once
 not_seen option.Vmid value seen values once = not_listed seen.vmid value values once
 not_seen option.Cid value seen values once = not_listed seen.cid value values once
 not_seen option.Settings value seen values once = not_listed seen.settings value values once
+not_seen option.Last value seen values once = not_listed seen.last value values once
 not_seen option.Cut value seen values once = not_listed seen.cut value values once
 
 fewer_by : (b : Bool) (value : List ℕ) (values : List (List ℕ)) → ◌≡◌ {A = List (List ℕ)} (if b then value ∷ values else values) [] → values ≡ []
@@ -455,28 +499,34 @@ has_fewer row p o value values (inr none) = inr (fewer_by (bytes_eq (name_of p) 
 has_this : (row : CommandRow) (o : CommandOption) (value : List ℕ) (values : List (List ℕ)) → Has row o ⊎ (value_for o o value values ≡ []) → Has row o
 has_this row o value values (inl has) = has
 has_this row option.Raw value values (inr none) = absurd cc
+has_this row option.Wrap value values (inr none) = absurd cc
 has_this row option.Depth value values (inr none) = absurd cc
 has_this row option.Vmid value values (inr none) = absurd cc
 has_this row option.Cid value values (inr none) = absurd cc
 has_this row option.Settings value values (inr none) = absurd cc
+has_this row option.Last value values (inr none) = absurd cc
 has_this row option.Cut value values (inr none) = absurd cc
 
 -- the word of an option of the command
 dashed_alone : (row : CommandRow) (o : CommandOption) (seen : Seen) → Has row o → with_dashed row (word_of o) seen ≡ with_option o None seen
 dashed_alone row option.Raw seen has = ap (option_and_then (λ p. with_option p None seen)) has
+dashed_alone row option.Wrap seen has = ap (option_and_then (λ p. with_option p None seen)) has
 dashed_alone row option.Depth seen has = ap (option_and_then (λ p. with_option p None seen)) has
 dashed_alone row option.Vmid seen has = ap (option_and_then (λ p. with_option p None seen)) has
 dashed_alone row option.Cid seen has = ap (option_and_then (λ p. with_option p None seen)) has
 dashed_alone row option.Settings seen has = ap (option_and_then (λ p. with_option p None seen)) has
+dashed_alone row option.Last seen has = ap (option_and_then (λ p. with_option p None seen)) has
 dashed_alone row option.Cut seen has = ap (option_and_then (λ p. with_option p None seen)) has
 
 dashed_joined : (row : CommandRow) (o : CommandOption) (value : List ℕ) (seen : Seen) → Has row o
     → with_dashed row (word_of o ++ 61 ∷ value) seen ≡ with_option o (Some value) seen
 dashed_joined row option.Raw value seen has = ap (option_and_then (λ p. with_option p (Some value) seen)) has
+dashed_joined row option.Wrap value seen has = ap (option_and_then (λ p. with_option p (Some value) seen)) has
 dashed_joined row option.Depth value seen has = ap (option_and_then (λ p. with_option p (Some value) seen)) has
 dashed_joined row option.Vmid value seen has = ap (option_and_then (λ p. with_option p (Some value) seen)) has
 dashed_joined row option.Cid value seen has = ap (option_and_then (λ p. with_option p (Some value) seen)) has
 dashed_joined row option.Settings value seen has = ap (option_and_then (λ p. with_option p (Some value) seen)) has
+dashed_joined row option.Last value seen has = ap (option_and_then (λ p. with_option p (Some value) seen)) has
 dashed_joined row option.Cut value seen has = ap (option_and_then (λ p. with_option p (Some value) seen)) has
 
 taken_alone : (row : CommandRow) (o : CommandOption) (seen : Seen) → seen.waits ≡ None → seen.ended ≡ false → Has row o
@@ -492,10 +542,12 @@ taken_joined row o value seen free off has =
 
 value_after : (o : CommandOption) (value : List ℕ) (seen : Seen) → with_value o value (record seen { waits = Some o }) ≡ with_value o value seen
 value_after option.Raw value seen = refl
+value_after option.Wrap value seen = refl
 value_after option.Depth value seen = refl
 value_after option.Vmid value seen = refl
 value_after option.Cid value seen = refl
 value_after option.Settings value seen = refl
+value_after option.Last value seen = refl
 value_after option.Cut value seen = refl
 
 -- what is seen of words that are taken
@@ -709,16 +761,16 @@ taken row (Positional word ∷ pieces) ended behind seen off are is fits =
 -- ---- whole lines
 
 abbrev path_row : CommandRow
-path_row = row (codes "path") name.Path (option.Raw ∷ option.Depth ∷ option.Vmid ∷ option.Cid ∷ option.Settings ∷ []) true
+path_row = row (codes "path") name.Path (option.Raw ∷ option.Wrap ∷ option.Depth ∷ option.Vmid ∷ option.Cid ∷ option.Settings ∷ []) true
 
 abbrev packets_row : CommandRow
-packets_row = row (codes "packets") name.Packets (option.Raw ∷ option.Vmid ∷ option.Cid ∷ option.Settings ∷ []) false
+packets_row = row (codes "packets") name.Packets (option.Raw ∷ option.Wrap ∷ option.Vmid ∷ option.Cid ∷ option.Settings ∷ []) false
 
 abbrev retired_row : CommandRow
 retired_row = row (codes "retired") name.Retired [] true
 
 abbrev trace_row : CommandRow
-trace_row = row (codes "trace") name.Trace [] true
+trace_row = row (codes "trace") name.Trace (option.Last ∷ []) true
 
 abbrev selftest_row : CommandRow
 selftest_row = row (codes "selftest") name.Selftest (option.Cut ∷ []) true
@@ -778,16 +830,16 @@ record Says (end : Seen) (intake : Intake) : Type 0 where
   all : Sizes
   sizes : SizesIn end all
   units_are : units_by end.settings all ≡ Some intake.units
-  layout_is : layout_in end ≡ intake.layout
+  layout_is : layout_in end ≡ Some intake.layout
 
 intake_found : (end : Seen) (intake : Intake) → intake_in end ≡ Some intake → Says end intake
 intake_found end intake e =
-    let z = map_some (units_in end) _ intake e in let all = then_some (sizes_in end) _ z.0 z.1 in
+    let z = then_some (units_in end) _ intake e in let l = map_some (layout_in end) _ intake z.2 in let all = then_some (sizes_in end) _ z.0 z.1 in
     record {
       all = all.0;
       sizes = sizes_found end all.0 all.1;
-      units_are = all.2 ∙ ap Some (ap (λ (i : Intake). i.units) z.2);
-      layout_is = ap (λ (i : Intake). i.layout) z.2;
+      units_are = all.2 ∙ ap (λ (i : Intake). Some i.units) l.2;
+      layout_is = l.1 ∙ ap (λ (i : Intake). Some i.layout) l.2;
     }
 
 program_found : (end : Seen) (program : Program) → program_in end ≡ Some program → end.positional ≡ Some program.name
@@ -810,10 +862,12 @@ retired_says end program e =
     let p = map_some (program_in end) Retired (Retired program) e in let program_is : p.0 ≡ program = (let f = p.2 in cc) in
     program_found end program (p.1 ∙ ap Some program_is)
 
-trace_says : (end : Seen) (program : Program) → command_in name.Trace end ≡ Some (Trace program) → end.positional ≡ Some program.name
-trace_says end program e =
-    let p = map_some (program_in end) Trace (Trace program) e in let program_is : p.0 ≡ program = (let f = p.2 in cc) in
-    program_found end program (p.1 ∙ ap Some program_is)
+trace_says : (end : Seen) (program : Program) (last : Option ℕ) → command_in name.Trace end ≡ Some (Trace program last)
+    → (end.positional ≡ Some program.name) × (last_of end.last ≡ Some last)
+trace_says end program last e =
+    let p = then_some (program_in end) _ (Trace program last) e in let l = map_some (last_of end.last) (Trace p.0) (Trace program last) p.2 in
+    let program_is : p.0 ≡ program = (let f = l.2 in cc) in let last_is : l.0 ≡ last = (let f = l.2 in cc) in
+    (program_found end program (p.1 ∙ ap Some program_is), l.1 ∙ ap Some last_is)
 
 -- what the end says of a number, and of how many bytes are read
 record SaysNumber (end : Seen) (n : ℕ) (cut : Option ℕ) : Type 0 where
@@ -831,9 +885,11 @@ selftest_says end n cut e =
     let within = number_within most_number w.0 n (m.1 ∙ ap Some same) in
     record { number = w.0; stands = w.1; number_is = within.0; within = within.1; cut_is = k.1 ∙ ap Some cut_same }
 
-layout_values : (end : Seen) (layout : Layout) (values : List (List ℕ)) → layout_in end ≡ layout → given option.Raw end ≡ values → IsLayout values layout
-layout_values end layout values is same =
-    subst (λ (l : List (List ℕ)). IsLayout l layout) same (subst (IsLayout (given option.Raw end)) is (layout_found end.raw))
+layout_values : (end : Seen) (layout : Layout) (flags values : List (List ℕ)) → layout_in end ≡ Some layout → given option.Raw end ≡ flags
+    → listed end.wrap ≡ values → IsLayout flags values layout
+layout_values end layout flags values is raw wrap =
+    subst (λ (l : List (List ℕ)). IsLayout l values layout) raw
+    (subst (λ (l : List (List ℕ)). IsLayout (given option.Raw end) l layout) wrap (layout_found end.raw end.wrap layout is))
 
 units_values : (list : Option (List ℕ)) (all : Sizes) (units : List Sizes) (values : List (List ℕ)) → units_by list all ≡ Some units
     → listed list ≡ values → IsUnits values all units
@@ -856,7 +912,9 @@ path_of_line word words program intake b =
     let sizes = says.1.sizes in let all = says.1.all in
     record {
       line = line_of path_row word words (program.name ∷ []) (Path program intake) b p (ap listed says.0);
-      layout_is = layout_values b.end intake.layout (values_of option.Raw p.pieces) says.1.layout_is (p.values option.Raw);
+      layout_is = layout_values b.end intake.layout (values_of option.Raw p.pieces) (values_of option.Wrap p.pieces) says.1.layout_is
+          (p.values option.Raw) (p.values option.Wrap);
+      no_last = lacked path_row option.Last (values_of option.Last p.pieces) refl (p.has option.Last);
       no_cut = lacked path_row option.Cut (values_of option.Cut p.pieces) refl (p.has option.Cut);
       all = all;
       depth_is = number_values default_sizes.depth b.end.depth all.depth (values_of option.Depth p.pieces) sizes.depth_is (p.values option.Depth);
@@ -878,8 +936,10 @@ packets_of_line word words intake b =
     let none = lacked packets_row option.Depth (values_of option.Depth p.pieces) refl (p.has option.Depth) in
     record {
       line = line_of packets_row word words [] (Packets intake) b p (p.positionals ∙ no_positionals (positionals_of p.pieces ++ p.behind) p.allowed);
-      layout_is = layout_values b.end intake.layout (values_of option.Raw p.pieces) says.layout_is (p.values option.Raw);
+      layout_is = layout_values b.end intake.layout (values_of option.Raw p.pieces) (values_of option.Wrap p.pieces) says.layout_is
+          (p.values option.Raw) (p.values option.Wrap);
       no_depth = none;
+      no_last = lacked packets_row option.Last (values_of option.Last p.pieces) refl (p.has option.Last);
       no_cut = lacked packets_row option.Cut (values_of option.Cut p.pieces) refl (p.has option.Cut);
       all = all;
       depth_is = number_values default_sizes.depth b.end.depth all.depth [] sizes.depth_is (p.values option.Depth ∙ none);
@@ -898,25 +958,30 @@ retired_of_line word words program b =
       no_option = λ o. lacked retired_row o (values_of o p.pieces) refl (p.has o);
     }
 
-trace_of_line : (word : List ℕ) (words : List (List ℕ)) (program : Program) → Begins trace_row word words (Trace program)
-    → IsTraceLine (word ∷ words) program
-trace_of_line word words program b =
-    let p = begin_parts trace_row word words (Trace program) b in
+-- a command with one option has no other
+one_option_by : (o p : CommandOption) (b : Bool) → bytes_eq (name_of p) (name_of o) ≡ b → find (λ q. bytes_eq (name_of p) (name_of q)) (o ∷ []) ≡ Some p
+    → p ≡ o
+one_option_by o p true is e = let f = simp is at e in sym cc
+one_option_by o p false is e = absurd (let f = simp is at e in cc)
+
+no_other : (row : CommandRow) (o : CommandOption) (pieces : List Piece) → row.options ≡ o ∷ [] → ((p : CommandOption) → Has row p ⊎ (values_of p pieces ≡ []))
+    → NoOther o pieces
+no_other row o pieces one has p other = elim (has p) [
+  | inl there ↦
+      let found = subst (λ (os : List CommandOption). find (λ q. bytes_eq (name_of p) (name_of q)) os ≡ Some p) one there in
+      absurd (other (one_option_by o p (bytes_eq (name_of p) (name_of o)) refl found))
+  | inr none ↦ none
+]
+
+trace_of_line : (word : List ℕ) (words : List (List ℕ)) (program : Program) (last : Option ℕ) → Begins trace_row word words (Trace program last)
+    → IsTraceLine (word ∷ words) program last
+trace_of_line word words program last b =
+    let p = begin_parts trace_row word words (Trace program last) b in let says = trace_says b.end program last b.means in
     record {
-      line = line_of trace_row word words (program.name ∷ []) (Trace program) b p (ap listed (trace_says b.end program b.means));
-      no_option = λ o. lacked trace_row o (values_of o p.pieces) refl (p.has o);
+      line = line_of trace_row word words (program.name ∷ []) (Trace program last) b p (ap listed says.0);
+      last_is = subst (λ (l : List (List ℕ)). IsLast l last) (p.values option.Last) (last_found b.end.last last says.1);
+      no_other = no_other trace_row option.Last p.pieces refl p.has;
     }
-
-abbrev Unused : List Piece → CommandOption → Type 0
-Unused pieces o = values_of o pieces ≡ []
-
-none_used : (pieces : List Piece) → Unused pieces option.Raw → Unused pieces option.Depth → Unused pieces option.Vmid → Unused pieces option.Cid
-    → Unused pieces option.Settings → All (Unused pieces) (option.Raw ∷ option.Depth ∷ option.Vmid ∷ option.Cid ∷ option.Settings ∷ [])
-none_used pieces raw depth vmid cid settings =
-    All-cons (Unused pieces) option.Raw (option.Depth ∷ option.Vmid ∷ option.Cid ∷ option.Settings ∷ []) raw
-    (All-cons (Unused pieces) option.Depth (option.Vmid ∷ option.Cid ∷ option.Settings ∷ []) depth
-    (All-cons (Unused pieces) option.Vmid (option.Cid ∷ option.Settings ∷ []) vmid
-    (All-cons (Unused pieces) option.Cid (option.Settings ∷ []) cid (All-cons (Unused pieces) option.Settings [] settings (All-nil (Unused pieces))))))
 
 selftest_of_line : (word : List ℕ) (words : List (List ℕ)) (n : ℕ) (cut : Option ℕ) → Begins selftest_row word words (Selftest n cut)
     → IsSelftestLine (word ∷ words) n cut
@@ -928,11 +993,7 @@ selftest_of_line word words n cut b =
       number_is = says.number_is;
       number_within = says.within;
       cut_is = subst (λ (l : List (List ℕ)). IsCut l cut) (p.values option.Cut) (cut_found b.end.cut cut says.cut_is);
-      no_other = none_used p.pieces (lacked selftest_row option.Raw (values_of option.Raw p.pieces) refl (p.has option.Raw))
-          (lacked selftest_row option.Depth (values_of option.Depth p.pieces) refl (p.has option.Depth))
-          (lacked selftest_row option.Vmid (values_of option.Vmid p.pieces) refl (p.has option.Vmid))
-          (lacked selftest_row option.Cid (values_of option.Cid p.pieces) refl (p.has option.Cid))
-          (lacked selftest_row option.Settings (values_of option.Settings p.pieces) refl (p.has option.Settings));
+      no_other = no_other selftest_row option.Cut p.pieces refl p.has;
     }
 
 -- a command means what its name says
@@ -940,14 +1001,14 @@ abbrev name_in : Command → CommandName
 name_in (Path program intake) = name.Path
 name_in (Packets intake) = name.Packets
 name_in (Retired program) = name.Retired
-name_in (Trace program) = name.Trace
+name_in (Trace program last) = name.Trace
 name_in (Selftest n cut) = name.Selftest
 
 named : (n : CommandName) (end : Seen) (c : Command) → command_in n end ≡ Some c → n ≡ name_in c
 named name.Path end c e = let i = then_some (program_in end) _ c e in let z = map_some (intake_in end) (Path i.0) c i.2 in ap name_in z.2
 named name.Packets end c e = let z = map_some (intake_in end) Packets c e in ap name_in z.2
 named name.Retired end c e = let i = map_some (program_in end) Retired c e in ap name_in i.2
-named name.Trace end c e = let i = map_some (program_in end) Trace c e in ap name_in i.2
+named name.Trace end c e = let i = then_some (program_in end) _ c e in let l = map_some (last_of end.last) (Trace i.0) c i.2 in ap name_in l.2
 named name.Selftest end c e =
     let w = then_some end.positional _ c e in let m = then_some (number_to most_number w.0) _ c w.2 in
     let k = map_some (cut_of end.cut) (Selftest m.0) c m.2 in ap name_in k.2
@@ -986,14 +1047,15 @@ retired_line (word ∷ words) program e = elim (line word words (Retired program
   | inr (inr (inr (inr b))) ↦ absurd (another name.Selftest b.end (Retired program) b.means (λ f. absurd cc))
 ]
 
-pub trace_line : (words : List (List ℕ)) (program : Program) → meaning words ≡ Some (Trace program) → IsTraceLine words program
-trace_line [] program e = absurd cc
-trace_line (word ∷ words) program e = elim (line word words (Trace program) e) [
-  | inl b ↦ absurd (another name.Path b.end (Trace program) b.means (λ f. absurd cc))
-  | inr (inl b) ↦ absurd (another name.Packets b.end (Trace program) b.means (λ f. absurd cc))
-  | inr (inr (inl b)) ↦ absurd (another name.Retired b.end (Trace program) b.means (λ f. absurd cc))
-  | inr (inr (inr (inl b))) ↦ trace_of_line word words program b
-  | inr (inr (inr (inr b))) ↦ absurd (another name.Selftest b.end (Trace program) b.means (λ f. absurd cc))
+pub trace_line : (words : List (List ℕ)) (program : Program) (last : Option ℕ) → meaning words ≡ Some (Trace program last)
+    → IsTraceLine words program last
+trace_line [] program last e = absurd cc
+trace_line (word ∷ words) program last e = elim (line word words (Trace program last) e) [
+  | inl b ↦ absurd (another name.Path b.end (Trace program last) b.means (λ f. absurd cc))
+  | inr (inl b) ↦ absurd (another name.Packets b.end (Trace program last) b.means (λ f. absurd cc))
+  | inr (inr (inl b)) ↦ absurd (another name.Retired b.end (Trace program last) b.means (λ f. absurd cc))
+  | inr (inr (inr (inl b))) ↦ trace_of_line word words program last b
+  | inr (inr (inr (inr b))) ↦ absurd (another name.Selftest b.end (Trace program last) b.means (λ f. absurd cc))
 ]
 
 pub selftest_line : (words : List (List ℕ)) (n : ℕ) (cut : Option ℕ) → meaning words ≡ Some (Selftest n cut) → IsSelftestLine words n cut
@@ -1023,10 +1085,74 @@ units_once [] all units is = tt
 units_once (v ∷ []) all units is = tt
 units_once (v ∷ w ∷ values) all units is = absurd is
 
-layout_once : (values : List (List ℕ)) (layout : Layout) → IsLayout values layout → OnceAtMost values
-layout_once [] layout is = tt
-layout_once (v ∷ []) layout is = tt
-layout_once (v ∷ w ∷ values) layout is = absurd is
+last_once : (values : List (List ℕ)) (last : Option ℕ) → IsLast values last → OnceAtMost values
+last_once [] last is = tt
+last_once (v ∷ []) last is = tt
+last_once (v ∷ w ∷ values) last is = absurd is
+
+raw_once : (flags values : List (List ℕ)) (layout : Layout) → IsLayout flags values layout → OnceAtMost flags
+raw_once [] values layout is = tt
+raw_once (f ∷ []) values layout is = tt
+raw_once (f ∷ g ∷ flags) values layout is = absurd is
+
+wrap_once : (flags values : List (List ℕ)) (layout : Layout) → IsLayout flags values layout → OnceAtMost values
+wrap_once flags [] layout is = tt
+wrap_once flags (v ∷ []) layout is = tt
+wrap_once [] (v ∷ w ∷ values) layout is = absurd is
+wrap_once (f ∷ []) (v ∷ w ∷ values) layout is = absurd is
+wrap_once (f ∷ g ∷ flags) (v ∷ w ∷ values) layout is = absurd is
+
+-- nothing was seen before the words
+given_nothing : (o : CommandOption) → given o nothing_seen ≡ []
+given_nothing option.Raw = refl
+given_nothing option.Wrap = refl
+given_nothing option.Depth = refl
+given_nothing option.Vmid = refl
+given_nothing option.Cid = refl
+given_nothing option.Settings = refl
+given_nothing option.Last = refl
+given_nothing option.Cut = refl
+
+so_far_once : (o : CommandOption) (values : List (List ℕ)) → OnceAtMost values → OnceAtMost (given o nothing_seen ++ values)
+so_far_once o values once = subst (λ (l : List (List ℕ)). OnceAtMost (l ++ values)) (sym (given_nothing o)) once
+
+unused_once : (o : CommandOption) (values : List (List ℕ)) → values ≡ [] → OnceAtMost (given o nothing_seen ++ values)
+unused_once o values none = so_far_once o values (subst OnceAtMost (sym none) tt)
+
+-- what is known of each option of a command with one
+abbrev SameOrOther : CommandOption → CommandOption → Type 0
+SameOrOther o p = (p ≡ o) ⊎ (p ≢ o)
+
+has_one : (row : CommandRow) (o : CommandOption) (pieces : List Piece) → Has row o → NoOther o pieces → (p : CommandOption) → SameOrOther o p
+    → Has row p ⊎ (values_of p pieces ≡ [])
+has_one row o pieces has none p (inl same) = inl (subst (Has row) (sym same) has)
+has_one row o pieces has none p (inr other) = inr (none p other)
+
+one_once : (o : CommandOption) (pieces : List Piece) → OnceAtMost (values_of o pieces) → NoOther o pieces → (p : CommandOption) → SameOrOther o p
+    → OnceAtMost (given p nothing_seen ++ values_of p pieces)
+one_once o pieces once none p (inl same) =
+    so_far_once p (values_of p pieces) (subst (λ (q : CommandOption). OnceAtMost (values_of q pieces)) (sym same) once)
+one_once o pieces once none p (inr other) = unused_once p (values_of p pieces) (none p other)
+
+is_last : (p : CommandOption) → SameOrOther option.Last p
+is_last option.Last = inl refl
+is_last option.Raw = inr (λ e. absurd cc)
+is_last option.Wrap = inr (λ e. absurd cc)
+is_last option.Depth = inr (λ e. absurd cc)
+is_last option.Vmid = inr (λ e. absurd cc)
+is_last option.Cid = inr (λ e. absurd cc)
+is_last option.Settings = inr (λ e. absurd cc)
+is_last option.Cut = inr (λ e. absurd cc)
+
+is_cut : (p : CommandOption) → SameOrOther option.Cut p
+is_cut option.Cut = inl refl
+is_cut option.Raw = inr (λ e. absurd cc)
+is_cut option.Wrap = inr (λ e. absurd cc)
+is_cut option.Depth = inr (λ e. absurd cc)
+is_cut option.Vmid = inr (λ e. absurd cc)
+is_cut option.Cid = inr (λ e. absurd cc)
+is_cut option.Settings = inr (λ e. absurd cc)
+is_cut option.Last = inr (λ e. absurd cc)
 
 abbrev taken_so : List Sizes → Layout → Intake
 taken_so units layout = record { units = units; layout = layout }
@@ -1040,11 +1166,11 @@ units_listed : (list : Option (List ℕ)) (all : Sizes) (units : List Sizes) (va
 units_listed list all units values same is = units_said list all units (subst (λ (l : List (List ℕ)). IsUnits l all units) (sym same) is)
 
 -- how the input is taken, by what is seen
-said_by : (end : Seen) (intake : Intake) (all : Sizes) (raw depth vmid cid settings : List (List ℕ)) → given option.Raw end ≡ raw
-    → listed end.depth ≡ depth → listed end.vmid ≡ vmid → listed end.cid ≡ cid → listed end.settings ≡ settings → IsLayout raw intake.layout
-    → IsNumber default_sizes.depth depth all.depth → IsNumber default_sizes.vmid_bytes vmid all.vmid_bytes
+said_by : (end : Seen) (intake : Intake) (all : Sizes) (raw wrap depth vmid cid settings : List (List ℕ)) → given option.Raw end ≡ raw
+    → listed end.wrap ≡ wrap → listed end.depth ≡ depth → listed end.vmid ≡ vmid → listed end.cid ≡ cid → listed end.settings ≡ settings
+    → IsLayout raw wrap intake.layout → IsNumber default_sizes.depth depth all.depth → IsNumber default_sizes.vmid_bytes vmid all.vmid_bytes
     → IsNumber default_sizes.cid_bytes cid all.cid_bytes → AreSettings all → IsUnits settings all intake.units → intake_in end ≡ Some intake
-said_by end intake all raw depth vmid cid settings r d v c l layout_is depth_is vmid_is cid_is within units_are =
+said_by end intake all raw wrap depth vmid cid settings r w d v c l layout_is depth_is vmid_is cid_is within units_are =
     let sizes_are = sizes_said end all (record {
       depth_is = number_listed default_sizes.depth end.depth all.depth depth d depth_is;
       vmid_is = number_listed default_sizes.vmid_bytes end.vmid all.vmid_bytes vmid v vmid_is;
@@ -1053,26 +1179,31 @@ said_by end intake all raw depth vmid cid settings r d v c l layout_is depth_is 
     }) in
     let units_so : units_in end ≡ Some intake.units =
     ap (option_and_then (λ (others : Sizes). units_by end.settings others)) sizes_are ∙ units_listed end.settings all intake.units settings l units_are in
-    let layout_so = layout_said end.raw intake.layout (subst (λ (l : List (List ℕ)). IsLayout l intake.layout) (sym r) layout_is) in
-    ap (option_map (λ (units : List Sizes). taken_so units (layout_in end))) units_so
-    ∙ ap (λ (layout : Layout). Some (taken_so intake.units layout)) layout_so
+    let layout_so = layout_said end.raw end.wrap intake.layout (subst (λ (l : List (List ℕ)). IsLayout l (listed end.wrap) intake.layout) (sym r)
+    (subst (λ (l : List (List ℕ)). IsLayout raw l intake.layout) (sym w) layout_is)) in
+    ap (option_and_then (λ (units : List Sizes). option_map (taken_so units) (layout_in end))) units_so
+    ∙ ap (option_map (taken_so intake.units)) layout_so
 
 path_once : (words : List (List ℕ)) (program : Program) (intake : Intake) (l : IsPathLine words program intake) (o : CommandOption)
     → OnceAtMost (given o nothing_seen ++ values_of o l.line.pieces)
-path_once words program intake l option.Raw = layout_once (values_of option.Raw l.line.pieces) intake.layout l.layout_is
+path_once words program intake l option.Raw = raw_once (values_of option.Raw l.line.pieces) (values_of option.Wrap l.line.pieces) intake.layout l.layout_is
+path_once words program intake l option.Wrap = wrap_once (values_of option.Raw l.line.pieces) (values_of option.Wrap l.line.pieces) intake.layout l.layout_is
 path_once words program intake l option.Depth = number_once default_sizes.depth (values_of option.Depth l.line.pieces) l.all.depth l.depth_is
 path_once words program intake l option.Vmid = number_once default_sizes.vmid_bytes (values_of option.Vmid l.line.pieces) l.all.vmid_bytes l.vmid_is
 path_once words program intake l option.Cid = number_once default_sizes.cid_bytes (values_of option.Cid l.line.pieces) l.all.cid_bytes l.cid_is
 path_once words program intake l option.Settings = units_once (values_of option.Settings l.line.pieces) l.all intake.units l.units_are
+path_once words program intake l option.Last = subst OnceAtMost (sym l.no_last) tt
 path_once words program intake l option.Cut = subst OnceAtMost (sym l.no_cut) tt
 
 path_has : (words : List (List ℕ)) (program : Program) (intake : Intake) (l : IsPathLine words program intake) (o : CommandOption)
     → Has path_row o ⊎ (values_of o l.line.pieces ≡ [])
 path_has words program intake l option.Raw = inl refl
+path_has words program intake l option.Wrap = inl refl
 path_has words program intake l option.Depth = inl refl
 path_has words program intake l option.Vmid = inl refl
 path_has words program intake l option.Cid = inl refl
 path_has words program intake l option.Settings = inl refl
+path_has words program intake l option.Last = inr l.no_last
 path_has words program intake l option.Cut = inr l.no_cut
 
 positional_once : (positionals : List (List ℕ)) (word : List ℕ) → positionals ≡ word ∷ [] → OnceAtMost positionals
@@ -1098,9 +1229,11 @@ retired_means : (words : List (List ℕ)) (end : Seen) (program : Program) → s
     → program_in end ≡ Some program → meaning (codes "retired" ∷ words) ≡ Some (Retired program)
 retired_means words end program e p = ap (option_and_then (command_in name.Retired)) e ∙ ap (option_map Retired) p
 
-trace_means : (words : List (List ℕ)) (end : Seen) (program : Program) → seen_of trace_row nothing_seen words ≡ Some end
-    → program_in end ≡ Some program → meaning (codes "trace" ∷ words) ≡ Some (Trace program)
-trace_means words end program e p = ap (option_and_then (command_in name.Trace)) e ∙ ap (option_map Trace) p
+trace_means : (words : List (List ℕ)) (end : Seen) (program : Program) (last : Option ℕ) → seen_of trace_row nothing_seen words ≡ Some end
+    → program_in end ≡ Some program → last_of end.last ≡ Some last → meaning (codes "trace" ∷ words) ≡ Some (Trace program last)
+trace_means words end program last e p l =
+    ap (option_and_then (command_in name.Trace)) e
+    ∙ (ap (option_and_then (λ v. option_map (Trace v) (last_of end.last))) p ∙ ap (option_map (Trace program)) l)
 
 selftest_means : (words : List (List ℕ)) (end : Seen) (number : List ℕ) (n : ℕ) (cut : Option ℕ) → seen_of selftest_row nothing_seen words ≡ Some end
     → end.positional ≡ Some number → number_to most_number number ≡ Some n → cut_of end.cut ≡ Some cut
@@ -1121,29 +1254,34 @@ path_said words program intake l =
       allowed = inl refl;
       enough = inr (program.name, l.line.positionals_are);
     }) in
-    let says = said_by t.end intake l.all (values_of option.Raw l.line.pieces) (values_of option.Depth l.line.pieces) (values_of option.Vmid l.line.pieces)
-    (values_of option.Cid l.line.pieces) (values_of option.Settings l.line.pieces) (t.values option.Raw) (t.values option.Depth) (t.values option.Vmid)
-    (t.values option.Cid) (t.values option.Settings) l.layout_is l.depth_is l.vmid_is l.cid_is l.within l.units_are in
+    let says = said_by t.end intake l.all (values_of option.Raw l.line.pieces) (values_of option.Wrap l.line.pieces) (values_of option.Depth l.line.pieces)
+    (values_of option.Vmid l.line.pieces) (values_of option.Cid l.line.pieces) (values_of option.Settings l.line.pieces) (t.values option.Raw)
+    (t.values option.Wrap) (t.values option.Depth) (t.values option.Vmid) (t.values option.Cid) (t.values option.Settings) l.layout_is l.depth_is l.vmid_is
+    l.cid_is l.within l.units_are in
     ap meaning l.line.row
     ∙ path_means (in_row l.line.pieces l.line.ended) t.end program intake t.seen_is
     (program_said t.end program (positional_said t.end.positional program.name (t.positionals ∙ l.line.positionals_are))) says
 
 packets_once : (words : List (List ℕ)) (intake : Intake) (l : IsPacketsLine words intake) (o : CommandOption)
     → OnceAtMost (given o nothing_seen ++ values_of o l.line.pieces)
-packets_once words intake l option.Raw = layout_once (values_of option.Raw l.line.pieces) intake.layout l.layout_is
+packets_once words intake l option.Raw = raw_once (values_of option.Raw l.line.pieces) (values_of option.Wrap l.line.pieces) intake.layout l.layout_is
+packets_once words intake l option.Wrap = wrap_once (values_of option.Raw l.line.pieces) (values_of option.Wrap l.line.pieces) intake.layout l.layout_is
 packets_once words intake l option.Depth = subst OnceAtMost (sym l.no_depth) tt
 packets_once words intake l option.Vmid = number_once default_sizes.vmid_bytes (values_of option.Vmid l.line.pieces) l.all.vmid_bytes l.vmid_is
 packets_once words intake l option.Cid = number_once default_sizes.cid_bytes (values_of option.Cid l.line.pieces) l.all.cid_bytes l.cid_is
 packets_once words intake l option.Settings = units_once (values_of option.Settings l.line.pieces) l.all intake.units l.units_are
+packets_once words intake l option.Last = subst OnceAtMost (sym l.no_last) tt
 packets_once words intake l option.Cut = subst OnceAtMost (sym l.no_cut) tt
 
 packets_has : (words : List (List ℕ)) (intake : Intake) (l : IsPacketsLine words intake) (o : CommandOption)
     → Has packets_row o ⊎ (values_of o l.line.pieces ≡ [])
 packets_has words intake l option.Raw = inl refl
+packets_has words intake l option.Wrap = inl refl
 packets_has words intake l option.Depth = inr l.no_depth
 packets_has words intake l option.Vmid = inl refl
 packets_has words intake l option.Cid = inl refl
 packets_has words intake l option.Settings = inl refl
+packets_has words intake l option.Last = inr l.no_last
 packets_has words intake l option.Cut = inr l.no_cut
 
 pub packets_said : (words : List (List ℕ)) (intake : Intake) → IsPacketsLine words intake → meaning words ≡ Some (Packets intake)
@@ -1156,25 +1294,17 @@ packets_said words intake l =
       allowed = inr l.line.positionals_are;
       enough = inl refl;
     }) in
-    let says = said_by t.end intake l.all (values_of option.Raw l.line.pieces) [] (values_of option.Vmid l.line.pieces)
-    (values_of option.Cid l.line.pieces) (values_of option.Settings l.line.pieces) (t.values option.Raw) (t.values option.Depth ∙ l.no_depth)
-    (t.values option.Vmid) (t.values option.Cid) (t.values option.Settings) l.layout_is l.depth_is l.vmid_is l.cid_is l.within l.units_are in
+    let says = said_by t.end intake l.all (values_of option.Raw l.line.pieces) (values_of option.Wrap l.line.pieces) [] (values_of option.Vmid l.line.pieces)
+    (values_of option.Cid l.line.pieces) (values_of option.Settings l.line.pieces) (t.values option.Raw) (t.values option.Wrap)
+    (t.values option.Depth ∙ l.no_depth) (t.values option.Vmid) (t.values option.Cid) (t.values option.Settings) l.layout_is l.depth_is l.vmid_is l.cid_is
+    l.within l.units_are in
     ap meaning l.line.row ∙ packets_means (in_row l.line.pieces l.line.ended) t.end intake t.seen_is says
-
-retired_once : (words : List (List ℕ)) (program : Program) (l : IsRetiredLine words program) (o : CommandOption)
-    → OnceAtMost (given o nothing_seen ++ values_of o l.line.pieces)
-retired_once words program l option.Raw = subst OnceAtMost (sym (l.no_option option.Raw)) tt
-retired_once words program l option.Depth = subst OnceAtMost (sym (l.no_option option.Depth)) tt
-retired_once words program l option.Vmid = subst OnceAtMost (sym (l.no_option option.Vmid)) tt
-retired_once words program l option.Cid = subst OnceAtMost (sym (l.no_option option.Cid)) tt
-retired_once words program l option.Settings = subst OnceAtMost (sym (l.no_option option.Settings)) tt
-retired_once words program l option.Cut = subst OnceAtMost (sym (l.no_option option.Cut)) tt
 
 pub retired_said : (words : List (List ℕ)) (program : Program) → IsRetiredLine words program → meaning words ≡ Some (Retired program)
 retired_said words program l =
     let t = taken retired_row l.line.pieces l.line.ended l.line.behind nothing_seen refl l.line.are_pieces l.line.end_is (record {
       free = refl;
-      once = retired_once words program l;
+      once = λ o. unused_once o (values_of o l.line.pieces) (l.no_option o);
       one = positional_once (positionals_of l.line.pieces ++ l.line.behind) program.name l.line.positionals_are;
       has = λ o. inr (l.no_option o);
       allowed = inl refl;
@@ -1184,63 +1314,29 @@ retired_said words program l =
     ∙ retired_means (in_row l.line.pieces l.line.ended) t.end program t.seen_is
     (program_said t.end program (positional_said t.end.positional program.name (t.positionals ∙ l.line.positionals_are)))
 
-trace_once : (words : List (List ℕ)) (program : Program) (l : IsTraceLine words program) (o : CommandOption)
-    → OnceAtMost (given o nothing_seen ++ values_of o l.line.pieces)
-trace_once words program l option.Raw = subst OnceAtMost (sym (l.no_option option.Raw)) tt
-trace_once words program l option.Depth = subst OnceAtMost (sym (l.no_option option.Depth)) tt
-trace_once words program l option.Vmid = subst OnceAtMost (sym (l.no_option option.Vmid)) tt
-trace_once words program l option.Cid = subst OnceAtMost (sym (l.no_option option.Cid)) tt
-trace_once words program l option.Settings = subst OnceAtMost (sym (l.no_option option.Settings)) tt
-trace_once words program l option.Cut = subst OnceAtMost (sym (l.no_option option.Cut)) tt
-
-pub trace_said : (words : List (List ℕ)) (program : Program) → IsTraceLine words program → meaning words ≡ Some (Trace program)
-trace_said words program l =
+pub trace_said : (words : List (List ℕ)) (program : Program) (last : Option ℕ) → IsTraceLine words program last
+    → meaning words ≡ Some (Trace program last)
+trace_said words program last l =
     let t = taken trace_row l.line.pieces l.line.ended l.line.behind nothing_seen refl l.line.are_pieces l.line.end_is (record {
       free = refl;
-      once = trace_once words program l;
+      once = λ o. one_once option.Last l.line.pieces (last_once (values_of option.Last l.line.pieces) last l.last_is) l.no_other o (is_last o);
       one = positional_once (positionals_of l.line.pieces ++ l.line.behind) program.name l.line.positionals_are;
-      has = λ o. inr (l.no_option o);
+      has = λ o. has_one trace_row option.Last l.line.pieces refl l.no_other o (is_last o);
       allowed = inl refl;
       enough = inr (program.name, l.line.positionals_are);
     }) in
     ap meaning l.line.row
-    ∙ trace_means (in_row l.line.pieces l.line.ended) t.end program t.seen_is
+    ∙ trace_means (in_row l.line.pieces l.line.ended) t.end program last t.seen_is
     (program_said t.end program (positional_said t.end.positional program.name (t.positionals ∙ l.line.positionals_are)))
-
-selftest_has : (pieces : List Piece) → All (Unused pieces) (option.Raw ∷ option.Depth ∷ option.Vmid ∷ option.Cid ∷ option.Settings ∷ [])
-    → (o : CommandOption) → Has selftest_row o ⊎ Unused pieces o
-selftest_has pieces none option.Raw = inr (none 0 option.Raw (omega arith))
-selftest_has pieces none option.Depth = inr (none 1 option.Raw (omega arith))
-selftest_has pieces none option.Vmid = inr (none 2 option.Raw (omega arith))
-selftest_has pieces none option.Cid = inr (none 3 option.Raw (omega arith))
-selftest_has pieces none option.Settings = inr (none 4 option.Raw (omega arith))
-selftest_has pieces none option.Cut = inl refl
-
-unused_once : (row : CommandRow) (o : CommandOption) (pieces : List Piece) → find (λ p. bytes_eq (name_of o) (name_of p)) row.options ≡ None
-    → Has row o ⊎ Unused pieces o → OnceAtMost (values_of o pieces)
-unused_once row o pieces lacks has = subst OnceAtMost (sym (lacked row o (values_of o pieces) lacks has)) tt
-
-selftest_once : (words : List (List ℕ)) (n : ℕ) (cut : Option ℕ) (l : IsSelftestLine words n cut) (o : CommandOption)
-    → OnceAtMost (given o nothing_seen ++ values_of o l.line.pieces)
-selftest_once words n cut l option.Raw =
-    unused_once selftest_row option.Raw l.line.pieces refl (selftest_has l.line.pieces l.no_other option.Raw)
-selftest_once words n cut l option.Depth =
-    unused_once selftest_row option.Depth l.line.pieces refl (selftest_has l.line.pieces l.no_other option.Depth)
-selftest_once words n cut l option.Vmid =
-    unused_once selftest_row option.Vmid l.line.pieces refl (selftest_has l.line.pieces l.no_other option.Vmid)
-selftest_once words n cut l option.Cid =
-    unused_once selftest_row option.Cid l.line.pieces refl (selftest_has l.line.pieces l.no_other option.Cid)
-selftest_once words n cut l option.Settings =
-    unused_once selftest_row option.Settings l.line.pieces refl (selftest_has l.line.pieces l.no_other option.Settings)
-selftest_once words n cut l option.Cut = cut_once (values_of option.Cut l.line.pieces) cut l.cut_is
+    (last_said t.end.last last (subst (λ (v : List (List ℕ)). IsLast v last) (sym (t.values option.Last)) l.last_is))
 
 pub selftest_said : (words : List (List ℕ)) (n : ℕ) (cut : Option ℕ) → IsSelftestLine words n cut → meaning words ≡ Some (Selftest n cut)
 selftest_said words n cut l =
     let t = taken selftest_row l.line.pieces l.line.ended l.line.behind nothing_seen refl l.line.are_pieces l.line.end_is (record {
       free = refl;
-      once = selftest_once words n cut l;
+      once = λ o. one_once option.Cut l.line.pieces (cut_once (values_of option.Cut l.line.pieces) cut l.cut_is) l.no_other o (is_cut o);
       one = positional_once (positionals_of l.line.pieces ++ l.line.behind) l.number l.line.positionals_are;
-      has = selftest_has l.line.pieces l.no_other;
+      has = λ o. has_one selftest_row option.Cut l.line.pieces refl l.no_other o (is_cut o);
       allowed = inl refl;
       enough = inr (l.number, l.line.positionals_are);
     }) in

@@ -1,4 +1,5 @@
 mod CommandLines
+mod FrameExamples
 mod ListExamples
 pub mod ListTables
 pub mod WordAgreement

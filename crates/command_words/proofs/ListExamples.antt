@@ -231,7 +231,7 @@ abbrev units_in : Option Command → List Sizes
 units_in (Some (Path program intake)) = intake.units
 units_in (Some (Packets intake)) = intake.units
 units_in (Some (Retired program)) = []
-units_in (Some (Trace program)) = []
+units_in (Some (Trace program last)) = []
 units_in (Some (Selftest n cut)) = []
 units_in None = []
 

@@ -50,42 +50,52 @@ AreTexts (word ∷ words) = ((b : ℕ) (rest : Text) → word ≡ 45 ∷ b ∷ r
 
 value_positional : (o : CommandOption) (v : Text) (seen : Seen) → (with_value o v seen).positional ≡ seen.positional
 value_positional option.Raw v seen = refl
+value_positional option.Wrap v seen = refl
 value_positional option.Depth v seen = refl
 value_positional option.Vmid v seen = refl
 value_positional option.Cid v seen = refl
 value_positional option.Settings v seen = refl
+value_positional option.Last v seen = refl
 value_positional option.Cut v seen = refl
 
 value_ended : (o : CommandOption) (v : Text) (seen : Seen) → (with_value o v seen).ended ≡ seen.ended
 value_ended option.Raw v seen = refl
+value_ended option.Wrap v seen = refl
 value_ended option.Depth v seen = refl
 value_ended option.Vmid v seen = refl
 value_ended option.Cid v seen = refl
 value_ended option.Settings v seen = refl
+value_ended option.Last v seen = refl
 value_ended option.Cut v seen = refl
 
 value_free : (o : CommandOption) (v : Text) (seen : Seen) → (with_value o v seen).waits ≡ None
 value_free option.Raw v seen = refl
+value_free option.Wrap v seen = refl
 value_free option.Depth v seen = refl
 value_free option.Vmid v seen = refl
 value_free option.Cid v seen = refl
 value_free option.Settings v seen = refl
+value_free option.Last v seen = refl
 value_free option.Cut v seen = refl
 
 values_is : (o : CommandOption) (v : Text) → takes_value o ≡ true → values_for (Named o) v ≡ v ∷ []
 values_is option.Raw v takes = absurd cc
+values_is option.Wrap v takes = refl
 values_is option.Depth v takes = refl
 values_is option.Vmid v takes = refl
 values_is option.Cid v takes = refl
 values_is option.Settings v takes = refl
+values_is option.Last v takes = refl
 values_is option.Cut v takes = refl
 
 values_none : (o : CommandOption) (v : Text) → takes_value o ≡ false → values_for (Named o) v ≡ []
 values_none option.Raw v takes = refl
+values_none option.Wrap v takes = absurd cc
 values_none option.Depth v takes = absurd cc
 values_none option.Vmid v takes = absurd cc
 values_none option.Cid v takes = absurd cc
 values_none option.Settings v takes = absurd cc
+values_none option.Last v takes = absurd cc
 values_none option.Cut v takes = absurd cc
 
 none_of : (x : Option Text) → is_some x ≡ false → x ≡ None
@@ -101,18 +111,22 @@ raw_none raw e = simp e
 
 not_shown : (o : CommandOption) (seen : Seen) → is_seen o seen ≡ false → text_in (Named o) seen ≡ None
 not_shown option.Raw seen e = raw_none seen.raw e
+not_shown option.Wrap seen e = none_of seen.wrap e
 not_shown option.Depth seen e = none_of seen.depth e
 not_shown option.Vmid seen e = none_of seen.vmid e
 not_shown option.Cid seen e = none_of seen.cid e
 not_shown option.Settings seen e = none_of seen.settings e
+not_shown option.Last seen e = none_of seen.last e
 not_shown option.Cut seen e = none_of seen.cut e
 
 is_shown : (o : CommandOption) (seen : Seen) → is_seen o seen ≡ true → (v : Text) × (text_in (Named o) seen ≡ Some v)
 is_shown option.Raw seen e = (codes "true", simp e)
+is_shown option.Wrap seen e = some_of seen.wrap e
 is_shown option.Depth seen e = some_of seen.depth e
 is_shown option.Vmid seen e = some_of seen.vmid e
 is_shown option.Cid seen e = some_of seen.cid e
 is_shown option.Settings seen e = some_of seen.settings e
+is_shown option.Last seen e = some_of seen.last e
 is_shown option.Cut seen e = some_of seen.cut e
 
 row_there : (o : CommandOption) (rows : List Row) (seen : Seen) → Shows rows seen → is_seen o seen ≡ true → has_row (name_of o) rows ≡ true
@@ -440,27 +454,33 @@ flag_case row seen words rows p x text name o false is there takes seen_is rest 
 
 seen_waits : (p : CommandOption) (waits : Option CommandOption) (seen : Seen) → is_seen p (record seen { waits = waits }) ≡ is_seen p seen
 seen_waits option.Raw waits seen = refl
+seen_waits option.Wrap waits seen = refl
 seen_waits option.Depth waits seen = refl
 seen_waits option.Vmid waits seen = refl
 seen_waits option.Cid waits seen = refl
 seen_waits option.Settings waits seen = refl
+seen_waits option.Last waits seen = refl
 seen_waits option.Cut waits seen = refl
 
 shows_waits : (rows : List Row) (waits : Option CommandOption) (seen : Seen) → Shows rows seen → Shows rows (record seen { waits = waits })
 shows_waits rows waits seen shows (Named option.Raw) = shows (Named option.Raw)
+shows_waits rows waits seen shows (Named option.Wrap) = shows (Named option.Wrap)
 shows_waits rows waits seen shows (Named option.Depth) = shows (Named option.Depth)
 shows_waits rows waits seen shows (Named option.Vmid) = shows (Named option.Vmid)
 shows_waits rows waits seen shows (Named option.Cid) = shows (Named option.Cid)
 shows_waits rows waits seen shows (Named option.Settings) = shows (Named option.Settings)
+shows_waits rows waits seen shows (Named option.Last) = shows (Named option.Last)
 shows_waits rows waits seen shows (Named option.Cut) = shows (Named option.Cut)
 shows_waits rows waits seen shows Positional = shows Positional
 
 shows_ended : (rows : List Row) (ended : Bool) (seen : Seen) → Shows rows seen → Shows rows (record seen { ended = ended })
 shows_ended rows ended seen shows (Named option.Raw) = shows (Named option.Raw)
+shows_ended rows ended seen shows (Named option.Wrap) = shows (Named option.Wrap)
 shows_ended rows ended seen shows (Named option.Depth) = shows (Named option.Depth)
 shows_ended rows ended seen shows (Named option.Vmid) = shows (Named option.Vmid)
 shows_ended rows ended seen shows (Named option.Cid) = shows (Named option.Cid)
 shows_ended rows ended seen shows (Named option.Settings) = shows (Named option.Settings)
+shows_ended rows ended seen shows (Named option.Last) = shows (Named option.Last)
 shows_ended rows ended seen shows (Named option.Cut) = shows (Named option.Cut)
 shows_ended rows ended seen shows Positional = shows Positional
 

@@ -51,10 +51,12 @@ same_off rows none = record {
 default_by : (k : Key) (rows : List Row) (b : Bool) → has_row (id_of k) rows ≡ b → Same rows (with_default rows (rule_of k))
 unfolding off_row
 default_by (Named option.Raw) rows true is = same_rows rows (with_default rows (rule_of (Named option.Raw))) (simp is)
+default_by (Named option.Wrap) rows true is = same_rows rows (with_default rows (rule_of (Named option.Wrap))) (simp is)
 default_by (Named option.Depth) rows true is = same_rows rows (with_default rows (rule_of (Named option.Depth))) (simp is)
 default_by (Named option.Vmid) rows true is = same_rows rows (with_default rows (rule_of (Named option.Vmid))) (simp is)
 default_by (Named option.Cid) rows true is = same_rows rows (with_default rows (rule_of (Named option.Cid))) (simp is)
 default_by (Named option.Settings) rows true is = same_rows rows (with_default rows (rule_of (Named option.Settings))) (simp is)
+default_by (Named option.Last) rows true is = same_rows rows (with_default rows (rule_of (Named option.Last))) (simp is)
 default_by (Named option.Cut) rows true is = same_rows rows (with_default rows (rule_of (Named option.Cut))) (simp is)
 default_by Positional rows true is = same_rows rows (with_default rows (rule_of Positional)) (simp is)
 default_by (Named option.Raw) rows false is =
@@ -62,10 +64,12 @@ default_by (Named option.Raw) rows false is =
     let added : with_default rows (rule_of (Named option.Raw)) ≡ rows ++ off_row ∷ [] =
     simp is (row_added (codes "raw") (more_values DefaultValue (codes "false" ∷ [])) (off_row ∷ []) rows none) in
     subst (Same rows) (sym added) (same_off rows none)
+default_by (Named option.Wrap) rows false is = same_rows rows (with_default rows (rule_of (Named option.Wrap))) (simp is)
 default_by (Named option.Depth) rows false is = same_rows rows (with_default rows (rule_of (Named option.Depth))) (simp is)
 default_by (Named option.Vmid) rows false is = same_rows rows (with_default rows (rule_of (Named option.Vmid))) (simp is)
 default_by (Named option.Cid) rows false is = same_rows rows (with_default rows (rule_of (Named option.Cid))) (simp is)
 default_by (Named option.Settings) rows false is = same_rows rows (with_default rows (rule_of (Named option.Settings))) (simp is)
+default_by (Named option.Last) rows false is = same_rows rows (with_default rows (rule_of (Named option.Last))) (simp is)
 default_by (Named option.Cut) rows false is = same_rows rows (with_default rows (rule_of (Named option.Cut))) (simp is)
 default_by Positional rows false is = same_rows rows (with_default rows (rule_of Positional)) (simp is)
 
@@ -88,15 +92,19 @@ finished_same row rows p = same_all row.options row.has_positional (settled_rows
 default_clean_by : (k : Key) (rows : List Row) (b : Bool) → has_row (id_of k) rows ≡ b → default_fault rows (rule_of k) ≡ []
 default_clean_by (Named option.Raw) rows true is = simp is
 default_clean_by (Named option.Raw) rows false is = simp is
+default_clean_by (Named option.Wrap) rows true is = simp is
 default_clean_by (Named option.Depth) rows true is = simp is
+default_clean_by (Named option.Wrap) rows false is = simp is
 default_clean_by (Named option.Depth) rows false is = simp is
 default_clean_by (Named option.Vmid) rows true is = simp is
 default_clean_by (Named option.Vmid) rows false is = simp is
 default_clean_by (Named option.Cid) rows true is = simp is
 default_clean_by (Named option.Settings) rows true is = simp is
+default_clean_by (Named option.Last) rows true is = simp is
 default_clean_by (Named option.Cut) rows true is = simp is
 default_clean_by (Named option.Cid) rows false is = simp is
 default_clean_by (Named option.Settings) rows false is = simp is
+default_clean_by (Named option.Last) rows false is = simp is
 default_clean_by (Named option.Cut) rows false is = simp is
 default_clean_by Positional rows true is = simp is
 default_clean_by Positional rows false is = simp is

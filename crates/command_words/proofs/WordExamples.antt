@@ -40,7 +40,7 @@ pub retired_path : meaning (codes "retired" ∷ codes "img" ∷ []) ≡ Some (Re
 retired_path = refl
 
 -- trace img
-pub traces_of_a_run : meaning (codes "trace" ∷ codes "img" ∷ []) ≡ Some (Trace (of_image (codes "img")))
+pub traces_of_a_run : meaning (codes "trace" ∷ codes "img" ∷ []) ≡ Some (Trace (of_image (codes "img")) None)
 traces_of_a_run = refl
 
 -- selftest 0
@@ -210,7 +210,7 @@ pub trace_of_two_images : meaning (codes "trace" ∷ codes "img" ∷ codes "img"
 trace_of_two_images = refl
 
 -- trace -
-pub traced_by_a_dash : meaning (codes "trace" ∷ codes "-" ∷ []) ≡ Some (Trace (of_image (codes "-")))
+pub traced_by_a_dash : meaning (codes "trace" ∷ codes "-" ∷ []) ≡ Some (Trace (of_image (codes "-")) None)
 traced_by_a_dash = refl
 
 -- ---- `--`
@@ -228,7 +228,7 @@ pub image_like_the_end : meaning (codes "path" ∷ codes "--" ∷ codes "--" ∷
 image_like_the_end = refl
 
 -- trace -- --raw
-pub traces_of_an_image_like_a_flag : meaning (codes "trace" ∷ codes "--" ∷ codes "--raw" ∷ []) ≡ Some (Trace (of_image (codes "--raw")))
+pub traces_of_an_image_like_a_flag : meaning (codes "trace" ∷ codes "--" ∷ codes "--raw" ∷ []) ≡ Some (Trace (of_image (codes "--raw")) None)
 traces_of_an_image_like_a_flag = refl
 
 -- path --raw --depth 4 -- -x
@@ -282,18 +282,6 @@ long_dash = refl
 
 -- ---- options that no command has, or another one
 
--- path --wrap 0 --raw img
-pub wrap_of_one_stream : meaning (codes "path" ∷ codes "--wrap" ∷ codes "0" ∷ codes "--raw" ∷ codes "img" ∷ []) ≡ None
-wrap_of_one_stream = refl
-
--- path --wrap 65537 img
-pub wrap_past_the_end : meaning (codes "path" ∷ codes "--wrap" ∷ codes "65537" ∷ codes "img" ∷ []) ≡ None
-wrap_past_the_end = refl
-
--- path --wrap 65536 img
-pub wrap_to_the_end : meaning (codes "path" ∷ codes "--wrap" ∷ codes "65536" ∷ codes "img" ∷ []) ≡ None
-wrap_to_the_end = refl
-
 -- path --sync --wrap 1 img
 pub sync_and_wrap : meaning (codes "path" ∷ codes "--sync" ∷ codes "--wrap" ∷ codes "1" ∷ codes "img" ∷ []) ≡ None
 sync_and_wrap = refl
@@ -301,10 +289,6 @@ sync_and_wrap = refl
 -- path --sync --raw img
 pub sync_of_one_stream : meaning (codes "path" ∷ codes "--sync" ∷ codes "--raw" ∷ codes "img" ∷ []) ≡ None
 sync_of_one_stream = refl
-
--- trace --last 0 img
-pub last_of_none : meaning (codes "trace" ∷ codes "--last" ∷ codes "0" ∷ codes "img" ∷ []) ≡ None
-last_of_none = refl
 
 -- trace --last 5 --sync 65535 img
 pub last_and_sync : meaning (codes "trace" ∷ codes "--last" ∷ codes "5" ∷ codes "--sync" ∷ codes "65535" ∷ codes "img" ∷ []) ≡ None
@@ -781,7 +765,7 @@ no_program_of_packets = refl
 pub program_of_a_retired_path : program_of (Retired (of_image (codes "img"))) ≡ Some (of_image (codes "img"))
 program_of_a_retired_path = refl
 
-pub program_of_traces : program_of (Trace (of_image (codes "img"))) ≡ Some (of_image (codes "img"))
+pub program_of_traces : program_of (Trace (of_image (codes "img")) (Some 5)) ≡ Some (of_image (codes "img"))
 program_of_traces = refl
 
 pub no_program_of_a_number : program_of (Selftest 5 (Some 32)) ≡ None
@@ -799,7 +783,7 @@ kind_of_packets = refl
 pub kind_of_a_retired_path : kind_of (Some (Retired (of_image (codes "img")))) ≡ RunFileKind
 kind_of_a_retired_path = refl
 
-pub kind_of_traces : kind_of (Some (Trace (of_image (codes "img")))) ≡ RunFileKind
+pub kind_of_traces : kind_of (Some (Trace (of_image (codes "img")) None)) ≡ RunFileKind
 kind_of_traces = refl
 
 pub kind_of_a_number : kind_of (Some (Selftest 5 None)) ≡ NumberKind
@@ -812,7 +796,7 @@ abbrev intake_in : Option Command → Intake
 intake_in (Some (Path program intake)) = intake
 intake_in (Some (Packets intake)) = intake
 intake_in (Some (Retired program)) = taken (sizes 0 0 0) Frames
-intake_in (Some (Trace program)) = taken (sizes 0 0 0) Frames
+intake_in (Some (Trace program last)) = taken (sizes 0 0 0) Frames
 intake_in (Some (Selftest n cut)) = taken (sizes 0 0 0) Frames
 intake_in None = taken (sizes 0 0 0) Frames
 
@@ -830,7 +814,7 @@ abbrev number_in : Option Command → ℕ
 number_in (Some (Path program intake)) = 0
 number_in (Some (Packets intake)) = 0
 number_in (Some (Retired program)) = 0
-number_in (Some (Trace program)) = 0
+number_in (Some (Trace program last)) = 0
 number_in (Some (Selftest n cut)) = n
 number_in None = 0
 
@@ -875,5 +859,5 @@ pub not_cut_at_once : meaning (codes "selftest" ∷ codes "5" ∷ []) ≡ meanin
 not_cut_at_once e = absurd cc
 
 -- a number is no image
-pub not_traced : meaning (codes "selftest" ∷ codes "5" ∷ []) ≡ Some (Trace (of_image (codes "5"))) → ⊥
+pub not_traced : meaning (codes "selftest" ∷ codes "5" ∷ []) ≡ Some (Trace (of_image (codes "5")) None) → ⊥
 not_traced e = absurd cc

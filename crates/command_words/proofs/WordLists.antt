@@ -18,7 +18,7 @@ use Rattle.hex.specs.Hex.{decode_sized, is_hex_digit}
 use Rattle.byteorder.specs.Endian.{big_number}
 use Rattle.etm_types.specs.Id.{IsId}
 use Rattle.etm_types.proofs.Tables.{all_alike}
-use Rattle.etm_types.specs.Settings.{AreSettings, Sizes, default_sizes, is_cid_size, is_vmid_size, most_depth}
+use Rattle.etm_types.specs.Settings.{AreSettings, Sizes, default_sizes}
 use Rattle.etm_types.specs.SettingsTable.{IsTable}
 use Rattle.std.specs.List.{AllPass, join_with_byte, list_all, slice_split}
 use Rattle.line_words.specs.Line.{decimal_of, number_of as hex_number, padded, two_digits_of}

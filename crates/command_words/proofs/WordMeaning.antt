@@ -104,16 +104,16 @@ record Begins (line : CommandRow) : Type 0 where
   named : (rows : List Row) → command_by (line.word, rows) ≡ command_in line.name (seen_in rows)
 
 abbrev path_row : CommandRow
-path_row = row (codes "path") name.Path (option.Raw ∷ option.Depth ∷ option.Vmid ∷ option.Cid ∷ option.Settings ∷ []) true
+path_row = row (codes "path") name.Path (option.Raw ∷ option.Wrap ∷ option.Depth ∷ option.Vmid ∷ option.Cid ∷ option.Settings ∷ []) true
 
 abbrev packets_row : CommandRow
-packets_row = row (codes "packets") name.Packets (option.Raw ∷ option.Vmid ∷ option.Cid ∷ option.Settings ∷ []) false
+packets_row = row (codes "packets") name.Packets (option.Raw ∷ option.Wrap ∷ option.Vmid ∷ option.Cid ∷ option.Settings ∷ []) false
 
 abbrev retired_row : CommandRow
 retired_row = row (codes "retired") name.Retired [] true
 
 abbrev trace_row : CommandRow
-trace_row = row (codes "trace") name.Trace [] true
+trace_row = row (codes "trace") name.Trace (option.Last ∷ []) true
 
 abbrev selftest_row : CommandRow
 selftest_row = row (codes "selftest") name.Selftest (option.Cut ∷ []) true
@@ -177,13 +177,15 @@ flag_is : (rows : List Row) (raw : Bool) → lookup (codes "raw") rows ≡ optio
 flag_is rows true is = simp is
 flag_is rows false is = simp is
 
-abbrev all_seen : Bool → Option Text → Option Text → Option Text → Option Text → Option Text → Option Text → Seen
-all_seen raw depth vmid cid settings cut positional = record {
+abbrev all_seen : Bool → Option Text → Option Text → Option Text → Option Text → Option Text → Option Text → Option Text → Option Text → Seen
+all_seen raw wrap depth vmid cid settings last cut positional = record {
   raw = raw;
+  wrap = wrap;
   depth = depth;
   vmid = vmid;
   cid = cid;
   settings = settings;
+  last = last;
   cut = cut;
   positional = positional;
   waits = None;
@@ -191,27 +193,29 @@ all_seen raw depth vmid cid settings cut positional = record {
 }
 
 in_all : (n : CommandName) (seen : Seen)
-    → command_in n (all_seen seen.raw seen.depth seen.vmid seen.cid seen.settings seen.cut seen.positional) ≡ command_in n seen
+    → command_in n (all_seen seen.raw seen.wrap seen.depth seen.vmid seen.cid seen.settings seen.last seen.cut seen.positional) ≡ command_in n seen
 in_all name.Path seen = refl
 in_all name.Packets seen = refl
 in_all name.Retired seen = refl
 in_all name.Trace seen = refl
 in_all name.Selftest seen = refl
 
-pub same_seen : {a b : Bool} {c d e f g h i j k l m n : Option Text} → a ≡ b → c ≡ d → e ≡ f → g ≡ h → i ≡ j → k ≡ l → m ≡ n
-    → all_seen a c e g i k m ≡ all_seen b d f h j l n
-same_seen p q r s t u v = (λ x. all_seen (p x) (q x) (r x) (s x) (t x) (u x) (v x))
+pub same_seen : {a b : Bool} {c d e f g h i j k l m n o p q r : Option Text} → a ≡ b → c ≡ d → e ≡ f → g ≡ h → i ≡ j → k ≡ l → m ≡ n → o ≡ p → q ≡ r
+    → all_seen a c e g i k m o q ≡ all_seen b d f h j l n p r
+same_seen s t u v w x y z a = (λ i. all_seen (s i) (t i) (u i) (v i) (w i) (x i) (y i) (z i) (a i))
 
 command_same : (n : CommandName) (rows more : List Row) (seen : Seen) → Shows rows seen → Same rows more → command_in n (seen_in more) ≡ command_in n seen
 command_same n rows more seen shows same =
     let raw = same.raw ∙ flag_is rows seen.raw (shows (Named option.Raw)) in
+    let wrap = first_is (Named option.Wrap) more seen.wrap (same.texts (codes "wrap") refl ∙ shows (Named option.Wrap)) in
     let depth = first_is (Named option.Depth) more seen.depth (same.texts (codes "depth") refl ∙ shows (Named option.Depth)) in
     let vmid = first_is (Named option.Vmid) more seen.vmid (same.texts (codes "vmid") refl ∙ shows (Named option.Vmid)) in
     let cid = first_is (Named option.Cid) more seen.cid (same.texts (codes "cid") refl ∙ shows (Named option.Cid)) in
     let settings = first_is (Named option.Settings) more seen.settings (same.texts (codes "settings") refl ∙ shows (Named option.Settings)) in
+    let last = first_is (Named option.Last) more seen.last (same.texts (codes "last") refl ∙ shows (Named option.Last)) in
     let cut = first_is (Named option.Cut) more seen.cut (same.texts (codes "cut") refl ∙ shows (Named option.Cut)) in
     let positional = first_is Positional more seen.positional (same.texts (codes "POSITIONAL") refl ∙ shows Positional) in
-    ap (command_in n) (same_seen raw depth vmid cid settings cut positional) ∙ in_all n seen
+    ap (command_in n) (same_seen raw wrap depth vmid cid settings last cut positional) ∙ in_all n seen
 
 -- ---- the meaning
 
@@ -226,10 +230,12 @@ not_both (k ∷ kinds) e bad = absurd cc
 
 nothing_shown : Shows [] nothing_seen
 nothing_shown (Named option.Raw) = refl
+nothing_shown (Named option.Wrap) = refl
 nothing_shown (Named option.Depth) = refl
 nothing_shown (Named option.Vmid) = refl
 nothing_shown (Named option.Cid) = refl
 nothing_shown (Named option.Settings) = refl
+nothing_shown (Named option.Last) = refl
 nothing_shown (Named option.Cut) = refl
 nothing_shown Positional = refl
 

@@ -131,10 +131,12 @@ by_id row o has =
 
 no_name : (o : CommandOption) → bytes_eq (name_of o) (codes "POSITIONAL") ≡ false
 no_name option.Raw = refl
+no_name option.Wrap = refl
 no_name option.Depth = refl
 no_name option.Vmid = refl
 no_name option.Cid = refl
 no_name option.Settings = refl
+no_name option.Last = refl
 no_name option.Cut = refl
 
 pub positional_by_id : (row : CommandRow) → row.has_positional ≡ true → arg_by_id (rules row) (codes "POSITIONAL") ≡ Some done_positional
@@ -163,10 +165,12 @@ rule_of Positional = done_positional
 -- the text in the row of what was seen
 abbrev pub text_in : Key → Seen → Option Text
 text_in (Named option.Raw) seen = if seen.raw then Some (codes "true") else None
+text_in (Named option.Wrap) seen = seen.wrap
 text_in (Named option.Depth) seen = seen.depth
 text_in (Named option.Vmid) seen = seen.vmid
 text_in (Named option.Cid) seen = seen.cid
 text_in (Named option.Settings) seen = seen.settings
+text_in (Named option.Last) seen = seen.last
 text_in (Named option.Cut) seen = seen.cut
 text_in Positional seen = seen.positional
 
@@ -182,19 +186,23 @@ Shows rows seen = (k : Key) → lookup (id_of k) rows ≡ option_map (row_for k)
 -- the values that a use has, and what is then seen
 abbrev pub values_for : Key → Text → List Text
 values_for (Named option.Raw) text = []
+values_for (Named option.Wrap) text = text ∷ []
 values_for (Named option.Depth) text = text ∷ []
 values_for (Named option.Vmid) text = text ∷ []
 values_for (Named option.Cid) text = text ∷ []
 values_for (Named option.Settings) text = text ∷ []
+values_for (Named option.Last) text = text ∷ []
 values_for (Named option.Cut) text = text ∷ []
 values_for Positional text = text ∷ []
 
 abbrev pub text_for : Key → Text → Text
 text_for (Named option.Raw) text = codes "true"
+text_for (Named option.Wrap) text = text
 text_for (Named option.Depth) text = text
 text_for (Named option.Vmid) text = text
 text_for (Named option.Cid) text = text
 text_for (Named option.Settings) text = text
+text_for (Named option.Last) text = text
 text_for (Named option.Cut) text = text
 text_for Positional text = text
 
@@ -243,11 +251,13 @@ pub used_adds : (k : Key) (text : Text) (rows : List Row) → lookup (id_of k) r
     → used (rule_of k) (values_for k text) rows ≡ rows ++ row_for k (text_for k text) ∷ []
 used_adds (Named option.Raw) text rows e =
     put_added (codes "raw") (more_values CommandLine (codes "true" ∷ [])) (row_for (Named option.Raw) (codes "true") ∷ []) rows e
+used_adds (Named option.Wrap) text rows e = put_added (codes "wrap") (more_values CommandLine (text ∷ [])) (row_for (Named option.Wrap) text ∷ []) rows e
 used_adds (Named option.Depth) text rows e = put_added (codes "depth") (more_values CommandLine (text ∷ [])) (row_for (Named option.Depth) text ∷ []) rows e
 used_adds (Named option.Vmid) text rows e = put_added (codes "vmid") (more_values CommandLine (text ∷ [])) (row_for (Named option.Vmid) text ∷ []) rows e
 used_adds (Named option.Cid) text rows e = put_added (codes "cid") (more_values CommandLine (text ∷ [])) (row_for (Named option.Cid) text ∷ []) rows e
 used_adds (Named option.Settings) text rows e =
     put_added (codes "settings") (more_values CommandLine (text ∷ [])) (row_for (Named option.Settings) text ∷ []) rows e
+used_adds (Named option.Last) text rows e = put_added (codes "last") (more_values CommandLine (text ∷ [])) (row_for (Named option.Last) text ∷ []) rows e
 used_adds (Named option.Cut) text rows e = put_added (codes "cut") (more_values CommandLine (text ∷ [])) (row_for (Named option.Cut) text ∷ []) rows e
 used_adds Positional text rows e = put_added (codes "POSITIONAL") (more_values CommandLine (text ∷ [])) (row_for Positional text ∷ []) rows e
 
@@ -259,17 +269,21 @@ shows_by : (k j : Key) (text : Text) (rows : List Row) (seen : Seen) → lookup 
     → lookup (id_of k) rows ≡ None
     → lookup (id_of j) (rows ++ row_for k (text_for k text) ∷ []) ≡ option_map (row_for j) (text_in j (seen_with k text seen))
 shows_by (Named option.Raw) (Named option.Raw) text rows seen is none = shows_this (Named option.Raw) (codes "true") rows none refl
+shows_by (Named option.Wrap) (Named option.Wrap) text rows seen is none = shows_this (Named option.Wrap) text rows none refl
 shows_by (Named option.Depth) (Named option.Depth) text rows seen is none = shows_this (Named option.Depth) text rows none refl
 shows_by (Named option.Vmid) (Named option.Vmid) text rows seen is none = shows_this (Named option.Vmid) text rows none refl
 shows_by (Named option.Cid) (Named option.Cid) text rows seen is none = shows_this (Named option.Cid) text rows none refl
 shows_by (Named option.Settings) (Named option.Settings) text rows seen is none = shows_this (Named option.Settings) text rows none refl
+shows_by (Named option.Last) (Named option.Last) text rows seen is none = shows_this (Named option.Last) text rows none refl
 shows_by (Named option.Cut) (Named option.Cut) text rows seen is none = shows_this (Named option.Cut) text rows none refl
 shows_by Positional Positional text rows seen is none = shows_this Positional text rows none refl
 shows_by Positional (Named option.Raw) text rows seen is none = find_before _ rows (row_for Positional text ∷ []) refl ∙ is
+shows_by Positional (Named option.Wrap) text rows seen is none = find_before _ rows (row_for Positional text ∷ []) refl ∙ is
 shows_by Positional (Named option.Depth) text rows seen is none = find_before _ rows (row_for Positional text ∷ []) refl ∙ is
 shows_by Positional (Named option.Vmid) text rows seen is none = find_before _ rows (row_for Positional text ∷ []) refl ∙ is
 shows_by Positional (Named option.Cid) text rows seen is none = find_before _ rows (row_for Positional text ∷ []) refl ∙ is
 shows_by Positional (Named option.Settings) text rows seen is none = find_before _ rows (row_for Positional text ∷ []) refl ∙ is
+shows_by Positional (Named option.Last) text rows seen is none = find_before _ rows (row_for Positional text ∷ []) refl ∙ is
 shows_by Positional (Named option.Cut) text rows seen is none = find_before _ rows (row_for Positional text ∷ []) refl ∙ is
 shows_by k j text rows seen is none = find_before _ rows (row_for k (text_for k text) ∷ []) refl ∙ is
 
@@ -296,10 +310,12 @@ fault_then (k ∷ kinds) b bad = tt
 -- a use of what was not seen has no fault
 pub use_passes : (k : Key) (text : Text) (rows : List Row) → has_row (id_of k) rows ≡ false → use_fault false (rule_of k) (values_for k text) rows ≡ []
 use_passes (Named option.Raw) text rows none = simp none
+use_passes (Named option.Wrap) text rows none = simp none
 use_passes (Named option.Depth) text rows none = simp none
 use_passes (Named option.Vmid) text rows none = simp none
 use_passes (Named option.Cid) text rows none = simp none
 use_passes (Named option.Settings) text rows none = simp none
+use_passes (Named option.Last) text rows none = simp none
 use_passes (Named option.Cut) text rows none = simp none
 use_passes Positional text rows none = simp none
 
@@ -317,17 +333,21 @@ action_again a values rows there is =
 pub use_again : (o : CommandOption) (values : List Text) (rows : List Row) → has_row (name_of o) rows ≡ true
     → IsFault (use_fault false (done_option o) values rows)
 use_again option.Raw values rows there = action_again (done_option option.Raw) values rows there refl
+use_again option.Wrap values rows there = action_again (done_option option.Wrap) values rows there refl
 use_again option.Depth values rows there = action_again (done_option option.Depth) values rows there refl
 use_again option.Vmid values rows there = action_again (done_option option.Vmid) values rows there refl
 use_again option.Cid values rows there = action_again (done_option option.Cid) values rows there refl
 use_again option.Settings values rows there = action_again (done_option option.Settings) values rows there refl
+use_again option.Last values rows there = action_again (done_option option.Last) values rows there refl
 use_again option.Cut values rows there = action_again (done_option option.Cut) values rows there refl
 
 -- an option has a value
 pub use_bare : (o : CommandOption) (rows : List Row) → takes_value o ≡ true → IsFault (use_fault false (done_option o) [] rows)
 use_bare option.Raw rows takes = absurd cc
+use_bare option.Wrap rows takes = tt
 use_bare option.Depth rows takes = tt
 use_bare option.Vmid rows takes = tt
 use_bare option.Cid rows takes = tt
 use_bare option.Settings rows takes = tt
+use_bare option.Last rows takes = tt
 use_bare option.Cut rows takes = tt

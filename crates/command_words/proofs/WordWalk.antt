@@ -134,18 +134,22 @@ positional_walk row rows p t word is has =
 
 most_is : (o : CommandOption) → takes_value o ≡ true → most_values (done_option o) ≡ 1
 most_is option.Raw takes = absurd cc
+most_is option.Wrap takes = refl
 most_is option.Depth takes = refl
 most_is option.Vmid takes = refl
 most_is option.Cid takes = refl
 most_is option.Settings takes = refl
+most_is option.Last takes = refl
 most_is option.Cut takes = refl
 
 same_text : (o : CommandOption) → bytes_eq (name_of o) (name_of o) ≡ true
 same_text option.Raw = refl
+same_text option.Wrap = refl
 same_text option.Depth = refl
 same_text option.Vmid = refl
 same_text option.Cid = refl
 same_text option.Settings = refl
+same_text option.Last = refl
 same_text option.Cut = refl
 
 -- the step over a value

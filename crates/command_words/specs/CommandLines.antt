@@ -6,11 +6,11 @@ use Rattle.etm_types.specs.Id.{IsId}
 use Rattle.etm_types.specs.Settings.{AreSettings, Sizes, default_sizes}
 use Rattle.etm_types.specs.SettingsTable.{sizes_at}
 use Rattle.line_words.specs.Line.{decimal_of, two_digits_of}
-use Rattle.command_words.specs.Words.{Intake, Program, is_dashed, most_cut, most_number, name_of, takes_value}
+use Rattle.command_words.specs.Words.{Intake, Program, is_dashed, most_cut, most_last, most_number, most_wrap, name_of, takes_value}
 use Rattle.command_words.specs.declared.words.CommandOption.{CommandOption}
 use Rattle.command_words.specs.declared.words.CommandOption.TheVariants as option
 use Rattle.command_words.specs.declared.words.Layout.{Layout}
-use Rattle.command_words.specs.declared.words.Layout.TheVariants.{Raw, Frames}
+use Rattle.command_words.specs.declared.words.Layout.TheVariants.{Raw, Frames, Wrapped}
 
 -- ---- the pieces of a line
 
@@ -70,11 +70,13 @@ positionals_of (Joined p value ∷ pieces) = positionals_of pieces
 positionals_of (Flag p ∷ pieces) = positionals_of pieces
 positionals_of (Positional word ∷ pieces) = word ∷ positionals_of pieces
 
--- `--raw` once stands for one stream that is not framed, and its absence for formatter frames
-abbrev pub IsLayout : List (List ℕ) → Layout → Type 0
-IsLayout [] layout = layout ≡ Frames
-IsLayout (flag ∷ []) layout = layout ≡ Raw
-IsLayout (flag ∷ other ∷ flags) layout = ⊥
+-- by the values of `--raw` and `--wrap`: `--raw` once stands for one stream that is not framed, one number of `--wrap` for the frame of a
+-- buffer that is its oldest, and the absence of both for frames in their order
+abbrev pub IsLayout : List (List ℕ) → List (List ℕ) → Layout → Type 0
+IsLayout [] [] layout = layout ≡ Frames
+IsLayout (flag ∷ []) [] layout = layout ≡ Raw
+IsLayout [] (value ∷ []) layout = (k : ℕ) × (decimal_of value ≡ Some k) × (k ≤ most_wrap) × (layout ≡ Wrapped k)
+IsLayout flags values layout = ⊥
 
 -- one value is a number, and the absence of one stands for the default
 abbrev pub IsNumber : ℕ → List (List ℕ) → ℕ → Type 0
@@ -87,6 +89,16 @@ abbrev pub IsCut : List (List ℕ) → Option ℕ → Type 0
 IsCut [] cut = cut ≡ None
 IsCut (value ∷ []) cut = (k : ℕ) × (decimal_of value ≡ Some k) × (k ≤ most_cut) × (cut ≡ Some k)
 IsCut (value ∷ other ∷ values) cut = ⊥
+
+-- one value is how many frames are written, and its absence stands for all
+abbrev pub IsLast : List (List ℕ) → Option ℕ → Type 0
+IsLast [] last = last ≡ None
+IsLast (value ∷ []) last = (n : ℕ) × (decimal_of value ≡ Some n) × (1 ≤ n) × (n ≤ most_last) × (last ≡ Some n)
+IsLast (value ∷ other ∷ values) last = ⊥
+
+-- no option stands but this one
+abbrev pub NoOther : CommandOption → List Piece → Type 0
+NoOther o pieces = (p : CommandOption) → p ≢ o → values_of p pieces ≡ []
 
 -- ---- the settings of single IDs
 
@@ -147,7 +159,8 @@ pub record IsLine (word : List ℕ) (words positionals : List (List ℕ)) : Type
 -- `path`, with numbers in range and one positional
 pub record IsPathLine (words : List (List ℕ)) (program : Program) (intake : Intake) : Type 0 where
   pub line : IsLine (codes "path") words (program.name ∷ [])
-  pub layout_is : IsLayout (values_of option.Raw line.pieces) intake.layout
+  pub layout_is : IsLayout (values_of option.Raw line.pieces) (values_of option.Wrap line.pieces) intake.layout
+  pub no_last : values_of option.Last line.pieces ≡ []
   pub no_cut : values_of option.Cut line.pieces ≡ []
   pub all : Sizes
   pub depth_is : IsNumber default_sizes.depth (values_of option.Depth line.pieces) all.depth
@@ -159,8 +172,9 @@ pub record IsPathLine (words : List (List ℕ)) (program : Program) (intake : In
 -- `packets`, with numbers in range and no positional; no packet depends on the depth, which is the default
 pub record IsPacketsLine (words : List (List ℕ)) (intake : Intake) : Type 0 where
   pub line : IsLine (codes "packets") words []
-  pub layout_is : IsLayout (values_of option.Raw line.pieces) intake.layout
+  pub layout_is : IsLayout (values_of option.Raw line.pieces) (values_of option.Wrap line.pieces) intake.layout
   pub no_depth : values_of option.Depth line.pieces ≡ []
+  pub no_last : values_of option.Last line.pieces ≡ []
   pub no_cut : values_of option.Cut line.pieces ≡ []
   pub all : Sizes
   pub depth_is : all.depth ≡ default_sizes.depth
@@ -174,10 +188,11 @@ pub record IsRetiredLine (words : List (List ℕ)) (program : Program) : Type 0 
   pub line : IsLine (codes "retired") words (program.name ∷ [])
   pub no_option : (o : CommandOption) → values_of o line.pieces ≡ []
 
--- `trace`, with no option and one positional
-pub record IsTraceLine (words : List (List ℕ)) (program : Program) : Type 0 where
+-- `trace`, with how many frames are written, and one positional
+pub record IsTraceLine (words : List (List ℕ)) (program : Program) (last : Option ℕ) : Type 0 where
   pub line : IsLine (codes "trace") words (program.name ∷ [])
-  pub no_option : (o : CommandOption) → values_of o line.pieces ≡ []
+  pub last_is : IsLast (values_of option.Last line.pieces) last
+  pub no_other : NoOther option.Last line.pieces
 
 -- `selftest`, with a number in range as its positional, and how many bytes are read
 pub record IsSelftestLine (words : List (List ℕ)) (n : ℕ) (cut : Option ℕ) : Type 0 where
@@ -186,5 +201,4 @@ pub record IsSelftestLine (words : List (List ℕ)) (n : ℕ) (cut : Option ℕ)
   pub number_is : decimal_of number ≡ Some n
   pub number_within : n ≤ most_number
   pub cut_is : IsCut (values_of option.Cut line.pieces) cut
-  pub no_other : All (λ (o : CommandOption). values_of o line.pieces ≡ [])
-      (option.Raw ∷ option.Depth ∷ option.Vmid ∷ option.Cid ∷ option.Settings ∷ [])
+  pub no_other : NoOther option.Cut line.pieces

@@ -1,12 +1,15 @@
 -- What contracts see of the words' types in the code.
-use Rattle.std.specs.Prelude.{⊤, ◌≤◌}
+use Rattle.std.specs.Prelude.{⊤, ◌≤◌, ℕ, Option, Some, None}
 use Rattle.std.specs.Option.{option_map}
 use Rattle.etm_types.specs.SettingsTable.{IsTable}
-use Rattle.command_words.specs.Words.{Command, CommandRow, Intake, Path, Packets, Program, Retired, Seen, Selftest, Trace, most_number, row}
+use Rattle.command_words.specs.Words.{Command, CommandRow, Intake, Path, Packets, Program, Retired, Seen, Selftest, Trace}
+use Rattle.command_words.specs.Words.{most_last, most_number, most_wrap, row}
 use Rattle.command_words.specs.declared.words.Command.{Command as Told}
 use Rattle.command_words.specs.declared.words.Command.TheVariants as told
 use Rattle.command_words.specs.declared.words.CommandLine.{CommandLine}
 use Rattle.command_words.specs.declared.words.Intake.{Intake as ToldIntake}
+use Rattle.command_words.specs.declared.words.Layout.{Layout}
+use Rattle.command_words.specs.declared.words.Layout.TheVariants.{Raw, Frames, Wrapped}
 use Rattle.command_words.specs.declared.words.Program.{Program as ToldProgram}
 use Rattle.command_words.specs.declared.words.Seen.{Seen as ToldSeen}
 
@@ -20,15 +23,31 @@ abbrev pub said : Told → Command
 said (told.Path program intake) = Path (said_program program) (said_intake intake)
 said (told.Packets intake) = Packets (said_intake intake)
 said (told.Retired program) = Retired (said_program program)
-said (told.Trace program) = Trace (said_program program)
+said (told.Trace program last) = Trace (said_program program) last
 said (told.Selftest n cut) = Selftest n cut
 
--- its sizes, where it has any, are those of settings, and its number is one that is tried
+-- no more frames than the most stand before the oldest
+abbrev pub IsLaidOut : Layout → Type 0
+IsLaidOut Raw = ⊤
+IsLaidOut Frames = ⊤
+IsLaidOut (Wrapped k) = k ≤ most_wrap
+
+-- the sizes are those of settings
+pub record IsIntake (intake : ToldIntake) : Type 0 where
+  pub settings : IsTable intake.settings
+  pub layout : IsLaidOut intake.layout
+
+-- at least one frame is written, and no more than the most
+abbrev pub IsLastCount : Option ℕ → Type 0
+IsLastCount None = ⊤
+IsLastCount (Some n) = (1 ≤ n) × (n ≤ most_last)
+
+-- how its input is taken, where it has one, how many frames it writes, and its number, are in range
 abbrev pub IsInRange : Told → Type 0
-IsInRange (told.Path program intake) = IsTable intake.settings
-IsInRange (told.Packets intake) = IsTable intake.settings
+IsInRange (told.Path program intake) = IsIntake intake
+IsInRange (told.Packets intake) = IsIntake intake
 IsInRange (told.Retired program) = ⊤
-IsInRange (told.Trace program) = ⊤
+IsInRange (told.Trace program last) = IsLastCount last
 IsInRange (told.Selftest n cut) = n ≤ most_number
 
 abbrev pub line_of : CommandLine → CommandRow
@@ -37,10 +56,12 @@ line_of line = row line.word.now line.name line.options.now line.has_positional
 abbrev pub seen_by : ToldSeen → Seen
 seen_by seen = record {
   raw = seen.raw;
+  wrap = option_map (λ text. text.now) seen.wrap;
   depth = option_map (λ text. text.now) seen.depth;
   vmid = option_map (λ text. text.now) seen.vmid;
   cid = option_map (λ text. text.now) seen.cid;
   settings = option_map (λ text. text.now) seen.settings;
+  last = option_map (λ text. text.now) seen.last;
   cut = option_map (λ text. text.now) seen.cut;
   positional = option_map (λ text. text.now) seen.positional;
   waits = seen.waits;

@@ -48,10 +48,12 @@ is_true_text text = option_map_or (λ t. bytes_eq t (codes "true")) text false
 abbrev pub seen_in : List Row → Seen
 seen_in rows = record {
   raw = is_true_text (first_of (codes "raw") rows);
+  wrap = first_of (codes "wrap") rows;
   depth = first_of (codes "depth") rows;
   vmid = first_of (codes "vmid") rows;
   cid = first_of (codes "cid") rows;
   settings = first_of (codes "settings") rows;
+  last = first_of (codes "last") rows;
   cut = first_of (codes "cut") rows;
   positional = first_of (codes "POSITIONAL") rows;
   waits = None;

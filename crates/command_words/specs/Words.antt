@@ -12,7 +12,7 @@ use Rattle.command_words.specs.declared.words.CommandName.TheVariants as name
 use Rattle.command_words.specs.declared.words.CommandOption.{CommandOption}
 use Rattle.command_words.specs.declared.words.CommandOption.TheVariants as option
 use Rattle.command_words.specs.declared.words.Layout.{Layout}
-use Rattle.command_words.specs.declared.words.Layout.TheVariants.{Raw, Frames}
+use Rattle.command_words.specs.declared.words.Layout.TheVariants.{Raw, Frames, Wrapped}
 
 -- the bytes of each word
 abbrev pub texts : {Z : Type 0} → List (String Z) → List (List ℕ)
@@ -35,8 +35,8 @@ pub data Command : Type 0 where
   Packets : Intake → Command
   -- the retired path of each stream of a run file
   Retired : Program → Command
-  -- the trace of each stream of a run file, in frames
-  Trace : Program → Command
+  -- the trace of each stream of a run file, in frames: how many of the last, where not all are
+  Trace : Program → Option ℕ → Command
   -- both ends tried on the run file of a number: the number, and how many bytes of its frames are read, where not all are
   Selftest : ℕ → Option ℕ → Command
 
@@ -45,7 +45,7 @@ abbrev pub program_of : Command → Option Program
 program_of (Path program intake) = Some program
 program_of (Packets intake) = None
 program_of (Retired program) = Some program
-program_of (Trace program) = Some program
+program_of (Trace program last) = Some program
 program_of (Selftest n cut) = None
 
 -- what a command reads
@@ -65,7 +65,7 @@ kind_of None = NoCommand
 kind_of (Some (Path program intake)) = PathKind
 kind_of (Some (Packets intake)) = BareKind
 kind_of (Some (Retired program)) = RunFileKind
-kind_of (Some (Trace program)) = RunFileKind
+kind_of (Some (Trace program last)) = RunFileKind
 kind_of (Some (Selftest n cut)) = NumberKind
 
 -- ---- the commands and their options
@@ -73,19 +73,23 @@ kind_of (Some (Selftest n cut)) = NumberKind
 -- the name of an option, which stands behind `--` in its word
 abbrev pub name_of : CommandOption → List ℕ
 name_of option.Raw = codes "raw"
+name_of option.Wrap = codes "wrap"
 name_of option.Depth = codes "depth"
 name_of option.Vmid = codes "vmid"
 name_of option.Cid = codes "cid"
 name_of option.Settings = codes "settings"
+name_of option.Last = codes "last"
 name_of option.Cut = codes "cut"
 
 -- an option takes a value, and a flag none
 abbrev pub takes_value : CommandOption → Bool
 takes_value option.Raw = false
+takes_value option.Wrap = true
 takes_value option.Depth = true
 takes_value option.Vmid = true
 takes_value option.Cid = true
 takes_value option.Settings = true
+takes_value option.Last = true
 takes_value option.Cut = true
 
 -- a command: its word, its options, and whether it has a positional: an IMAGE, or a number
@@ -101,10 +105,10 @@ row word name options has_positional = record { word = word; name = name; option
 -- the table of commands; no packet depends on the depth
 abbrev pub commands : List CommandRow
 commands =
-    row (codes "path") name.Path (option.Raw ∷ option.Depth ∷ option.Vmid ∷ option.Cid ∷ option.Settings ∷ []) true
-    ∷ row (codes "packets") name.Packets (option.Raw ∷ option.Vmid ∷ option.Cid ∷ option.Settings ∷ []) false
+    row (codes "path") name.Path (option.Raw ∷ option.Wrap ∷ option.Depth ∷ option.Vmid ∷ option.Cid ∷ option.Settings ∷ []) true
+    ∷ row (codes "packets") name.Packets (option.Raw ∷ option.Wrap ∷ option.Vmid ∷ option.Cid ∷ option.Settings ∷ []) false
     ∷ row (codes "retired") name.Retired [] true
-    ∷ row (codes "trace") name.Trace [] true
+    ∷ row (codes "trace") name.Trace (option.Last ∷ []) true
     ∷ row (codes "selftest") name.Selftest (option.Cut ∷ []) true
     ∷ []
 
@@ -133,10 +137,12 @@ name_and_value text = (before_first is_equals text, if list_any is_equals text t
 -- what was seen so far: the flag, the values of the options and the positional
 pub record Seen : Type 0 where
   pub raw : Bool
+  pub wrap : Option (List ℕ)
   pub depth : Option (List ℕ)
   pub vmid : Option (List ℕ)
   pub cid : Option (List ℕ)
   pub settings : Option (List ℕ)
+  pub last : Option (List ℕ)
   pub cut : Option (List ℕ)
   pub positional : Option (List ℕ)
   -- the option that takes the next word
@@ -147,10 +153,12 @@ pub record Seen : Type 0 where
 abbrev pub nothing_seen : Seen
 nothing_seen = record {
   raw = false;
+  wrap = None;
   depth = None;
   vmid = None;
   cid = None;
   settings = None;
+  last = None;
   cut = None;
   positional = None;
   waits = None;
@@ -159,19 +167,23 @@ nothing_seen = record {
 
 abbrev pub is_seen : CommandOption → Seen → Bool
 is_seen option.Raw seen = seen.raw
+is_seen option.Wrap seen = is_some seen.wrap
 is_seen option.Depth seen = is_some seen.depth
 is_seen option.Vmid seen = is_some seen.vmid
 is_seen option.Cid seen = is_some seen.cid
 is_seen option.Settings seen = is_some seen.settings
+is_seen option.Last seen = is_some seen.last
 is_seen option.Cut seen = is_some seen.cut
 
 -- an option is seen, with its value, of which a flag has none
 abbrev pub with_value : CommandOption → List ℕ → Seen → Seen
 with_value option.Raw value seen = record seen { raw = true; waits = None }
+with_value option.Wrap value seen = record seen { wrap = Some value; waits = None }
 with_value option.Depth value seen = record seen { depth = Some value; waits = None }
 with_value option.Vmid value seen = record seen { vmid = Some value; waits = None }
 with_value option.Cid value seen = record seen { cid = Some value; waits = None }
 with_value option.Settings value seen = record seen { settings = Some value; waits = None }
+with_value option.Last value seen = record seen { last = Some value; waits = None }
 with_value option.Cut value seen = record seen { cut = Some value; waits = None }
 
 -- the word is the positional, which stands once
@@ -226,21 +238,44 @@ sizes_in seen =
 abbrev pub units_in : Seen → Option (List Sizes)
 units_in seen = option_and_then (λ all. units_by seen.settings all) (sizes_in seen)
 
--- one stream where `--raw` stood, formatter frames where it did not
-abbrev pub layout_in : Seen → Layout
-layout_in seen = if seen.raw then Raw else Frames
+-- the number of a text, where it is no more than the most
+abbrev pub number_to : ℕ → List ℕ → Option ℕ
+number_to most text = option_and_then (λ n. if nat_le n most then Some n else None) (decimal_of text)
+
+-- the most frames of a buffer that stand before its oldest
+abbrev pub most_wrap : ℕ
+most_wrap = 65536
+
+-- one stream where `--raw` stood, frames from the oldest on where `--wrap` did, and frames in their order where neither did; there is
+-- no layout where both did
+abbrev pub layout_by : Bool → Option (List ℕ) → Option Layout
+layout_by false None = Some Frames
+layout_by true None = Some Raw
+layout_by false (Some text) = option_map Wrapped (number_to most_wrap text)
+layout_by true (Some text) = None
+
+abbrev pub layout_in : Seen → Option Layout
+layout_in seen = layout_by seen.raw seen.wrap
 
 -- the positional names the image of the program
 abbrev pub program_in : Seen → Option Program
 program_in seen = option_map (λ image. record { name = image }) seen.positional
 
--- how the input is taken, where the sizes are in range
+-- how the input is taken, where the sizes are in range and there is a layout
 abbrev pub intake_in : Seen → Option Intake
-intake_in seen = option_map (λ units. record { units = units; layout = layout_in seen }) (units_in seen)
+intake_in seen = option_and_then (λ units. option_map (λ layout. record { units = units; layout = layout }) (layout_in seen)) (units_in seen)
 
--- the number of a text, where it is no more than the most
-abbrev pub number_to : ℕ → List ℕ → Option ℕ
-number_to most text = option_and_then (λ n. if nat_le n most then Some n else None) (decimal_of text)
+-- the most frames that `--last` leaves
+abbrev pub most_last : ℕ
+most_last = 65536
+
+-- how many frames are written, where `--last` stands: none where that is no such number, or 0
+abbrev pub last_of : Option (List ℕ) → Option (Option ℕ)
+last_of None = Some None
+last_of (Some text) = option_and_then (λ n. if n == 0 then None else Some (Some n)) (number_to most_last text)
+
+abbrev pub trace_in : Seen → Option Command
+trace_in seen = option_and_then (λ program. option_map (Trace program) (last_of seen.last)) (program_in seen)
 
 -- the highest number that is tried
 abbrev pub most_number : ℕ
@@ -262,7 +297,7 @@ abbrev pub command_in : CommandName → Seen → Option Command
 command_in name.Path seen = option_and_then (λ program. option_map (Path program) (intake_in seen)) (program_in seen)
 command_in name.Packets seen = option_map Packets (intake_in seen)
 command_in name.Retired seen = option_map Retired (program_in seen)
-command_in name.Trace seen = option_map Trace (program_in seen)
+command_in name.Trace seen = trace_in seen
 command_in name.Selftest seen = selftest_in seen
 
 -- The first word is a command, and the others are its options and its positional, in any order.

@@ -3,13 +3,14 @@ ghost use Rattle.std.specs.Prelude.{◌≡◌, ◌↔◌, ℕ, List, Option, Som
 ghost use Rattle.command_words.specs.CommandLines.{IsPathLine, IsPacketsLine, IsRetiredLine, IsSelftestLine, IsTraceLine};
 ghost use Rattle.command_words.specs.Words.{Intake, Path, Packets, Program, Retired, Selftest, Trace, meaning};
 
-/// Words mean a command exactly where they are a line of it: pieces in any order, which are its options with their numbers,
-/// `--raw`, which tells the layout, each at most once, and its positional, which may also stand behind `--`.
+/// Words mean a command exactly where they are a line of it: pieces in any order, which are its options with their numbers, each at
+/// most once, `--raw` and `--wrap`, which tell the layout, not both, and its positional, which may also stand behind `--`.
 pub fn words_mean_what_they_spell()
     ensures path { (words : List (List ℕ)) (program : Program) (intake : Intake)
         → (meaning words ≡ Some (Path program intake)) ↔ IsPathLine words program intake }
     ensures packets { (words : List (List ℕ)) (intake : Intake) → (meaning words ≡ Some (Packets intake)) ↔ IsPacketsLine words intake }
     ensures retired { (words : List (List ℕ)) (program : Program) → (meaning words ≡ Some (Retired program)) ↔ IsRetiredLine words program }
-    ensures trace { (words : List (List ℕ)) (program : Program) → (meaning words ≡ Some (Trace program)) ↔ IsTraceLine words program }
+    ensures trace { (words : List (List ℕ)) (program : Program) (last : Option ℕ)
+        → (meaning words ≡ Some (Trace program last)) ↔ IsTraceLine words program last }
     ensures selftest { (words : List (List ℕ)) (n : ℕ) (cut : Option ℕ) → (meaning words ≡ Some (Selftest n cut)) ↔ IsSelftestLine words n cut }
 {}

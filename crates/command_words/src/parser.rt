@@ -117,10 +117,12 @@ fn seen_in<'a>(matches: &ArgMatches<'a>) -> Seen<'a>
 {
     Seen {
         raw: is_true_text(matches.get_str("raw")),
+        wrap: matches.get_str("wrap"),
         depth: matches.get_str("depth"),
         vmid: matches.get_str("vmid"),
         cid: matches.get_str("cid"),
         settings: matches.get_str("settings"),
+        last: matches.get_str("last"),
         cut: matches.get_str("cut"),
         positional: matches.get_str("POSITIONAL"),
         waits: None,

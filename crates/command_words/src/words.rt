@@ -2,13 +2,13 @@
 ghost use Rattle.std.specs.Prelude.{◌≡◌, IfSome, find, map};
 ghost use Rattle.std.specs.Option.{option_map};
 ghost use Rattle.std.specs.Str.{bytes_eq};
-ghost use Rattle.command_words.specs.Words.{behind_dash, commands, command_in, cut_of, image_of, intake_in, is_dashed, is_seen, is_whole, layout_in};
-ghost use Rattle.command_words.specs.Words.{meaning, name_and_value, name_of, nothing_seen, number_of, number_to, program_in, seen_of, selftest_in};
-ghost use Rattle.command_words.specs.Words.{sizes_in, takes_value, texts, units_in, with_dashed, with_named, with_option, with_positional};
-ghost use Rattle.command_words.specs.Words.{with_value, with_word};
+ghost use Rattle.command_words.specs.Words.{behind_dash, commands, command_in, cut_of, image_of, intake_in, is_dashed, is_seen, is_whole, last_of};
+ghost use Rattle.command_words.specs.Words.{layout_in, meaning, name_and_value, name_of, nothing_seen, number_of, number_to, program_in, seen_of};
+ghost use Rattle.command_words.specs.Words.{selftest_in, sizes_in, takes_value, texts, trace_in, units_in, with_dashed, with_named, with_option};
+ghost use Rattle.command_words.specs.Words.{with_positional, with_value, with_word};
 ghost use Rattle.etm_types.specs.Settings.{AreSettings};
 ghost use Rattle.etm_types.specs.SettingsTable.{IsTable};
-ghost use Rattle.command_words.specs.Said.{IsInRange, line_of, said, said_intake, said_program, seen_by};
+ghost use Rattle.command_words.specs.Said.{IsInRange, IsIntake, IsLaidOut, IsLastCount, line_of, said, said_intake, said_program, seen_by};
 
 use crate::lists::{settings_of, table_of};
 use etm_types::{Settings, SettingsTable};
@@ -20,6 +20,12 @@ const MOST_NUMBER: u32 = 99_999;
 /// The most bytes that are read of frames.
 const MOST_CUT: u32 = 1 << 30;
 
+/// The most frames of a buffer that stand before its oldest.
+const MOST_WRAP: u32 = 65_536;
+
+/// The most frames that `--last` leaves.
+const MOST_LAST: u32 = 65_536;
+
 /// How the input is laid out.
 #[derive(Clone, Copy, Debug, PartialEq, Eq)]
 pub enum Layout {
@@ -27,6 +33,8 @@ pub enum Layout {
     Raw,
     /// Formatter frames of many streams (Arm CoreSight architecture, IHI 0029).
     Frames,
+    /// Such frames in a buffer that was written round (`--wrap`): the number of its oldest frame, from 0 on.
+    Wrapped(u32),
 }
 
 /// The program that ran.
@@ -61,9 +69,10 @@ pub enum Command<'a> {
     Retired {
         program: Program<'a>,
     },
-    /// The trace of each stream of a run file, over the image of a program.
+    /// The trace of each stream of a run file, over the image of a program. So many of its last frames are written, or all.
     Trace {
         program: Program<'a>,
+        last: Option<u32>,
     },
     /// Both ends, tried on the run file that is made from a number. Of its frames so many bytes are read, or all.
     Selftest {
@@ -86,10 +95,12 @@ pub enum CommandName {
 #[derive(Clone, Copy, Debug)]
 pub enum CommandOption {
     Raw,
+    Wrap,
     Depth,
     Vmid,
     Cid,
     Settings,
+    Last,
     Cut,
 }
 
@@ -100,10 +111,12 @@ impl CommandOption {
     {
         match self {
             CommandOption::Raw => "raw",
+            CommandOption::Wrap => "wrap",
             CommandOption::Depth => "depth",
             CommandOption::Vmid => "vmid",
             CommandOption::Cid => "cid",
             CommandOption::Settings => "settings",
+            CommandOption::Last => "last",
             CommandOption::Cut => "cut",
         }
     }
@@ -125,14 +138,16 @@ pub struct CommandLine {
     pub has_positional: bool,
 }
 
-/// The commands: `path [--raw] [--depth N] [--vmid N] [--cid N] [--settings LIST] IMAGE`,
-/// `packets [--raw] [--vmid N] [--cid N] [--settings LIST]`, `retired IMAGE`, `trace IMAGE` and `selftest [--cut K] N`.
+/// The commands: `path [--raw] [--wrap K] [--depth N] [--vmid N] [--cid N] [--settings LIST] IMAGE`,
+/// `packets [--raw] [--wrap K] [--vmid N] [--cid N] [--settings LIST]`, `retired IMAGE`, `trace [--last N] IMAGE` and
+/// `selftest [--cut K] N`.
 pub const COMMANDS: [CommandLine; 5] = [
     CommandLine {
         word: "path",
         name: CommandName::Path,
         options: &[
             CommandOption::Raw,
+            CommandOption::Wrap,
             CommandOption::Depth,
             CommandOption::Vmid,
             CommandOption::Cid,
@@ -145,6 +160,7 @@ pub const COMMANDS: [CommandLine; 5] = [
         name: CommandName::Packets,
         options: &[
             CommandOption::Raw,
+            CommandOption::Wrap,
             CommandOption::Vmid,
             CommandOption::Cid,
             CommandOption::Settings,
@@ -160,7 +176,7 @@ pub const COMMANDS: [CommandLine; 5] = [
     CommandLine {
         word: "trace",
         name: CommandName::Trace,
-        options: &[],
+        options: &[CommandOption::Last],
         has_positional: true,
     },
     CommandLine {
@@ -193,10 +209,12 @@ pub fn line_of(word: &str) -> Option<CommandLine>
 #[derive(Clone, Copy, Debug)]
 pub struct Seen<'a> {
     pub raw: bool,
+    pub wrap: Option<&'a str>,
     pub depth: Option<&'a str>,
     pub vmid: Option<&'a str>,
     pub cid: Option<&'a str>,
     pub settings: Option<&'a str>,
+    pub last: Option<&'a str>,
     pub cut: Option<&'a str>,
     pub positional: Option<&'a str>,
     /// The option that takes the next word.
@@ -239,10 +257,12 @@ impl<'a> Seen<'a> {
     {
         Self {
             raw: false,
+            wrap: None,
             depth: None,
             vmid: None,
             cid: None,
             settings: None,
+            last: None,
             cut: None,
             positional: None,
             waits: None,
@@ -256,10 +276,12 @@ impl<'a> Seen<'a> {
     {
         match option {
             CommandOption::Raw => self.raw,
+            CommandOption::Wrap => self.wrap.is_some(),
             CommandOption::Depth => self.depth.is_some(),
             CommandOption::Vmid => self.vmid.is_some(),
             CommandOption::Cid => self.cid.is_some(),
             CommandOption::Settings => self.settings.is_some(),
+            CommandOption::Last => self.last.is_some(),
             CommandOption::Cut => self.cut.is_some(),
         }
     }
@@ -271,10 +293,12 @@ impl<'a> Seen<'a> {
         self.waits = None;
         match option {
             CommandOption::Raw => self.raw = true,
+            CommandOption::Wrap => self.wrap = Some(value),
             CommandOption::Depth => self.depth = Some(value),
             CommandOption::Vmid => self.vmid = Some(value),
             CommandOption::Cid => self.cid = Some(value),
             CommandOption::Settings => self.settings = Some(value),
+            CommandOption::Last => self.last = Some(value),
             CommandOption::Cut => self.cut = Some(value),
         }
         self
@@ -369,14 +393,16 @@ impl<'a> Seen<'a> {
         table_of(self.settings, others)
     }
 
-    /// The layout.
-    fn layout(&self) -> Layout
-        ensures { result ≡ layout_in (seen_by self.now) }
+    /// The layout, where no two options tell one and the number of an oldest frame is in range.
+    fn layout(&self) -> Option<Layout>
+        ensures value { result ≡ layout_in (seen_by self.now) }
+        ensures within { IfSome result IsLaidOut }
     {
-        if self.raw {
-            Layout::Raw
-        } else {
-            Layout::Frames
+        match (self.raw, self.wrap) {
+            (false, None) => Some(Layout::Frames),
+            (true, None) => Some(Layout::Raw),
+            (false, Some(text)) => number_to(text, MOST_WRAP).map(Layout::Wrapped),
+            (true, Some(_)) => None,
         }
     }
 
@@ -391,11 +417,33 @@ impl<'a> Seen<'a> {
     /// How the input is taken, where the values are numbers in range.
     fn intake(&self) -> Option<Intake>
         ensures value { option_map said_intake result ≡ intake_in (seen_by self.now) }
-        ensures within { IfSome result (λ intake. IsTable intake.settings) }
+        ensures within { IfSome result IsIntake }
     {
         let settings = self.table()?;
-        let layout = self.layout();
+        let layout = self.layout()?;
         Some(Intake { settings, layout })
+    }
+
+    /// How many frames are written, where `--last` stands. There is no answer where its value is no such number, or 0.
+    fn last(&self) -> Option<Option<u32>>
+        ensures value { result ≡ last_of (seen_by self.now).last }
+        ensures within { IfSome result IsLastCount }
+    {
+        let Some(text) = self.last else {
+            return Some(None);
+        };
+        let count = number_to(text, MOST_LAST)?;
+        if count == 0 { None } else { Some(Some(count)) }
+    }
+
+    /// The command `trace`.
+    fn trace(&self) -> Option<Command<'a>>
+        ensures value { option_map said result ≡ trace_in (seen_by self.now) }
+        ensures within { IfSome result IsInRange }
+    {
+        let program = self.program()?;
+        let last = self.last()?;
+        Some(Command::Trace { program, last })
     }
 
     /// How many bytes of frames are read, where `--cut` stands. There is no answer where its value is no such number.
@@ -437,10 +485,7 @@ impl<'a> Seen<'a> {
                 let program = self.program()?;
                 Some(Command::Retired { program })
             }
-            CommandName::Trace => {
-                let program = self.program()?;
-                Some(Command::Trace { program })
-            }
+            CommandName::Trace => self.trace(),
             CommandName::Selftest => self.selftest(),
         }
     }
@@ -507,7 +552,7 @@ pub fn image_name(words: &[String]) -> Option<&str>
         Some(
             Command::Path { program, .. }
             | Command::Retired { program }
-            | Command::Trace { program },
+            | Command::Trace { program, .. },
         ) => Some(program.name),
         Some(Command::Packets { .. } | Command::Selftest { .. }) => None,
         None => None,

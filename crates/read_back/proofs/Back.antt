@@ -18,11 +18,11 @@ use Rattle.answer_laws.proofs.TracedCalls.{prints_traces, taken_are}
 use Rattle.trace_cmd.specs.Answers.{Answers, Asks, Call, HasImage, IsRetired, IsTested, IsTraced}
 use Rattle.answer_laws.specs.Complete.{IsDone, IsDoneOrFaulted}
 use Rattle.trace_cmd.specs.Printing.{PacketsOf, PathsOf, What}
-use Rattle.traced_runs.specs.Traced.{AreAccepted, trace_frames}
+use Rattle.traced_runs.specs.Traced.{AreAccepted, AreTracedFrames, IsTracedFrames, trace_frames}
 use Rattle.answer_laws.specs.TracedCalls.{IsPathOfTrace, PrintsTraces, frames_under}
 use Rattle.answer_lines.specs.declared.status.Status.{Status}
 use Rattle.answer_lines.specs.declared.status.Status.TheVariants as status
-use Rattle.trace_cmd.proofs.WordKinds.{path_kind, path_program}
+use Rattle.trace_cmd.proofs.WordKinds.{one_last, path_kind, path_program}
 use Rattle.trace_io.specs.Bytes.{AppendsAll}
 use Rattle.trace_io.specs.State.{IoState}
 
@@ -70,6 +70,10 @@ module _ (t : Call) (old new : IoState) (text file frames : List ℕ) (traces : 
   not_tested : (bytes : List ℕ) → IsTested t bytes → ⊥
   not_tested bytes (n, cut, words, summary) = let both : _ ≡ _ = sym words ∙ traces.words.1 in cc
 
+  all_traced : (last : Option ℕ) (image : Image) (bytes : List ℕ) → last ≡ None → AreTracedFrames image last t.input t.input' bytes
+      → IsTracedFrames image t.input t.input' bytes
+  all_traced last image bytes none are = subst (λ (l : Option ℕ). AreTracedFrames image l t.input t.input' bytes) none are
+
   -- image and run file are good, and these are their frames
   record Good : Type 0 where
     image : Image
@@ -79,7 +83,8 @@ module _ (t : Call) (old new : IoState) (text file frames : List ℕ) (traces : 
     frames_are : frames ≡ trace_frames image bench
 
   traced_good : (bytes : List ℕ) → IsTraced t bytes → AppendsAll old new bytes → Good
-  traced_good bytes (asked, (parts, (p, named, (other, taken, spells)), traced)) appends =
+  traced_good bytes (last, (asked, (parts, (p, named, (other, taken, spells)), are))) appends =
+      let traced = all_traced last parts bytes (one_last last None t.words asked traces.words) are in
       let same = taken_are t.image.bytes t.image'.bytes text other traces.image_text taken in
       let run_file = taken_are t.input.bytes t.input'.bytes file traced.run_file traces.run_file traced.read in
       let all = appended_are old.bytes new.bytes traces.before frames bytes traces.shown traces.appended appends in

@@ -1,12 +1,12 @@
 -- A call of `trace`, and one of `path` over what it appended.
-use Rattle.std.specs.Prelude.{◌≡◌, ℕ, ◌≤◌, List, ◌++◌, length, Some, Ok}
+use Rattle.std.specs.Prelude.{◌≡◌, ℕ, ◌≤◌, List, ◌++◌, length, Some, None, Ok}
 use Rattle.bench_text.specs.Parts.{BenchParts}
 use Rattle.bench_text.specs.Refusals.{bench_of}
 use Rattle.etm_types.specs.Settings.{Sizes}
 use Rattle.program_image.specs.ImageText.{image_of}
 use Rattle.program_image.specs.declared.image.Image.{Image}
 use Rattle.stream_demux.specs.Texts.{Printed, text_of}
-use Rattle.trace_cmd.specs.Answers.{Answers, Call, IsPathUnder, IsTraceCall}
+use Rattle.trace_cmd.specs.Answers.{Answers, Call, IsPathUnder, IsTraceOf}
 use Rattle.answer_laws.specs.Complete.{IsDone, NothingFailed}
 use Rattle.input_pieces.specs.Listed.{most_input}
 use Rattle.traced_runs.specs.Traced.{ShowsTraces, Suits}
@@ -16,9 +16,9 @@ use Rattle.answer_laws.specs.TracedCalls.{frames_under}
 use Rattle.trace_io.specs.Bytes.{AppendsAll}
 use Rattle.trace_io.specs.State.{IoState}
 
--- `trace` answered Done over an image and a run file of these texts, and appended these bytes
+-- `trace`, asked for all frames, answered Done over an image and a run file of these texts, and appended these bytes
 pub record Traces (t : Call) (old new : IoState) (text file frames : List ℕ) : Type 0 where
-  pub words : IsTraceCall t.words
+  pub words : IsTraceOf None t.words
   pub image_text : t.image.bytes ≡ Some text
   pub run_file : t.input.bytes ≡ Some file
   pub answered : Answers t old new status.Done

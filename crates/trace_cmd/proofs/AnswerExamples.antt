@@ -1,15 +1,15 @@
 -- Calls with their programs, layouts, sizes and answers, and near misses.
-use Rattle.std.proofs.Common.{◌≡◌, ℕ, List, [], ◌∷◌, ◌++◌, codes, Some, None, replicate, refl}
-use Rattle.std.specs.Prelude.{slice_set}
+use Rattle.std.proofs.Common.{◌≡◌, ℕ, List, [], ◌∷◌, ◌++◌, codes, length, Some, None, replicate, refl, ap, arith}
+use Rattle.std.specs.Prelude.{get_or, slice_set}
 use Rattle.etm_types.specs.Settings.{Sizes}
 use Rattle.answer_lines.specs.UsageLine.{usage_line}
 use Rattle.answer_lines.specs.declared.status.Status.TheVariants as status
 use Rattle.command_words.specs.Words.{Intake, Program, meaning}
 use Rattle.command_words.specs.declared.words.Layout.{Layout}
-use Rattle.command_words.specs.declared.words.Layout.TheVariants.{Raw, Frames}
+use Rattle.command_words.specs.declared.words.Layout.TheVariants.{Raw, Frames, Wrapped}
 use Rattle.path_text.specs.Lines.{in_base}
 use Rattle.program_image.specs.declared.fault.ImageWhy.TheVariants.{Unaligned}
-use Rattle.trace_cmd.specs.Answers.{Answers, call}
+use Rattle.trace_cmd.specs.Answers.{Answers, IsTraceOf, call}
 use Rattle.trace_cmd.specs.Printing.{PacketsOf, laid_of, sizes_by}
 use Rattle.trace_cmd.specs.Programs.{BadText, line_of, most_taken, program_named}
 use Rattle.trace_io.specs.State.{IoState}
@@ -27,6 +27,9 @@ retired_words = codes "retired" ∷ codes "img" ∷ []
 
 abbrev trace_words : List (List ℕ)
 trace_words = codes "trace" ∷ codes "img" ∷ []
+
+abbrev last_words : List (List ℕ)
+last_words = codes "trace" ∷ codes "--last" ∷ codes "2" ∷ codes "img" ∷ []
 
 abbrev number_words : List (List ℕ)
 number_words = codes "selftest" ∷ codes "7" ∷ []
@@ -49,11 +52,27 @@ of_retired = refl
 pub of_trace : program_named trace_words ≡ Some img
 of_trace = refl
 
+pub of_last : program_named last_words ≡ Some img
+of_last = refl
+
 pub of_packets : program_named packets_words ≡ None
 of_packets = refl
 
 pub of_number : program_named number_words ≡ None
 of_number = refl
+
+-- all frames of a trace are asked for, or the last two
+pub all_frames : IsTraceOf None trace_words
+all_frames = (img, refl)
+
+pub last_two_frames : IsTraceOf (Some 2) last_words
+last_two_frames = (img, refl)
+
+pub no_last_word : IsTraceOf (Some 2) trace_words → ⊥
+no_last_word (p, is) = absurd cc
+
+pub not_all_frames : IsTraceOf None last_words → ⊥
+not_all_frames (p, is) = absurd cc
 
 -- a byte more than 64 MiB of a program, and nothing of none
 pub most_of_path : most_taken path_words ≡ 67108865
@@ -72,12 +91,12 @@ line_of_unaligned = refl
 abbrev all : Sizes
 all = record { depth = 8; vmid_bytes = 2; cid_bytes = 0 }
 
-abbrev of_last : Sizes
-of_last = record { depth = 3; vmid_bytes = 4; cid_bytes = 4 }
+abbrev sizes_of_last : Sizes
+sizes_of_last = record { depth = 3; vmid_bytes = 4; cid_bytes = 4 }
 
 -- the last ID has sizes of its own
 abbrev taken : Layout → Intake
-taken layout = record { units = slice_set (replicate 111 all) 110 of_last; layout = layout }
+taken layout = record { units = slice_set (replicate 111 all) 110 sizes_of_last; layout = layout }
 
 -- with `--raw` each byte is of stream 01, at once
 pub raw_bytes : (laid_of (PacketsOf (taken Raw))).carried (8 ∷ 9 ∷ []) ≡ (1, 8) ∷ (1, 9) ∷ []
@@ -90,11 +109,51 @@ framed_bytes = refl
 pub framed_left : (laid_of (PacketsOf (taken Frames))).left (8 ∷ 9 ∷ []) ≡ 2
 framed_left = refl
 
+-- A buffer that was written round: a frame of ID 02, and behind it an older one, of ID 01.
+abbrev newer : List ℕ
+newer = 0x05 ∷ 41 ∷ replicate 14 0
+
+abbrev older : List ℕ
+older = 0x03 ∷ 40 ∷ replicate 14 0
+
+abbrev buffer : List ℕ
+buffer = newer ++ older
+
+abbrev of_older : List (ℕ × ℕ)
+of_older = (1, 40) ∷ replicate 13 (1, 0)
+
+abbrev of_newer : List (ℕ × ℕ)
+of_newer = (2, 41) ∷ replicate 13 (2, 0)
+
+-- what is carried from its oldest frame on comes with the bytes, and the rest at the end
+pub wrapped_bytes : (laid_of (PacketsOf (taken (Wrapped 1)))).carried buffer ≡ of_older
+wrapped_bytes = refl
+
+pub wrapped_whole : (laid_of (PacketsOf (taken (Wrapped 1)))).whole buffer ≡ of_older ++ of_newer
+wrapped_whole = refl
+
+pub wrapped_left : (laid_of (PacketsOf (taken (Wrapped 1)))).left (buffer ++ 8 ∷ 9 ∷ []) ≡ 2
+wrapped_left = refl
+
+-- it does not come in the order of frames that were not written round, nor with another oldest frame
+abbrev first_id : List (ℕ × ℕ) → ℕ
+first_id pairs = (get_or pairs 0 (0, 0)).0
+
+pub not_in_order : (laid_of (PacketsOf (taken Frames))).whole buffer ≡ of_older ++ of_newer → ⊥
+not_in_order e = absurd (omega (arith, ap first_id e))
+
+pub another_oldest : (laid_of (PacketsOf (taken (Wrapped 0)))).whole buffer ≡ of_older ++ of_newer → ⊥
+another_oldest e = absurd (omega (arith, ap first_id e))
+
+-- and before the end no more is carried
+pub not_before_the_end : (laid_of (PacketsOf (taken (Wrapped 1)))).carried buffer ≡ of_older ++ of_newer → ⊥
+not_before_the_end e = absurd (omega (arith, ap length e))
+
 -- each stream has the sizes of its ID
 pub sizes_of_110 : sizes_by (taken Frames) 110 ≡ all
 sizes_of_110 = refl
 
-pub sizes_of_111 : sizes_by (taken Frames) 111 ≡ of_last
+pub sizes_of_111 : sizes_by (taken Frames) 111 ≡ sizes_of_last
 sizes_of_111 = refl
 
 -- ---- answers

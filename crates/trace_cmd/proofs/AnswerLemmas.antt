@@ -8,7 +8,7 @@ use Rattle.program_image.specs.declared.image.Image.{Image}
 use Rattle.program_image.specs.declared.fault.ImageWhy.{ImageWhy}
 use Rattle.trace_cmd.specs.Answers.{Answers, AnswersSo, Asks, Call, HasRead, IsBenchBad, IsBenchFault, IsCall, IsImageFault, IsNoMemory}
 use Rattle.trace_cmd.specs.Answers.{IsOwnBenchBad, IsOwnImageBad, IsOwnTooLong, IsPacketsUnder, IsPathUnder, IsProgramBad, IsRetired, IsRetiredCall}
-use Rattle.trace_cmd.specs.Answers.{IsRunFileCall, IsSelftestOf, IsTested, IsTextOf, IsTraceCall, IsTraced, IsUsage, IsWriteFault}
+use Rattle.trace_cmd.specs.Answers.{IsRunFileCall, IsSelftestOf, IsTested, IsTextOf, IsTraceOf, IsTraced, IsUsage, IsWriteFault}
 use Rattle.trace_cmd.specs.Answers.{BenchText, ImageText, OwnBenchText, OwnImageText, RetiredText, TestText, TraceText, UsageText}
 use Rattle.trace_cmd.specs.Programs.{BadText, NoProgram}
 use Rattle.trace_cmd.proofs.WordKinds.{one_kind, packets_kind, path_kind, retired_kind, trace_kind}
@@ -24,13 +24,14 @@ use Rattle.command_words.specs.Words.{BareKind, Intake, PathKind, Retired, RunFi
 use Rattle.answer_lines.specs.declared.status.Status.{Status}
 use Rattle.answer_lines.specs.declared.status.Status.TheVariants as status
 use Rattle.command_words.specs.declared.words.Layout.{Layout}
-use Rattle.command_words.specs.declared.words.Layout.TheVariants.{Raw, Frames}
+use Rattle.command_words.specs.declared.words.Layout.TheVariants.{Raw, Frames, Wrapped}
 use Rattle.input_pieces.proofs.Interrupts.{broken_cut, completed_cut, exceeded_cut}
 use Rattle.trace_io.specs.Bytes.{AppendsAll, KeepsBytes, TakesAtMost}
 use Rattle.trace_io.specs.Causes.{HasCause, Rose}
 use Rattle.trace_io.specs.State.{IoState}
 use Rattle.trace_io.specs.declared.traits.Failed.{Failed}
 use Rattle.trace_io.proofs.Known.{front_kept, front_of_all}
+use Rattle.wrapped_capture.specs.Laid.{wrapped_laid_is}
 
 -- where nothing was read, nothing was taken
 pub none_taken : (s : IoState) (most : ℕ) → TakesAtMost s s most
@@ -92,6 +93,7 @@ module _ (c : Call) (old new : IoState) where
 pub layout_is_laid : (layout : Layout) → IsLaid (laid_in layout)
 layout_is_laid Raw = raw_laid_is
 layout_is_laid Frames = frames_laid_is
+layout_is_laid (Wrapped k) = wrapped_laid_is k
 
 -- what is asked for was printed of the input, or a write failed
 pub so_of_listed : (c : Call) (what : What) → Asks c what → (old new : IoState) (r : Result Status Failed)
@@ -158,12 +160,12 @@ so_of_retired c image asks read old new =
     (λ prints. inr (inl (prints.0, (asks, (image, read, prints.1)), prints.2)))
     (λ prints. retired_front c old new (prints.0, (asks, (image, read, prints.1)), prints.2))
 
-pub so_of_traced : (c : Call) (image : Image) → IsTraceCall c.words → HasRead c image → (old new : IoState) (r : Result Status Failed)
-    → TracesSo image c.input c.input' old new r → HasCause old new r → AnswersSo c old new r
-so_of_traced c image asks read old new =
-    by_run_file c image (trace_kind c.words asks) (Trace asks.0, asks.1) read _ old new
-    (λ prints. inr (inr (inl (prints.0, (asks, (image, read, prints.1)), prints.2))))
-    (λ prints. traced_front c old new (prints.0, (asks, (image, read, prints.1)), prints.2))
+pub so_of_traced : (c : Call) (image : Image) (last : Option ℕ) → IsTraceOf last c.words → HasRead c image → (old new : IoState)
+    (r : Result Status Failed) → TracesSo image last c.input c.input' old new r → HasCause old new r → AnswersSo c old new r
+so_of_traced c image last asks read old new =
+    by_run_file c image (trace_kind last c.words asks) (Trace asks.0 last, asks.1) read _ old new
+    (λ prints. inr (inr (inl (prints.0, (last, (asks, (image, read, prints.1))), prints.2))))
+    (λ prints. traced_front c old new (prints.0, (last, (asks, (image, read, prints.1))), prints.2))
 
 -- a number was answered, and the input not touched
 module _ (c : Call) (n : ℕ) (cut : Option ℕ) (asks : IsSelftestOf n cut c.words) (untouched : c.input' ≡ c.input) (old new : IoState) where

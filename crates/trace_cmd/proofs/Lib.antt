@@ -1,3 +1,4 @@
 mod AnswerExamples
 pub mod AnswerLemmas
+mod Layouts
 pub mod WordKinds

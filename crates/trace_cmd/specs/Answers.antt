@@ -11,7 +11,7 @@ use Rattle.retired_paths.specs.Retired.{IsBadBench, IsRetiredText}
 use Rattle.answer_lines.specs.Prints.{Prints, PrintsFront}
 use Rattle.answer_lines.specs.UsageLine.{usage_line}
 use Rattle.traced_runs.specs.Selftest.{HasBadBench, HasBadImage, IsSummary, IsTooLong}
-use Rattle.traced_runs.specs.Traced.{IsTracedFrames}
+use Rattle.traced_runs.specs.Traced.{AreTracedFrames}
 use Rattle.command_words.specs.Words.{Command, Intake, Kind, Program, Path, Packets, Retired, Selftest, Trace}
 use Rattle.command_words.specs.Words.{BareKind, NumberKind, PathKind, RunFileKind, kind_of, meaning}
 use Rattle.bench_text.specs.declared.fault.BenchWhy.{BenchWhy}
@@ -42,12 +42,13 @@ IsPathUnder r words = (p : Program) × (meaning words ≡ Some (Path p r))
 abbrev pub IsPacketsUnder : Intake → List (List ℕ) → Type 0
 IsPacketsUnder r words = meaning words ≡ Some (Packets r)
 
--- the retired paths of a run file, and its traces
+-- the retired paths of a run file
 abbrev pub IsRetiredCall : List (List ℕ) → Type 0
 IsRetiredCall words = (p : Program) × (meaning words ≡ Some (Retired p))
 
-abbrev pub IsTraceCall : List (List ℕ) → Type 0
-IsTraceCall words = (p : Program) × (meaning words ≡ Some (Trace p))
+-- its traces, all their frames, or so many of the last
+abbrev pub IsTraceOf : Option ℕ → List (List ℕ) → Type 0
+IsTraceOf last words = (p : Program) × (meaning words ≡ Some (Trace p last))
 
 -- both ends tried on the run file of a number, and how many bytes of its frames are read
 abbrev pub IsSelftestOf : ℕ → Option ℕ → List (List ℕ) → Type 0
@@ -147,9 +148,9 @@ OverImage Asked c Way = Asked c.words × ((image : Image) × HasRead c image × 
 abbrev pub IsRetired : Call → List ℕ → Type 0
 IsRetired c text = OverImage IsRetiredCall c (λ image. IsRetiredText image c.input c.input' text)
 
--- the frames of its traces
+-- the frames of its traces, or the last of them that the words ask for
 abbrev pub IsTraced : Call → List ℕ → Type 0
-IsTraced c frames = OverImage IsTraceCall c (λ image. IsTracedFrames image c.input c.input' frames)
+IsTraced c frames = (last : Option ℕ) × OverImage (IsTraceOf last) c (λ image. AreTracedFrames image last c.input c.input' frames)
 
 -- BenchBad, of retired paths or of traces: the run file has this fault first
 abbrev pub IsBenchBad : Call → ℕ → BenchWhy → List ℕ → Type 0

@@ -2,7 +2,7 @@
 use Rattle.std.specs.Prelude.{ℕ}
 use Rattle.command_words.specs.Words.{Intake}
 use Rattle.command_words.specs.declared.words.Layout.{Layout}
-use Rattle.command_words.specs.declared.words.Layout.TheVariants.{Raw, Frames}
+use Rattle.command_words.specs.declared.words.Layout.TheVariants.{Raw, Frames, Wrapped}
 use Rattle.etm_types.specs.Settings.{Sizes}
 use Rattle.etm_types.specs.SettingsTable.{sizes_at}
 use Rattle.packet_list.specs.PacketList.{packet_lists}
@@ -10,6 +10,7 @@ use Rattle.program_image.specs.declared.image.Image.{Image}
 use Rattle.stream_demux.specs.Laid.{Laid, frames_laid, raw_laid}
 use Rattle.stream_demux.specs.Paths.{paths}
 use Rattle.stream_demux.specs.Texts.{Listing, by_sizes}
+use Rattle.wrapped_capture.specs.Laid.{wrapped_laid}
 
 -- the paths of streams over an image, or their packets, of an input that is taken so
 pub data What : Type 0 where
@@ -32,6 +33,7 @@ listing_of (PacketsOf r) = by_sizes packet_lists (sizes_by r)
 abbrev pub laid_in : Layout → Laid
 laid_in Raw = raw_laid
 laid_in Frames = frames_laid
+laid_in (Wrapped k) = wrapped_laid k
 
 abbrev pub laid_of : What → Laid
 laid_of what = laid_in (intake_of what).layout

@@ -10,12 +10,12 @@ ghost use Rattle.program_image.specs.Part.{Part};
 ghost use Rattle.command_words.specs.Words.{meaning, texts};
 ghost use Rattle.path_text.specs.Writing.{Writes};
 ghost use Rattle.trace_cmd.specs.Answers.{Answers, AnswersSo, IsBareCall, IsImageCall, IsPathUnder, IsRetiredCall, IsRunFileCall};
-ghost use Rattle.trace_cmd.specs.Answers.{IsSelftestCall, IsTraceCall, IsWriteFault, NoReadFailed, ReadsFirst, call};
+ghost use Rattle.trace_cmd.specs.Answers.{IsSelftestCall, IsTraceOf, IsWriteFault, NoReadFailed, ReadsFirst, call};
 ghost use Rattle.trace_cmd.specs.Printing.{laid_in, sizes_by};
 ghost use Rattle.trace_cmd.specs.Programs.{most_taken};
 ghost use Rattle.answer_lines.specs.UsageLine.{usage_line};
 ghost use Rattle.input_pieces.specs.Listed.{Listed};
-ghost use Rattle.command_words.specs.Said.{said_intake};
+ghost use Rattle.command_words.specs.Said.{IsLaidOut, said_intake};
 ghost use Rattle.stream_demux.specs.Texts.{by_sizes};
 
 use answer_lines::{Status, write_image_bad, write_usage};
@@ -29,6 +29,7 @@ use stream_decoder::StreamDecoder;
 use stream_demux::{Demux, RawStream, Stream};
 use trace_io::{Failed, Sink, Source};
 use traced_runs::{test_number, trace_input};
+use wrapped_capture::WrappedDemux;
 
 /// Takes the memory for the streams of an input, and prints what is asked of them. Without the memory nothing is read.
 fn print_streams<S: Stream, J: Source, K: Sink>(
@@ -38,6 +39,7 @@ fn print_streams<S: Stream, J: Source, K: Sink>(
     input: &mut J,
     out: &mut K,
 ) -> Result<Status, Failed>
+    requires { IsLaidOut intake.now.layout }
     ensures listed { (result ≡ Ok Status.NoMemory) ⊎ Listed (laid_in intake.now.layout) (by_sizes (S.listing shared.now) (sizes_by (said_intake intake.now)))
         (J.state input.old) (J.state input.new) (K.state out.old) (K.state out.new) result }
     ensures memory { result ≡ Ok Status.NoMemory → (input.new ≡ input.old) × (out.new ≡ out.old) }
@@ -55,6 +57,10 @@ fn print_streams<S: Stream, J: Source, K: Sink>(
         },
         Layout::Frames => match Demux::<S>::new(alloc, &intake.settings) {
             Ok(demux) => print_input(demux, shared, input, out),
+            Err(_) => Ok(Status::NoMemory),
+        },
+        Layout::Wrapped(frames) => match WrappedDemux::<S>::new(alloc, frames, &intake.settings) {
+            Ok(wrapped) => print_input(wrapped, shared, input, out),
             Err(_) => Ok(Status::NoMemory),
         },
     }
@@ -97,6 +103,7 @@ fn answer_path<I: Source, J: Source, K: Sink>(
     input: &mut J,
     out: &mut K,
 ) -> Result<Status, Failed>
+    requires { IsLaidOut intake.now.layout }
     ensures answer { (words : List (List ℕ)) → IsPathUnder (said_intake intake.now) words
         → AnswersSo (call words (I.state image.old) (I.state image.new) (J.state input.old) (J.state input.new))
         (K.state out.old) (K.state out.new) result }
@@ -150,14 +157,15 @@ fn answer_retired<I: Source, J: Source, K: Sink>(
     }
 }
 
-/// Reads the image and the run file, and writes the frames of its traces.
+/// Reads the image and the run file, and writes the frames of its traces, or so many of the last.
 fn answer_trace<I: Source, J: Source, K: Sink>(
     alloc: Global,
+    last: Option<u32>,
     image: &mut I,
     input: &mut J,
     out: &mut K,
 ) -> Result<Status, Failed>
-    ensures answer { (words : List (List ℕ)) → IsTraceCall words
+    ensures answer { (words : List (List ℕ)) → IsTraceOf last words
         → AnswersSo (call words (I.state image.old) (I.state image.new) (J.state input.old) (J.state input.new))
         (K.state out.old) (K.state out.new) result }
     ensures few { TakesAtMost (J.state input.old) (J.state input.new) (most_text + 1) }
@@ -175,7 +183,7 @@ fn answer_trace<I: Source, J: Source, K: Sink>(
     ensures shows { ShowsAsBefore (K.state out.old) (K.state out.new) }
 {
     match read_image(alloc, image, out)? {
-        Ok(image) => trace_input(alloc, &image, input, out),
+        Ok(image) => trace_input(alloc, &image, last, input, out),
         Err(status) => Ok(status),
     }
 }
@@ -228,18 +236,20 @@ fn answer_words<I: Source, J: Source, K: Sink>(
             print_streams::<PacketStream, J, K>(alloc, intake, &(), input, out)
         }
         Command::Retired { .. } => answer_retired(alloc, image, input, out),
-        Command::Trace { .. } => answer_trace(alloc, image, input, out),
+        Command::Trace { last, .. } => answer_trace(alloc, *last, image, input, out),
         Command::Selftest { number, cut } => test_number(alloc, *number, *cut, out),
     }
 }
 
-/// Runs the command that the words mean: `path [--raw] [--depth N] [--vmid N] [--cid N] [--settings LIST] IMAGE` prints the
-/// path of each stream of an input, and `packets [--raw] [--vmid N] [--cid N] [--settings LIST]` its packets. The input is
-/// formatter frames of up to 111 streams, or with `--raw` one stream that is not framed, with the ID 01. The three numbers are
-/// the settings of each stream's trace unit, and LIST gives single IDs others, as `01:0:1:4,6f:16:0:0`. `retired IMAGE` reads a
-/// run file, and prints the retired path of each of its streams. `trace IMAGE` reads a run file, and writes the traces of its
-/// streams in frames, of which `path` prints those retired paths. `selftest [--cut K] N` makes image and run file from a
-/// number, and prints how many lines the paths in its frames have, or in the first K bytes of them. The words behind the
+/// Runs the command that the words mean: `path [--raw] [--wrap K] [--depth N] [--vmid N] [--cid N] [--settings LIST] IMAGE`
+/// prints the path of each stream of an input, and `packets [--raw] [--wrap K] [--vmid N] [--cid N] [--settings LIST]` its
+/// packets. The input is formatter frames of up to 111 streams, or with `--raw` one stream that is not framed, with the ID 01.
+/// With `--wrap K` the frames are those of a buffer that was written round, of which frame K is the oldest: those from it on are
+/// printed as they come, and those before it at the end. The other three numbers are the settings of each stream's trace unit,
+/// and LIST gives single IDs others, as `01:0:1:4,6f:16:0:0`. `retired IMAGE` reads a run file, and prints the retired path of
+/// each of its streams. `trace [--last N] IMAGE` reads a run file, and writes the traces of its streams in frames, of which
+/// `path` prints those retired paths, or only the last N of these frames. `selftest [--cut K] N` makes image and run file from
+/// a number, and prints how many lines the paths in its frames have, or in the first K bytes of them. The words behind the
 /// command may stand in any order, `--depth=N` is `--depth N`, and behind `--` each word is a positional. `image` is what the
 /// word IMAGE names.
 ///

@@ -1,3 +1,4 @@
+pub mod LastFrames
 mod SelftestExamples
 pub mod SelftestLines
 pub mod SelftestTexts

@@ -1,6 +1,6 @@
 -- The frames and the lines of a small run file, as they were worked out by hand, beside what a wrong rule would write or show.
-use Rattle.std.proofs.Common.{◌≡◌, ℕ, true, false, List, [], ◌∷◌, ◌++◌, Some, None, drop, take, refl, arith, ap}
-use Rattle.std.specs.Prelude.{codes, length, replicate, slice_set}
+use Rattle.std.proofs.Common.{◌≡◌, ℕ, ◌-◌, ◌*◌, ◌≤◌, true, false, List, [], ◌∷◌, ◌++◌, Some, None, drop, take, refl, sym, arith, ap, subst, ◌∙◌}
+use Rattle.std.specs.Prelude.{All, codes, get_or, length, replicate, slice_set}
 use Rattle.std.specs.List.{concat}
 use Rattle.std.proofs.lemmas.List.Elements.{All-from_recursion, recursion_from_All}
 use Rattle.a64_branches.specs.Classes.{class_of}
@@ -10,14 +10,15 @@ use Rattle.bench_text.specs.declared.line.BenchLine.{BenchLine}
 use Rattle.etm_types.specs.Settings.{Sizes}
 use Rattle.etm_types.specs.SettingsTable.{sizes_at}
 use Rattle.etm_types.specs.declared.context.Ctx.{Ctx}
+use Rattle.formatter_frames.specs.Unframed.{unframed}
 use Rattle.path_text.specs.Lines.{in_base}
 use Rattle.program_image.specs.Part.{Part}
 use Rattle.spec_run.specs.declared.event.Event.{Event}
 use Rattle.spec_run.specs.declared.event.Event.TheVariants as event
 use Rattle.stream_demux.specs.Laws.{lines_with}
-use Rattle.stream_demux.specs.Texts.{Printed, lines_under, text_of}
+use Rattle.stream_demux.specs.Texts.{Printed, lines_under, of, text_of}
 use Rattle.retired_paths.specs.Retired.{stream_text}
-use Rattle.traced_runs.specs.Traced.{ShowsTraces, Suits, end_lines, is_of_one, table_of, trace_lines, trace_pairs, traces}
+use Rattle.traced_runs.specs.Traced.{AreLast, ShowsTraces, Suits, end_lines, is_of_one, table_of, trace_frames, trace_lines, trace_pairs, traces}
 use Rattle.woven_traces.specs.Woven.{under}
 use Rattle.atom_formats.specs.Bytes.{byte_of}
 
@@ -103,6 +104,76 @@ rest_of_two = under 2 (drop 2 beginning)
 pub pairs_are : trace_pairs loop bench ≡ (5, 0x00) ∷ (2, 0x00) ∷ (2, 0x00) ∷ (rest_of_five ++ rest_of_two)
 unfolding class_of atom_formats byte_of
 pairs_are = refl
+
+-- ---- their frames, and the last ones
+
+abbrev first_frame : List ℕ
+first_frame = 0x0b ∷ 0x00 ∷ 0x05 ∷ 0x00 ∷ 0x0b ∷ 0x00 ∷ 0x00 ∷ 0x00 ∷ 0x00 ∷ 0x00 ∷ 0x00 ∷ 0x00 ∷ 0x00 ∷ 0x00 ∷ 0x00 ∷ 0x04 ∷ []
+
+abbrev second_frame : List ℕ
+second_frame = 0x00 ∷ 0x80 ∷ 0x00 ∷ 0x01 ∷ 0x00 ∷ 0x04 ∷ 0x84 ∷ 0x02 ∷ 0x10 ∷ 0x00 ∷ 0x00 ∷ 0x00 ∷ 0x00 ∷ 0x00 ∷ 0x00 ∷ 0x0a ∷ []
+
+abbrev third_frame : List ℕ
+third_frame = 0x10 ∷ 0xf7 ∷ 0x2c ∷ 0x01 ∷ 0x05 ∷ 0x00 ∷ 0x00 ∷ 0x00 ∷ 0x00 ∷ 0x00 ∷ 0x00 ∷ 0x00 ∷ 0x00 ∷ 0x00 ∷ 0x80 ∷ 0x02 ∷ []
+
+abbrev fourth_frame : List ℕ
+fourth_frame = 0x00 ∷ 0x01 ∷ 0x00 ∷ 0x04 ∷ 0x84 ∷ 0x02 ∷ 0x10 ∷ 0x00 ∷ 0x00 ∷ 0x00 ∷ 0x00 ∷ 0x00 ∷ 0x00 ∷ 0x10 ∷ 0x01 ∷ 0x05 ∷ []
+
+abbrev all_frames : List ℕ
+all_frames = first_frame ++ (second_frame ++ (third_frame ++ fourth_frame))
+
+frames_are : trace_frames loop bench ≡ all_frames
+unfolding class_of atom_formats byte_of
+frames_are = refl
+
+-- the last bytes of a trace
+abbrev HasEnd : List ℕ → ℕ × List ℕ → Type 0
+HasEnd frames t = (missing : ℕ) × (missing ≤ length t.1) × (of t.0 (unframed frames) ≡ drop missing t.1)
+
+abbrev all_traces : List (ℕ × List ℕ)
+all_traces = (5, of_five) ∷ (3, []) ∷ (2, beginning) ∷ []
+
+-- In two frames no ID is told before the bytes of stream 05 are over, and all bytes of stream 02 but the first two stand behind its ID.
+pub last_two : AreLast loop bench 2 (third_frame ++ fourth_frame)
+last_two = record {
+  written = ap (λ (l : List ℕ). drop (length l - 32) l) (sym frames_are);
+  carried = subst (All (HasEnd (third_frame ++ fourth_frame))) (sym traces_are)
+      (All-from_recursion (HasEnd (third_frame ++ fourth_frame)) all_traces
+      ((29, omega arith, refl), ((0, omega arith, refl), ((2, omega arith, refl), tt))));
+}
+
+-- there are no nine frames
+pub last_nine : AreLast loop bench 9 all_frames
+last_nine = record {
+  written = ap (λ (l : List ℕ). drop (length l - 144) l) (sym frames_are);
+  carried = subst (All (HasEnd all_frames)) (sym traces_are)
+      (All-from_recursion (HasEnd all_frames) all_traces ((0, omega arith, refl), ((0, omega arith, refl), ((0, omega arith, refl), tt))));
+}
+
+abbrev first_of : List ℕ → ℕ
+first_of bytes = get_or bytes 0 0
+
+written_so : (n : ℕ) (frames : List ℕ) → AreLast loop bench n frames → frames ≡ drop (length all_frames - 16 * n) all_frames
+written_so n frames last = last.written ∙ ap (λ (l : List ℕ). drop (length l - 16 * n) l) frames_are
+
+-- the first ones are not the last, nor is one more
+not_the_first : AreLast loop bench 2 (first_frame ++ second_frame) → ⊥
+not_the_first last = absurd (omega (arith, ap first_of (written_so 2 (first_frame ++ second_frame) last)))
+
+not_three : AreLast loop bench 2 (second_frame ++ (third_frame ++ fourth_frame)) → ⊥
+not_three last = absurd (omega (arith, ap length (written_so 2 (second_frame ++ (third_frame ++ fourth_frame)) last)))
+
+-- frames are counted, and not bytes
+not_two_bytes : AreLast loop bench 2 (0x01 ∷ 0x05 ∷ []) → ⊥
+not_two_bytes last = absurd (omega (arith, ap length (written_so 2 (0x01 ∷ 0x05 ∷ []) last)))
+
+-- where there are no more, none is left out
+not_none : AreLast loop bench 9 [] → ⊥
+not_none last = absurd (omega (arith, ap length (written_so 9 [] last)))
+
+-- and the ID that held is not told anew
+not_anew : AreLast loop bench 2 (0x0b ∷ drop 1 third_frame ++ fourth_frame) → ⊥
+not_anew last = absurd (omega (arith, ap first_of (written_so 2 (0x0b ∷ drop 1 third_frame ++ fourth_frame) last)))
 
 -- ---- their lines
 

@@ -1,5 +1,5 @@
 -- The table that gives each stream of a run file its sizes.
-use Rattle.std.proofs.Common.{◌≡◌, ℕ, ◌+◌, ◌-◌, ◌<◌, ◌==◌, Bool, true, false, List, [], ◌∷◌, length, drop, Some, arith, rules, refl, sym, ap, ◌∙◌}
+use Rattle.std.proofs.Common.{◌≡◌, ℕ, ◌+◌, ◌-◌, ◌<◌, ◌==◌, Bool, true, false, List, [], ◌∷◌, drop, Some, arith, rules, refl, sym, ap, ◌∙◌}
 use Rattle.std.proofs.Common.{eq-eqb, true≢false}
 use Rattle.std.specs.Prelude.{All, ◌||◌, replicate, slice_get, slice_set}
 use Rattle.std.specs.Option.{option_map}

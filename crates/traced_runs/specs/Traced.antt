@@ -1,5 +1,6 @@
 -- What `trace` writes of a run file over an image, and what is printed of the paths in that.
-use Rattle.std.specs.Prelude.{◌≡◌, ℕ, ◌-◌, Bool, true, false, All, List, [], ◌∷◌, ◌++◌, map, replicate, slice_set, Option, Some, None, Result, Ok}
+use Rattle.std.specs.Prelude.{◌≡◌, ℕ, ◌-◌, ◌≤◌, Bool, true, false, All, List, [], ◌∷◌, ◌++◌, length, drop, map, replicate, slice_set}
+use Rattle.std.specs.Prelude.{Option, Some, None, Result, Ok}
 use Rattle.std.specs.List.{concat}
 use Rattle.bench_text.specs.Parts.{BenchParts, BenchStream, IsBench, events_of, has_stream}
 use Rattle.bench_text.specs.Refusals.{bench_of, refusal_among}
@@ -23,6 +24,7 @@ use Rattle.trace_io.specs.Bytes.{TakesAll}
 use Rattle.trace_io.specs.State.{IoState}
 use Rattle.trace_io.specs.declared.traits.Failed.{Failed}
 use Rattle.trace_unit.specs.Written.{settled}
+use Rattle.wrapped_capture.specs.Rotated.{in_bytes}
 
 -- what the trace unit of each stream writes for its events, with the ID of the stream
 abbrev pub traces : Image → BenchParts → List (ℕ × List ℕ)
@@ -113,6 +115,24 @@ pub record IsTracedFrames (image : Image) (input input' : IoState) (frames : Lis
   pub written : frames ≡ trace_frames image bench
   pub shown : TracesAreShown image bench
 
+-- The last n of the frames, or all where they are no more. Each stream has in them its trace from some byte on.
+pub record AreLast (image : Image) (b : BenchParts) (n : ℕ) (frames : List ℕ) : Type 0 where
+  pub written : frames ≡ drop (length (trace_frames image b) - in_bytes n) (trace_frames image b)
+  pub carried : All (λ (t : ℕ × List ℕ). (missing : ℕ) × (missing ≤ length t.1) × (of t.0 (unframed frames) ≡ drop missing t.1)) (traces image b)
+
+-- a run file was read in the same way, and these are the last n frames of its traces
+pub record IsLastFrames (image : Image) (input input' : IoState) (n : ℕ) (frames : List ℕ) : Type 0 where
+  pub run_file : List ℕ
+  pub read : TakesAll input input' run_file
+  pub bench : BenchParts
+  pub accepted : bench_of image run_file ≡ Ok bench
+  pub last : AreLast image bench n frames
+
+-- all frames, or the last ones of them
+abbrev pub AreTracedFrames : Image → Option ℕ → IoState → IoState → List ℕ → Type 0
+AreTracedFrames image None input input' frames = IsTracedFrames image input input' frames
+AreTracedFrames image (Some n) input input' frames = IsLastFrames image input input' n frames
+
 -- how a run file is answered by its traces
-abbrev pub TracesSo : Image → IoState → IoState → IoState → IoState → Result Status Failed → Type 0
-TracesSo image input input' = RunsSo (IsTracedFrames image input input') image input input'
+abbrev pub TracesSo : Image → Option ℕ → IoState → IoState → IoState → IoState → Result Status Failed → Type 0
+TracesSo image last input input' = RunsSo (AreTracedFrames image last input input') image input input'

@@ -15,7 +15,7 @@ ghost use Rattle.traced_runs.specs.Traced.{table_of, trace_frames};
 ghost use Rattle.trace_io.specs.Bytes.{ShowsAsBefore};
 ghost use Rattle.trace_io.specs.Causes.{HasCause};
 
-use crate::traced::{Untraced, traced_streams};
+use crate::traced::{Untraced, traced_streams, woven_frames};
 use answer_lines::{Status, write_image_bad, write_summary};
 use bench_gen::{Generated, generate};
 use bench_text::{Bench, BenchWhy};
@@ -27,7 +27,6 @@ use std::alloc::{AllocError, Global};
 use stream_decoder::StreamDecoder;
 use stream_demux::Demux;
 use trace_io::{Failed, MemSink, SafeSource, Sink};
-use woven_traces::write_woven;
 
 /// The most bytes of a text that are read at once.
 const PIECE: usize = 4096;
@@ -108,10 +107,9 @@ fn frames_of(alloc: Global, image: &Image, bench: &Bench) -> Result<MemSink, Unt
         }
         Err(Untraced::Memory) => return Err(Untested::Memory),
     };
-    let mut frames = MemSink::new(alloc, Vec::new(alloc));
-    match write_woven(bench, &mut traces, &mut frames) {
-        Ok(()) => Ok(frames),
-        Err(Failed) => Err(Untested::Memory),
+    match woven_frames(alloc, bench, &mut traces) {
+        Ok(frames) => Ok(frames),
+        Err(AllocError) => Err(Untested::Memory),
     }
 }
 

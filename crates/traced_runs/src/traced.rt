@@ -1,9 +1,13 @@
 //! The command `trace`: the streams of a run file are traced, one after the other, and then their traces are woven into frames.
 //!
-//! Nothing is written before the last stream is traced, so that a run file that is bad, or want of memory, leaves no frame.
-ghost use Rattle.std.specs.Prelude.{◌≡◌, ◌⊎◌, ℕ, ◌+◌, ◌≤◌, ◌<◌, List, [], length, None, Some, Ok, Err, IsOk, IfOk, slice_get};
+//! Nothing is written before the last stream is traced, so that a run file that is bad, or want of memory, leaves no frame. Where only
+//! the last frames are wanted, all of them are woven in memory first.
+ghost use Rattle.std.specs.Prelude.{◌≡◌, ◌⊎◌, ℕ, ◌+◌, ◌%◌, ◌≤◌, ◌<◌, List, [], length, None, Some, Ok, Err, IsOk, IfOk, slice_get};
 ghost use Rattle.bench_text.specs.Parts.{BenchStream, IsBench, events_of};
 ghost use Rattle.bench_text.specs.Refusals.{most_text, refusal_among, stream_refusal};
+ghost use Rattle.formatter_frames.specs.Framed.{framed};
+ghost use Rattle.formatter_frames.specs.Sizes.{frame_bytes};
+ghost use Rattle.path_text.specs.Writing.{Writes};
 ghost use Rattle.spec_run.specs.RunAfter.{IsEvent};
 ghost use Rattle.spec_run.specs.declared.event.Event.{Event};
 ghost use Rattle.spec_run.specs.declared.run_fault.RunFault.{RunFault as Refusal};
@@ -11,19 +15,22 @@ ghost use Rattle.retired_paths.specs.Retiring.{RefusesLine, events_with};
 ghost use Rattle.traced_runs.specs.Traced.{TracesSo, traces};
 ghost use Rattle.traced_runs.specs.Tracing.{IsTracing, refused_at};
 ghost use Rattle.woven_traces.specs.Weaving.{all_left};
+ghost use Rattle.woven_traces.specs.Woven.{woven};
 ghost use Rattle.trace_io.specs.Bytes.{ShowsAsBefore, TakesAtMost};
 ghost use Rattle.trace_io.specs.Causes.{HasCause, KeepsFaults};
 ghost use Rattle.trace_unit.specs.Written.{settled};
 
 use answer_lines::Status;
 use bench_text::{Bench, BenchLine, BenchWhy};
+use formatter_frames::FRAME_BYTES;
 use program_image::Image;
 use retired_paths::{Unread, read_bench, refuse};
 use spec_run::RunFault;
-use std::alloc::Global;
-use trace_io::{Failed, Sink, Source};
+use std::alloc::{AllocError, Global};
+use trace_io::{Failed, MemSink, Sink, Source, write_all};
 use trace_unit::{Unit, UnitFault};
 use woven_traces::{Trace, write_woven};
+use wrapped_capture::last_frames;
 
 /// Why streams were not traced.
 #[derive(Clone, Copy, Debug)]
@@ -144,14 +151,45 @@ pub fn traced_streams(alloc: Global, image: &Image, bench: &Bench) -> Result<Vec
     Ok(made)
 }
 
-/// Reads a run file and traces all of it, then writes the frames of its traces.
+/// The frames of traces in memory, woven as a run file says. The error means want of memory.
+pub fn woven_frames(
+    alloc: Global,
+    bench: &Bench,
+    traces: &mut [Trace],
+) -> Result<MemSink, AllocError>
+    ensures { IfOk result (λ frames. frames.taken ≡ framed (woven bench.now.weaves (all_left traces.old))) }
+{
+    let mut frames = MemSink::new(alloc, Vec::new(alloc));
+    match write_woven(bench, traces, &mut frames) {
+        Ok(()) => Ok(frames),
+        Err(Failed) => Err(AllocError),
+    }
+}
+
+/// Writes whole frames, each of them at once.
+fn write_frames<K: Sink>(frames: &[u8], out: &mut K) -> Result<(), Failed>
+    requires { length frames.now % frame_bytes ≡ 0 }
+    ensures { Writes (K.state out.old) (K.state out.new) result frames.now }
+{
+    let mut at = 0;
+    while at < frames.len() {
+        let end = at + FRAME_BYTES;
+        write_all(out, &frames[at..end])?;
+        at = end;
+    }
+    Ok(())
+}
+
+/// Reads a run file and traces all of it, then writes the frames of its traces: all of them, or the last ones of them. For these all
+/// frames stand in memory first, and nothing is written where it is wanting.
 pub fn trace_input<J: Source, K: Sink>(
     alloc: Global,
     image: &Image,
+    last: Option<u32>,
     input: &mut J,
     out: &mut K,
 ) -> Result<Status, Failed>
-    ensures answer { TracesSo image.now (J.state input.old) (J.state input.new) (K.state out.old) (K.state out.new) result }
+    ensures answer { TracesSo image.now last (J.state input.old) (J.state input.new) (K.state out.old) (K.state out.new) result }
     ensures few { TakesAtMost (J.state input.old) (J.state input.new) (most_text + 1) }
     ensures kept { (result ≡ Ok Status.ReadFault) ⊎ KeepsFaults (J.state input.old) (J.state input.new) }
     ensures input_shows { ShowsAsBefore (J.state input.old) (J.state input.new) }
@@ -169,7 +207,14 @@ pub fn trace_input<J: Source, K: Sink>(
         Ok(mut traces) => {
             // No two parts of an image overlap, as the contract of this call tells.
             let _word = image.word_at(0);
-            write_woven(&bench, &mut traces, out)?;
+            let Some(count) = last else {
+                write_woven(&bench, &mut traces, out)?;
+                return Ok(Status::Done);
+            };
+            let Ok(frames) = woven_frames(alloc, &bench, &mut traces) else {
+                return Ok(Status::NoMemory);
+            };
+            write_frames(last_frames(frames.written(), count), out)?;
             Ok(Status::Done)
         }
         Err(Untraced::Refused { line, fault }) => refuse(line, BenchWhy::Run(fault), out),

@@ -12,7 +12,7 @@ pub returns-clause-retired : goal.returns-clause-retired
 returns-clause-retired c = λ words program. (retired_line words program, retired_said words program)
 
 pub returns-clause-trace : goal.returns-clause-trace
-returns-clause-trace c = λ words program. (trace_line words program, trace_said words program)
+returns-clause-trace c = λ words program last. (trace_line words program last, trace_said words program last)
 
 pub returns-clause-selftest : goal.returns-clause-selftest
 returns-clause-selftest c = λ words n cut. (selftest_line words n cut, selftest_said words n cut)

@@ -41,7 +41,7 @@ returns-in-Trace-clause-answer g c =
 pub returns-in-Trace-clause-memory : goal.returns-in-Trace-clause-memory
 returns-in-Trace-clause-memory g c is =
     let means = sym c.in-Ok-Some.ensures.value ∙ ap (option_map said) (c.in-Ok-Some.field-0-is ∙ ap (λ (command : Told). Some command) c.in-Trace.is) in
-    inr (trace_kind (texts c.args.words.now) (said_program c.in-Trace.program, means))
+    inr (trace_kind c.in-Trace.last (texts c.args.words.now) (said_program c.in-Trace.program, means))
 
 pub test_number-requires : goal.test_number-requires
 test_number-requires g c =
@@ -122,4 +122,4 @@ returns-in-Trace-clause-order g c =
     let means = sym c.in-Ok-Some.ensures.value ∙ ap (option_map said) (c.in-Ok-Some.field-0-is ∙ ap (λ (command : Told). Some command) c.in-Trace.is) in
     let image = g.I.Source.state in let input = g.J.Source.state in let words = texts c.args.words.now in
     let asked = call words (image c.args.image.now) (image c.answer_trace.new.image) (input c.args.input.now) (input c.answer_trace.new.input) in
-    read_first asked (said_program c.in-Trace.program) _ (trace_program words (said_program c.in-Trace.program, means)) c.answer_trace.ensures.order
+    read_first asked (said_program c.in-Trace.program) _ (trace_program c.in-Trace.last words (said_program c.in-Trace.program, means)) c.answer_trace.ensures.order
