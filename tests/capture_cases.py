@@ -8,8 +8,10 @@ any bytes, of one to six IDs. They are put into frames here, by docs/FORMATS.md 
 formatter of this project writes them, or as any other may, which repeats an ID, tells one late, or has bytes before the first.
 Bytes of the null ID and of reserved IDs stand between, some captures have frames of any bytes or barrier packets, and some end
 in a frame. Behind those whose streams all have the sizes of the options are captures, and streams without frames, that are read
-under a list of settings for single IDs: some streams have theirs, some those of the options, and some those of another. The answers
-come from the model alone.
+under a list of settings for single IDs: some streams have theirs, some those of the options, and some those of another. Behind these
+are buffers that were written round: the whole frames of a capture, stored with the oldest at some place and with some bytes of a frame
+behind them, or a buffer that was not filled. They are read from that place on, mostly, and else from another place, or from behind the
+last frame. The answers come from the model alone.
 
 The file has the form of that of tests/path_cases.py, but that a block has two command lines, each with its answer behind it.
 A line `input` may end with ` x` and how often its bytes stand there.
@@ -31,6 +33,8 @@ from speculation_cases import Outlook, Sizes, begun, grown, loop
 OUT = pathlib.Path(__file__).resolve().parent / "cases_of_captures" / "cases.txt"
 CAPTURES = 300
 LISTED, LISTED_RAW = 120, 60  # read under a list of settings: captures, and streams without frames
+WRAPPED = 160  # buffers that were written round
+MOST_WRAPPED = 65536
 MOST_LINES = 160
 PIECE = 4096
 FRAME = 16
@@ -230,7 +234,8 @@ def listed_words(rng, command, layout, sizes, own):
     """The command line, with its options in any order."""
     _, *words = words_of(command, sizes)
     options = [words[place:place + 2] for place in range(0, len(words) - len(words) % 2, 2)]
-    options.append(["--settings", list_of(rng, own)] if rng.random() < 0.5 else ["--settings=" + list_of(rng, own)])
+    if own:
+        options.append(["--settings", list_of(rng, own)] if rng.random() < 0.5 else ["--settings=" + list_of(rng, own)])
     options += [layout] * bool(layout)
     return [command, *(word for option in rng.sample(options, len(options)) for word in option), *["IMAGE"] * (command == "path")]
 
@@ -250,7 +255,99 @@ def listed_blocks(rng, model, counts):
             number += 1
 
 
+# ---- buffers that were written round ------------------------------------------
+
+Buffer = collections.namedtuple("Buffer", "frames oldest told given")  # in their order, the place of the oldest, K, and what is stored
+
+
+def buffer(rng, model, streams):
+    """The frames of a capture as a ring has them, mostly with its oldest frame told."""
+    whole = capture(rng, model, streams)
+    while len(whole) < FRAME:
+        whole = capture(rng, model, streams)
+    count = len(whole) // FRAME
+    whole = whole[:count * FRAME]
+    oldest = rng.choice([0, 1, count - 1, rng.randrange(count), rng.randrange(count)]) % count
+    begun = rng.randbytes(rng.randrange(1, FRAME)) if rng.random() < 0.4 else b""
+    seam = len(whole) - FRAME * oldest
+    kind = rng.randrange(8)
+    if kind == 0:
+        told = rng.choice([count, count + 1, MOST_WRAPPED])
+    elif kind == 1:
+        told = rng.choice([oldest + 1, max(0, oldest - 1), rng.randrange(count + 1)])
+    else:
+        told = oldest
+    return Buffer(whole, oldest, told, whole[seam:] + whole[:seam] + begun)
+
+
+def wrapped_case(rng, model):
+    """The sizes of the options, those of a list or none, the lines of an image, and a buffer."""
+    (lines, places), sizes = program_of(rng), any_sizes(rng)
+    ids = rng.sample(range(1, LAST_SOURCE + 1), rng.choice([1, 2, 2, 3, 4]))
+    others = [source for source in range(1, LAST_SOURCE + 1) if source not in ids]
+    own = own_sizes(rng, ids, others) if rng.random() < 0.2 else {}
+    streams = [(source, stream_of(rng, model, lines, places, own.get(source, sizes), [sizes, *own.values()])) for source in ids]
+    return sizes, own, lines, buffer(rng, model, streams)
+
+
+def wrapped_blocks(rng, model, counts):
+    """The cases, and in `counts` what they have."""
+    number = 0
+    while number < WRAPPED:
+        sizes, own, lines, ring = wrapped_case(rng, model)
+        wrap = [f"--wrap={ring.told}"] if rng.random() < 0.3 else ["--wrap", f"{ring.told:0{rng.choice([1, 1, 1, 10])}}"]
+        commands = [listed_words(rng, command, wrap, sizes, own) for command in ("path", "packets")]
+        answers = [answer(model, command, lines, ring.given) for command in commands]
+        if max(len(printed) for _, printed in answers) > MOST_LINES:
+            continue
+        counts.update(seen_wrapped(model, sizes, own, lines, ring, answers))
+        yield block(f"wrapped_{number}", lines, ring.given, zip(commands, answers))
+        number += 1
+
+
 # ---- what must occur -------------------------------------------------------
+
+def id_behind(frames):
+    """The ID that holds behind frames."""
+    current = None
+    for at in range(0, len(frames), FRAME):
+        _, current = frame_cases.unpack(frames[at:at + FRAME], current)
+    return current
+
+
+def seen_wrapped(model, sizes, own, lines, ring, answers):
+    """What a buffer has, and what its path depends on."""
+    def path(given, told):
+        listed = ["--settings", ",".join(f"{source:02x}:{of.depth}:{of.vmid}:{of.cid}" for source, of in own.items())]
+        return answer(model, [*words_of("path", sizes)[:-1], *["--wrap", f"{told}"], *listed * bool(own), "IMAGE"], lines, given)
+    count, begun, seam = len(ring.frames) // FRAME, len(ring.given) % FRAME, FRAME * ring.told
+    is_round = 0 < ring.told == ring.oldest < count
+    found = {
+        "the oldest frame in front": ring.told == ring.oldest == 0, "no frame of the number told": ring.told >= count,
+        "one frame": count == 1, "a list of settings": own,
+        "a frame told that is not the oldest": ring.told != ring.oldest and ring.told < count,
+        "a ring with bytes of a frame behind it": is_round and begun,
+        "one frame kept": is_round and ring.told == 1, "all frames kept but one": is_round and ring.told == count - 1 > 1,
+        "more than one piece": is_round and len(ring.given) > PIECE,
+        "an ID that holds round the end": is_round and not ring.given[0] & 1
+            and id_behind(ring.given[seam:len(ring.given) - begun]) not in (None, NULL, *RESERVED),
+        f"{begun} bytes of a frame": begun,
+        "a path that is another from the first frame on": is_round and path(ring.given, 0) != answers[0],
+        "a path that is another from the next frame on": is_round and path(ring.given, ring.told + 1) != answers[0],
+        "a path that is that of the frames in their order": is_round and not begun and path(ring.frames, 0) == answers[0],
+        "a path with instructions": is_round and any(re.fullmatch("[0-9a-f]{2} [0-9a-f]+", line) for line in answers[0][1]),
+    }
+    yield from (f"wrapped: {name}" for name, there in found.items() if there)
+    yield from (f"wrapped: {name}" for name in ("fault", "end", "cut", "nosync") if any(line.split()[1] == name for line in answers[0][1]))
+
+
+WRAPPED_DUE = [f"wrapped: {what}" for what in (
+    "the oldest frame in front", "no frame of the number told", "one frame", "a list of settings", "a frame told that is not the oldest",
+    "a ring with bytes of a frame behind it", "one frame kept", "all frames kept but one", "more than one piece",
+    "an ID that holds round the end", "a path that is another from the first frame on", "a path that is another from the next frame on",
+    "a path that is that of the frames in their order", "a path with instructions", "fault", "end", "cut", "nosync",
+    *(f"{count} bytes of a frame" for count in range(1, FRAME)))]
+
 
 def seen_listed(model, layout, sizes, own, lines, given, answers):
     """Which sizes a path depends on: those of the list, and those of the options."""
@@ -348,8 +445,9 @@ def main(words):
         blocks.append(block(f"capture_{number}", lines, given, zip(commands, answers)))
         number += 1
     blocks += listed_blocks(random.Random(30), model, counts)
+    blocks += wrapped_blocks(random.Random(31), model, counts)
     print(*(f"{count:6} {name}" for name, count in sorted(counts.items())), sep="\n")
-    missing = [name for name in (*due(), *LISTED_DUE) if not counts[name]]
+    missing = [name for name in (*due(), *LISTED_DUE, *WRAPPED_DUE) if not counts[name]]
     assert not missing, f"no capture has {missing}"
     OUT.parent.mkdir(exist_ok=True)
     OUT.write_text("\n".join([HEAD, *blocks]))

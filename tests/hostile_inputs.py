@@ -7,7 +7,8 @@ Usage: hostile_inputs.py PROGRAM [COUNT [WORKERS [MINUTES]]]
 Streams, captures in frames, images and run files are taken from the stored cases beside this script and from examples/, and are
 changed: bits are flipped, parts cut, repeated, moved, joined with those of another or written over, and lines and words of texts
 likewise. Others are packets in a row that mostly fit their image, captures that a formatter may write of such streams, and run files
-that go on by some events and weaves more. Each input comes of its number and a fixed seed, so it is the same whatever is run before it;
+that go on by some events and weaves more. Some captures are read as a ring, from any frame on, and of some traces the last frames alone
+are written. Each input comes of its number and a fixed seed, so it is the same whatever is run before it;
 --keep writes the one of a number, with its words and its image, into a folder.
 
 COUNT inputs are run, 20,000 where it is left out, by WORKERS processes, 4 where it is left out, for so many MINUTES at most. Of each it
@@ -18,7 +19,8 @@ is checked that the program
 - writes nothing to standard error;
 - takes no more than 64 MiB of memory, or than this script did, since the system tells no less; and no more than 256 MiB of addresses;
 - prints lines of docs/FORMATS.md alone, in their order: those of streams, then one for the end of each stream, by their IDs, then one
-  for a frame that is cut; or the one line of a bad image or run file; or whole frames. What is printed fits the status.
+  for a frame that is cut; or the one line of a bad image or run file; or whole frames, no more than were asked for. What is printed fits
+  the status.
 
 Before them captures are run that hold as much as may be held: of all 111 IDs, each at the greatest depth by a list of settings, and as many
 atoms of each as its queue has room for, or one more. They are read in 104 MiB of memory and 112 MiB of addresses; in 96 MiB of addresses
@@ -53,6 +55,7 @@ AT_ONCE = 250  # inputs that a worker takes at once
 SECONDS = 10
 MOST_MEMORY, MOST_ADDRESSES, MOST_OUTPUT = 64 << 10, 256 << 20, 256 << 20  # KiB, and bytes
 MOST_INPUT, MOST_BESIDE_AN_IMAGE, MOST_IMAGE = 8192, 1024, 4096
+MOST_FRAMES = 65536  # that --wrap and --last tell
 DEEPEST, MOST_FULL_MEMORY, FULL_ADDRESSES, FEW_ADDRESSES = 16384, 104 << 10, 112 << 10, 96 << 10  # KiB
 LIMITED = ["/bin/sh", "-c", 'ulimit -v "$0" && exec "$@"']  # a program with so many KiB of addresses
 FRAME = 16
@@ -365,6 +368,13 @@ def options_of(rng, words, layout=()):
     return options
 
 
+def oldest_told(rng, options):
+    """The options, and at times the place of the oldest frame, if none is told."""
+    if rng.random() < 0.8 or any(word.startswith("--wrap") for word in options):
+        return options
+    return [*options, "--wrap", str(rng.choice([0, 1, 2, 3, 5, 8, rng.randrange(64), MOST_FRAMES]))]
+
+
 def without_depth(options):
     return [word for place, word in enumerate(options)
             if not word.startswith("--depth") and (place == 0 or options[place - 1] != "--depth")]
@@ -385,7 +395,8 @@ def of_streams(rng, corpus):
 def of_captures(rng, corpus):
     chosen, other = rng.choice(corpus.captures), rng.choice(corpus.captures)
     image = chosen.image or rng.choice(corpus.imaged).image
-    return Case(words_of(rng, [], options_of(rng, chosen.words)), image, changed(rng, chosen.given, other.given))
+    options = oldest_told(rng, options_of(rng, chosen.words))
+    return Case(words_of(rng, [], options), image, changed(rng, chosen.given, other.given))
 
 
 def of_sequences(rng, corpus):
@@ -396,7 +407,8 @@ def of_sequences(rng, corpus):
         return Case(words_of(rng, ["--raw"], options), image, sequence(rng, places, sizes))
     ids = rng.sample(range(1, 0x70), rng.choice([1, 2, 3, 6, 111] if rng.random() < 0.02 else [1, 2, 3]))
     frames = framed(rng, [(source, sequence(rng, places, sizes)) for source in ids])
-    return Case(words_of(rng, [], options), image, changed(rng, frames, frames) if rng.random() < 0.3 else frames)
+    given = changed(rng, frames, frames) if rng.random() < 0.3 else frames
+    return Case(words_of(rng, [], oldest_told(rng, options)), image, given)
 
 
 def of_images(rng, corpus):
@@ -412,7 +424,9 @@ def of_images(rng, corpus):
 def of_run_files(rng, corpus):
     chosen, other = rng.choice(corpus.runs), rng.choice(corpus.runs)
     given = going_on(rng, chosen.given) if rng.random() < 0.5 else changed_text(rng, chosen.given, other.given)
-    return Case([rng.choice(["trace", "retired"]), "IMAGE"], chosen.image, given)
+    last = ["--last", str(rng.choice([1, 2, 3, rng.randrange(1, 64), MOST_FRAMES]))]
+    words = rng.choice([["retired"], ["retired"], ["trace"], ["trace", *last]])
+    return Case([*words, "IMAGE"], chosen.image, given)
 
 
 KINDS = {"streams": of_streams, "captures": of_captures, "sequences": of_sequences, "images": of_images, "run files": of_run_files}
@@ -527,6 +541,14 @@ def wrong_streams(case, ended):
     return None if is_faulty == (ended.status == 4) else "lines that do not fit the status"
 
 
+def wrong_frames(case, ended):
+    """What is wrong with the frames of a trace."""
+    if len(ended.out) % FRAME:
+        return "no whole frames"
+    is_last = case.words[1] == "--last"
+    return "more frames than the last that are asked for" if is_last and len(ended.out) > FRAME * int(case.words[2]) else None
+
+
 def wrong_output(case, ended):
     """What is wrong with what was printed."""
     if ended.status in REFUSED:
@@ -534,7 +556,7 @@ def wrong_output(case, ended):
     if case.words[0] == "retired":
         return None if RETIRED.fullmatch(ended.out) else "lines of no form"
     if case.words[0] == "trace":
-        return "no whole frames" if len(ended.out) % FRAME else None
+        return wrong_frames(case, ended)
     return wrong_streams(case, ended)
 
 

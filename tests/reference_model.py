@@ -7,7 +7,7 @@ import importlib
 import sys
 
 PROFILE = "final"  # units tell an exception at its target; each stream may have settings of its own
-REACH = 16  # the options of the command line go up to `--settings`
+REACH = 17  # the options of the command line go up to `--wrap` and `--last`
 PARTS = ("base", "frames", "image", "packets", "path", "randoms", "runs", "text", "top", "unit")
 
 
