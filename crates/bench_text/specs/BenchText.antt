@@ -8,7 +8,8 @@ use Rattle.std.specs.Str.Lines.{lines}
 use Rattle.etm_types.specs.Settings.{Sizes}
 use Rattle.line_words.specs.Line.{decimal_of, two_digits_of, words_in}
 use Rattle.bench_text.specs.EventLines.{event_of, in_range, need, only_number, only_word, then_ok}
-use Rattle.bench_text.specs.GivenSettings.{are_allowed, given_or, is_allowed, nothing_given, number_given, pairs_in, setting_named, sizes_of, stack_of, with_number}
+use Rattle.bench_text.specs.GivenSettings.{are_allowed, given_or, is_allowed, nothing_given, number_given, pairs_in, setting_named}
+use Rattle.bench_text.specs.GivenSettings.{sizes_of, stack_of, with_number}
 use Rattle.bench_text.specs.Parts.{BenchParts, BenchStream, has_stream}
 use Rattle.bench_text.specs.declared.fault.BenchWhy.{BenchWhy}
 use Rattle.bench_text.specs.declared.fault.BenchWhy.TheVariants.{Header, Syntax, IdRange, DuplicateId, Range}
