@@ -411,34 +411,31 @@ WINDOWS = {
 }
 
 
-def cases(rng, model):
+Kind = collections.namedtuple("Kind", "name good wrong_texts refused draft_of wrong_text")  # name: before that of each case
+ALL_ALIKE = Kind("", GOOD, WRONG_TEXTS, REFUSED, draft_of, wrong_text)
+OF_THEIR_OWN = Kind("own_", OWN_GOOD, OWN_WRONG_TEXTS, OWN_REFUSED, own_draft_of, own_wrong_text)
+
+
+def cases_of(kind, rng, model):
     """By names the lines of an image, and the pieces of a text with how often each stands there."""
-    for number in range(GOOD):
-        draft = draft_of(rng, model)
-        yield f"good_{number}", image_of(rng, draft.image), [(text_of(rng, lines_of(rng, draft)), 1)]
-    for number in range(WRONG_TEXTS):
-        image, lines = wrong_text(rng, model, number)
-        yield f"text_{number}", image_of(rng, image), [(text_of(rng, lines), 1)]
-    for number in range(REFUSED):
-        draft = refused_draft(rng, model, REFUSALS[number % len(REFUSALS)])
-        yield f"refused_{number}", image_of(rng, draft.image), [(text_of(rng, lines_of(rng, draft)), 1)]
+    for number in range(kind.good):
+        draft = kind.draft_of(rng, model)
+        yield f"{kind.name}good_{number}", image_of(rng, draft.image), [(text_of(rng, lines_of(rng, draft)), 1)]
+    for number in range(kind.wrong_texts):
+        image, lines = kind.wrong_text(rng, model, number)
+        yield f"{kind.name}text_{number}", image_of(rng, image), [(text_of(rng, lines), 1)]
+    for number in range(kind.refused):
+        draft = refused_draft(rng, model, REFUSALS[number % len(REFUSALS)], kind.draft_of)
+        yield f"{kind.name}refused_{number}", image_of(rng, draft.image), [(text_of(rng, lines_of(rng, draft)), 1)]
+
+
+def cases(rng, model):
+    """The same of all kinds, those of files whose streams have settings of their own last."""
+    yield from cases_of(ALL_ALIKE, rng, model)
     for name, what in WINDOWS.items():
         image, pieces = full_window(rng, model, what)
         yield name, image_of(rng, image), pieces
-    yield from own_cases(random.Random(16), model)
-
-
-def own_cases(rng, model):
-    """The same of files whose streams have settings of their own."""
-    for number in range(OWN_GOOD):
-        draft = own_draft_of(rng, model)
-        yield f"own_good_{number}", image_of(rng, draft.image), [(text_of(rng, lines_of(rng, draft)), 1)]
-    for number in range(OWN_WRONG_TEXTS):
-        image, lines = own_wrong_text(rng, model, number)
-        yield f"own_text_{number}", image_of(rng, image), [(text_of(rng, lines), 1)]
-    for number in range(OWN_REFUSED):
-        draft = refused_draft(rng, model, REFUSALS[number % len(REFUSALS)], own_draft_of)
-        yield f"own_refused_{number}", image_of(rng, draft.image), [(text_of(rng, lines_of(rng, draft)), 1)]
+    yield from cases_of(OF_THEIR_OWN, random.Random(16), model)
 
 
 # ---- what must occur -------------------------------------------------------
