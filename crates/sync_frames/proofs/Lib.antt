@@ -1,0 +1,10 @@
+pub mod Even
+pub mod Back
+pub mod Dropped
+pub mod Hunting
+pub mod Plain
+pub mod Standing
+pub mod Written
+pub mod Taking
+pub mod UnsyncedExamples
+pub mod SyncedExamples

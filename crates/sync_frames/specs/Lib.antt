@@ -1,0 +1,5 @@
+pub mod Syncs
+pub mod Synced
+pub mod Unsyncing
+pub mod Laid
+pub mod Synchronised
