@@ -1,0 +1,10 @@
+pub mod Headers
+pub mod First
+pub mod Sound
+pub mod Checked
+pub mod TextLoops
+pub mod Spelled
+pub mod Segments
+pub mod Words
+pub mod FileExamples
+pub mod HeaderExamples

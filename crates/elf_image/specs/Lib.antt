@@ -1,0 +1,9 @@
+pub mod Faults
+pub mod Fields
+pub mod Segments
+pub mod Refusals
+pub mod ElfText
+pub mod FirstRefusal
+pub mod Table
+pub mod Words
+pub mod Answers
