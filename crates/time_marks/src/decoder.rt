@@ -1,0 +1,174 @@
+//! One stream, from its bytes to the lines of its events and of its P0 elements.
+ghost use Rattle.std.specs.Prelude.{◌≡◌, ◌≤◌, ◌<◌, ◌+◌, ◌^◌, ◌++◌, ◌∷◌, ◌↔◌, ◌==◌, [], ℕ, List, true, false, None, Some, Ok, IfOk, IsErr};
+ghost use Rattle.std.specs.Prelude.{IsOk, IsTrue, length, not};
+ghost use Rattle.std.specs.Prelude.{if◌then◌else◌};
+ghost use Rattle.std.specs.List.{concat};
+ghost use Rattle.element_queue.specs.Counting.{Balances, counts_after, entries, no_counts};
+ghost use Rattle.element_queue.specs.Pending.{losing};
+ghost use Rattle.packet_grammar.specs.Ends.{is_fault};
+ghost use Rattle.packet_grammar.specs.declared.end.End.{End};
+ghost use Rattle.packet_grammar.specs.declared.stream_fault.Fault.{Fault};
+ghost use Rattle.path_text.specs.EndLines.{end_line};
+ghost use Rattle.path_text.specs.Writing.{Writes};
+ghost use Rattle.time_marks.specs.Timed.{StandsAt};
+ghost use Rattle.time_marks.specs.TimeList.{IsTimes, TimesGains, TimesTallies};
+ghost use Rattle.time_marks.specs.Times.{Times};
+ghost use Rattle.trace_io.specs.Bytes.{ShowsAsBefore};
+ghost use Rattle.trace_io.specs.Causes.{HasCause};
+
+use crate::timing::Timing;
+use element_queue::{Counts, Ledger};
+use etm_types::{Id, Settings};
+use packet_grammar::End;
+use packet_reader::PacketReader;
+use path_text::write_end;
+use std::alloc::{AllocError, Global};
+use std::marker::Model;
+use trace_io::{Failed, Sink};
+
+/// Takes the bytes of one stream, and writes a line for each event, and for each P0 element that is committed and whose timestamp is not
+/// that of the one before it. It has no drop: it ends by `finish` or `abandon`.
+///
+/// It stands at the bytes that it took. The ID is that of the lines of a call.
+#[must_use]
+pub struct TimedDecoder {
+    reader: PacketReader,
+    timing: Timing,
+    /// Whether a write failed.
+    broken: bool,
+}
+
+impl Model for TimedDecoder {
+    ghost use Rattle.time_marks.specs.Timed.{IsTimed, Timed};
+
+    ghost Value = { Timed };
+
+    ghost view = { λ d. record { reader = d.reader; timing = d.timing; broken = d.broken } };
+
+    ghost invariant = { λ d. IsTimed (record { reader = d.reader; timing = d.timing; broken = d.broken }) };
+}
+
+impl TimedDecoder {
+    /// A decoder that has taken nothing, with room for as many P0 elements as the maximum speculation depth. This is the one call that
+    /// takes memory, and the error means want of it.
+    pub fn new(alloc: Global, settings: &Settings) -> Result<TimedDecoder, AllocError>
+        ensures stands { IfOk result (λ d. StandsAt d []) }
+        ensures settings { IfOk result (λ d. d.reader.settings ≡ settings.now) }
+        ensures none { IfOk result (λ d. (d.reader.taken ≡ 0) × (d.timing.line.queue.counts ≡ no_counts) × (d.timing.line.queue.pending.held ≡ [])) }
+    {
+        Ok(TimedDecoder {
+            reader: PacketReader::new(settings),
+            timing: Timing::new(alloc, settings.depth())?,
+            broken: false,
+        })
+    }
+
+    /// Takes the next byte, and writes the lines that it adds. Behind a fault of the stream no line comes any more. The error means that
+    /// a write failed; then the decoder is broken.
+    pub fn take<K: Sink>(&mut self, id: Id, byte: u8, sink: &mut K) -> Result<(), Failed>
+        requires whole { self.old.broken ≡ false }
+        requires few { self.old.reader.taken < 2 ^ 62 }
+        ensures stands { IsOk result → (bytes : List ℕ) → StandsAt self.old bytes → StandsAt self.new (bytes ++ byte ∷ []) }
+        ensures gains { (bytes : List ℕ) → StandsAt self.old bytes
+            → (lines : List (List ℕ)) × TimesGains self.old.reader.settings id bytes byte lines
+            × Writes (K.state sink.old) (K.state sink.new) result (concat lines) }
+        ensures stopped { (stop : ℕ × Fault) → self.old.timing.line.fault ≡ Some stop
+            → (result ≡ Ok tt) × (sink.new ≡ sink.old) × (self.new ≡ record (self.old) { reader = self.new.reader }) }
+        ensures cause { HasCause (K.state sink.old) (K.state sink.new) result }
+        ensures shows { ShowsAsBefore (K.state sink.old) (K.state sink.new) }
+        ensures broken { IsTrue self.new.broken ↔ IsErr result }
+        ensures taken { self.new.reader.taken ≡ self.old.reader.taken + 1 }
+        ensures settings { self.new.reader.settings ≡ self.old.reader.settings }
+        ensures marks { length self.new.timing.line.queue.marks ≡ entries self.new.timing.line.queue.pending.held }
+        ensures balanced { Balances self.new.timing.line.queue.counts (entries self.new.timing.line.queue.pending.held) }
+        ensures most { length self.new.timing.line.queue.pending.held ≤ self.new.reader.settings.depth }
+    {
+        let step = self.reader.take(byte);
+        if self.timing.line.fault.is_some() {
+            return Ok(());
+        }
+        match self.timing.take_step(id, &step, sink) {
+            Ok(()) => Ok(()),
+            Err(failed) => {
+                self.broken = true;
+                Err(failed)
+            }
+        }
+    }
+
+    /// Whether a write failed. Then it takes no more bytes, and is abandoned.
+    pub fn broken(&self) -> bool
+        ensures { result ≡ self.now.broken }
+    {
+        self.broken
+    }
+
+    /// How many bytes were taken.
+    pub fn taken(&self) -> u64
+        ensures value { result ≡ self.now.reader.taken }
+        ensures all { (bytes : List ℕ) → StandsAt self.now bytes → result ≡ length bytes }
+    {
+        self.reader.taken()
+    }
+
+    /// What became of the P0 elements: what the elements say, up to the first that has a fault. Never more are held than the maximum
+    /// speculation depth, whatever the bytes.
+    pub fn ledger(&self) -> Counts
+        ensures value { result ≡ self.now.timing.line.queue.counts }
+        ensures tallied { (bytes : List ℕ) → StandsAt self.now bytes → TimesTallies self.now.reader.settings bytes result }
+        ensures balanced { Balances result (entries self.now.timing.line.queue.pending.held) }
+        ensures most { length self.now.timing.line.queue.pending.held ≤ self.now.reader.settings.depth }
+    {
+        self.timing.line.queue.ledger()
+    }
+
+    /// Writes the line of how the stream ends, and says whether it ends without a fault. Nothing is written of a stream without bytes.
+    /// What is still held is lost, whether the write fails or not.
+    pub fn finish<K: Sink>(self, id: Id, sink: &mut K) -> Result<bool, Failed>
+        requires { self.broken ≡ false }
+        ensures line { (bytes : List ℕ) (t : Times) (last : End) → StandsAt self bytes → IsTimes self.reader.settings bytes t last
+            → Writes (K.state sink.old) (K.state sink.new) result (if length bytes == 0 then [] else end_line id last)
+            × IfOk result (λ whole. whole ≡ not (is_fault last)) }
+        ensures cause { HasCause (K.state sink.old) (K.state sink.new) result }
+        ensures shows { ShowsAsBefore (K.state sink.old) (K.state sink.new) }
+    {
+        let taken = self.reader.taken();
+        let end = self.end();
+        self.abandon();
+        if taken == 0 {
+            return Ok(true);
+        }
+        write_end(id, &end, sink)?;
+        Ok(!is_fault(&end))
+    }
+
+    /// Ends it without a line. What is still held is lost; the ledger has what became of all.
+    pub fn abandon(self) -> Ledger
+        ensures value { result ≡ counts_after self.timing.line.queue.counts 0 (losing self.timing.line.queue.pending.held) }
+        ensures balanced { Balances result 0 }
+    {
+        let TimedDecoder {
+            reader: _,
+            timing,
+            broken: _,
+        } = self;
+        timing.close()
+    }
+
+    /// How the stream ends if no byte more comes.
+    fn end(&self) -> End
+        ensures { (bytes : List ℕ) (t : Times) (last : End) → StandsAt self.now bytes → IsTimes self.now.reader.settings bytes t last → result ≡ last }
+    {
+        match self.timing.line.fault {
+            Some((at, fault)) => End::Fault { at, fault },
+            None => self.reader.end_without_fault(),
+        }
+    }
+}
+
+/// Whether a stream ends with a fault.
+fn is_fault(end: &End) -> bool
+    ensures { result ≡ is_fault end.now }
+{
+    matches!(end, End::Fault { .. })
+}
