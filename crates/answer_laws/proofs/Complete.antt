@@ -3,42 +3,40 @@ use Rattle.std.proofs.Common.{◌≡◌, ◌⊎◌, ℕ, ◌<◌, ◌≤◌, Boo
 use Rattle.std.proofs.Common.{refl, sym, ap, subst, ◌∙◌, inl, inr, arith, length-append}
 use Rattle.std.specs.Io.KnownBytes.{Consumes, IsAtEnd}
 use Rattle.std.proofs.lemmas.Bool.{lt-ltb}
+use Rattle.std.specs.Option.{option_and_then}
 use Rattle.bench_gen.specs.Bench.{generated}
 use Rattle.bench_text.specs.Parts.{BenchParts}
 use Rattle.bench_text.specs.Refusals.{bench_of, most_text}
 use Rattle.bench_text.specs.declared.fault.BenchWhy.{BenchWhy}
 use Rattle.etm_types.proofs.Tables.{are_settings}
-use Rattle.program_image.proofs.TooLong.{too_long}
 use Rattle.program_image.specs.ImageText.{image_of}
 use Rattle.program_image.specs.declared.fault.ImageWhy.{ImageWhy}
-use Rattle.program_image.specs.declared.fault.ImageWhy.TheVariants.{TooLong}
 use Rattle.program_image.specs.declared.image.Image.{Image}
 use Rattle.stream_demux.proofs.PathTexts.{one_text_of_paths}
 use Rattle.stream_demux.specs.Texts.{IsText, Printed}
 use Rattle.packet_list.proofs.PacketTexts.{one_text_of_packets}
-use Rattle.answer_laws.proofs.TracedCalls.{one_image, taken_are}
-use Rattle.answer_laws.proofs.WordTables.{packets_table, path_table}
-use Rattle.trace_cmd.proofs.WordKinds.{no_kind, number_kind, one_kind, packets_kind, path_kind, program_kind, retired_kind, trace_kind}
+use Rattle.time_marks.proofs.Texts.{one_text_of_times}
+use Rattle.answer_laws.proofs.TracedCalls.{image_taken, taken_are}
+use Rattle.trace_cmd.proofs.Programs.{apart, not_refused, not_too_long, one_image, one_program, one_spelled}
+use Rattle.answer_laws.proofs.WordTables.{packets_table, path_table, times_table}
+use Rattle.trace_cmd.proofs.WordKinds.{no_kind, number_kind, one_kind, packets_kind, path_kind, program_kind, retired_kind, times_kind, trace_kind}
 use Rattle.trace_cmd.specs.Answers.{Answers, Asks, Call, HasImage, HasRead, IsBareCall, IsBenchBad, IsImageCall, IsOfKind, IsOwnBenchBad}
 use Rattle.trace_cmd.specs.Answers.{IsOwnImageBad, IsOwnTooLong, IsPathCall, IsProgramBad, IsRunFileCall, IsSelftestCall, IsSelftestOf}
 use Rattle.answer_laws.specs.Complete.{AreAlike, FaultsAreDecided, HasInput, HasRunFile, IsDone, IsDoneOrFaulted, NothingFailed, ShowAlike}
 use Rattle.answer_laws.specs.Complete.{NumbersAreDone, PacketsAreDone, PathsAreDone, RunFilesAreDone}
-use Rattle.trace_cmd.specs.Programs.{BadText, NoProgram, TakesNoProgram}
+use Rattle.trace_cmd.specs.Programs.{BadFile, BadText, NoProgram, Refuses, Spells, TakesNoProgram}
 use Rattle.input_pieces.specs.Listed.{Completes, Exceeds, most_input}
-use Rattle.trace_cmd.specs.Printing.{PacketsOf, PathsOf, What, laid_of, listing_of, sizes_by}
+use Rattle.trace_cmd.specs.Printing.{PacketsOf, PathsOf, TimesOf, What, laid_of, listing_of, sizes_by}
 use Rattle.retired_paths.specs.Retired.{IsBadBench}
 use Rattle.traced_runs.specs.Selftest.{AreGood}
 use Rattle.traced_runs.specs.Traced.{trace_frames}
-use Rattle.command_words.specs.Words.{BareKind, Kind, NoCommand, NumberKind, Packets, Path, PathKind, RunFileKind, Selftest, kind_of, meaning}
+use Rattle.command_words.specs.Words.{BareKind, Kind, NoCommand, NumberKind, Packets, Path, PathKind, Program, RunFileKind, Selftest, Times, kind_of, meaning}
+use Rattle.command_words.specs.Words.{program_of}
 use Rattle.answer_lines.specs.declared.status.Status.{Status}
 use Rattle.answer_lines.specs.declared.status.Status.TheVariants as status
 use Rattle.trace_io.specs.State.{IoState}
 
 -- ---- what is taken of good bytes
-
--- what is good has no fault
-apart : {A E : Type 0} (r : Result A E) (x : A) (fault : E) → r ≡ Ok x → r ≡ Err fault → ⊥
-apart r x fault good bad = let both : Ok x ≡ Err fault = sym good ∙ bad in cc
 
 -- it is no longer than they are
 taken_front : (old new : Option (List ℕ)) (known bytes : List ℕ) → old ≡ Some known → Consumes old new bytes → length bytes ≤ length known
@@ -50,20 +48,18 @@ taken_front (Some xs) (Some ys) known bytes is took =
 
 -- a program whose bytes spell an image is not refused
 image_stands : (c : Call) (image : Image) (refusal : NoProgram) (text : List ℕ) → HasImage c image → IsProgramBad c refusal text → ⊥
-image_stands c image (BadText line why) text has bad = by bad.refused
+image_stands c image refusal text has bad = by (subst (λ (p : Program). TakesNoProgram p c.image c.image' refusal) same_program bad.refused)
   where
-    by : TakesNoProgram bad.program c.image c.image' (BadText line why) → ⊥
+    same_program : bad.program ≡ has.program
+    same_program = one_program has.program bad.program c.words has.named bad.named
+
+    by : TakesNoProgram has.program c.image c.image' refusal → ⊥
     by (other, took, refused, inl ended) =
         let same = taken_are c.image.bytes c.image'.bytes has.bytes other has.shows (took, ended) in
-        apart {E = ℕ × ImageWhy} (image_of has.bytes) image (line, why) has.spells (ap image_of (sym same) ∙ refused)
+        not_refused has.program.form has.bytes image refusal has.spells (subst (λ (l : List ℕ). Refuses has.program.form l refusal) same refused)
     by (other, took, refused, inr long) =
         let front = taken_front c.image.bytes c.image'.bytes has.bytes other has.shows took in
-        apart {E = ℕ × ImageWhy} (image_of has.bytes) image (0, TooLong) has.spells (too_long has.bytes 0 TooLong (omega (arith, front, long)) refl refl)
-
--- the image that is taken is the one that it spells
-image_taken : (c : Call) (image other : Image) → HasImage c image → HasRead c other → other ≡ image
-image_taken c image other has (p, named, (bytes, taken, spells)) =
-    one_image has.bytes bytes image other (taken_are c.image.bytes c.image'.bytes has.bytes bytes has.shows taken) has.spells spells
+        not_too_long has.program.form has.bytes image (omega (arith, front, long)) has.spells
 
 -- a text that is longer than the most is no run file
 long_file : (image : Image) (file : List ℕ) (b : BenchParts) → most_text < length file → bench_of image file ≡ Ok b → ⊥
@@ -96,22 +92,26 @@ one_number n image other b also good too =
 input_kind : What → Kind
 input_kind (PathsOf image r) = PathKind
 input_kind (PacketsOf r) = BareKind
+input_kind (TimesOf r) = BareKind
 
 asks_kind : (c : Call) (what : What) → Asks c what → IsOfKind (input_kind what) c.words
 unfolding input_kind
 asks_kind c (PathsOf image r) asks = path_kind r c.words asks.0
 asks_kind c (PacketsOf r) asks = packets_kind r c.words asks
+asks_kind c (TimesOf r) asks = times_kind r c.words asks
 
 -- it is read by no command of a run file or a number
 no_run_file_input : (what : What) → RunFileKind ≡ input_kind what → ⊥
 unfolding input_kind
 no_run_file_input (PathsOf image r) is = cc
 no_run_file_input (PacketsOf r) is = cc
+no_run_file_input (TimesOf r) is = cc
 
 no_number_input : (what : What) → NumberKind ≡ input_kind what → ⊥
 unfolding input_kind
 no_number_input (PathsOf image r) is = cc
 no_number_input (PacketsOf r) is = cc
+no_number_input (TimesOf r) is = cc
 
 -- ---- the causes of answers
 
@@ -133,6 +133,7 @@ module _ (c : Call) (old new : IoState) where
   done_or_faulted good nothing status.Usage (text, is, printed) = absurd (good.words is.meaningless)
   done_or_faulted good nothing (status.ImageBad line why) (inl (text, is, printed)) = absurd (good.image (BadText line why) text is)
   done_or_faulted good nothing (status.ImageBad line why) (inr (text, is, printed)) = absurd (good.own_image line why text is)
+  done_or_faulted good nothing (status.ElfBad why) (text, is, printed) = absurd (good.image (BadFile why) text is)
   done_or_faulted good nothing (status.BenchBad line why) (inl (text, is, printed)) = absurd (good.run_file line why text is)
   done_or_faulted good nothing (status.BenchBad line why) (inr (text, is, printed)) = absurd (good.own_run_file line why text is)
   done_or_faulted good nothing status.InputTooLong (inl (what, asks, exceeds)) = absurd (good.few what asks exceeds)
@@ -306,6 +307,8 @@ decided c (PathsOf image r) (words, read) bytes faulty also (lines, text) (other
     (one_text_of_paths image (sizes_by r) (λ id. are_settings r.units id (path_table r c.words words)) _ _ lines others faulty also text too).1
 decided c (PacketsOf r) words bytes faulty also (lines, text) (others, too) =
     (one_text_of_packets (sizes_by r) (λ id. are_settings r.units id (packets_table r c.words words)) _ _ lines others faulty also text too).1
+decided c (TimesOf r) words bytes faulty also (lines, text) (others, too) =
+    (one_text_of_times (sizes_by r) (λ id. are_settings r.units id (times_table r c.words words)) _ _ lines others faulty also text too).1
 
 module _ (c d : Call) (alike : AreAlike c d) where
   same_means : meaning c.words ≡ meaning d.words
@@ -318,7 +321,9 @@ module _ (c d : Call) (alike : AreAlike c d) where
   same_image image other (p, named, (text, taken, spells)) (q, named', (text', taken', spells')) is (inr (bytes, (shows, shows'))) =
       let one = taken_are c.image.bytes c.image'.bytes bytes text shows taken in
       let also = taken_are d.image.bytes d.image'.bytes bytes text' shows' taken' in
-      one_image text text' image other (also ∙ sym one) spells spells'
+      let programs = one_program p q c.words named (ap (option_and_then program_of) same_means ∙ named') in
+      let by_form = subst (λ (r : Program). Spells r.form text' other) programs spells' in
+      one_spelled p.form text text' image other (also ∙ sym one) spells by_form
 
   -- two such calls ask for one thing
   same_what : (what other : What) → Asks c what → Asks d other → other ≡ what
@@ -332,6 +337,16 @@ module _ (c d : Call) (alike : AreAlike c d) where
       let both : Some (Packets r) ≡ Some (Path words'.0 order) = sym words ∙ same_means ∙ words'.1 in absurd cc
   same_what (PacketsOf r) (PacketsOf order) words words' =
       let both : Some (Packets r) ≡ Some (Packets order) = sym words ∙ same_means ∙ words' in cc
+  same_what (TimesOf r) (TimesOf order) words words' =
+      let both : Some (Times r) ≡ Some (Times order) = sym words ∙ same_means ∙ words' in cc
+  same_what (TimesOf r) (PathsOf other order) words (words', read') =
+      let both : Some (Times r) ≡ Some (Path words'.0 order) = sym words ∙ same_means ∙ words'.1 in absurd cc
+  same_what (TimesOf r) (PacketsOf order) words words' =
+      let both : Some (Times r) ≡ Some (Packets order) = sym words ∙ same_means ∙ words' in absurd cc
+  same_what (PathsOf image r) (TimesOf order) (words, read) words' =
+      let both : Some (Path words.0 r) ≡ Some (Times order) = sym words.1 ∙ same_means ∙ words' in absurd cc
+  same_what (PacketsOf r) (TimesOf order) words words' =
+      let both : Some (Packets r) ≡ Some (Times order) = sym words ∙ same_means ∙ words' in absurd cc
 
   -- the text that was printed is that of the input
   text_of_input : (e : Call) (old new : IoState) (what : What) (faulty : Bool) → e.input.bytes ≡ Some alike.input_bytes
@@ -351,8 +366,8 @@ module _ (c d : Call) (alike : AreAlike c d) where
       let both : false ≡ true = decided c what asks alike.input_bytes false true text too in cc
   not_both old new old' new' (inr (inl (text, (words, rest), printed))) (what, asked, faulted) =
       no_run_file_input what (one_kind RunFileKind (input_kind what) c.words (retired_kind c.words words) (other_kind what asked))
-  not_both old new old' new' (inr (inr (inl (frames, (last, (words, rest)), printed)))) (what, asked, faulted) =
-      no_run_file_input what (one_kind RunFileKind (input_kind what) c.words (trace_kind last c.words words) (other_kind what asked))
+  not_both old new old' new' (inr (inr (inl (frames, (last, every, (words, rest)), printed)))) (what, asked, faulted) =
+      no_run_file_input what (one_kind RunFileKind (input_kind what) c.words (trace_kind last every c.words words) (other_kind what asked))
   not_both old new old' new' (inr (inr (inr (text, (n, cut, words, summary), printed)))) (what, asked, faulted) =
       no_number_input what (one_kind NumberKind (input_kind what) c.words (number_kind n cut c.words words) (other_kind what asked))
 

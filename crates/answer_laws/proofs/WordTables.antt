@@ -1,16 +1,17 @@
 -- The sizes that words tell are a table of settings.
-use Rattle.std.proofs.Common.{◌≡◌, ℕ, List, [], ◌∷◌, Option, Some, None, refl, subst}
+use Rattle.std.proofs.Common.{◌≡◌, ◌==◌, ℕ, ◌<◌, Bool, true, false, if◌then◌else◌, List, [], ◌∷◌, Option, Some, None, IfSome, refl, subst, arith}
+use Rattle.std.proofs.lemmas.Bool.Decides.{nat_tests}
 use Rattle.std.specs.Prelude.{⊤}
 use Rattle.std.specs.Option.{option_and_then, option_map}
 use Rattle.command_words.proofs.WordLists.{told_units}
-use Rattle.command_words.specs.Words.{Command, Intake, Packets, Path, Retired, Seen, Selftest, Trace, command_in, cut_of, intake_in, last_of}
-use Rattle.command_words.specs.Words.{layout_in, meaning, most_number, nothing_seen, number_to, program_in, seen_of, units_in}
+use Rattle.command_words.specs.Words.{Command, Intake, Packets, Path, Program, Retired, Seen, Selftest, Times, Trace, command_in, count_of, cut_of, intake_in}
+use Rattle.command_words.specs.Words.{layout_in, meaning, most_every, most_last, most_number, nothing_seen, number_to, program_in, seen_of, units_in}
 use Rattle.command_words.specs.declared.words.CommandName.{CommandName}
 use Rattle.command_words.specs.declared.words.CommandName.TheVariants as name
 use Rattle.command_words.specs.declared.words.Layout.{Layout}
 use Rattle.etm_types.specs.Settings.{Sizes}
 use Rattle.etm_types.specs.SettingsTable.{IsTable}
-use Rattle.trace_cmd.specs.Answers.{IsPacketsUnder, IsPathUnder}
+use Rattle.trace_cmd.specs.Answers.{IsPacketsUnder, IsPathUnder, IsTimesUnder}
 
 -- what comes behind a value that is there
 behind : {A B : Type 0} (found : Option A) (f : A → Option B) (y : B) → option_and_then f found ≡ Some y
@@ -28,12 +29,23 @@ told_intake seen r is =
     let layout = mapped (layout_in seen) (λ (l : Layout). record { units = units.0; layout = l }) r units.2 in
     subst (λ (i : Intake). IsTable i.units) layout.2 (told_units seen units.0 units.1)
 
--- the sizes of a command that has any
+-- a count is one at least
+counted_by : (m : ℕ) (count : Option ℕ) (b : Bool) → (m == 0) ≡ b → (if m == 0 then None else Some (Some m)) ≡ Some count → IfSome count (λ n. 0 < n)
+counted_by m count true is e = absurd (let f = simp is at e in cc)
+counted_by m count false is e =
+    let same : Some m ≡ count = (let f = simp is at e in cc) in subst (λ (c : Option ℕ). IfSome c (λ n. 0 < n)) same (grind (arith, nat_tests, is))
+
+counted : (most : ℕ) (value : Option (List ℕ)) (count : Option ℕ) → count_of most value ≡ Some count → IfSome count (λ n. 0 < n)
+counted most None count e = let same : None ≡ count = cc in subst (λ (c : Option ℕ). IfSome c (λ n. 0 < n)) same tt
+counted most (Some text) count e = let n = behind (number_to most text) _ count e in counted_by n.0 count (n.0 == 0) refl n.2
+
+-- the sizes of a command that has any are a table, and its synchronisation packets stand apart
 abbrev HasTable : Command → Type 0
 HasTable (Path p r) = IsTable r.units
 HasTable (Packets r) = IsTable r.units
+HasTable (Times r) = IsTable r.units
 HasTable (Retired p) = ⊤
-HasTable (Trace p last) = ⊤
+HasTable (Trace p last every) = IfSome every (λ n. 0 < n)
 HasTable (Selftest n cut) = ⊤
 
 command_table : (command : CommandName) (seen : Seen) (said : Command) → command_in command seen ≡ Some said → HasTable said
@@ -42,10 +54,13 @@ command_table name.Path seen said is =
     subst HasTable intake.2 (told_intake seen intake.0 intake.1)
 command_table name.Packets seen said is =
     let intake = mapped (intake_in seen) Packets said is in subst HasTable intake.2 (told_intake seen intake.0 intake.1)
+command_table name.Times seen said is =
+    let intake = mapped (intake_in seen) Times said is in subst HasTable intake.2 (told_intake seen intake.0 intake.1)
 command_table name.Retired seen said is = let program = mapped (program_in seen) Retired said is in subst HasTable program.2 tt
 command_table name.Trace seen said is =
-    let program = behind (program_in seen) _ said is in let last = mapped (last_of seen.last) (Trace program.0) said program.2 in
-    subst HasTable last.2 tt
+    let program = behind (program_in seen) _ said is in let last = behind (count_of most_last seen.last) _ said program.2 in
+    let every = mapped (count_of most_every seen.every) (Trace program.0 last.0) said last.2 in
+    subst HasTable every.2 (counted most_every seen.every every.0 every.1)
 command_table name.Selftest seen said is =
     let word = behind seen.positional _ said is in let n = behind (number_to most_number word.0) _ said word.2 in
     let cut = mapped (cut_of seen.cut) (Selftest n.0) said n.2 in subst HasTable cut.2 tt
@@ -59,6 +74,13 @@ words_table (word ∷ words) said is =
 
 pub path_table : (r : Intake) (words : List (List ℕ)) → IsPathUnder r words → IsTable r.units
 path_table r words (p, is) = words_table words (Path p r) is
+
+pub times_table : (r : Intake) (words : List (List ℕ)) → IsTimesUnder r words → IsTable r.units
+times_table r words is = words_table words (Times r) is
+
+pub trace_counts : (p : Program) (last every : Option ℕ) (words : List (List ℕ)) → meaning words ≡ Some (Trace p last every)
+    → IfSome every (λ n. 0 < n)
+trace_counts p last every words is = words_table words (Trace p last every) is
 
 pub packets_table : (r : Intake) (words : List (List ℕ)) → IsPacketsUnder r words → IsTable r.units
 packets_table r words is = words_table words (Packets r) is

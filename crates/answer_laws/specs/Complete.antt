@@ -54,7 +54,7 @@ PathsAreDone =
     (c : Call) (old new : IoState) (answer : Status) (image : Image) → IsPathCall c.words → HasImage c image → HasInput c
     → NothingFailed c old new → Answers c old new answer → IsDoneOrFaulted answer
 
--- and so are packets, whatever the image
+-- and so are packets and times, whatever the image
 abbrev pub PacketsAreDone : Type 0
 PacketsAreDone =
     (c : Call) (old new : IoState) (answer : Status) → IsBareCall c.words → HasInput c → NothingFailed c old new → Answers c old new answer

@@ -4,8 +4,11 @@ use Rattle.std.specs.Prelude.{codes, slice_index}
 use Rattle.path_text.proofs.DigitLemmas.{decimal_step}
 use Rattle.path_text.specs.Lines.{in_base}
 use Rattle.program_image.specs.declared.fault.ImageWhy.TheVariants.{Unaligned, TooLong}
+use Rattle.answer_lines.specs.ElfLine.{elf_line}
 use Rattle.answer_lines.specs.ImageLine.{image_line}
 use Rattle.answer_lines.specs.SummaryLine.{summary_line}
+use Rattle.answer_lines.specs.UsageLine.{usage_line}
+use Rattle.elf_image.specs.declared.fault.ElfWhy.TheVariants.{Header, Overlap, Segment}
 
 -- ---- summaries
 
@@ -95,6 +98,25 @@ not_one_less e = absurd (omega (arith, ap (λ (l : List ℕ). slice_index l 16) 
 not_turned : summary_line 111 None 11 ≡ codes "selftest 111: 2 rounds, 1 streams, 11 lines, same" ++ 10 ∷ [] → ⊥
 unfolding in_base
 not_turned e = absurd (omega (arith, ap (λ (l : List ℕ). slice_index l 14) e))
+
+-- ---- the line of usage
+
+pub usage_is : usage_line ≡ codes "usage: etm path|packets|trace|retired|selftest|times" ++ 10 ∷ []
+usage_is = refl
+
+-- ---- the line of an ELF file that can't be used
+
+pub bad_header : elf_line Header ≡ codes "elf: header" ++ 10 ∷ []
+bad_header = refl
+
+pub bad_segment : elf_line (Segment 41) ≡ codes "elf: segment 41" ++ 10 ∷ []
+unfolding in_base
+bad_segment = refl
+
+-- headers count from 0
+not_from_1 : elf_line (Overlap 0) ≡ codes "elf: overlap 1" ++ 10 ∷ [] → ⊥
+unfolding in_base
+not_from_1 e = absurd (omega (arith, ap (λ (l : List ℕ). slice_index l 13) e))
 
 -- ---- the line of an image that is bad
 

@@ -14,3 +14,4 @@ code_of status.ReadFault = 5
 code_of status.WriteFault = 6
 code_of status.NoMemory = 7
 code_of status.InputTooLong = 8
+code_of (status.ElfBad why) = 9

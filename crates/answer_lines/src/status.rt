@@ -2,6 +2,7 @@
 ghost use Rattle.std.specs.Prelude.{◌≡◌};
 
 use bench_text::BenchWhy;
+use elf_image::ElfWhy;
 use program_image::ImageWhy;
 
 /// How a call ended.
@@ -25,12 +26,14 @@ pub enum Status {
     NoMemory,
     /// The input has more than 2^30 bytes.
     InputTooLong,
+    /// The file of the program is no ELF file that can be used.
+    ElfBad { why: ElfWhy },
 }
 
 impl Status {
     ghost use Rattle.answer_lines.specs.Codes.{code_of};
 
-    /// The exit status, 0 to 8.
+    /// The exit status, 0 to 9.
     pub fn code(&self) -> u8
         ensures { result ≡ code_of self.now }
     {
@@ -44,6 +47,7 @@ impl Status {
             Status::WriteFault => 6,
             Status::NoMemory => 7,
             Status::InputTooLong => 8,
+            Status::ElfBad { .. } => 9,
         }
     }
 }

@@ -15,17 +15,22 @@ use Rattle.command_words.specs.declared.words.CommandOption.{CommandOption}
 use Rattle.command_words.specs.declared.words.CommandOption.TheVariants as option
 use Rattle.command_words.specs.declared.words.Layout.{Layout}
 use Rattle.command_words.specs.declared.words.Layout.TheVariants.{Wrapped}
-use Rattle.command_words.specs.Words.{Command, CommandRow, Intake, Path, Packets, Program, Retired, Seen, Selftest, Trace, command_in, cut_of, intake_in}
-use Rattle.command_words.specs.Words.{is_dashed, is_seen, is_whole, last_of, layout_by, layout_in, meaning, most_cut, most_last, most_number, most_wrap}
-use Rattle.command_words.specs.Words.{name_of, nothing_seen, number_of, number_to, program_in, row, seen_of, sizes_in, takes_value, units_in, with_dashed}
+use Rattle.command_words.specs.declared.words.ProgramForm.{ProgramForm}
+use Rattle.command_words.specs.Words.{Command, CommandRow, Intake, Path, Packets, Program, Retired, Seen, Selftest, Times, Trace, command_in, count_of, cut_of}
+use Rattle.command_words.specs.Words.{form_by, intake_in, is_dashed, is_seen, is_whole, key_of, layout_by, layout_in, meaning, most_cut, most_every, most_last}
+use Rattle.command_words.specs.Words.{most_number, most_wrap, name_of, nothing_seen, number_of, number_to, packets_options, path_options, program_in}
+use Rattle.command_words.specs.Words.{retired_options, row, seen_of, selftest_options, sizes_in, takes_value, times_options, trace_options, units_in}
+use Rattle.command_words.specs.Words.{with_dashed}
 use Rattle.command_words.specs.Words.{with_option, with_value, with_word}
 use Rattle.command_words.specs.declared.lists.Listed.{Listed}
 use Rattle.command_words.specs.Lists.{is_comma, listed_in, nothing_listed, units_by}
-use Rattle.command_words.specs.CommandLines.{Piece, Apart, Joined, Flag, Positional, AreUnits, IsCut, IsEnd, IsLast, IsLayout, IsLine, IsNumber, IsPathLine}
-use Rattle.command_words.specs.CommandLines.{IsPacketsLine, IsPiece, IsRetiredLine, IsSelftestLine, IsTraceLine, IsUnits, NoOther, in_row, positionals_of}
-use Rattle.command_words.specs.CommandLines.{value_for, values_of, word_of, words_of}
+use Rattle.command_words.specs.CommandLines.{Piece, Apart, Joined, Flag, Positional, AreUnits, IsCount, IsCut, IsEnd, IsForm, IsLayout, IsLine, IsNumber}
+use Rattle.command_words.specs.CommandLines.{IsPathLine, IsPacketsLine, IsPiece, IsRetiredLine, IsSelftestLine, IsTakenBy, IsTimesLine, IsTraceLine, IsUnits}
+use Rattle.command_words.specs.CommandLines.{has_option, in_row}
+use Rattle.command_words.specs.CommandLines.{is_same, positionals_of, value_for, values_of, word_of, words_of}
 use Rattle.command_words.proofs.WordLemmas.{map_some, sized_by, sizes_there, then_some, within}
 use Rattle.command_words.proofs.WordLists.{alike_found, alike_said, list_found, list_said}
+use Rattle.command_words.proofs.WordParses.{own_key}
 use Rattle.command_words.proofs.WordTurns.{Has, Turn, Ends, Waits, Joins, Flags, Values, Positionals, turn}
 
 -- ---- what was seen, as lists
@@ -38,11 +43,14 @@ listed (Some value) = value ∷ []
 abbrev given : CommandOption → Seen → List (List ℕ)
 given option.Raw seen = if seen.raw then [] ∷ [] else []
 given option.Wrap seen = listed seen.wrap
+given option.Sync seen = if seen.sync then [] ∷ [] else []
 given option.Depth seen = listed seen.depth
 given option.Vmid seen = listed seen.vmid
 given option.Cid seen = listed seen.cid
 given option.Settings seen = listed seen.settings
+given option.Elf seen = if seen.elf then [] ∷ [] else []
 given option.Last seen = listed seen.last
+given option.SyncEvery seen = listed seen.every
 given option.Cut seen = listed seen.cut
 
 none_listed : (o : Option (List ℕ)) → is_some o ≡ false → listed o ≡ []
@@ -62,11 +70,14 @@ given_more : (p o : CommandOption) (value : List ℕ) (seen : Seen) (values : Li
     → given p (with_value o value seen) ++ values ≡ given p seen ++ value_for p o value values
 given_more option.Raw option.Raw value seen values is none = simp (none, no_value value is)
 given_more option.Wrap option.Wrap value seen values is none = rw (none_listed seen.wrap none) refl
+given_more option.Sync option.Sync value seen values is none = simp (none, no_value value is)
 given_more option.Depth option.Depth value seen values is none = rw (none_listed seen.depth none) refl
 given_more option.Vmid option.Vmid value seen values is none = rw (none_listed seen.vmid none) refl
 given_more option.Cid option.Cid value seen values is none = rw (none_listed seen.cid none) refl
 given_more option.Settings option.Settings value seen values is none = rw (none_listed seen.settings none) refl
+given_more option.Elf option.Elf value seen values is none = simp (none, no_value value is)
 given_more option.Last option.Last value seen values is none = rw (none_listed seen.last none) refl
+given_more option.SyncEvery option.SyncEvery value seen values is none = rw (none_listed seen.every none) refl
 given_more option.Cut option.Cut value seen values is none = rw (none_listed seen.cut none) refl
 given_more p o value seen values is none = refl
 
@@ -79,41 +90,53 @@ record Stays (seen next : Seen) : Type 0 where
 value_stays : (o : CommandOption) (value : List ℕ) (seen : Seen) → Stays seen (with_value o value seen)
 value_stays option.Raw value seen = record { waits = refl; ended = refl; positional = refl }
 value_stays option.Wrap value seen = record { waits = refl; ended = refl; positional = refl }
+value_stays option.Sync value seen = record { waits = refl; ended = refl; positional = refl }
 value_stays option.Depth value seen = record { waits = refl; ended = refl; positional = refl }
 value_stays option.Vmid value seen = record { waits = refl; ended = refl; positional = refl }
 value_stays option.Cid value seen = record { waits = refl; ended = refl; positional = refl }
 value_stays option.Settings value seen = record { waits = refl; ended = refl; positional = refl }
+value_stays option.Elf value seen = record { waits = refl; ended = refl; positional = refl }
 value_stays option.Last value seen = record { waits = refl; ended = refl; positional = refl }
+value_stays option.SyncEvery value seen = record { waits = refl; ended = refl; positional = refl }
 value_stays option.Cut value seen = record { waits = refl; ended = refl; positional = refl }
 
 given_waits : (p : CommandOption) (waits : Option CommandOption) (seen : Seen) → given p (record seen { waits = waits }) ≡ given p seen
 given_waits option.Raw waits seen = refl
 given_waits option.Wrap waits seen = refl
+given_waits option.Sync waits seen = refl
 given_waits option.Depth waits seen = refl
 given_waits option.Vmid waits seen = refl
 given_waits option.Cid waits seen = refl
 given_waits option.Settings waits seen = refl
+given_waits option.Elf waits seen = refl
 given_waits option.Last waits seen = refl
+given_waits option.SyncEvery waits seen = refl
 given_waits option.Cut waits seen = refl
 
 given_ended : (p : CommandOption) (ended : Bool) (seen : Seen) → given p (record seen { ended = ended }) ≡ given p seen
 given_ended option.Raw ended seen = refl
 given_ended option.Wrap ended seen = refl
+given_ended option.Sync ended seen = refl
 given_ended option.Depth ended seen = refl
 given_ended option.Vmid ended seen = refl
 given_ended option.Cid ended seen = refl
 given_ended option.Settings ended seen = refl
+given_ended option.Elf ended seen = refl
 given_ended option.Last ended seen = refl
+given_ended option.SyncEvery ended seen = refl
 given_ended option.Cut ended seen = refl
 
 given_positional : (p : CommandOption) (positional : Option (List ℕ)) (seen : Seen) → given p (record seen { positional = positional }) ≡ given p seen
 given_positional option.Raw positional seen = refl
 given_positional option.Wrap positional seen = refl
+given_positional option.Sync positional seen = refl
 given_positional option.Depth positional seen = refl
 given_positional option.Vmid positional seen = refl
 given_positional option.Cid positional seen = refl
 given_positional option.Settings positional seen = refl
+given_positional option.Elf positional seen = refl
 given_positional option.Last positional seen = refl
+given_positional option.SyncEvery positional seen = refl
 given_positional option.Cut positional seen = refl
 
 -- ---- words that mean something are pieces
@@ -205,11 +228,14 @@ has_more : (row : CommandRow) (p o : CommandOption) (value : List ℕ) (values :
     → Has row p ⊎ (value_for p o value values ≡ [])
 has_more row option.Raw option.Raw value values there rest = inl there
 has_more row option.Wrap option.Wrap value values there rest = inl there
+has_more row option.Sync option.Sync value values there rest = inl there
 has_more row option.Depth option.Depth value values there rest = inl there
 has_more row option.Vmid option.Vmid value values there rest = inl there
 has_more row option.Cid option.Cid value values there rest = inl there
 has_more row option.Settings option.Settings value values there rest = inl there
+has_more row option.Elf option.Elf value values there rest = inl there
 has_more row option.Last option.Last value values there rest = inl there
+has_more row option.SyncEvery option.SyncEvery value values there rest = inl there
 has_more row option.Cut option.Cut value values there rest = inl there
 has_more row p o value values there rest = rest
 
@@ -258,11 +284,14 @@ waiting row seen o is may = subst (MayWait row seen) is may
 seen_waits : (p : CommandOption) (waits : Option CommandOption) (seen : Seen) → is_seen p (record seen { waits = waits }) ≡ is_seen p seen
 seen_waits option.Raw waits seen = refl
 seen_waits option.Wrap waits seen = refl
+seen_waits option.Sync waits seen = refl
 seen_waits option.Depth waits seen = refl
 seen_waits option.Vmid waits seen = refl
 seen_waits option.Cid waits seen = refl
 seen_waits option.Settings waits seen = refl
+seen_waits option.Elf waits seen = refl
 seen_waits option.Last waits seen = refl
+seen_waits option.SyncEvery waits seen = refl
 seen_waits option.Cut waits seen = refl
 
 value_next : (row : CommandRow) (seen next end : Seen) (words before : List (List ℕ)) (o : CommandOption) (value : List ℕ) → seen.ended ≡ false
@@ -423,39 +452,60 @@ units_said None all units is = ap Some (sym (alike_said all units is))
 units_said (Some list) all units is =
     let l = list_said list is.0 all units is.1 is.2 in ap (option_map (λ (l : Listed). l.table)) l.1 ∙ ap Some l.2
 
--- how many frames are written is the number of the one value that is listed
-last_found_by : (m : ℕ) (last : Option ℕ) (b : Bool) → (m == 0) ≡ b → (if m == 0 then None else Some (Some m)) ≡ Some last → (1 ≤ m) × (last ≡ Some m)
-last_found_by m last true is e = absurd (let f = simp is at e in cc)
-last_found_by m last false is e = let same : Some m ≡ last = (let f = simp is at e in cc) in (grind (arith, nat_tests, is), sym same)
+-- how many is the number of the one value that is listed
+count_found_by : (m : ℕ) (count : Option ℕ) (b : Bool) → (m == 0) ≡ b → (if m == 0 then None else Some (Some m)) ≡ Some count
+    → (1 ≤ m) × (count ≡ Some m)
+count_found_by m count true is e = absurd (let f = simp is at e in cc)
+count_found_by m count false is e = let same : Some m ≡ count = (let f = simp is at e in cc) in (grind (arith, nat_tests, is), sym same)
 
-last_found : (value : Option (List ℕ)) (last : Option ℕ) → last_of value ≡ Some last → IsLast (listed value) last
-last_found None last e = sym cc
-last_found (Some text) last e =
-    let n = then_some (number_to most_last text) _ last e in let w = number_within most_last text n.0 n.1 in
-    let some = last_found_by n.0 last (n.0 == 0) refl n.2 in (n.0, w.0, some.0, w.1, some.1)
+count_found : (most : ℕ) (value : Option (List ℕ)) (count : Option ℕ) → count_of most value ≡ Some count → IsCount most (listed value) count
+count_found most None count e = sym cc
+count_found most (Some text) count e =
+    let n = then_some (number_to most text) _ count e in let w = number_within most text n.0 n.1 in
+    let some = count_found_by n.0 count (n.0 == 0) refl n.2 in (n.0, w.0, some.0, w.1, some.1)
 
-last_said : (value : Option (List ℕ)) (last : Option ℕ) → IsLast (listed value) last → last_of value ≡ Some last
-last_said None last is = ap Some (sym is)
-last_said (Some text) last is =
+count_said : (most : ℕ) (value : Option (List ℕ)) (count : Option ℕ) → IsCount most (listed value) count → count_of most value ≡ Some count
+count_said most None count is = ap Some (sym is)
+count_said most (Some text) count is =
     let some : (is.0 == 0) ≡ false = grind (arith, nat_tests, is.2) in
     let told : (if is.0 == 0 then None else Some (Some is.0)) ≡ Some (Some is.0) = simp some in
-    ap (option_and_then (λ n. if n == 0 then None else Some (Some n))) (number_to_said most_last text is.0 is.1 is.3) ∙ told ∙ ap Some (sym is.4)
+    ap (option_and_then (λ n. if n == 0 then None else Some (Some n))) (number_to_said most text is.0 is.1 is.3) ∙ told ∙ ap Some (sym is.4)
+
+-- a flag that stood is listed once
+abbrev stood : Bool → List (List ℕ)
+stood flag = if flag then [] ∷ [] else []
 
 -- the layout is that of the values of its options
-layout_found : (raw : Bool) (wrap : Option (List ℕ)) (layout : Layout) → layout_by raw wrap ≡ Some layout
-    → IsLayout (if raw then [] ∷ [] else []) (listed wrap) layout
-layout_found true None layout e = sym cc
-layout_found false None layout e = sym cc
-layout_found true (Some text) layout e = absurd cc
-layout_found false (Some text) layout e =
+layout_found : (raw : Bool) (wrap : Option (List ℕ)) (sync : Bool) (layout : Layout) → layout_by raw wrap sync ≡ Some layout
+    → IsLayout (stood raw) (listed wrap) (stood sync) layout
+layout_found true None false layout e = sym cc
+layout_found false None false layout e = sym cc
+layout_found false None true layout e = sym cc
+layout_found true None true layout e = absurd cc
+layout_found true (Some text) sync layout e = absurd cc
+layout_found false (Some text) true layout e = absurd cc
+layout_found false (Some text) false layout e =
     let k = map_some (number_to most_wrap text) Wrapped layout e in let w = number_within most_wrap text k.0 k.1 in (k.0, w.0, w.1, sym k.2)
 
-layout_said : (raw : Bool) (wrap : Option (List ℕ)) (layout : Layout) → IsLayout (if raw then [] ∷ [] else []) (listed wrap) layout
-    → layout_by raw wrap ≡ Some layout
-layout_said true None layout is = ap Some (sym is)
-layout_said false None layout is = ap Some (sym is)
-layout_said true (Some text) layout is = absurd is
-layout_said false (Some text) layout is = ap (option_map Wrapped) (number_to_said most_wrap text is.0 is.1 is.2) ∙ ap Some (sym is.3)
+layout_said : (raw : Bool) (wrap : Option (List ℕ)) (sync : Bool) (layout : Layout) → IsLayout (stood raw) (listed wrap) (stood sync) layout
+    → layout_by raw wrap sync ≡ Some layout
+layout_said true None false layout is = ap Some (sym is)
+layout_said false None false layout is = ap Some (sym is)
+layout_said false None true layout is = ap Some (sym is)
+layout_said true None true layout is = absurd is
+layout_said true (Some text) true layout is = absurd is
+layout_said true (Some text) false layout is = absurd is
+layout_said false (Some text) true layout is = absurd is
+layout_said false (Some text) false layout is = ap (option_map Wrapped) (number_to_said most_wrap text is.0 is.1 is.2) ∙ ap Some (sym is.3)
+
+-- what the file of the program is, is that of the values of its option
+form_found : (elf : Bool) → IsForm (stood elf) (form_by elf)
+form_found true = refl
+form_found false = refl
+
+form_said : (elf : Bool) (file : ProgramForm) → IsForm (stood elf) file → form_by elf ≡ file
+form_said true file is = sym is
+form_said false file is = sym is
 
 positional_said : (positional : Option (List ℕ)) (word : List ℕ) → listed positional ≡ word ∷ [] → positional ≡ Some word
 positional_said None word e = absurd cc
@@ -480,11 +530,14 @@ not_seen : (o : CommandOption) (value : List ℕ) (seen : Seen) (values : List (
     → is_seen o seen ≡ false
 not_seen option.Raw value seen values once = not_raw seen.raw value values once
 not_seen option.Wrap value seen values once = not_listed seen.wrap value values once
+not_seen option.Sync value seen values once = not_raw seen.sync value values once
 not_seen option.Depth value seen values once = not_listed seen.depth value values once
 not_seen option.Vmid value seen values once = not_listed seen.vmid value values once
 not_seen option.Cid value seen values once = not_listed seen.cid value values once
 not_seen option.Settings value seen values once = not_listed seen.settings value values once
+not_seen option.Elf value seen values once = not_raw seen.elf value values once
 not_seen option.Last value seen values once = not_listed seen.last value values once
+not_seen option.SyncEvery value seen values once = not_listed seen.every value values once
 not_seen option.Cut value seen values once = not_listed seen.cut value values once
 
 fewer_by : (b : Bool) (value : List ℕ) (values : List (List ℕ)) → ◌≡◌ {A = List (List ℕ)} (if b then value ∷ values else values) [] → values ≡ []
@@ -494,39 +547,48 @@ fewer_by false value values e = e
 has_fewer : (row : CommandRow) (p o : CommandOption) (value : List ℕ) (values : List (List ℕ)) → Has row p ⊎ (value_for p o value values ≡ [])
     → Has row p ⊎ (values ≡ [])
 has_fewer row p o value values (inl has) = inl has
-has_fewer row p o value values (inr none) = inr (fewer_by (bytes_eq (name_of p) (name_of o)) value values none)
+has_fewer row p o value values (inr none) = inr (fewer_by (is_same p o) value values none)
 
 has_this : (row : CommandRow) (o : CommandOption) (value : List ℕ) (values : List (List ℕ)) → Has row o ⊎ (value_for o o value values ≡ []) → Has row o
 has_this row o value values (inl has) = has
 has_this row option.Raw value values (inr none) = absurd cc
 has_this row option.Wrap value values (inr none) = absurd cc
+has_this row option.Sync value values (inr none) = absurd cc
 has_this row option.Depth value values (inr none) = absurd cc
 has_this row option.Vmid value values (inr none) = absurd cc
 has_this row option.Cid value values (inr none) = absurd cc
 has_this row option.Settings value values (inr none) = absurd cc
+has_this row option.Elf value values (inr none) = absurd cc
 has_this row option.Last value values (inr none) = absurd cc
+has_this row option.SyncEvery value values (inr none) = absurd cc
 has_this row option.Cut value values (inr none) = absurd cc
 
 -- the word of an option of the command
 dashed_alone : (row : CommandRow) (o : CommandOption) (seen : Seen) → Has row o → with_dashed row (word_of o) seen ≡ with_option o None seen
 dashed_alone row option.Raw seen has = ap (option_and_then (λ p. with_option p None seen)) has
 dashed_alone row option.Wrap seen has = ap (option_and_then (λ p. with_option p None seen)) has
+dashed_alone row option.Sync seen has = ap (option_and_then (λ p. with_option p None seen)) has
 dashed_alone row option.Depth seen has = ap (option_and_then (λ p. with_option p None seen)) has
 dashed_alone row option.Vmid seen has = ap (option_and_then (λ p. with_option p None seen)) has
 dashed_alone row option.Cid seen has = ap (option_and_then (λ p. with_option p None seen)) has
 dashed_alone row option.Settings seen has = ap (option_and_then (λ p. with_option p None seen)) has
+dashed_alone row option.Elf seen has = ap (option_and_then (λ p. with_option p None seen)) has
 dashed_alone row option.Last seen has = ap (option_and_then (λ p. with_option p None seen)) has
+dashed_alone row option.SyncEvery seen has = ap (option_and_then (λ p. with_option p None seen)) has
 dashed_alone row option.Cut seen has = ap (option_and_then (λ p. with_option p None seen)) has
 
 dashed_joined : (row : CommandRow) (o : CommandOption) (value : List ℕ) (seen : Seen) → Has row o
     → with_dashed row (word_of o ++ 61 ∷ value) seen ≡ with_option o (Some value) seen
 dashed_joined row option.Raw value seen has = ap (option_and_then (λ p. with_option p (Some value) seen)) has
 dashed_joined row option.Wrap value seen has = ap (option_and_then (λ p. with_option p (Some value) seen)) has
+dashed_joined row option.Sync value seen has = ap (option_and_then (λ p. with_option p (Some value) seen)) has
 dashed_joined row option.Depth value seen has = ap (option_and_then (λ p. with_option p (Some value) seen)) has
 dashed_joined row option.Vmid value seen has = ap (option_and_then (λ p. with_option p (Some value) seen)) has
 dashed_joined row option.Cid value seen has = ap (option_and_then (λ p. with_option p (Some value) seen)) has
 dashed_joined row option.Settings value seen has = ap (option_and_then (λ p. with_option p (Some value) seen)) has
+dashed_joined row option.Elf value seen has = ap (option_and_then (λ p. with_option p (Some value) seen)) has
 dashed_joined row option.Last value seen has = ap (option_and_then (λ p. with_option p (Some value) seen)) has
+dashed_joined row option.SyncEvery value seen has = ap (option_and_then (λ p. with_option p (Some value) seen)) has
 dashed_joined row option.Cut value seen has = ap (option_and_then (λ p. with_option p (Some value) seen)) has
 
 taken_alone : (row : CommandRow) (o : CommandOption) (seen : Seen) → seen.waits ≡ None → seen.ended ≡ false → Has row o
@@ -543,11 +605,14 @@ taken_joined row o value seen free off has =
 value_after : (o : CommandOption) (value : List ℕ) (seen : Seen) → with_value o value (record seen { waits = Some o }) ≡ with_value o value seen
 value_after option.Raw value seen = refl
 value_after option.Wrap value seen = refl
+value_after option.Sync value seen = refl
 value_after option.Depth value seen = refl
 value_after option.Vmid value seen = refl
 value_after option.Cid value seen = refl
 value_after option.Settings value seen = refl
+value_after option.Elf value seen = refl
 value_after option.Last value seen = refl
+value_after option.SyncEvery value seen = refl
 value_after option.Cut value seen = refl
 
 -- what is seen of words that are taken
@@ -761,19 +826,22 @@ taken row (Positional word ∷ pieces) ended behind seen off are is fits =
 -- ---- whole lines
 
 abbrev path_row : CommandRow
-path_row = row (codes "path") name.Path (option.Raw ∷ option.Wrap ∷ option.Depth ∷ option.Vmid ∷ option.Cid ∷ option.Settings ∷ []) true
+path_row = row (codes "path") name.Path path_options true
 
 abbrev packets_row : CommandRow
-packets_row = row (codes "packets") name.Packets (option.Raw ∷ option.Wrap ∷ option.Vmid ∷ option.Cid ∷ option.Settings ∷ []) false
+packets_row = row (codes "packets") name.Packets packets_options false
+
+abbrev times_row : CommandRow
+times_row = row (codes "times") name.Times times_options false
 
 abbrev retired_row : CommandRow
-retired_row = row (codes "retired") name.Retired [] true
+retired_row = row (codes "retired") name.Retired retired_options true
 
 abbrev trace_row : CommandRow
-trace_row = row (codes "trace") name.Trace (option.Last ∷ []) true
+trace_row = row (codes "trace") name.Trace trace_options true
 
 abbrev selftest_row : CommandRow
-selftest_row = row (codes "selftest") name.Selftest (option.Cut ∷ []) true
+selftest_row = row (codes "selftest") name.Selftest selftest_options true
 
 -- the first word is a command's, and the others were seen behind it
 record Begins (line : CommandRow) (word : List ℕ) (words : List (List ℕ)) (c : Command) : Type 0 where
@@ -790,31 +858,54 @@ begins_by line word words c is e =
 
 abbrev Line : List ℕ → List (List ℕ) → Command → Type 0
 Line word words c =
-    Begins path_row word words c ⊎ Begins packets_row word words c ⊎ Begins retired_row word words c ⊎ Begins trace_row word words c
-    ⊎ Begins selftest_row word words c
+    Begins path_row word words c ⊎ Begins packets_row word words c ⊎ Begins times_row word words c ⊎ Begins retired_row word words c
+    ⊎ Begins trace_row word words c ⊎ Begins selftest_row word words c
 
-line_by : (word : List ℕ) (words : List (List ℕ)) (c : Command) (a b d t s : Bool) → bytes_eq word (codes "path") ≡ a
-    → bytes_eq word (codes "packets") ≡ b → bytes_eq word (codes "retired") ≡ d → bytes_eq word (codes "trace") ≡ t → bytes_eq word (codes "selftest") ≡ s
-    → meaning (word ∷ words) ≡ Some c → Line word words c
-line_by word words c true b d t s x y z w v e = inl (begins_by path_row word words c x (simp x at e))
-line_by word words c false true d t s x y z w v e = inr (inl (begins_by packets_row word words c y (simp (x, y) at e)))
-line_by word words c false false true t s x y z w v e = inr (inr (inl (begins_by retired_row word words c z (simp (x, y, z) at e))))
-line_by word words c false false false true s x y z w v e = inr (inr (inr (inl (begins_by trace_row word words c w (simp (x, y, z, w) at e)))))
-line_by word words c false false false false true x y z w v e = inr (inr (inr (inr (begins_by selftest_row word words c v (simp (x, y, z, w, v) at e)))))
-line_by word words c false false false false false x y z w v e = let f = simp (x, y, z, w, v) at e in absurd cc
+line_by : (word : List ℕ) (words : List (List ℕ)) (c : Command) (a b m d t s : Bool) → bytes_eq word (codes "path") ≡ a
+    → bytes_eq word (codes "packets") ≡ b → bytes_eq word (codes "times") ≡ m → bytes_eq word (codes "retired") ≡ d → bytes_eq word (codes "trace") ≡ t
+    → bytes_eq word (codes "selftest") ≡ s → meaning (word ∷ words) ≡ Some c → Line word words c
+line_by word words c true b m d t s x y u z w v e = inl (begins_by path_row word words c x (simp x at e))
+line_by word words c false true m d t s x y u z w v e = inr (inl (begins_by packets_row word words c y (simp (x, y) at e)))
+line_by word words c false false true d t s x y u z w v e = inr (inr (inl (begins_by times_row word words c u (simp (x, y, u) at e))))
+line_by word words c false false false true t s x y u z w v e =
+    inr (inr (inr (inl (begins_by retired_row word words c z (simp (x, y, u, z) at e)))))
+line_by word words c false false false false true s x y u z w v e =
+    inr (inr (inr (inr (inl (begins_by trace_row word words c w (simp (x, y, u, z, w) at e))))))
+line_by word words c false false false false false true x y u z w v e =
+    inr (inr (inr (inr (inr (begins_by selftest_row word words c v (simp (x, y, u, z, w, v) at e))))))
+line_by word words c false false false false false false x y u z w v e = let f = simp (x, y, u, z, w, v) at e in absurd cc
 
 line : (word : List ℕ) (words : List (List ℕ)) (c : Command) → meaning (word ∷ words) ≡ Some c → Line word words c
 line word words c e =
-    line_by word words c (bytes_eq word (codes "path")) (bytes_eq word (codes "packets")) (bytes_eq word (codes "retired")) (bytes_eq word (codes "trace"))
-    (bytes_eq word (codes "selftest")) refl refl refl refl refl e
+    line_by word words c (bytes_eq word (codes "path")) (bytes_eq word (codes "packets")) (bytes_eq word (codes "times")) (bytes_eq word (codes "retired"))
+    (bytes_eq word (codes "trace")) (bytes_eq word (codes "selftest")) refl refl refl refl refl refl e
 
 abbrev begin_parts : (line : CommandRow) (word : List ℕ) (words : List (List ℕ)) (c : Command) (b : Begins line word words c)
     → Parts line nothing_seen b.end words
 begin_parts line word words c b = parts line words nothing_seen b.end refl tt b.seen_is
 
+-- an option that is found by its name is one of them
+one_by : (o p : CommandOption) (os : List CommandOption) (named known : Bool) → bytes_eq (name_of o) (name_of p) ≡ named → is_same o p ≡ known
+    → (find (λ q. bytes_eq (name_of o) (name_of q)) os ≡ Some o → has_option os o ≡ true)
+    → find (λ q. bytes_eq (name_of o) (name_of q)) (p ∷ os) ≡ Some o → has_option (p ∷ os) o ≡ true
+one_by o p os named true is same rest e = simp same
+one_by o p os false false is other rest e = simp other (rest (simp is at e))
+one_by o p os true false is other rest e =
+    let this : p ≡ o = (let f = simp is at e in cc) in
+    let known = subst (λ (q : CommandOption). is_same o q ≡ false) this other in absurd (let g = sym (own_key o) ∙ known in cc)
+
+is_one : (o : CommandOption) (os : List CommandOption) → find (λ q. bytes_eq (name_of o) (name_of q)) os ≡ Some o → has_option os o ≡ true
+is_one o [] e = absurd cc
+is_one o (p ∷ os) e = one_by o p os (bytes_eq (name_of o) (name_of p)) (is_same o p) refl refl (is_one o os) e
+
+-- no option stands that the command lacks
+only_its : (row : CommandRow) (o : CommandOption) (values : List (List ℕ)) → Has row o ⊎ (values ≡ []) → has_option row.options o ≡ false → values ≡ []
+only_its row o values (inl has) lacks = absurd (let f = sym (is_one o row.options has) ∙ lacks in cc)
+only_its row o values (inr none) lacks = none
+
 -- the line of the pieces
 abbrev line_of : (line : CommandRow) (word : List ℕ) (words positionals : List (List ℕ)) (c : Command) (b : Begins line word words c)
-    → (p : Parts line nothing_seen b.end words) → listed b.end.positional ≡ positionals → IsLine line.word (word ∷ words) positionals
+    → (p : Parts line nothing_seen b.end words) → listed b.end.positional ≡ positionals → IsLine line.word line.options (word ∷ words) positionals
 line_of line word words positionals c b p are = record {
   pieces = p.pieces;
   ended = p.ended;
@@ -823,6 +914,7 @@ line_of line word words positionals c b p are = record {
   are_pieces = p.are_pieces;
   end_is = p.end_is;
   positionals_are = sym p.positionals ∙ are;
+  only = λ o lacks. only_its line o (values_of o p.pieces) (p.has o) lacks;
 }
 
 -- what the end says of how the input is taken
@@ -842,11 +934,20 @@ intake_found end intake e =
       layout_is = l.1 ∙ ap (λ (i : Intake). Some i.layout) l.2;
     }
 
-program_found : (end : Seen) (program : Program) → program_in end ≡ Some program → end.positional ≡ Some program.name
-program_found end program e = let i = map_some end.positional _ program e in i.1 ∙ ap Some (ap (λ (p : Program). p.name) i.2)
+-- what the end says of the program: its name, and what its file is
+abbrev SaysProgram : Seen → Program → Type 0
+SaysProgram end program = (end.positional ≡ Some program.name) × (form_by end.elf ≡ program.form)
+
+program_found : (end : Seen) (program : Program) → program_in end ≡ Some program → SaysProgram end program
+program_found end program e =
+    let i = map_some end.positional _ program e in (i.1 ∙ ap Some (ap (λ (p : Program). p.name) i.2), ap (λ (p : Program). p.form) i.2)
+
+form_values : (end : Seen) (file : ProgramForm) (flags : List (List ℕ)) → form_by end.elf ≡ file → given option.Elf end ≡ flags → IsForm flags file
+form_values end file flags is same =
+    subst (λ (l : List (List ℕ)). IsForm l file) same (subst (IsForm (stood end.elf)) is (form_found end.elf))
 
 path_says : (end : Seen) (program : Program) (intake : Intake) → command_in name.Path end ≡ Some (Path program intake)
-    → (end.positional ≡ Some program.name) × Says end intake
+    → SaysProgram end program × Says end intake
 path_says end program intake e =
     let p = then_some (program_in end) _ (Path program intake) e in let i = map_some (intake_in end) (Path p.0) (Path program intake) p.2 in
     let program_is : p.0 ≡ program = (let f = i.2 in cc) in let intake_is : i.0 ≡ intake = (let f = i.2 in cc) in
@@ -857,17 +958,31 @@ packets_says end intake e =
     let i = map_some (intake_in end) Packets (Packets intake) e in let intake_is : i.0 ≡ intake = (let f = i.2 in cc) in
     intake_found end intake (i.1 ∙ ap Some intake_is)
 
-retired_says : (end : Seen) (program : Program) → command_in name.Retired end ≡ Some (Retired program) → end.positional ≡ Some program.name
+times_says : (end : Seen) (intake : Intake) → command_in name.Times end ≡ Some (Times intake) → Says end intake
+times_says end intake e =
+    let i = map_some (intake_in end) Times (Times intake) e in let intake_is : i.0 ≡ intake = (let f = i.2 in cc) in
+    intake_found end intake (i.1 ∙ ap Some intake_is)
+
+retired_says : (end : Seen) (program : Program) → command_in name.Retired end ≡ Some (Retired program) → SaysProgram end program
 retired_says end program e =
     let p = map_some (program_in end) Retired (Retired program) e in let program_is : p.0 ≡ program = (let f = p.2 in cc) in
     program_found end program (p.1 ∙ ap Some program_is)
 
-trace_says : (end : Seen) (program : Program) (last : Option ℕ) → command_in name.Trace end ≡ Some (Trace program last)
-    → (end.positional ≡ Some program.name) × (last_of end.last ≡ Some last)
-trace_says end program last e =
-    let p = then_some (program_in end) _ (Trace program last) e in let l = map_some (last_of end.last) (Trace p.0) (Trace program last) p.2 in
-    let program_is : p.0 ≡ program = (let f = l.2 in cc) in let last_is : l.0 ≡ last = (let f = l.2 in cc) in
-    (program_found end program (p.1 ∙ ap Some program_is), l.1 ∙ ap Some last_is)
+-- what the end says of a program, and of which frames are written
+record SaysFrames (end : Seen) (program : Program) (last every : Option ℕ) : Type 0 where
+  file : SaysProgram end program
+  last_is : count_of most_last end.last ≡ Some last
+  every_is : count_of most_every end.every ≡ Some every
+
+trace_says : (end : Seen) (program : Program) (last every : Option ℕ) → command_in name.Trace end ≡ Some (Trace program last every)
+    → SaysFrames end program last every
+trace_says end program last every e =
+    let p = then_some (program_in end) _ (Trace program last every) e in
+    let l = then_some (count_of most_last end.last) _ (Trace program last every) p.2 in
+    let y = map_some (count_of most_every end.every) (Trace p.0 l.0) (Trace program last every) l.2 in
+    let program_is : p.0 ≡ program = (let f = y.2 in cc) in let last_is : l.0 ≡ last = (let f = y.2 in cc) in
+    let every_is : y.0 ≡ every = (let f = y.2 in cc) in
+    record { file = program_found end program (p.1 ∙ ap Some program_is); last_is = l.1 ∙ ap Some last_is; every_is = y.1 ∙ ap Some every_is }
 
 -- what the end says of a number, and of how many bytes are read
 record SaysNumber (end : Seen) (n : ℕ) (cut : Option ℕ) : Type 0 where
@@ -885,11 +1000,13 @@ selftest_says end n cut e =
     let within = number_within most_number w.0 n (m.1 ∙ ap Some same) in
     record { number = w.0; stands = w.1; number_is = within.0; within = within.1; cut_is = k.1 ∙ ap Some cut_same }
 
-layout_values : (end : Seen) (layout : Layout) (flags values : List (List ℕ)) → layout_in end ≡ Some layout → given option.Raw end ≡ flags
-    → listed end.wrap ≡ values → IsLayout flags values layout
-layout_values end layout flags values is raw wrap =
-    subst (λ (l : List (List ℕ)). IsLayout l values layout) raw
-    (subst (λ (l : List (List ℕ)). IsLayout (given option.Raw end) l layout) wrap (layout_found end.raw end.wrap layout is))
+layout_values : (end : Seen) (layout : Layout) (raws values syncs : List (List ℕ)) → layout_in end ≡ Some layout → given option.Raw end ≡ raws
+    → listed end.wrap ≡ values → given option.Sync end ≡ syncs → IsLayout raws values syncs layout
+layout_values end layout raws values syncs is raw wrap sync =
+    let found = layout_found end.raw end.wrap end.sync layout is in
+    let by_sync = subst (λ (l : List (List ℕ)). IsLayout (stood end.raw) (listed end.wrap) l layout) sync found in
+    let by_wrap = subst (λ (l : List (List ℕ)). IsLayout (stood end.raw) l syncs layout) wrap by_sync in
+    subst (λ (l : List (List ℕ)). IsLayout l values syncs layout) raw by_wrap
 
 units_values : (list : Option (List ℕ)) (all : Sizes) (units : List Sizes) (values : List (List ℕ)) → units_by list all ≡ Some units
     → listed list ≡ values → IsUnits values all units
@@ -899,54 +1016,53 @@ number_values : (default : ℕ) (value : Option (List ℕ)) (n : ℕ) (values : 
     → IsNumber default values n
 number_values default value n values is same = subst (λ (l : List (List ℕ)). IsNumber default l n) same (number_found default value n is)
 
--- an option that the command lacks has no value
-lacked : (row : CommandRow) (o : CommandOption) (values : List (List ℕ)) → find (λ p. bytes_eq (name_of o) (name_of p)) row.options ≡ None
-    → Has row o ⊎ (values ≡ []) → values ≡ []
-lacked row o values lacks (inl has) = absurd (let f = sym lacks ∙ has in cc)
-lacked row o values lacks (inr none) = none
+-- what the pieces say of how the input is taken is what was seen
+taken_of : (row : CommandRow) (words : List (List ℕ)) (end : Seen) (intake : Intake) (p : Parts row nothing_seen end words) → Says end intake
+    → IsTakenBy p.pieces intake
+taken_of row words end intake p says =
+    let sizes = says.sizes in let all = says.all in
+    record {
+      layout_is = layout_values end intake.layout (values_of option.Raw p.pieces) (values_of option.Wrap p.pieces) (values_of option.Sync p.pieces)
+          says.layout_is (p.values option.Raw) (p.values option.Wrap) (p.values option.Sync);
+      all = all;
+      depth_is = number_values default_sizes.depth end.depth all.depth (values_of option.Depth p.pieces) sizes.depth_is (p.values option.Depth);
+      vmid_is = number_values default_sizes.vmid_bytes end.vmid all.vmid_bytes (values_of option.Vmid p.pieces) sizes.vmid_is (p.values option.Vmid);
+      cid_is = number_values default_sizes.cid_bytes end.cid all.cid_bytes (values_of option.Cid p.pieces) sizes.cid_is (p.values option.Cid);
+      within = sizes.within;
+      units_are = units_values end.settings all intake.units (values_of option.Settings p.pieces) says.units_are (p.values option.Settings);
+    }
 
 path_of_line : (word : List ℕ) (words : List (List ℕ)) (program : Program) (intake : Intake) → Begins path_row word words (Path program intake)
     → IsPathLine (word ∷ words) program intake
 path_of_line word words program intake b =
     let p = begin_parts path_row word words (Path program intake) b in let says = path_says b.end program intake b.means in
-    let sizes = says.1.sizes in let all = says.1.all in
     record {
-      line = line_of path_row word words (program.name ∷ []) (Path program intake) b p (ap listed says.0);
-      layout_is = layout_values b.end intake.layout (values_of option.Raw p.pieces) (values_of option.Wrap p.pieces) says.1.layout_is
-          (p.values option.Raw) (p.values option.Wrap);
-      no_last = lacked path_row option.Last (values_of option.Last p.pieces) refl (p.has option.Last);
-      no_cut = lacked path_row option.Cut (values_of option.Cut p.pieces) refl (p.has option.Cut);
-      all = all;
-      depth_is = number_values default_sizes.depth b.end.depth all.depth (values_of option.Depth p.pieces) sizes.depth_is (p.values option.Depth);
-      vmid_is = number_values default_sizes.vmid_bytes b.end.vmid all.vmid_bytes (values_of option.Vmid p.pieces) sizes.vmid_is (p.values option.Vmid);
-      cid_is = number_values default_sizes.cid_bytes b.end.cid all.cid_bytes (values_of option.Cid p.pieces) sizes.cid_is (p.values option.Cid);
-      within = sizes.within;
-      units_are = units_values b.end.settings all intake.units (values_of option.Settings p.pieces) says.1.units_are (p.values option.Settings);
+      line = line_of path_row word words (program.name ∷ []) (Path program intake) b p (ap listed says.0.0);
+      form_is = form_values b.end program.form (values_of option.Elf p.pieces) says.0.1 (p.values option.Elf);
+      taken = taken_of path_row words b.end intake p says.1;
     }
 
-no_positionals : (positionals : List (List ℕ)) → (packets_row.has_positional ≡ true) ⊎ (positionals ≡ []) → positionals ≡ []
+-- a command without a positional has none
+no_positionals : (positionals : List (List ℕ)) → (false ≡ true) ⊎ (positionals ≡ []) → positionals ≡ []
 no_positionals positionals (inl has) = absurd cc
 no_positionals positionals (inr none) = none
 
 packets_of_line : (word : List ℕ) (words : List (List ℕ)) (intake : Intake) → Begins packets_row word words (Packets intake)
     → IsPacketsLine (word ∷ words) intake
 packets_of_line word words intake b =
-    let p = begin_parts packets_row word words (Packets intake) b in let says = packets_says b.end intake b.means in
-    let sizes = says.sizes in let all = says.all in
-    let none = lacked packets_row option.Depth (values_of option.Depth p.pieces) refl (p.has option.Depth) in
+    let p = begin_parts packets_row word words (Packets intake) b in
     record {
       line = line_of packets_row word words [] (Packets intake) b p (p.positionals ∙ no_positionals (positionals_of p.pieces ++ p.behind) p.allowed);
-      layout_is = layout_values b.end intake.layout (values_of option.Raw p.pieces) (values_of option.Wrap p.pieces) says.layout_is
-          (p.values option.Raw) (p.values option.Wrap);
-      no_depth = none;
-      no_last = lacked packets_row option.Last (values_of option.Last p.pieces) refl (p.has option.Last);
-      no_cut = lacked packets_row option.Cut (values_of option.Cut p.pieces) refl (p.has option.Cut);
-      all = all;
-      depth_is = number_values default_sizes.depth b.end.depth all.depth [] sizes.depth_is (p.values option.Depth ∙ none);
-      vmid_is = number_values default_sizes.vmid_bytes b.end.vmid all.vmid_bytes (values_of option.Vmid p.pieces) sizes.vmid_is (p.values option.Vmid);
-      cid_is = number_values default_sizes.cid_bytes b.end.cid all.cid_bytes (values_of option.Cid p.pieces) sizes.cid_is (p.values option.Cid);
-      within = sizes.within;
-      units_are = units_values b.end.settings all intake.units (values_of option.Settings p.pieces) says.units_are (p.values option.Settings);
+      taken = taken_of packets_row words b.end intake p (packets_says b.end intake b.means);
+    }
+
+times_of_line : (word : List ℕ) (words : List (List ℕ)) (intake : Intake) → Begins times_row word words (Times intake)
+    → IsTimesLine (word ∷ words) intake
+times_of_line word words intake b =
+    let p = begin_parts times_row word words (Times intake) b in
+    record {
+      line = line_of times_row word words [] (Times intake) b p (p.positionals ∙ no_positionals (positionals_of p.pieces ++ p.behind) p.allowed);
+      taken = taken_of times_row words b.end intake p (times_says b.end intake b.means);
     }
 
 retired_of_line : (word : List ℕ) (words : List (List ℕ)) (program : Program) → Begins retired_row word words (Retired program)
@@ -954,33 +1070,23 @@ retired_of_line : (word : List ℕ) (words : List (List ℕ)) (program : Program
 retired_of_line word words program b =
     let p = begin_parts retired_row word words (Retired program) b in
     record {
-      line = line_of retired_row word words (program.name ∷ []) (Retired program) b p (ap listed (retired_says b.end program b.means));
-      no_option = λ o. lacked retired_row o (values_of o p.pieces) refl (p.has o);
+      line = line_of retired_row word words (program.name ∷ []) (Retired program) b p (ap listed (retired_says b.end program b.means).0);
+      form_is = form_values b.end program.form (values_of option.Elf p.pieces) (retired_says b.end program b.means).1 (p.values option.Elf);
     }
 
--- a command with one option has no other
-one_option_by : (o p : CommandOption) (b : Bool) → bytes_eq (name_of p) (name_of o) ≡ b → find (λ q. bytes_eq (name_of p) (name_of q)) (o ∷ []) ≡ Some p
-    → p ≡ o
-one_option_by o p true is e = let f = simp is at e in sym cc
-one_option_by o p false is e = absurd (let f = simp is at e in cc)
+count_values : (most : ℕ) (value : Option (List ℕ)) (count : Option ℕ) (values : List (List ℕ)) → count_of most value ≡ Some count → listed value ≡ values
+    → IsCount most values count
+count_values most value count values is same = subst (λ (l : List (List ℕ)). IsCount most l count) same (count_found most value count is)
 
-no_other : (row : CommandRow) (o : CommandOption) (pieces : List Piece) → row.options ≡ o ∷ [] → ((p : CommandOption) → Has row p ⊎ (values_of p pieces ≡ []))
-    → NoOther o pieces
-no_other row o pieces one has p other = elim (has p) [
-  | inl there ↦
-      let found = subst (λ (os : List CommandOption). find (λ q. bytes_eq (name_of p) (name_of q)) os ≡ Some p) one there in
-      absurd (other (one_option_by o p (bytes_eq (name_of p) (name_of o)) refl found))
-  | inr none ↦ none
-]
-
-trace_of_line : (word : List ℕ) (words : List (List ℕ)) (program : Program) (last : Option ℕ) → Begins trace_row word words (Trace program last)
-    → IsTraceLine (word ∷ words) program last
-trace_of_line word words program last b =
-    let p = begin_parts trace_row word words (Trace program last) b in let says = trace_says b.end program last b.means in
+trace_of_line : (word : List ℕ) (words : List (List ℕ)) (program : Program) (last every : Option ℕ)
+    → Begins trace_row word words (Trace program last every) → IsTraceLine (word ∷ words) program last every
+trace_of_line word words program last every b =
+    let p = begin_parts trace_row word words (Trace program last every) b in let says = trace_says b.end program last every b.means in
     record {
-      line = line_of trace_row word words (program.name ∷ []) (Trace program last) b p (ap listed says.0);
-      last_is = subst (λ (l : List (List ℕ)). IsLast l last) (p.values option.Last) (last_found b.end.last last says.1);
-      no_other = no_other trace_row option.Last p.pieces refl p.has;
+      line = line_of trace_row word words (program.name ∷ []) (Trace program last every) b p (ap listed says.file.0);
+      form_is = form_values b.end program.form (values_of option.Elf p.pieces) says.file.1 (p.values option.Elf);
+      last_is = count_values most_last b.end.last last (values_of option.Last p.pieces) says.last_is (p.values option.Last);
+      every_is = count_values most_every b.end.every every (values_of option.SyncEvery p.pieces) says.every_is (p.values option.SyncEvery);
     }
 
 selftest_of_line : (word : List ℕ) (words : List (List ℕ)) (n : ℕ) (cut : Option ℕ) → Begins selftest_row word words (Selftest n cut)
@@ -993,22 +1099,25 @@ selftest_of_line word words n cut b =
       number_is = says.number_is;
       number_within = says.within;
       cut_is = subst (λ (l : List (List ℕ)). IsCut l cut) (p.values option.Cut) (cut_found b.end.cut cut says.cut_is);
-      no_other = no_other selftest_row option.Cut p.pieces refl p.has;
     }
 
 -- a command means what its name says
 abbrev name_in : Command → CommandName
 name_in (Path program intake) = name.Path
 name_in (Packets intake) = name.Packets
+name_in (Times intake) = name.Times
 name_in (Retired program) = name.Retired
-name_in (Trace program last) = name.Trace
+name_in (Trace program last every) = name.Trace
 name_in (Selftest n cut) = name.Selftest
 
 named : (n : CommandName) (end : Seen) (c : Command) → command_in n end ≡ Some c → n ≡ name_in c
 named name.Path end c e = let i = then_some (program_in end) _ c e in let z = map_some (intake_in end) (Path i.0) c i.2 in ap name_in z.2
 named name.Packets end c e = let z = map_some (intake_in end) Packets c e in ap name_in z.2
+named name.Times end c e = let z = map_some (intake_in end) Times c e in ap name_in z.2
 named name.Retired end c e = let i = map_some (program_in end) Retired c e in ap name_in i.2
-named name.Trace end c e = let i = then_some (program_in end) _ c e in let l = map_some (last_of end.last) (Trace i.0) c i.2 in ap name_in l.2
+named name.Trace end c e =
+    let i = then_some (program_in end) _ c e in let l = then_some (count_of most_last end.last) _ c i.2 in
+    let y = map_some (count_of most_every end.every) (Trace i.0 l.0) c l.2 in ap name_in y.2
 named name.Selftest end c e =
     let w = then_some end.positional _ c e in let m = then_some (number_to most_number w.0) _ c w.2 in
     let k = map_some (cut_of end.cut) (Selftest m.0) c m.2 in ap name_in k.2
@@ -1022,50 +1131,70 @@ path_line [] program intake e = absurd cc
 path_line (word ∷ words) program intake e = elim (line word words (Path program intake) e) [
   | inl b ↦ path_of_line word words program intake b
   | inr (inl b) ↦ absurd (another name.Packets b.end (Path program intake) b.means (λ f. absurd cc))
-  | inr (inr (inl b)) ↦ absurd (another name.Retired b.end (Path program intake) b.means (λ f. absurd cc))
-  | inr (inr (inr (inl b))) ↦ absurd (another name.Trace b.end (Path program intake) b.means (λ f. absurd cc))
-  | inr (inr (inr (inr b))) ↦ absurd (another name.Selftest b.end (Path program intake) b.means (λ f. absurd cc))
+  | inr (inr (inl b)) ↦ absurd (another name.Times b.end (Path program intake) b.means (λ f. absurd cc))
+  | inr (inr (inr (inl b))) ↦ absurd (another name.Retired b.end (Path program intake) b.means (λ f. absurd cc))
+  | inr (inr (inr (inr (inl b)))) ↦ absurd (another name.Trace b.end (Path program intake) b.means (λ f. absurd cc))
+  | inr (inr (inr (inr (inr b)))) ↦ absurd (another name.Selftest b.end (Path program intake) b.means (λ f. absurd cc))
 ]
 
-pub packets_line : (words : List (List ℕ)) (intake : Intake) → meaning words ≡ Some (Packets intake) → IsPacketsLine words intake
+pub packets_line : (words : List (List ℕ)) (intake : Intake) → meaning words ≡ Some (Packets intake)
+    → IsPacketsLine words intake
 packets_line [] intake e = absurd cc
 packets_line (word ∷ words) intake e = elim (line word words (Packets intake) e) [
   | inl b ↦ absurd (another name.Path b.end (Packets intake) b.means (λ f. absurd cc))
   | inr (inl b) ↦ packets_of_line word words intake b
-  | inr (inr (inl b)) ↦ absurd (another name.Retired b.end (Packets intake) b.means (λ f. absurd cc))
-  | inr (inr (inr (inl b))) ↦ absurd (another name.Trace b.end (Packets intake) b.means (λ f. absurd cc))
-  | inr (inr (inr (inr b))) ↦ absurd (another name.Selftest b.end (Packets intake) b.means (λ f. absurd cc))
+  | inr (inr (inl b)) ↦ absurd (another name.Times b.end (Packets intake) b.means (λ f. absurd cc))
+  | inr (inr (inr (inl b))) ↦ absurd (another name.Retired b.end (Packets intake) b.means (λ f. absurd cc))
+  | inr (inr (inr (inr (inl b)))) ↦ absurd (another name.Trace b.end (Packets intake) b.means (λ f. absurd cc))
+  | inr (inr (inr (inr (inr b)))) ↦ absurd (another name.Selftest b.end (Packets intake) b.means (λ f. absurd cc))
 ]
 
-pub retired_line : (words : List (List ℕ)) (program : Program) → meaning words ≡ Some (Retired program) → IsRetiredLine words program
+pub times_line : (words : List (List ℕ)) (intake : Intake) → meaning words ≡ Some (Times intake)
+    → IsTimesLine words intake
+times_line [] intake e = absurd cc
+times_line (word ∷ words) intake e = elim (line word words (Times intake) e) [
+  | inl b ↦ absurd (another name.Path b.end (Times intake) b.means (λ f. absurd cc))
+  | inr (inl b) ↦ absurd (another name.Packets b.end (Times intake) b.means (λ f. absurd cc))
+  | inr (inr (inl b)) ↦ times_of_line word words intake b
+  | inr (inr (inr (inl b))) ↦ absurd (another name.Retired b.end (Times intake) b.means (λ f. absurd cc))
+  | inr (inr (inr (inr (inl b)))) ↦ absurd (another name.Trace b.end (Times intake) b.means (λ f. absurd cc))
+  | inr (inr (inr (inr (inr b)))) ↦ absurd (another name.Selftest b.end (Times intake) b.means (λ f. absurd cc))
+]
+
+pub retired_line : (words : List (List ℕ)) (program : Program) → meaning words ≡ Some (Retired program)
+    → IsRetiredLine words program
 retired_line [] program e = absurd cc
 retired_line (word ∷ words) program e = elim (line word words (Retired program) e) [
   | inl b ↦ absurd (another name.Path b.end (Retired program) b.means (λ f. absurd cc))
   | inr (inl b) ↦ absurd (another name.Packets b.end (Retired program) b.means (λ f. absurd cc))
-  | inr (inr (inl b)) ↦ retired_of_line word words program b
-  | inr (inr (inr (inl b))) ↦ absurd (another name.Trace b.end (Retired program) b.means (λ f. absurd cc))
-  | inr (inr (inr (inr b))) ↦ absurd (another name.Selftest b.end (Retired program) b.means (λ f. absurd cc))
+  | inr (inr (inl b)) ↦ absurd (another name.Times b.end (Retired program) b.means (λ f. absurd cc))
+  | inr (inr (inr (inl b))) ↦ retired_of_line word words program b
+  | inr (inr (inr (inr (inl b)))) ↦ absurd (another name.Trace b.end (Retired program) b.means (λ f. absurd cc))
+  | inr (inr (inr (inr (inr b)))) ↦ absurd (another name.Selftest b.end (Retired program) b.means (λ f. absurd cc))
 ]
 
-pub trace_line : (words : List (List ℕ)) (program : Program) (last : Option ℕ) → meaning words ≡ Some (Trace program last)
-    → IsTraceLine words program last
-trace_line [] program last e = absurd cc
-trace_line (word ∷ words) program last e = elim (line word words (Trace program last) e) [
-  | inl b ↦ absurd (another name.Path b.end (Trace program last) b.means (λ f. absurd cc))
-  | inr (inl b) ↦ absurd (another name.Packets b.end (Trace program last) b.means (λ f. absurd cc))
-  | inr (inr (inl b)) ↦ absurd (another name.Retired b.end (Trace program last) b.means (λ f. absurd cc))
-  | inr (inr (inr (inl b))) ↦ trace_of_line word words program last b
-  | inr (inr (inr (inr b))) ↦ absurd (another name.Selftest b.end (Trace program last) b.means (λ f. absurd cc))
+pub trace_line : (words : List (List ℕ)) (program : Program) (last every : Option ℕ) → meaning words ≡ Some (Trace program last every)
+    → IsTraceLine words program last every
+trace_line [] program last every e = absurd cc
+trace_line (word ∷ words) program last every e = elim (line word words (Trace program last every) e) [
+  | inl b ↦ absurd (another name.Path b.end (Trace program last every) b.means (λ f. absurd cc))
+  | inr (inl b) ↦ absurd (another name.Packets b.end (Trace program last every) b.means (λ f. absurd cc))
+  | inr (inr (inl b)) ↦ absurd (another name.Times b.end (Trace program last every) b.means (λ f. absurd cc))
+  | inr (inr (inr (inl b))) ↦ absurd (another name.Retired b.end (Trace program last every) b.means (λ f. absurd cc))
+  | inr (inr (inr (inr (inl b)))) ↦ trace_of_line word words program last every b
+  | inr (inr (inr (inr (inr b)))) ↦ absurd (another name.Selftest b.end (Trace program last every) b.means (λ f. absurd cc))
 ]
 
-pub selftest_line : (words : List (List ℕ)) (n : ℕ) (cut : Option ℕ) → meaning words ≡ Some (Selftest n cut) → IsSelftestLine words n cut
+pub selftest_line : (words : List (List ℕ)) (n : ℕ) (cut : Option ℕ) → meaning words ≡ Some (Selftest n cut)
+    → IsSelftestLine words n cut
 selftest_line [] n cut e = absurd cc
 selftest_line (word ∷ words) n cut e = elim (line word words (Selftest n cut) e) [
   | inl b ↦ absurd (another name.Path b.end (Selftest n cut) b.means (λ f. absurd cc))
   | inr (inl b) ↦ absurd (another name.Packets b.end (Selftest n cut) b.means (λ f. absurd cc))
-  | inr (inr (inl b)) ↦ absurd (another name.Retired b.end (Selftest n cut) b.means (λ f. absurd cc))
-  | inr (inr (inr (inl b))) ↦ absurd (another name.Trace b.end (Selftest n cut) b.means (λ f. absurd cc))
-  | inr (inr (inr (inr b))) ↦ selftest_of_line word words n cut b
+  | inr (inr (inl b)) ↦ absurd (another name.Times b.end (Selftest n cut) b.means (λ f. absurd cc))
+  | inr (inr (inr (inl b))) ↦ absurd (another name.Retired b.end (Selftest n cut) b.means (λ f. absurd cc))
+  | inr (inr (inr (inr (inl b)))) ↦ absurd (another name.Trace b.end (Selftest n cut) b.means (λ f. absurd cc))
+  | inr (inr (inr (inr (inr b)))) ↦ selftest_of_line word words n cut b
 ]
 
 -- ---- and what is spelled so means it
@@ -1085,74 +1214,58 @@ units_once [] all units is = tt
 units_once (v ∷ []) all units is = tt
 units_once (v ∷ w ∷ values) all units is = absurd is
 
-last_once : (values : List (List ℕ)) (last : Option ℕ) → IsLast values last → OnceAtMost values
-last_once [] last is = tt
-last_once (v ∷ []) last is = tt
-last_once (v ∷ w ∷ values) last is = absurd is
+count_once : (most : ℕ) (values : List (List ℕ)) (count : Option ℕ) → IsCount most values count → OnceAtMost values
+count_once most [] count is = tt
+count_once most (v ∷ []) count is = tt
+count_once most (v ∷ w ∷ values) count is = absurd is
 
-raw_once : (flags values : List (List ℕ)) (layout : Layout) → IsLayout flags values layout → OnceAtMost flags
-raw_once [] values layout is = tt
-raw_once (f ∷ []) values layout is = tt
-raw_once (f ∷ g ∷ flags) values layout is = absurd is
+form_once : (flags : List (List ℕ)) (file : ProgramForm) → IsForm flags file → OnceAtMost flags
+form_once [] file is = tt
+form_once (f ∷ []) file is = tt
+form_once (f ∷ g ∷ flags) file is = absurd is
 
-wrap_once : (flags values : List (List ℕ)) (layout : Layout) → IsLayout flags values layout → OnceAtMost values
-wrap_once flags [] layout is = tt
-wrap_once flags (v ∷ []) layout is = tt
-wrap_once [] (v ∷ w ∷ values) layout is = absurd is
-wrap_once (f ∷ []) (v ∷ w ∷ values) layout is = absurd is
-wrap_once (f ∷ g ∷ flags) (v ∷ w ∷ values) layout is = absurd is
+-- each of the options that tell the layout stands once at most
+record LayoutOnce (raws values syncs : List (List ℕ)) : Type 0 where
+  raw : OnceAtMost raws
+  wrap : OnceAtMost values
+  sync : OnceAtMost syncs
+
+layout_once : (raws values syncs : List (List ℕ)) (layout : Layout) → IsLayout raws values syncs layout → LayoutOnce raws values syncs
+layout_once [] [] [] layout is = record { raw = tt; wrap = tt; sync = tt }
+layout_once (r ∷ []) [] [] layout is = record { raw = tt; wrap = tt; sync = tt }
+layout_once [] (v ∷ []) [] layout is = record { raw = tt; wrap = tt; sync = tt }
+layout_once [] [] (s ∷ []) layout is = record { raw = tt; wrap = tt; sync = tt }
+layout_once (r ∷ q ∷ raws) values syncs layout is = absurd is
+layout_once (r ∷ []) (v ∷ values) syncs layout is = absurd is
+layout_once (r ∷ []) [] (s ∷ syncs) layout is = absurd is
+layout_once [] (v ∷ w ∷ values) syncs layout is = absurd is
+layout_once [] (v ∷ []) (s ∷ syncs) layout is = absurd is
+layout_once [] [] (s ∷ t ∷ syncs) layout is = absurd is
 
 -- nothing was seen before the words
 given_nothing : (o : CommandOption) → given o nothing_seen ≡ []
 given_nothing option.Raw = refl
 given_nothing option.Wrap = refl
+given_nothing option.Sync = refl
 given_nothing option.Depth = refl
 given_nothing option.Vmid = refl
 given_nothing option.Cid = refl
 given_nothing option.Settings = refl
+given_nothing option.Elf = refl
 given_nothing option.Last = refl
+given_nothing option.SyncEvery = refl
 given_nothing option.Cut = refl
+
+-- so what is seen at the end is what the pieces say
+told_in : (end : Seen) (pieces : List Piece) → ((o : CommandOption) → given o end ≡ given o nothing_seen ++ values_of o pieces) → (o : CommandOption)
+    → given o end ≡ values_of o pieces
+told_in end pieces values o = values o ∙ ap (λ (l : List (List ℕ)). l ++ values_of o pieces) (given_nothing o)
 
 so_far_once : (o : CommandOption) (values : List (List ℕ)) → OnceAtMost values → OnceAtMost (given o nothing_seen ++ values)
 so_far_once o values once = subst (λ (l : List (List ℕ)). OnceAtMost (l ++ values)) (sym (given_nothing o)) once
 
 unused_once : (o : CommandOption) (values : List (List ℕ)) → values ≡ [] → OnceAtMost (given o nothing_seen ++ values)
 unused_once o values none = so_far_once o values (subst OnceAtMost (sym none) tt)
-
--- what is known of each option of a command with one
-abbrev SameOrOther : CommandOption → CommandOption → Type 0
-SameOrOther o p = (p ≡ o) ⊎ (p ≢ o)
-
-has_one : (row : CommandRow) (o : CommandOption) (pieces : List Piece) → Has row o → NoOther o pieces → (p : CommandOption) → SameOrOther o p
-    → Has row p ⊎ (values_of p pieces ≡ [])
-has_one row o pieces has none p (inl same) = inl (subst (Has row) (sym same) has)
-has_one row o pieces has none p (inr other) = inr (none p other)
-
-one_once : (o : CommandOption) (pieces : List Piece) → OnceAtMost (values_of o pieces) → NoOther o pieces → (p : CommandOption) → SameOrOther o p
-    → OnceAtMost (given p nothing_seen ++ values_of p pieces)
-one_once o pieces once none p (inl same) =
-    so_far_once p (values_of p pieces) (subst (λ (q : CommandOption). OnceAtMost (values_of q pieces)) (sym same) once)
-one_once o pieces once none p (inr other) = unused_once p (values_of p pieces) (none p other)
-
-is_last : (p : CommandOption) → SameOrOther option.Last p
-is_last option.Last = inl refl
-is_last option.Raw = inr (λ e. absurd cc)
-is_last option.Wrap = inr (λ e. absurd cc)
-is_last option.Depth = inr (λ e. absurd cc)
-is_last option.Vmid = inr (λ e. absurd cc)
-is_last option.Cid = inr (λ e. absurd cc)
-is_last option.Settings = inr (λ e. absurd cc)
-is_last option.Cut = inr (λ e. absurd cc)
-
-is_cut : (p : CommandOption) → SameOrOther option.Cut p
-is_cut option.Cut = inl refl
-is_cut option.Raw = inr (λ e. absurd cc)
-is_cut option.Wrap = inr (λ e. absurd cc)
-is_cut option.Depth = inr (λ e. absurd cc)
-is_cut option.Vmid = inr (λ e. absurd cc)
-is_cut option.Cid = inr (λ e. absurd cc)
-is_cut option.Settings = inr (λ e. absurd cc)
-is_cut option.Last = inr (λ e. absurd cc)
 
 abbrev taken_so : List Sizes → Layout → Intake
 taken_so units layout = record { units = units; layout = layout }
@@ -1165,55 +1278,80 @@ units_listed : (list : Option (List ℕ)) (all : Sizes) (units : List Sizes) (va
     → units_by list all ≡ Some units
 units_listed list all units values same is = units_said list all units (subst (λ (l : List (List ℕ)). IsUnits l all units) (sym same) is)
 
--- how the input is taken, by what is seen
-said_by : (end : Seen) (intake : Intake) (all : Sizes) (raw wrap depth vmid cid settings : List (List ℕ)) → given option.Raw end ≡ raw
-    → listed end.wrap ≡ wrap → listed end.depth ≡ depth → listed end.vmid ≡ vmid → listed end.cid ≡ cid → listed end.settings ≡ settings
-    → IsLayout raw wrap intake.layout → IsNumber default_sizes.depth depth all.depth → IsNumber default_sizes.vmid_bytes vmid all.vmid_bytes
-    → IsNumber default_sizes.cid_bytes cid all.cid_bytes → AreSettings all → IsUnits settings all intake.units → intake_in end ≡ Some intake
-said_by end intake all raw wrap depth vmid cid settings r w d v c l layout_is depth_is vmid_is cid_is within units_are =
+-- how the input is taken, by what is seen of the pieces
+said_by : (end : Seen) (intake : Intake) (pieces : List Piece) → ((o : CommandOption) → given o end ≡ values_of o pieces) → IsTakenBy pieces intake
+    → intake_in end ≡ Some intake
+said_by end intake pieces values taken =
+    let all = taken.all in
     let sizes_are = sizes_said end all (record {
-      depth_is = number_listed default_sizes.depth end.depth all.depth depth d depth_is;
-      vmid_is = number_listed default_sizes.vmid_bytes end.vmid all.vmid_bytes vmid v vmid_is;
-      cid_is = number_listed default_sizes.cid_bytes end.cid all.cid_bytes cid c cid_is;
-      within = within;
+      depth_is = number_listed default_sizes.depth end.depth all.depth (values_of option.Depth pieces) (values option.Depth) taken.depth_is;
+      vmid_is = number_listed default_sizes.vmid_bytes end.vmid all.vmid_bytes (values_of option.Vmid pieces) (values option.Vmid) taken.vmid_is;
+      cid_is = number_listed default_sizes.cid_bytes end.cid all.cid_bytes (values_of option.Cid pieces) (values option.Cid) taken.cid_is;
+      within = taken.within;
     }) in
     let units_so : units_in end ≡ Some intake.units =
-    ap (option_and_then (λ (others : Sizes). units_by end.settings others)) sizes_are ∙ units_listed end.settings all intake.units settings l units_are in
-    let layout_so = layout_said end.raw end.wrap intake.layout (subst (λ (l : List (List ℕ)). IsLayout l (listed end.wrap) intake.layout) (sym r)
-    (subst (λ (l : List (List ℕ)). IsLayout raw l intake.layout) (sym w) layout_is)) in
+    ap (option_and_then (λ (others : Sizes). units_by end.settings others)) sizes_are
+    ∙ units_listed end.settings all intake.units (values_of option.Settings pieces) (values option.Settings) taken.units_are in
+    let by_sync = subst (λ (l : List (List ℕ)). IsLayout (values_of option.Raw pieces) (values_of option.Wrap pieces) l intake.layout)
+    (sym (values option.Sync)) taken.layout_is in
+    let by_wrap = subst (λ (l : List (List ℕ)). IsLayout (values_of option.Raw pieces) l (stood end.sync) intake.layout) (sym (values option.Wrap)) by_sync in
+    let by_raw = subst (λ (l : List (List ℕ)). IsLayout l (listed end.wrap) (stood end.sync) intake.layout) (sym (values option.Raw)) by_wrap in
+    let layout_so = layout_said end.raw end.wrap end.sync intake.layout by_raw in
     ap (option_and_then (λ (units : List Sizes). option_map (taken_so units) (layout_in end))) units_so
     ∙ ap (option_map (taken_so intake.units)) layout_so
 
+-- each option that tells how an input is taken stands once at most
+record TakenOnce (pieces : List Piece) : Type 0 where
+  layout : LayoutOnce (values_of option.Raw pieces) (values_of option.Wrap pieces) (values_of option.Sync pieces)
+  depth : OnceAtMost (values_of option.Depth pieces)
+  vmid : OnceAtMost (values_of option.Vmid pieces)
+  cid : OnceAtMost (values_of option.Cid pieces)
+  settings : OnceAtMost (values_of option.Settings pieces)
+
+taken_once : (pieces : List Piece) (intake : Intake) → IsTakenBy pieces intake → TakenOnce pieces
+taken_once pieces intake taken = record {
+  layout = layout_once _ _ _ intake.layout taken.layout_is;
+  depth = number_once default_sizes.depth (values_of option.Depth pieces) taken.all.depth taken.depth_is;
+  vmid = number_once default_sizes.vmid_bytes (values_of option.Vmid pieces) taken.all.vmid_bytes taken.vmid_is;
+  cid = number_once default_sizes.cid_bytes (values_of option.Cid pieces) taken.all.cid_bytes taken.cid_is;
+  settings = units_once (values_of option.Settings pieces) taken.all intake.units taken.units_are;
+}
+
 path_once : (words : List (List ℕ)) (program : Program) (intake : Intake) (l : IsPathLine words program intake) (o : CommandOption)
     → OnceAtMost (given o nothing_seen ++ values_of o l.line.pieces)
-path_once words program intake l option.Raw = raw_once (values_of option.Raw l.line.pieces) (values_of option.Wrap l.line.pieces) intake.layout l.layout_is
-path_once words program intake l option.Wrap = wrap_once (values_of option.Raw l.line.pieces) (values_of option.Wrap l.line.pieces) intake.layout l.layout_is
-path_once words program intake l option.Depth = number_once default_sizes.depth (values_of option.Depth l.line.pieces) l.all.depth l.depth_is
-path_once words program intake l option.Vmid = number_once default_sizes.vmid_bytes (values_of option.Vmid l.line.pieces) l.all.vmid_bytes l.vmid_is
-path_once words program intake l option.Cid = number_once default_sizes.cid_bytes (values_of option.Cid l.line.pieces) l.all.cid_bytes l.cid_is
-path_once words program intake l option.Settings = units_once (values_of option.Settings l.line.pieces) l.all intake.units l.units_are
-path_once words program intake l option.Last = subst OnceAtMost (sym l.no_last) tt
-path_once words program intake l option.Cut = subst OnceAtMost (sym l.no_cut) tt
+path_once words program intake l option.Raw = (taken_once l.line.pieces intake l.taken).layout.raw
+path_once words program intake l option.Wrap = (taken_once l.line.pieces intake l.taken).layout.wrap
+path_once words program intake l option.Sync = (taken_once l.line.pieces intake l.taken).layout.sync
+path_once words program intake l option.Depth = (taken_once l.line.pieces intake l.taken).depth
+path_once words program intake l option.Vmid = (taken_once l.line.pieces intake l.taken).vmid
+path_once words program intake l option.Cid = (taken_once l.line.pieces intake l.taken).cid
+path_once words program intake l option.Settings = (taken_once l.line.pieces intake l.taken).settings
+path_once words program intake l option.Elf = form_once (values_of option.Elf l.line.pieces) program.form l.form_is
+path_once words program intake l o = unused_once o (values_of o l.line.pieces) (l.line.only o refl)
 
 path_has : (words : List (List ℕ)) (program : Program) (intake : Intake) (l : IsPathLine words program intake) (o : CommandOption)
     → Has path_row o ⊎ (values_of o l.line.pieces ≡ [])
 path_has words program intake l option.Raw = inl refl
 path_has words program intake l option.Wrap = inl refl
+path_has words program intake l option.Sync = inl refl
 path_has words program intake l option.Depth = inl refl
 path_has words program intake l option.Vmid = inl refl
 path_has words program intake l option.Cid = inl refl
 path_has words program intake l option.Settings = inl refl
-path_has words program intake l option.Last = inr l.no_last
-path_has words program intake l option.Cut = inr l.no_cut
+path_has words program intake l option.Elf = inl refl
+path_has words program intake l o = inr (l.line.only o refl)
 
 positional_once : (positionals : List (List ℕ)) (word : List ℕ) → positionals ≡ word ∷ [] → OnceAtMost positionals
 positional_once positionals word are = subst OnceAtMost (sym are) tt
 
-abbrev named_so : List ℕ → Program
-named_so name = record { name = name }
+abbrev named_so : ProgramForm → List ℕ → Program
+named_so file name = record { name = name; form = file }
 
-program_said : (end : Seen) (program : Program) → end.positional ≡ Some program.name → program_in end ≡ Some program
-program_said end program e = ap (option_map named_so) e
+program_said : (end : Seen) (program : Program) (flags : List (List ℕ)) → end.positional ≡ Some program.name → given option.Elf end ≡ flags
+    → IsForm flags program.form → program_in end ≡ Some program
+program_said end program flags e same is =
+    let file = form_said end.elf program.form (subst (λ (l : List (List ℕ)). IsForm l program.form) (sym same) is) in
+    ap (option_map (named_so (form_by end.elf))) e ∙ ap (λ (f : ProgramForm). Some (named_so f program.name)) file
 
 path_means : (words : List (List ℕ)) (end : Seen) (program : Program) (intake : Intake) → seen_of path_row nothing_seen words ≡ Some end
     → program_in end ≡ Some program → intake_in end ≡ Some intake → meaning (codes "path" ∷ words) ≡ Some (Path program intake)
@@ -1225,15 +1363,21 @@ packets_means : (words : List (List ℕ)) (end : Seen) (intake : Intake) → see
     → intake_in end ≡ Some intake → meaning (codes "packets" ∷ words) ≡ Some (Packets intake)
 packets_means words end intake e i = ap (option_and_then (command_in name.Packets)) e ∙ ap (option_map Packets) i
 
+times_means : (words : List (List ℕ)) (end : Seen) (intake : Intake) → seen_of times_row nothing_seen words ≡ Some end
+    → intake_in end ≡ Some intake → meaning (codes "times" ∷ words) ≡ Some (Times intake)
+times_means words end intake e i = ap (option_and_then (command_in name.Times)) e ∙ ap (option_map Times) i
+
 retired_means : (words : List (List ℕ)) (end : Seen) (program : Program) → seen_of retired_row nothing_seen words ≡ Some end
     → program_in end ≡ Some program → meaning (codes "retired" ∷ words) ≡ Some (Retired program)
 retired_means words end program e p = ap (option_and_then (command_in name.Retired)) e ∙ ap (option_map Retired) p
 
-trace_means : (words : List (List ℕ)) (end : Seen) (program : Program) (last : Option ℕ) → seen_of trace_row nothing_seen words ≡ Some end
-    → program_in end ≡ Some program → last_of end.last ≡ Some last → meaning (codes "trace" ∷ words) ≡ Some (Trace program last)
-trace_means words end program last e p l =
+trace_means : (words : List (List ℕ)) (end : Seen) (program : Program) (last every : Option ℕ) → seen_of trace_row nothing_seen words ≡ Some end
+    → program_in end ≡ Some program → count_of most_last end.last ≡ Some last → count_of most_every end.every ≡ Some every
+    → meaning (codes "trace" ∷ words) ≡ Some (Trace program last every)
+trace_means words end program last every e p l y =
     ap (option_and_then (command_in name.Trace)) e
-    ∙ (ap (option_and_then (λ v. option_map (Trace v) (last_of end.last))) p ∙ ap (option_map (Trace program)) l)
+    ∙ (ap (option_and_then (λ v. option_and_then (λ n. option_map (Trace v n) (count_of most_every end.every)) (count_of most_last end.last))) p
+    ∙ (ap (option_and_then (λ n. option_map (Trace program n) (count_of most_every end.every))) l ∙ ap (option_map (Trace program last)) y))
 
 selftest_means : (words : List (List ℕ)) (end : Seen) (number : List ℕ) (n : ℕ) (cut : Option ℕ) → seen_of selftest_row nothing_seen words ≡ Some end
     → end.positional ≡ Some number → number_to most_number number ≡ Some n → cut_of end.cut ≡ Some cut
@@ -1254,35 +1398,48 @@ path_said words program intake l =
       allowed = inl refl;
       enough = inr (program.name, l.line.positionals_are);
     }) in
-    let says = said_by t.end intake l.all (values_of option.Raw l.line.pieces) (values_of option.Wrap l.line.pieces) (values_of option.Depth l.line.pieces)
-    (values_of option.Vmid l.line.pieces) (values_of option.Cid l.line.pieces) (values_of option.Settings l.line.pieces) (t.values option.Raw)
-    (t.values option.Wrap) (t.values option.Depth) (t.values option.Vmid) (t.values option.Cid) (t.values option.Settings) l.layout_is l.depth_is l.vmid_is
-    l.cid_is l.within l.units_are in
     ap meaning l.line.row
     ∙ path_means (in_row l.line.pieces l.line.ended) t.end program intake t.seen_is
-    (program_said t.end program (positional_said t.end.positional program.name (t.positionals ∙ l.line.positionals_are))) says
+    (program_said t.end program (values_of option.Elf l.line.pieces) (positional_said t.end.positional program.name (t.positionals ∙ l.line.positionals_are))
+    (told_in t.end l.line.pieces t.values option.Elf) l.form_is) (said_by t.end intake l.line.pieces (told_in t.end l.line.pieces t.values) l.taken)
 
 packets_once : (words : List (List ℕ)) (intake : Intake) (l : IsPacketsLine words intake) (o : CommandOption)
     → OnceAtMost (given o nothing_seen ++ values_of o l.line.pieces)
-packets_once words intake l option.Raw = raw_once (values_of option.Raw l.line.pieces) (values_of option.Wrap l.line.pieces) intake.layout l.layout_is
-packets_once words intake l option.Wrap = wrap_once (values_of option.Raw l.line.pieces) (values_of option.Wrap l.line.pieces) intake.layout l.layout_is
-packets_once words intake l option.Depth = subst OnceAtMost (sym l.no_depth) tt
-packets_once words intake l option.Vmid = number_once default_sizes.vmid_bytes (values_of option.Vmid l.line.pieces) l.all.vmid_bytes l.vmid_is
-packets_once words intake l option.Cid = number_once default_sizes.cid_bytes (values_of option.Cid l.line.pieces) l.all.cid_bytes l.cid_is
-packets_once words intake l option.Settings = units_once (values_of option.Settings l.line.pieces) l.all intake.units l.units_are
-packets_once words intake l option.Last = subst OnceAtMost (sym l.no_last) tt
-packets_once words intake l option.Cut = subst OnceAtMost (sym l.no_cut) tt
+packets_once words intake l option.Raw = (taken_once l.line.pieces intake l.taken).layout.raw
+packets_once words intake l option.Wrap = (taken_once l.line.pieces intake l.taken).layout.wrap
+packets_once words intake l option.Sync = (taken_once l.line.pieces intake l.taken).layout.sync
+packets_once words intake l option.Vmid = (taken_once l.line.pieces intake l.taken).vmid
+packets_once words intake l option.Cid = (taken_once l.line.pieces intake l.taken).cid
+packets_once words intake l option.Settings = (taken_once l.line.pieces intake l.taken).settings
+packets_once words intake l o = unused_once o (values_of o l.line.pieces) (l.line.only o refl)
+
+times_once : (words : List (List ℕ)) (intake : Intake) (l : IsTimesLine words intake) (o : CommandOption)
+    → OnceAtMost (given o nothing_seen ++ values_of o l.line.pieces)
+times_once words intake l option.Raw = (taken_once l.line.pieces intake l.taken).layout.raw
+times_once words intake l option.Depth = (taken_once l.line.pieces intake l.taken).depth
+times_once words intake l option.Vmid = (taken_once l.line.pieces intake l.taken).vmid
+times_once words intake l option.Cid = (taken_once l.line.pieces intake l.taken).cid
+times_once words intake l option.Settings = (taken_once l.line.pieces intake l.taken).settings
+times_once words intake l o = unused_once o (values_of o l.line.pieces) (l.line.only o refl)
+
+times_has : (words : List (List ℕ)) (intake : Intake) (l : IsTimesLine words intake) (o : CommandOption)
+    → Has times_row o ⊎ (values_of o l.line.pieces ≡ [])
+times_has words intake l option.Raw = inl refl
+times_has words intake l option.Depth = inl refl
+times_has words intake l option.Vmid = inl refl
+times_has words intake l option.Cid = inl refl
+times_has words intake l option.Settings = inl refl
+times_has words intake l o = inr (l.line.only o refl)
 
 packets_has : (words : List (List ℕ)) (intake : Intake) (l : IsPacketsLine words intake) (o : CommandOption)
     → Has packets_row o ⊎ (values_of o l.line.pieces ≡ [])
 packets_has words intake l option.Raw = inl refl
 packets_has words intake l option.Wrap = inl refl
-packets_has words intake l option.Depth = inr l.no_depth
+packets_has words intake l option.Sync = inl refl
 packets_has words intake l option.Vmid = inl refl
 packets_has words intake l option.Cid = inl refl
 packets_has words intake l option.Settings = inl refl
-packets_has words intake l option.Last = inr l.no_last
-packets_has words intake l option.Cut = inr l.no_cut
+packets_has words intake l o = inr (l.line.only o refl)
 
 pub packets_said : (words : List (List ℕ)) (intake : Intake) → IsPacketsLine words intake → meaning words ≡ Some (Packets intake)
 packets_said words intake l =
@@ -1294,49 +1451,102 @@ packets_said words intake l =
       allowed = inr l.line.positionals_are;
       enough = inl refl;
     }) in
-    let says = said_by t.end intake l.all (values_of option.Raw l.line.pieces) (values_of option.Wrap l.line.pieces) [] (values_of option.Vmid l.line.pieces)
-    (values_of option.Cid l.line.pieces) (values_of option.Settings l.line.pieces) (t.values option.Raw) (t.values option.Wrap)
-    (t.values option.Depth ∙ l.no_depth) (t.values option.Vmid) (t.values option.Cid) (t.values option.Settings) l.layout_is l.depth_is l.vmid_is l.cid_is
-    l.within l.units_are in
-    ap meaning l.line.row ∙ packets_means (in_row l.line.pieces l.line.ended) t.end intake t.seen_is says
+    ap meaning l.line.row
+    ∙ packets_means (in_row l.line.pieces l.line.ended) t.end intake t.seen_is
+    (said_by t.end intake l.line.pieces (told_in t.end l.line.pieces t.values) l.taken)
+
+pub times_said : (words : List (List ℕ)) (intake : Intake) → IsTimesLine words intake → meaning words ≡ Some (Times intake)
+times_said words intake l =
+    let t = taken times_row l.line.pieces l.line.ended l.line.behind nothing_seen refl l.line.are_pieces l.line.end_is (record {
+      free = refl;
+      once = times_once words intake l;
+      one = subst OnceAtMost (sym l.line.positionals_are) tt;
+      has = times_has words intake l;
+      allowed = inr l.line.positionals_are;
+      enough = inl refl;
+    }) in
+    ap meaning l.line.row
+    ∙ times_means (in_row l.line.pieces l.line.ended) t.end intake t.seen_is
+    (said_by t.end intake l.line.pieces (told_in t.end l.line.pieces t.values) l.taken)
+
+retired_has : (words : List (List ℕ)) (program : Program) (l : IsRetiredLine words program) (o : CommandOption)
+    → Has retired_row o ⊎ (values_of o l.line.pieces ≡ [])
+retired_has words program l option.Elf = inl refl
+retired_has words program l o = inr (l.line.only o refl)
+
+retired_once : (words : List (List ℕ)) (program : Program) (l : IsRetiredLine words program) (o : CommandOption)
+    → OnceAtMost (given o nothing_seen ++ values_of o l.line.pieces)
+retired_once words program l option.Elf = form_once (values_of option.Elf l.line.pieces) program.form l.form_is
+retired_once words program l o = unused_once o (values_of o l.line.pieces) (l.line.only o refl)
 
 pub retired_said : (words : List (List ℕ)) (program : Program) → IsRetiredLine words program → meaning words ≡ Some (Retired program)
 retired_said words program l =
     let t = taken retired_row l.line.pieces l.line.ended l.line.behind nothing_seen refl l.line.are_pieces l.line.end_is (record {
       free = refl;
-      once = λ o. unused_once o (values_of o l.line.pieces) (l.no_option o);
+      once = retired_once words program l;
       one = positional_once (positionals_of l.line.pieces ++ l.line.behind) program.name l.line.positionals_are;
-      has = λ o. inr (l.no_option o);
+      has = retired_has words program l;
       allowed = inl refl;
       enough = inr (program.name, l.line.positionals_are);
     }) in
     ap meaning l.line.row
     ∙ retired_means (in_row l.line.pieces l.line.ended) t.end program t.seen_is
-    (program_said t.end program (positional_said t.end.positional program.name (t.positionals ∙ l.line.positionals_are)))
+    (program_said t.end program (values_of option.Elf l.line.pieces) (positional_said t.end.positional program.name (t.positionals ∙ l.line.positionals_are))
+    (t.values option.Elf) l.form_is)
 
-pub trace_said : (words : List (List ℕ)) (program : Program) (last : Option ℕ) → IsTraceLine words program last
-    → meaning words ≡ Some (Trace program last)
-trace_said words program last l =
+trace_has : (words : List (List ℕ)) (program : Program) (last every : Option ℕ) (l : IsTraceLine words program last every) (o : CommandOption)
+    → Has trace_row o ⊎ (values_of o l.line.pieces ≡ [])
+trace_has words program last every l option.Last = inl refl
+trace_has words program last every l option.SyncEvery = inl refl
+trace_has words program last every l option.Elf = inl refl
+trace_has words program last every l o = inr (l.line.only o refl)
+
+trace_once : (words : List (List ℕ)) (program : Program) (last every : Option ℕ) (l : IsTraceLine words program last every) (o : CommandOption)
+    → OnceAtMost (given o nothing_seen ++ values_of o l.line.pieces)
+trace_once words program last every l option.Last = count_once most_last (values_of option.Last l.line.pieces) last l.last_is
+trace_once words program last every l option.SyncEvery = count_once most_every (values_of option.SyncEvery l.line.pieces) every l.every_is
+trace_once words program last every l option.Elf = form_once (values_of option.Elf l.line.pieces) program.form l.form_is
+trace_once words program last every l o = unused_once o (values_of o l.line.pieces) (l.line.only o refl)
+
+count_listed : (most : ℕ) (value : Option (List ℕ)) (count : Option ℕ) (values : List (List ℕ)) → listed value ≡ values → IsCount most values count
+    → count_of most value ≡ Some count
+count_listed most value count values same is = count_said most value count (subst (λ (l : List (List ℕ)). IsCount most l count) (sym same) is)
+
+pub trace_said : (words : List (List ℕ)) (program : Program) (last every : Option ℕ) → IsTraceLine words program last every
+    → meaning words ≡ Some (Trace program last every)
+trace_said words program last every l =
     let t = taken trace_row l.line.pieces l.line.ended l.line.behind nothing_seen refl l.line.are_pieces l.line.end_is (record {
       free = refl;
-      once = λ o. one_once option.Last l.line.pieces (last_once (values_of option.Last l.line.pieces) last l.last_is) l.no_other o (is_last o);
+      once = trace_once words program last every l;
       one = positional_once (positionals_of l.line.pieces ++ l.line.behind) program.name l.line.positionals_are;
-      has = λ o. has_one trace_row option.Last l.line.pieces refl l.no_other o (is_last o);
+      has = trace_has words program last every l;
       allowed = inl refl;
       enough = inr (program.name, l.line.positionals_are);
     }) in
     ap meaning l.line.row
-    ∙ trace_means (in_row l.line.pieces l.line.ended) t.end program last t.seen_is
-    (program_said t.end program (positional_said t.end.positional program.name (t.positionals ∙ l.line.positionals_are)))
-    (last_said t.end.last last (subst (λ (v : List (List ℕ)). IsLast v last) (sym (t.values option.Last)) l.last_is))
+    ∙ trace_means (in_row l.line.pieces l.line.ended) t.end program last every t.seen_is
+    (program_said t.end program (values_of option.Elf l.line.pieces) (positional_said t.end.positional program.name (t.positionals ∙ l.line.positionals_are))
+    (t.values option.Elf) l.form_is)
+    (count_listed most_last t.end.last last (values_of option.Last l.line.pieces) (t.values option.Last) l.last_is)
+    (count_listed most_every t.end.every every (values_of option.SyncEvery l.line.pieces) (t.values option.SyncEvery) l.every_is)
+
+selftest_has : (words : List (List ℕ)) (n : ℕ) (cut : Option ℕ) (l : IsSelftestLine words n cut) (o : CommandOption)
+    → Has selftest_row o ⊎ (values_of o l.line.pieces ≡ [])
+selftest_has words n cut l option.Cut = inl refl
+selftest_has words n cut l o = inr (l.line.only o refl)
+
+selftest_once : (words : List (List ℕ)) (n : ℕ) (cut : Option ℕ) (l : IsSelftestLine words n cut) (o : CommandOption)
+    → OnceAtMost (given o nothing_seen ++ values_of o l.line.pieces)
+selftest_once words n cut l option.Cut = cut_once (values_of option.Cut l.line.pieces) cut l.cut_is
+selftest_once words n cut l o = unused_once o (values_of o l.line.pieces) (l.line.only o refl)
 
 pub selftest_said : (words : List (List ℕ)) (n : ℕ) (cut : Option ℕ) → IsSelftestLine words n cut → meaning words ≡ Some (Selftest n cut)
 selftest_said words n cut l =
     let t = taken selftest_row l.line.pieces l.line.ended l.line.behind nothing_seen refl l.line.are_pieces l.line.end_is (record {
       free = refl;
-      once = λ o. one_once option.Cut l.line.pieces (cut_once (values_of option.Cut l.line.pieces) cut l.cut_is) l.no_other o (is_cut o);
+      once = selftest_once words n cut l;
       one = positional_once (positionals_of l.line.pieces ++ l.line.behind) l.number l.line.positionals_are;
-      has = λ o. has_one selftest_row option.Cut l.line.pieces refl l.no_other o (is_cut o);
+      has = selftest_has words n cut l;
       allowed = inl refl;
       enough = inr (l.number, l.line.positionals_are);
     }) in

@@ -2,16 +2,17 @@
 use Rattle.std.proofs.Common.{◌≡◌, ℕ, List, [], ◌∷◌, codes, Option, Some, None, replicate, refl, ap, arith}
 use Rattle.etm_types.specs.Settings.{Sizes}
 use Rattle.command_words.specs.declared.words.Layout.{Layout}
+use Rattle.command_words.specs.declared.words.ProgramForm.TheVariants as form
 use Rattle.command_words.specs.declared.words.Layout.TheVariants.{Raw, Frames, Wrapped}
-use Rattle.command_words.specs.CommandLines.{IsLast, IsLayout}
-use Rattle.command_words.specs.Said.{IsLastCount, IsLaidOut}
-use Rattle.command_words.specs.Words.{Command, Intake, Packets, Path, Program, Retired, Selftest, Trace, image_of, meaning}
+use Rattle.command_words.specs.CommandLines.{IsCount, IsLayout}
+use Rattle.command_words.specs.Said.{IsCountTo, IsLaidOut}
+use Rattle.command_words.specs.Words.{Command, Intake, Packets, Path, Program, Retired, Selftest, Times, Trace, image_of, meaning, most_last}
 
 abbrev sizes : ℕ → ℕ → ℕ → Sizes
 sizes depth vmid cid = record { depth = depth; vmid_bytes = vmid; cid_bytes = cid }
 
 abbrev of_image : List ℕ → Program
-of_image name = record { name = name }
+of_image name = record { name = name; form = form.Text }
 
 -- all IDs have the same sizes
 abbrev taken : Sizes → Layout → Intake
@@ -128,21 +129,21 @@ packets_of_one_stream_from_the_first = refl
 -- ---- the last frames
 
 -- trace --last 1 img
-pub last_frame : meaning (codes "trace" ∷ codes "--last" ∷ codes "1" ∷ codes "img" ∷ []) ≡ Some (Trace (of_image (codes "img")) (Some 1))
+pub last_frame : meaning (codes "trace" ∷ codes "--last" ∷ codes "1" ∷ codes "img" ∷ []) ≡ Some (Trace (of_image (codes "img")) (Some 1) None)
 last_frame = refl
 
 -- trace img --last=5
-pub last_frames_joined : meaning (codes "trace" ∷ codes "img" ∷ codes "--last=5" ∷ []) ≡ Some (Trace (of_image (codes "img")) (Some 5))
+pub last_frames_joined : meaning (codes "trace" ∷ codes "img" ∷ codes "--last=5" ∷ []) ≡ Some (Trace (of_image (codes "img")) (Some 5) None)
 last_frames_joined = refl
 
 -- trace --last 65536 img
 pub most_last_frames : meaning (codes "trace" ∷ codes "--last" ∷ codes "65536" ∷ codes "img" ∷ [])
-    ≡ Some (Trace (of_image (codes "img")) (Some 65536))
+    ≡ Some (Trace (of_image (codes "img")) (Some 65536) None)
 most_last_frames = refl
 
 -- trace --last=0000065536 -- -x
 pub last_frames_of_ten_digits : meaning (codes "trace" ∷ codes "--last=0000065536" ∷ codes "--" ∷ codes "-x" ∷ [])
-    ≡ Some (Trace (of_image (codes "-x")) (Some 65536))
+    ≡ Some (Trace (of_image (codes "-x")) (Some 65536) None)
 last_frames_of_ten_digits = refl
 
 -- trace --last 0 img
@@ -225,28 +226,28 @@ no_image_of_a_buffer = refl
 -- ---- what the values of the options stand for
 
 -- a buffer whose oldest frame is its first one is told of as a buffer
-pub not_in_order : IsLayout [] (codes "0" ∷ []) Frames → ⊥
+pub not_in_order : IsLayout [] (codes "0" ∷ []) [] Frames → ⊥
 not_in_order is = let same = is.3 in absurd cc
 
 -- frames are counted from 0
-pub not_the_next_place : IsLayout [] (codes "1" ∷ []) (Wrapped 2) → ⊥
+pub not_the_next_place : IsLayout [] (codes "1" ∷ []) [] (Wrapped 2) → ⊥
 not_the_next_place is = let place : ◌≡◌ {A = Option ℕ} (Some 1) (Some is.0) = is.1 in let same = is.3 in absurd cc
 
 -- both options tell no layout
-pub no_layout_of_both : IsLayout ([] ∷ []) (codes "0" ∷ []) Raw → ⊥
+pub no_layout_of_both : IsLayout ([] ∷ []) (codes "0" ∷ []) [] Raw → ⊥
 no_layout_of_both is = is
 
-pub no_layout_of_two_flags : IsLayout ([] ∷ [] ∷ []) [] Raw → ⊥
+pub no_layout_of_two_flags : IsLayout ([] ∷ [] ∷ []) [] [] Raw → ⊥
 no_layout_of_two_flags is = is
 
-pub no_layout_of_two_places : IsLayout [] (codes "1" ∷ codes "1" ∷ []) (Wrapped 1) → ⊥
+pub no_layout_of_two_places : IsLayout [] (codes "1" ∷ codes "1" ∷ []) [] (Wrapped 1) → ⊥
 no_layout_of_two_places is = is
 
 -- no frame at all is no number of last frames
-pub not_the_last_of_none : IsLast (codes "0" ∷ []) (Some 0) → ⊥
+pub not_the_last_of_none : IsCount 65536 (codes "0" ∷ []) (Some 0) → ⊥
 not_the_last_of_none is = let count : ◌≡◌ {A = Option ℕ} (Some 0) (Some is.0) = is.1 in let same : 0 ≡ is.0 = cc in absurd (omega (arith, same, is.2))
 
-pub no_more_than_the_most : IsLastCount (Some 65537) → ⊥
+pub no_more_than_the_most : IsCountTo most_last (Some 65537) → ⊥
 no_more_than_the_most are = absurd (omega (arith, are.1))
 
 pub no_place_past_the_most : IsLaidOut (Wrapped 65537) → ⊥
@@ -258,8 +259,9 @@ no_place_past_the_most is = absurd (omega (arith, is))
 abbrev layout_in : Option Command → Layout
 layout_in (Some (Path program intake)) = intake.layout
 layout_in (Some (Packets intake)) = intake.layout
+layout_in (Some (Times intake)) = intake.layout
 layout_in (Some (Retired program)) = Frames
-layout_in (Some (Trace program last)) = Frames
+layout_in (Some (Trace program last every)) = Frames
 layout_in (Some (Selftest n cut)) = Frames
 layout_in None = Frames
 

@@ -2,6 +2,7 @@ mod CommandLines
 mod FrameExamples
 mod ListExamples
 pub mod ListTables
+mod SyncExamples
 pub mod WordAgreement
 pub mod WordEnds
 mod WordExamples

@@ -4,8 +4,9 @@ use Rattle.hex.specs.Hex.{decode_pairs}
 use Rattle.etm_types.specs.Settings.{Sizes}
 use Rattle.etm_types.specs.SettingsTable.{sizes_at}
 use Rattle.command_words.specs.declared.words.Layout.{Layout}
+use Rattle.command_words.specs.declared.words.ProgramForm.TheVariants as form
 use Rattle.command_words.specs.declared.words.Layout.TheVariants.{Raw, Frames}
-use Rattle.command_words.specs.Words.{Command, Path, Packets, Retired, Selftest, Trace, meaning}
+use Rattle.command_words.specs.Words.{Command, Path, Packets, Retired, Selftest, Times, Trace, meaning}
 
 abbrev sizes : ℕ → ℕ → ℕ → Sizes
 sizes depth vmid cid = record { depth = depth; vmid_bytes = vmid; cid_bytes = cid }
@@ -19,7 +20,7 @@ abbrev packets_by : List ℕ → Option Command
 packets_by list = meaning (codes "packets" ∷ codes "--settings" ∷ list ∷ [])
 
 abbrev path_of : List Sizes → Layout → Option Command
-path_of units layout = Some (Path (record { name = codes "img" }) (record { units = units; layout = layout }))
+path_of units layout = Some (Path (record { name = codes "img"; form = form.Text }) (record { units = units; layout = layout }))
 
 abbrev packets_of : List Sizes → Layout → Option Command
 packets_of units layout = Some (Packets (record { units = units; layout = layout }))
@@ -230,8 +231,9 @@ number_by_a_list = refl
 abbrev units_in : Option Command → List Sizes
 units_in (Some (Path program intake)) = intake.units
 units_in (Some (Packets intake)) = intake.units
+units_in (Some (Times intake)) = intake.units
 units_in (Some (Retired program)) = []
-units_in (Some (Trace program last)) = []
+units_in (Some (Trace program last every)) = []
 units_in (Some (Selftest n cut)) = []
 units_in None = []
 

@@ -10,7 +10,7 @@ use Rattle.clap.specs.Faults.{settle_fault, turn_fault, use_fault}
 use Rattle.clap.specs.Kinds.{Kinds, or_else}
 use Rattle.command_words.specs.declared.words.CommandOption.{CommandOption}
 use Rattle.command_words.specs.declared.words.CommandOption.TheVariants as option
-use Rattle.command_words.specs.Words.{CommandRow, Seen, is_dashed, is_seen, is_whole, name_and_value, name_of, seen_of, takes_value}
+use Rattle.command_words.specs.Words.{CommandRow, Seen, is_dashed, is_seen, is_whole, key_of, name_and_value, name_of, seen_of, takes_value}
 use Rattle.command_words.specs.Words.{with_named, with_option, with_positional, with_value, with_word}
 use Rattle.command_words.proofs.WordTurns.{Has, has_found}
 use Rattle.command_words.proofs.WordParses.{IsFault, Named, Positional, Shows, by_id, done_option, done_positional, fault_first, fault_then, leaf, no_row}
@@ -51,51 +51,66 @@ AreTexts (word ∷ words) = ((b : ℕ) (rest : Text) → word ≡ 45 ∷ b ∷ r
 value_positional : (o : CommandOption) (v : Text) (seen : Seen) → (with_value o v seen).positional ≡ seen.positional
 value_positional option.Raw v seen = refl
 value_positional option.Wrap v seen = refl
+value_positional option.Sync v seen = refl
 value_positional option.Depth v seen = refl
 value_positional option.Vmid v seen = refl
 value_positional option.Cid v seen = refl
 value_positional option.Settings v seen = refl
+value_positional option.Elf v seen = refl
 value_positional option.Last v seen = refl
+value_positional option.SyncEvery v seen = refl
 value_positional option.Cut v seen = refl
 
 value_ended : (o : CommandOption) (v : Text) (seen : Seen) → (with_value o v seen).ended ≡ seen.ended
 value_ended option.Raw v seen = refl
 value_ended option.Wrap v seen = refl
+value_ended option.Sync v seen = refl
 value_ended option.Depth v seen = refl
 value_ended option.Vmid v seen = refl
 value_ended option.Cid v seen = refl
 value_ended option.Settings v seen = refl
+value_ended option.Elf v seen = refl
 value_ended option.Last v seen = refl
+value_ended option.SyncEvery v seen = refl
 value_ended option.Cut v seen = refl
 
 value_free : (o : CommandOption) (v : Text) (seen : Seen) → (with_value o v seen).waits ≡ None
 value_free option.Raw v seen = refl
 value_free option.Wrap v seen = refl
+value_free option.Sync v seen = refl
 value_free option.Depth v seen = refl
 value_free option.Vmid v seen = refl
 value_free option.Cid v seen = refl
 value_free option.Settings v seen = refl
+value_free option.Elf v seen = refl
 value_free option.Last v seen = refl
+value_free option.SyncEvery v seen = refl
 value_free option.Cut v seen = refl
 
 values_is : (o : CommandOption) (v : Text) → takes_value o ≡ true → values_for (Named o) v ≡ v ∷ []
 values_is option.Raw v takes = absurd cc
 values_is option.Wrap v takes = refl
+values_is option.Sync v takes = absurd cc
 values_is option.Depth v takes = refl
 values_is option.Vmid v takes = refl
 values_is option.Cid v takes = refl
 values_is option.Settings v takes = refl
+values_is option.Elf v takes = absurd cc
 values_is option.Last v takes = refl
+values_is option.SyncEvery v takes = refl
 values_is option.Cut v takes = refl
 
 values_none : (o : CommandOption) (v : Text) → takes_value o ≡ false → values_for (Named o) v ≡ []
 values_none option.Raw v takes = refl
 values_none option.Wrap v takes = absurd cc
+values_none option.Sync v takes = refl
 values_none option.Depth v takes = absurd cc
 values_none option.Vmid v takes = absurd cc
 values_none option.Cid v takes = absurd cc
 values_none option.Settings v takes = absurd cc
+values_none option.Elf v takes = refl
 values_none option.Last v takes = absurd cc
+values_none option.SyncEvery v takes = absurd cc
 values_none option.Cut v takes = absurd cc
 
 none_of : (x : Option Text) → is_some x ≡ false → x ≡ None
@@ -112,30 +127,36 @@ raw_none raw e = simp e
 not_shown : (o : CommandOption) (seen : Seen) → is_seen o seen ≡ false → text_in (Named o) seen ≡ None
 not_shown option.Raw seen e = raw_none seen.raw e
 not_shown option.Wrap seen e = none_of seen.wrap e
+not_shown option.Sync seen e = raw_none seen.sync e
 not_shown option.Depth seen e = none_of seen.depth e
 not_shown option.Vmid seen e = none_of seen.vmid e
 not_shown option.Cid seen e = none_of seen.cid e
 not_shown option.Settings seen e = none_of seen.settings e
+not_shown option.Elf seen e = raw_none seen.elf e
 not_shown option.Last seen e = none_of seen.last e
+not_shown option.SyncEvery seen e = none_of seen.every e
 not_shown option.Cut seen e = none_of seen.cut e
 
 is_shown : (o : CommandOption) (seen : Seen) → is_seen o seen ≡ true → (v : Text) × (text_in (Named o) seen ≡ Some v)
 is_shown option.Raw seen e = (codes "true", simp e)
 is_shown option.Wrap seen e = some_of seen.wrap e
+is_shown option.Sync seen e = (codes "true", simp e)
 is_shown option.Depth seen e = some_of seen.depth e
 is_shown option.Vmid seen e = some_of seen.vmid e
 is_shown option.Cid seen e = some_of seen.cid e
 is_shown option.Settings seen e = some_of seen.settings e
+is_shown option.Elf seen e = (codes "true", simp e)
 is_shown option.Last seen e = some_of seen.last e
+is_shown option.SyncEvery seen e = some_of seen.every e
 is_shown option.Cut seen e = some_of seen.cut e
 
-row_there : (o : CommandOption) (rows : List Row) (seen : Seen) → Shows rows seen → is_seen o seen ≡ true → has_row (name_of o) rows ≡ true
+row_there : (o : CommandOption) (rows : List Row) (seen : Seen) → Shows rows seen → is_seen o seen ≡ true → has_row (key_of o) rows ≡ true
 row_there o rows seen shows there =
     let shown = is_shown o seen there in
-    some_row (name_of o) rows (row_for (Named o) shown.0) (shows (Named o) ∙ ap (option_map (row_for (Named o))) shown.1)
+    some_row (key_of o) rows (row_for (Named o) shown.0) (shows (Named o) ∙ ap (option_map (row_for (Named o))) shown.1)
 
-row_not : (o : CommandOption) (rows : List Row) (seen : Seen) → Shows rows seen → is_seen o seen ≡ false → has_row (name_of o) rows ≡ false
-row_not o rows seen shows none = no_row (name_of o) rows (shows (Named o) ∙ ap (option_map (row_for (Named o))) (not_shown o seen none))
+row_not : (o : CommandOption) (rows : List Row) (seen : Seen) → Shows rows seen → is_seen o seen ≡ false → has_row (key_of o) rows ≡ false
+row_not o rows seen shows none = no_row (key_of o) rows (shows (Named o) ∙ ap (option_map (row_for (Named o))) (not_shown o seen none))
 
 -- a use of an option that was not seen
 use_clean : (o : CommandOption) (v : Text) (vs : List Text) (rows : List Row) (seen : Seen) → Shows rows seen → is_seen o seen ≡ false
@@ -164,39 +185,39 @@ value_bad row rows p w None t word false has is bad = stray row rows p w 1 t wor
 value_bad row rows p w (Some v) t word b has is bad = stray row rows p w 2 t word is (no_second row)
 
 settle_is : (row : CommandRow) (rows : List Row) (o : CommandOption) (vs : List Text) → Has row o
-    → settle_fault (rules row) false (hold rows (Some (name_of o, vs))) ≡ use_fault false (done_option o) vs rows
+    → settle_fault (rules row) false (hold rows (Some (key_of o, vs))) ≡ use_fault false (done_option o) vs rows
 settle_is row rows o vs has = simp (by_id row o has)
 
 -- an option behind which `--` stands in place of its value
 pub bare_bad : (row : CommandRow) (rows : List Row) (o : CommandOption) (positional : Option Text) (words : List Text) → Has row o → takes_value o ≡ true
-    → IsFault (end_fault row (at rows (Some (name_of o, [])) (waits_for (name_of o)) (place_of positional) true) words)
+    → IsFault (end_fault row (at rows (Some (key_of o, [])) (waits_for (key_of o)) (place_of positional) true) words)
 bare_bad row rows o positional [] has takes =
-    end_pending row rows (Some (name_of o, [])) (waits_for (name_of o)) (place_of positional) true
+    end_pending row rows (Some (key_of o, [])) (waits_for (key_of o)) (place_of positional) true
     (subst IsFault (sym (settle_is row rows o [] has)) (use_bare o rows takes))
 bare_bad row rows o positional (word ∷ words) has takes =
-    let p = Some (name_of o, []) in let w = waits_for (name_of o) in
+    let p = Some (key_of o, []) in let w = waits_for (key_of o) in
     end_bad row (at rows p w (place_of positional) true) word words (value_bad row rows p w positional true word row.has_positional refl
     (value_behind row rows p w (place_of positional) word) (subst IsFault (sym (settle_is row rows o [] has)) (use_bare o rows takes)))
 
 -- an option that stands twice is pending, without its value or with it
 abbrev pending_of : CommandOption → Option Text → Text × List Text
-pending_of o None = (name_of o, [])
-pending_of o (Some v) = (name_of o, v ∷ [])
+pending_of o None = (key_of o, [])
+pending_of o (Some v) = (key_of o, v ∷ [])
 
 abbrev waits_of : CommandOption → Option Text → Waiting
-waits_of o None = waits_for (name_of o)
+waits_of o None = waits_for (key_of o)
 waits_of o (Some v) = idle
 
 abbrev again : List Row → CommandOption → Option Text → Option Text → Bool → Walk
 again rows o v positional t = at rows (Some (pending_of o v)) (waits_of o v) (place_of positional) t
 
-pending_again : (row : CommandRow) (rows : List Row) (o : CommandOption) (v : Option Text) → Has row o → has_row (name_of o) rows ≡ true
+pending_again : (row : CommandRow) (rows : List Row) (o : CommandOption) (v : Option Text) → Has row o → has_row (key_of o) rows ≡ true
     → IsFault (settle_fault (rules row) false (hold rows (Some (pending_of o v))))
 pending_again row rows o None has there = subst IsFault (sym (settle_is row rows o [] has)) (use_again o [] rows there)
 pending_again row rows o (Some v) has there = subst IsFault (sym (settle_is row rows o (v ∷ []) has)) (use_again o (v ∷ []) rows there)
 
 waits_kind : (o : CommandOption) (v : Option Text) → (waits_of o v ≡ idle) ⊎ ((id : Text) × (waits_of o v ≡ waits_for id))
-waits_kind o None = inr (name_of o, refl)
+waits_kind o None = inr (key_of o, refl)
 waits_kind o (Some v) = inl refl
 
 -- a dashed word that is no `--` meets what is pending
@@ -219,23 +240,23 @@ dash_bad row rows p w n b rest word is other kind texts =
 again_ends : (row : CommandRow) (rows : List Row) (o : CommandOption) (v positional : Option Text) (word : Text) → word ≡ codes "--"
     → (turn_fault (leaf row) [] (again rows o v positional false) word ≡ [])
     × (walked (rules row) [] (again rows o v positional false) word ≡ again rows o v positional true)
-again_ends row rows o None positional word is = rw is (end_waits row rows (Some (name_of o, [])) (name_of o) (place_of positional))
-again_ends row rows o (Some v) positional word is = rw is (end_turn row rows (Some (name_of o, v ∷ [])) (place_of positional))
+again_ends row rows o None positional word is = rw is (end_waits row rows (Some (key_of o, [])) (key_of o) (place_of positional))
+again_ends row rows o (Some v) positional word is = rw is (end_turn row rows (Some (key_of o, v ∷ [])) (place_of positional))
 
 again_plain : (row : CommandRow) (rows : List Row) (o : CommandOption) (v positional : Option Text) (word : Text) (words : List Text) → Has row o
     → takes_value o ≡ true
-    → has_row (name_of o) rows ≡ true → is_dashed word ≡ false → IsFault (end_fault row (again rows o (Some word) positional false) words)
+    → has_row (key_of o) rows ≡ true → is_dashed word ≡ false → IsFault (end_fault row (again rows o (Some word) positional false) words)
     → IsFault (end_fault row (again rows o v positional false) (word ∷ words))
 again_plain row rows o None positional word words has takes there plain rest =
     let turn = value_turn row rows (place_of positional) o word has takes plain in
     subst IsFault (sym (end_more row (again rows o None positional false) (again rows o (Some word) positional false) word words turn.0 turn.1)) rest
 again_plain row rows o (Some v) positional word words has takes there plain rest =
     end_bad row (again rows o (Some v) positional false) word words
-    (value_bad row rows (Some (name_of o, v ∷ [])) idle positional false word row.has_positional refl
-    (value_plain row rows (Some (name_of o, v ∷ [])) (place_of positional) word plain) (pending_again row rows o (Some v) has there))
+    (value_bad row rows (Some (key_of o, v ∷ [])) idle positional false word row.has_positional refl
+    (value_plain row rows (Some (key_of o, v ∷ [])) (place_of positional) word plain) (pending_again row rows o (Some v) has there))
 
 again_bad : (row : CommandRow) (words : List Text) → AreTexts words → (rows : List Row) (o : CommandOption) (v positional : Option Text) (t : Bool)
-    → Has row o → takes_value o ≡ true → has_row (name_of o) rows ≡ true → IsFault (end_fault row (again rows o v positional t) words)
+    → Has row o → takes_value o ≡ true → has_row (key_of o) rows ≡ true → IsFault (end_fault row (again rows o v positional t) words)
 again_bad row [] texts rows o v positional t has takes there =
     end_pending row rows (Some (pending_of o v)) (waits_of o v) (place_of positional) t (pending_again row rows o v has there)
 again_bad row (word ∷ words) texts rows o v positional true has takes there =
@@ -298,7 +319,7 @@ pub data Stands (row : CommandRow) (seen : Seen) : Type 0 where
 
 abbrev pub walk_of : (row : CommandRow) (seen : Seen) → Stands row seen → Walk
 walk_of row seen (Idles rows p free clean shows) = at rows p idle (place_of seen.positional) seen.ended
-walk_of row seen (Pends rows o waits off has takes none shows) = at rows (Some (name_of o, [])) (waits_for (name_of o)) (place_of seen.positional) false
+walk_of row seen (Pends rows o waits off has takes none shows) = at rows (Some (key_of o, [])) (waits_for (key_of o)) (place_of seen.positional) false
 
 abbrev Rest : CommandRow → List Text → Seen → Type 0
 Rest row words next = (st : Stands row next) → Agrees row next words (walk_of row next st)
@@ -325,12 +346,12 @@ ends_idle row seen rows p free clean shows =
     ]
 
 ends_pending : (row : CommandRow) (seen : Seen) (rows : List Row) (o : CommandOption) → seen.waits ≡ Some o → Has row o → takes_value o ≡ true
-    → Agrees row seen [] (at rows (Some (name_of o, [])) (waits_for (name_of o)) (place_of seen.positional) false)
+    → Agrees row seen [] (at rows (Some (key_of o, [])) (waits_for (key_of o)) (place_of seen.positional) false)
 ends_pending row seen rows o waits has takes =
     let w : is_whole row seen ≡ false = simp waits in let none : seen_of row seen [] ≡ None = simp w in
     record {
       meant = λ end e. absurd (let f = sym none ∙ e in cc);
-      refused = λ e. end_pending row rows (Some (name_of o, [])) (waits_for (name_of o)) (place_of seen.positional) false
+      refused = λ e. end_pending row rows (Some (key_of o, [])) (waits_for (key_of o)) (place_of seen.positional) false
           (subst IsFault (sym (settle_is row rows o [] has)) (use_bare o rows takes));
     }
 
@@ -455,32 +476,41 @@ flag_case row seen words rows p x text name o false is there takes seen_is rest 
 seen_waits : (p : CommandOption) (waits : Option CommandOption) (seen : Seen) → is_seen p (record seen { waits = waits }) ≡ is_seen p seen
 seen_waits option.Raw waits seen = refl
 seen_waits option.Wrap waits seen = refl
+seen_waits option.Sync waits seen = refl
 seen_waits option.Depth waits seen = refl
 seen_waits option.Vmid waits seen = refl
 seen_waits option.Cid waits seen = refl
 seen_waits option.Settings waits seen = refl
+seen_waits option.Elf waits seen = refl
 seen_waits option.Last waits seen = refl
+seen_waits option.SyncEvery waits seen = refl
 seen_waits option.Cut waits seen = refl
 
 shows_waits : (rows : List Row) (waits : Option CommandOption) (seen : Seen) → Shows rows seen → Shows rows (record seen { waits = waits })
 shows_waits rows waits seen shows (Named option.Raw) = shows (Named option.Raw)
 shows_waits rows waits seen shows (Named option.Wrap) = shows (Named option.Wrap)
+shows_waits rows waits seen shows (Named option.Sync) = shows (Named option.Sync)
 shows_waits rows waits seen shows (Named option.Depth) = shows (Named option.Depth)
 shows_waits rows waits seen shows (Named option.Vmid) = shows (Named option.Vmid)
 shows_waits rows waits seen shows (Named option.Cid) = shows (Named option.Cid)
 shows_waits rows waits seen shows (Named option.Settings) = shows (Named option.Settings)
+shows_waits rows waits seen shows (Named option.Elf) = shows (Named option.Elf)
 shows_waits rows waits seen shows (Named option.Last) = shows (Named option.Last)
+shows_waits rows waits seen shows (Named option.SyncEvery) = shows (Named option.SyncEvery)
 shows_waits rows waits seen shows (Named option.Cut) = shows (Named option.Cut)
 shows_waits rows waits seen shows Positional = shows Positional
 
 shows_ended : (rows : List Row) (ended : Bool) (seen : Seen) → Shows rows seen → Shows rows (record seen { ended = ended })
 shows_ended rows ended seen shows (Named option.Raw) = shows (Named option.Raw)
 shows_ended rows ended seen shows (Named option.Wrap) = shows (Named option.Wrap)
+shows_ended rows ended seen shows (Named option.Sync) = shows (Named option.Sync)
 shows_ended rows ended seen shows (Named option.Depth) = shows (Named option.Depth)
 shows_ended rows ended seen shows (Named option.Vmid) = shows (Named option.Vmid)
 shows_ended rows ended seen shows (Named option.Cid) = shows (Named option.Cid)
 shows_ended rows ended seen shows (Named option.Settings) = shows (Named option.Settings)
+shows_ended rows ended seen shows (Named option.Elf) = shows (Named option.Elf)
 shows_ended rows ended seen shows (Named option.Last) = shows (Named option.Last)
+shows_ended rows ended seen shows (Named option.SyncEvery) = shows (Named option.SyncEvery)
 shows_ended rows ended seen shows (Named option.Cut) = shows (Named option.Cut)
 shows_ended rows ended seen shows Positional = shows Positional
 
@@ -502,7 +532,7 @@ wait_case row seen words texts rows p x text name o false is there takes seen_is
     let turn = wait_turn row rows p (place_of seen.positional) x text name o is.cut there takes in
     let clean = turn.0 ∙ ap (λ (k : Kinds). or_else k []) is.clean in
     step_on row seen (record seen { waits = Some o }) (45 ∷ 45 ∷ x ∷ text) words (at rows p idle (place_of seen.positional) false)
-    (at settled (Some (name_of o, [])) (waits_for (name_of o)) (place_of seen.positional) false)
+    (at settled (Some (key_of o, [])) (waits_for (key_of o)) (place_of seen.positional) false)
     (named_is row seen rows p x text name None (Some o) is there ∙ some)
     clean turn.1
     (rest (Pends settled o refl is.off (has_found row name o there) takes (seen_waits o (Some o) seen ∙ seen_is) (shows_waits settled (Some o) seen is.shows)))
@@ -609,31 +639,31 @@ dashed_waits row seen word o waits off dashed = simp (waits, off, dashed)
 pends_by : (row : CommandRow) (seen : Seen) (word : Text) (words : List Text) → AreTexts (word ∷ words) → (rows : List Row) (o : CommandOption)
     → seen.waits ≡ Some o → seen.ended ≡ false → Has row o → takes_value o ≡ true → is_seen o seen ≡ false → Shows rows seen → Kind word
     → ((next : Seen) → Rest row words next)
-    → Agrees row seen (word ∷ words) (at rows (Some (name_of o, [])) (waits_for (name_of o)) (place_of seen.positional) false)
+    → Agrees row seen (word ∷ words) (at rows (Some (key_of o, [])) (waits_for (key_of o)) (place_of seen.positional) false)
 pends_by row seen word words texts rows o waits off has takes none shows (Ends is) rest =
-    let p = Some (name_of o, []) in let w = waits_for (name_of o) in let turn = end_waits row rows p (name_of o) (place_of seen.positional) in
+    let p = Some (key_of o, []) in let w = waits_for (key_of o) in let turn = end_waits row rows p (key_of o) (place_of seen.positional) in
     subst (λ (u : Text). Agrees row seen (u ∷ words) (at rows p w (place_of seen.positional) false)) (sym is)
     (step_bad row seen (codes "--") words (at rows p w (place_of seen.positional) false) (dashed_waits row seen (codes "--") o waits off refl)
     (subst IsFault (sym (end_more row (at rows p w (place_of seen.positional) false) (at rows p w (place_of seen.positional) true) (codes "--") words
     turn.0 turn.1))
     (bare_bad row rows o seen.positional words has takes)))
 pends_by row seen word words texts rows o waits off has takes none shows (Short b more is other) rest =
-    let p = Some (name_of o, []) in let w = waits_for (name_of o) in
+    let p = Some (key_of o, []) in let w = waits_for (key_of o) in
     let refuse : with_word row word seen ≡ None = subst (λ (u : Text). with_word row u seen ≡ None) (sym is)
     (is_short row seen b more (Some o) off waits other) in
     turn_refused row seen word words (at rows p w (place_of seen.positional) false) refuse
-    (dash_bad row rows p w (place_of seen.positional) b more word is other (inr (name_of o, refl)) (texts.0, tt))
+    (dash_bad row rows p w (place_of seen.positional) b more word is other (inr (key_of o, refl)) (texts.0, tt))
 pends_by row seen word words texts rows o waits off has takes none shows (Long x text is) rest =
-    let p = Some (name_of o, []) in let w = waits_for (name_of o) in
+    let p = Some (key_of o, []) in let w = waits_for (key_of o) in
     let refuse : with_word row word seen ≡ None =
     subst (λ (u : Text). with_word row u seen ≡ None) (sym is) (dashed_waits row seen (45 ∷ 45 ∷ x ∷ text) o waits off refl) in
     turn_refused row seen word words (at rows p w (place_of seen.positional) false) refuse
-    (dashed_bad row rows p w (place_of seen.positional) x text word is (inr (name_of o, refl))
+    (dashed_bad row rows p w (place_of seen.positional) x text word is (inr (key_of o, refl))
     (subst IsFault (sym (settle_is row rows o [] has)) (use_bare o rows takes)))
 pends_by row seen word words texts rows o waits off has takes none shows (Plain plain) rest =
-    let p = Some (name_of o, []) in let w = waits_for (name_of o) in
+    let p = Some (key_of o, []) in let w = waits_for (key_of o) in
     let some : with_word row word seen ≡ Some (with_value o word seen) = simp (waits, off, plain) in
-    let turn = value_turn row rows (place_of seen.positional) o word has takes plain in let q = Some (name_of o, word ∷ []) in
+    let turn = value_turn row rows (place_of seen.positional) o word has takes plain in let q = Some (key_of o, word ∷ []) in
     let clean = settle_is row rows o (word ∷ []) has ∙ use_clean o word (word ∷ []) rows seen shows none (values_is o word takes) in
     let settles : settled_rows (rules row) q rows ≡ used (done_option o) (word ∷ []) rows = let found = by_id row o has in simp found in
     let more = subst (λ (r : List Row). Shows r (with_value o word seen)) (sym settles)

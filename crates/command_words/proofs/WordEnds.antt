@@ -1,6 +1,7 @@
 -- What clap finds at the end of the words behind a command.
-use Rattle.std.proofs.Common.{◌≡◌, ℕ, Bool, true, false, not, ◌&&◌, if◌then◌else◌, List, [], ◌∷◌, ◌++◌, map, codes, Option, Some, None, fold}
+use Rattle.std.proofs.Common.{◌≡◌, ℕ, Bool, true, false, not, ◌&&◌, ◌||◌, if◌then◌else◌, List, [], ◌∷◌, ◌++◌, map, codes, Option, Some, None, fold}
 use Rattle.std.proofs.Common.{refl, sym, ap, subst, ◌∙◌, option_map}
+use Rattle.std.proofs.lemmas.Slice.Eq.{bytes_eq-Decides}
 use Rattle.std.specs.List.{list_any}
 use Rattle.std.specs.Str.{bytes_eq}
 use Rattle.clap.specs.Words.{Row, Rule, Text, first_of}
@@ -30,51 +31,86 @@ none_row : (id : Text) (rows : List Row) → has_row id rows ≡ false → looku
 none_row id [] e = refl
 none_row id (r ∷ rows) e = none_row_by id r rows (bytes_eq r.id id) refl (none_row id rows) e
 
--- the rows say the same, but for a flag that is off
+-- the keys of flags
+abbrev pub is_flag : Text → Bool
+is_flag id = bytes_eq (codes "raw") id || bytes_eq (codes "sync") id || bytes_eq (codes "elf") id
+
+-- the rows say the same, but for flags that are off
 pub record Same (rows more : List Row) : Type 0 where
-  pub texts : (id : Text) → bytes_eq (codes "raw") id ≡ false → lookup id more ≡ lookup id rows
-  pub raw : is_true_text (first_of (codes "raw") more) ≡ is_true_text (first_of (codes "raw") rows)
+  pub texts : (id : Text) → is_flag id ≡ false → lookup id more ≡ lookup id rows
+  pub flags : (id : Text) → is_true_text (first_of id more) ≡ is_true_text (first_of id rows)
 
 same_rows : (rows more : List Row) → more ≡ rows → Same rows more
-same_rows rows more e = record { texts = λ id differs. ap (lookup id) e; raw = ap (λ (r : List Row). is_true_text (first_of (codes "raw") r)) e }
+same_rows rows more e = record { texts = λ id plain. ap (lookup id) e; flags = λ id. ap (λ (r : List Row). is_true_text (first_of id r)) e }
 
-off_row : Row
-off_row = record { id = codes "raw"; values = codes "false" ∷ []; count = None; source = Some DefaultValue; reading = AsWritten }
+-- the row of a flag that is off
+off_row : Text → Row
+off_row flag = record { id = flag; values = codes "false" ∷ []; count = None; source = Some DefaultValue; reading = AsWritten }
 
-same_off : (rows : List Row) → lookup (codes "raw") rows ≡ None → Same rows (rows ++ off_row ∷ [])
+other_key : (flag id : Text) (b : Bool) → bytes_eq flag id ≡ b → is_flag flag ≡ true → is_flag id ≡ false → bytes_eq flag id ≡ false
+other_key flag id false is known plain = is
+other_key flag id true is known plain =
+    let same : flag ≡ id = (bytes_eq-Decides flag id).0 is in absurd (let f = sym known ∙ ap is_flag same ∙ plain in cc)
+
+is_off : (flag id : Text) (rows : List Row) (b : Bool) → bytes_eq flag id ≡ b → lookup flag rows ≡ None
+    → is_true_text (first_of id (rows ++ off_row flag ∷ [])) ≡ is_true_text (first_of id rows)
 unfolding off_row
-same_off rows none = record {
-  texts = λ id differs. find_before _ rows (off_row ∷ []) (simp differs);
-  raw = let f : lookup (codes "raw") (rows ++ off_row ∷ []) ≡ Some off_row = find_none _ rows (off_row ∷ []) none in simp (f, none);
+is_off flag id rows true is none =
+    let same : flag ≡ id = (bytes_eq-Decides flag id).0 is in let own = (bytes_eq-Decides flag flag).1 refl in
+    let found : lookup flag (rows ++ off_row flag ∷ []) ≡ Some (off_row flag) = find_none _ rows (off_row flag ∷ []) none ∙ (simp own) in
+    let here : is_true_text (first_of flag (rows ++ off_row flag ∷ [])) ≡ is_true_text (first_of flag rows) = simp (found, none) in
+    subst (λ (i : Text). is_true_text (first_of i (rows ++ off_row flag ∷ [])) ≡ is_true_text (first_of i rows)) same here
+is_off flag id rows false is none =
+    let found : lookup id (rows ++ off_row flag ∷ []) ≡ lookup id rows = find_before _ rows (off_row flag ∷ []) (simp is) in simp found
+
+same_off : (flag : Text) (rows : List Row) → is_flag flag ≡ true → lookup flag rows ≡ None → Same rows (rows ++ off_row flag ∷ [])
+unfolding off_row
+same_off flag rows known none = record {
+  texts = λ id plain. let other = other_key flag id (bytes_eq flag id) refl known plain in find_before _ rows (off_row flag ∷ []) (simp other);
+  flags = λ id. is_off flag id rows (bytes_eq flag id) refl none;
 }
 
 default_by : (k : Key) (rows : List Row) (b : Bool) → has_row (id_of k) rows ≡ b → Same rows (with_default rows (rule_of k))
 unfolding off_row
 default_by (Named option.Raw) rows true is = same_rows rows (with_default rows (rule_of (Named option.Raw))) (simp is)
 default_by (Named option.Wrap) rows true is = same_rows rows (with_default rows (rule_of (Named option.Wrap))) (simp is)
+default_by (Named option.Sync) rows true is = same_rows rows (with_default rows (rule_of (Named option.Sync))) (simp is)
 default_by (Named option.Depth) rows true is = same_rows rows (with_default rows (rule_of (Named option.Depth))) (simp is)
 default_by (Named option.Vmid) rows true is = same_rows rows (with_default rows (rule_of (Named option.Vmid))) (simp is)
 default_by (Named option.Cid) rows true is = same_rows rows (with_default rows (rule_of (Named option.Cid))) (simp is)
 default_by (Named option.Settings) rows true is = same_rows rows (with_default rows (rule_of (Named option.Settings))) (simp is)
+default_by (Named option.Elf) rows true is = same_rows rows (with_default rows (rule_of (Named option.Elf))) (simp is)
 default_by (Named option.Last) rows true is = same_rows rows (with_default rows (rule_of (Named option.Last))) (simp is)
+default_by (Named option.SyncEvery) rows true is = same_rows rows (with_default rows (rule_of (Named option.SyncEvery))) (simp is)
 default_by (Named option.Cut) rows true is = same_rows rows (with_default rows (rule_of (Named option.Cut))) (simp is)
 default_by Positional rows true is = same_rows rows (with_default rows (rule_of Positional)) (simp is)
 default_by (Named option.Raw) rows false is =
     let none = none_row (codes "raw") rows is in
-    let added : with_default rows (rule_of (Named option.Raw)) ≡ rows ++ off_row ∷ [] =
-    simp is (row_added (codes "raw") (more_values DefaultValue (codes "false" ∷ [])) (off_row ∷ []) rows none) in
-    subst (Same rows) (sym added) (same_off rows none)
+    let added : with_default rows (rule_of (Named option.Raw)) ≡ rows ++ off_row (codes "raw") ∷ [] =
+    simp is (row_added (codes "raw") (more_values DefaultValue (codes "false" ∷ [])) (off_row (codes "raw") ∷ []) rows none) in
+    subst (Same rows) (sym added) (same_off (codes "raw") rows refl none)
+default_by (Named option.Sync) rows false is =
+    let none = none_row (codes "sync") rows is in
+    let added : with_default rows (rule_of (Named option.Sync)) ≡ rows ++ off_row (codes "sync") ∷ [] =
+    simp is (row_added (codes "sync") (more_values DefaultValue (codes "false" ∷ [])) (off_row (codes "sync") ∷ []) rows none) in
+    subst (Same rows) (sym added) (same_off (codes "sync") rows refl none)
+default_by (Named option.Elf) rows false is =
+    let none = none_row (codes "elf") rows is in
+    let added : with_default rows (rule_of (Named option.Elf)) ≡ rows ++ off_row (codes "elf") ∷ [] =
+    simp is (row_added (codes "elf") (more_values DefaultValue (codes "false" ∷ [])) (off_row (codes "elf") ∷ []) rows none) in
+    subst (Same rows) (sym added) (same_off (codes "elf") rows refl none)
 default_by (Named option.Wrap) rows false is = same_rows rows (with_default rows (rule_of (Named option.Wrap))) (simp is)
 default_by (Named option.Depth) rows false is = same_rows rows (with_default rows (rule_of (Named option.Depth))) (simp is)
 default_by (Named option.Vmid) rows false is = same_rows rows (with_default rows (rule_of (Named option.Vmid))) (simp is)
 default_by (Named option.Cid) rows false is = same_rows rows (with_default rows (rule_of (Named option.Cid))) (simp is)
 default_by (Named option.Settings) rows false is = same_rows rows (with_default rows (rule_of (Named option.Settings))) (simp is)
 default_by (Named option.Last) rows false is = same_rows rows (with_default rows (rule_of (Named option.Last))) (simp is)
+default_by (Named option.SyncEvery) rows false is = same_rows rows (with_default rows (rule_of (Named option.SyncEvery))) (simp is)
 default_by (Named option.Cut) rows false is = same_rows rows (with_default rows (rule_of (Named option.Cut))) (simp is)
 default_by Positional rows false is = same_rows rows (with_default rows (rule_of Positional)) (simp is)
 
 same_then : (rows more most : List Row) → Same rows more → Same more most → Same rows most
-same_then rows more most a b = record { texts = λ id differs. b.texts id differs ∙ a.texts id differs; raw = b.raw ∙ a.raw }
+same_then rows more most a b = record { texts = λ id plain. b.texts id plain ∙ a.texts id plain; flags = λ id. b.flags id ∙ a.flags id }
 
 same_positional : (b : Bool) (rows : List Row) → Same rows (fold with_default rows (positional_part b))
 same_positional true rows = default_by Positional rows (has_row (codes "POSITIONAL") rows) refl
@@ -93,18 +129,24 @@ default_clean_by : (k : Key) (rows : List Row) (b : Bool) → has_row (id_of k) 
 default_clean_by (Named option.Raw) rows true is = simp is
 default_clean_by (Named option.Raw) rows false is = simp is
 default_clean_by (Named option.Wrap) rows true is = simp is
+default_clean_by (Named option.Sync) rows true is = simp is
 default_clean_by (Named option.Depth) rows true is = simp is
 default_clean_by (Named option.Wrap) rows false is = simp is
+default_clean_by (Named option.Sync) rows false is = simp is
 default_clean_by (Named option.Depth) rows false is = simp is
 default_clean_by (Named option.Vmid) rows true is = simp is
 default_clean_by (Named option.Vmid) rows false is = simp is
 default_clean_by (Named option.Cid) rows true is = simp is
 default_clean_by (Named option.Settings) rows true is = simp is
+default_clean_by (Named option.Elf) rows true is = simp is
 default_clean_by (Named option.Last) rows true is = simp is
+default_clean_by (Named option.SyncEvery) rows true is = simp is
 default_clean_by (Named option.Cut) rows true is = simp is
 default_clean_by (Named option.Cid) rows false is = simp is
 default_clean_by (Named option.Settings) rows false is = simp is
+default_clean_by (Named option.Elf) rows false is = simp is
 default_clean_by (Named option.Last) rows false is = simp is
+default_clean_by (Named option.SyncEvery) rows false is = simp is
 default_clean_by (Named option.Cut) rows false is = simp is
 default_clean_by Positional rows true is = simp is
 default_clean_by Positional rows false is = simp is

@@ -3,15 +3,16 @@ use Rattle.std.proofs.Common.{◌≡◌, ℕ, List, [], ◌∷◌, codes, Option
 use Rattle.etm_types.specs.Settings.{Sizes}
 use Rattle.etm_types.specs.SettingsTable.{sizes_at}
 use Rattle.command_words.specs.declared.words.Layout.{Layout}
+use Rattle.command_words.specs.declared.words.ProgramForm.TheVariants as form
 use Rattle.command_words.specs.declared.words.Layout.TheVariants.{Raw, Frames}
-use Rattle.command_words.specs.Words.{Command, Path, Packets, Retired, Selftest, Trace, meaning, image_of}
+use Rattle.command_words.specs.Words.{Command, Path, Packets, Retired, Selftest, Times, Trace, meaning, image_of}
 use Rattle.command_words.specs.Words.{BareKind, Intake, NoCommand, NumberKind, PathKind, Program, RunFileKind, kind_of, program_of}
 
 abbrev sizes : ℕ → ℕ → ℕ → Sizes
 sizes depth vmid cid = record { depth = depth; vmid_bytes = vmid; cid_bytes = cid }
 
 abbrev of_image : List ℕ → Program
-of_image name = record { name = name }
+of_image name = record { name = name; form = form.Text }
 
 -- all IDs have the same sizes
 abbrev taken : Sizes → Layout → Intake
@@ -35,12 +36,49 @@ packets_of_frames = refl
 pub packets_of_one_stream : meaning (codes "packets" ∷ codes "--raw" ∷ []) ≡ Some (Packets (taken (sizes 16 1 4) Raw))
 packets_of_one_stream = refl
 
+-- times
+pub times_of_frames : meaning (codes "times" ∷ []) ≡ Some (Times (taken (sizes 16 1 4) Frames))
+times_of_frames = refl
+
+-- times --raw --vmid 2 --depth=0 --cid 0
+pub times_of_one_stream : meaning (codes "times" ∷ codes "--raw" ∷ codes "--vmid" ∷ codes "2" ∷ codes "--depth=0" ∷ codes "--cid" ∷ codes "0" ∷ [])
+    ≡ Some (Times (taken (sizes 0 2 0) Raw))
+times_of_one_stream = refl
+
+-- times --
+pub times_to_the_end : meaning (codes "times" ∷ codes "--" ∷ []) ≡ Some (Times (taken (sizes 16 1 4) Frames))
+times_to_the_end = refl
+
+-- times img
+pub times_of_an_image : meaning (codes "times" ∷ codes "img" ∷ []) ≡ None
+times_of_an_image = refl
+
+-- times --wrap 0
+pub times_of_a_buffer : meaning (codes "times" ∷ codes "--wrap" ∷ codes "0" ∷ []) ≡ None
+times_of_a_buffer = refl
+
+-- times --sync
+pub times_of_a_port : meaning (codes "times" ∷ codes "--sync" ∷ []) ≡ None
+times_of_a_port = refl
+
+-- times --elf
+pub times_of_a_program : meaning (codes "times" ∷ codes "--elf" ∷ []) ≡ None
+times_of_a_program = refl
+
+-- times --depth 16385
+pub times_too_deep : meaning (codes "times" ∷ codes "--depth" ∷ codes "16385" ∷ []) ≡ None
+times_too_deep = refl
+
+-- time
+pub times_shortened : meaning (codes "time" ∷ []) ≡ None
+times_shortened = refl
+
 -- retired img
 pub retired_path : meaning (codes "retired" ∷ codes "img" ∷ []) ≡ Some (Retired (of_image (codes "img")))
 retired_path = refl
 
 -- trace img
-pub traces_of_a_run : meaning (codes "trace" ∷ codes "img" ∷ []) ≡ Some (Trace (of_image (codes "img")) None)
+pub traces_of_a_run : meaning (codes "trace" ∷ codes "img" ∷ []) ≡ Some (Trace (of_image (codes "img")) None None)
 traces_of_a_run = refl
 
 -- selftest 0
@@ -210,7 +248,7 @@ pub trace_of_two_images : meaning (codes "trace" ∷ codes "img" ∷ codes "img"
 trace_of_two_images = refl
 
 -- trace -
-pub traced_by_a_dash : meaning (codes "trace" ∷ codes "-" ∷ []) ≡ Some (Trace (of_image (codes "-")) None)
+pub traced_by_a_dash : meaning (codes "trace" ∷ codes "-" ∷ []) ≡ Some (Trace (of_image (codes "-")) None None)
 traced_by_a_dash = refl
 
 -- ---- `--`
@@ -228,7 +266,7 @@ pub image_like_the_end : meaning (codes "path" ∷ codes "--" ∷ codes "--" ∷
 image_like_the_end = refl
 
 -- trace -- --raw
-pub traces_of_an_image_like_a_flag : meaning (codes "trace" ∷ codes "--" ∷ codes "--raw" ∷ []) ≡ Some (Trace (of_image (codes "--raw")) None)
+pub traces_of_an_image_like_a_flag : meaning (codes "trace" ∷ codes "--" ∷ codes "--raw" ∷ []) ≡ Some (Trace (of_image (codes "--raw")) None None)
 traces_of_an_image_like_a_flag = refl
 
 -- path --raw --depth 4 -- -x
@@ -281,34 +319,6 @@ pub long_dash : meaning (codes "path" ∷ codes "---" ∷ codes "img" ∷ []) �
 long_dash = refl
 
 -- ---- options that no command has, or another one
-
--- path --sync --wrap 1 img
-pub sync_and_wrap : meaning (codes "path" ∷ codes "--sync" ∷ codes "--wrap" ∷ codes "1" ∷ codes "img" ∷ []) ≡ None
-sync_and_wrap = refl
-
--- path --sync --raw img
-pub sync_of_one_stream : meaning (codes "path" ∷ codes "--sync" ∷ codes "--raw" ∷ codes "img" ∷ []) ≡ None
-sync_of_one_stream = refl
-
--- trace --last 5 --sync 65535 img
-pub last_and_sync : meaning (codes "trace" ∷ codes "--last" ∷ codes "5" ∷ codes "--sync" ∷ codes "65535" ∷ codes "img" ∷ []) ≡ None
-last_and_sync = refl
-
--- trace --sync img
-pub sync_without_a_number : meaning (codes "trace" ∷ codes "--sync" ∷ codes "img" ∷ []) ≡ None
-sync_without_a_number = refl
-
--- trace --sync 65536 img
-pub sync_past_the_end : meaning (codes "trace" ∷ codes "--sync" ∷ codes "65536" ∷ codes "img" ∷ []) ≡ None
-sync_past_the_end = refl
-
--- retired --elf img
-pub retired_of_a_program : meaning (codes "retired" ∷ codes "--elf" ∷ codes "img" ∷ []) ≡ None
-retired_of_a_program = refl
-
--- packets --elf
-pub packets_of_a_program : meaning (codes "packets" ∷ codes "--elf" ∷ []) ≡ None
-packets_of_a_program = refl
 
 -- path --cut 1 img
 pub path_of_a_cut : meaning (codes "path" ∷ codes "--cut" ∷ codes "1" ∷ codes "img" ∷ []) ≡ None
@@ -765,7 +775,13 @@ no_program_of_packets = refl
 pub program_of_a_retired_path : program_of (Retired (of_image (codes "img"))) ≡ Some (of_image (codes "img"))
 program_of_a_retired_path = refl
 
-pub program_of_traces : program_of (Trace (of_image (codes "img")) (Some 5)) ≡ Some (of_image (codes "img"))
+pub program_of_times : program_of (Times (taken (sizes 16 1 4) Frames)) ≡ None
+program_of_times = refl
+
+pub kind_of_times : kind_of (Some (Times (taken (sizes 16 1 4) Frames))) ≡ BareKind
+kind_of_times = refl
+
+pub program_of_traces : program_of (Trace (of_image (codes "img")) (Some 5) None) ≡ Some (of_image (codes "img"))
 program_of_traces = refl
 
 pub no_program_of_a_number : program_of (Selftest 5 (Some 32)) ≡ None
@@ -783,7 +799,7 @@ kind_of_packets = refl
 pub kind_of_a_retired_path : kind_of (Some (Retired (of_image (codes "img")))) ≡ RunFileKind
 kind_of_a_retired_path = refl
 
-pub kind_of_traces : kind_of (Some (Trace (of_image (codes "img")) None)) ≡ RunFileKind
+pub kind_of_traces : kind_of (Some (Trace (of_image (codes "img")) None None)) ≡ RunFileKind
 kind_of_traces = refl
 
 pub kind_of_a_number : kind_of (Some (Selftest 5 None)) ≡ NumberKind
@@ -795,8 +811,9 @@ kind_of_a_number = refl
 abbrev intake_in : Option Command → Intake
 intake_in (Some (Path program intake)) = intake
 intake_in (Some (Packets intake)) = intake
+intake_in (Some (Times intake)) = intake
 intake_in (Some (Retired program)) = taken (sizes 0 0 0) Frames
-intake_in (Some (Trace program last)) = taken (sizes 0 0 0) Frames
+intake_in (Some (Trace program last every)) = taken (sizes 0 0 0) Frames
 intake_in (Some (Selftest n cut)) = taken (sizes 0 0 0) Frames
 intake_in None = taken (sizes 0 0 0) Frames
 
@@ -813,8 +830,9 @@ layout_in command = (intake_in command).layout
 abbrev number_in : Option Command → ℕ
 number_in (Some (Path program intake)) = 0
 number_in (Some (Packets intake)) = 0
+number_in (Some (Times intake)) = 0
 number_in (Some (Retired program)) = 0
-number_in (Some (Trace program last)) = 0
+number_in (Some (Trace program last every)) = 0
 number_in (Some (Selftest n cut)) = n
 number_in None = 0
 
@@ -859,5 +877,13 @@ pub not_cut_at_once : meaning (codes "selftest" ∷ codes "5" ∷ []) ≡ meanin
 not_cut_at_once e = absurd cc
 
 -- a number is no image
-pub not_traced : meaning (codes "selftest" ∷ codes "5" ∷ []) ≡ Some (Trace (of_image (codes "5")) None) → ⊥
+pub not_traced : meaning (codes "selftest" ∷ codes "5" ∷ []) ≡ Some (Trace (of_image (codes "5")) None None) → ⊥
 not_traced e = absurd cc
+
+-- times are asked for, and not packets, whose depth does not count
+pub not_packets : meaning (codes "times" ∷ []) ≡ meaning (codes "packets" ∷ []) → ⊥
+not_packets e = let same : name_in (meaning (codes "times" ∷ [])) ≡ name_in (meaning (codes "packets" ∷ [])) = ap name_in e in absurd cc
+  where
+    name_in : Option Command → ℕ
+    name_in (Some (Times intake)) = 1
+    name_in other = 0

@@ -6,7 +6,7 @@ use Rattle.std.proofs.lemmas.Str.{IsUtf8-string_bytes, encodes-chars, encode_asc
 use Rattle.std.specs.Option.{option_and_then}
 use Rattle.std.specs.Str.{bytes_eq, chars}
 use Rattle.std.specs.Prelude.{slice_get, encode_utf8_all}
-use Rattle.clap.specs.Words.{App, Row, Shape, Text, built, fault_of, first_of, found_of, rows_of, subcommand_of, subcommand_rows}
+use Rattle.clap.specs.Words.{App, Row, Shape, Text, built, fault_of, first_of, found_of, is_simple, is_simple_and_free, rows_of, subcommand_of, subcommand_rows}
 use Rattle.std.specs.Prelude.{Box, ◌↔◌, IsSome, IfSome}
 use Rattle.std.proofs.Common.{◌<◌, ◌+◌, take, get_or}
 use Rattle.std.proofs.lemmas.List.{take_more, map-append}
@@ -34,7 +34,8 @@ use Rattle.clap.specs.Walk.{after_flag, short_word, subcommand_or_other, walk_fr
 use Rattle.command_words.specs.declared.words.CommandName.{CommandName}
 use Rattle.command_words.specs.declared.words.CommandName.TheVariants as name
 use Rattle.command_words.specs.declared.words.CommandOption.TheVariants as option
-use Rattle.command_words.specs.Words.{CommandRow, Seen, command_in, is_dashed, meaning, nothing_seen, row, seen_of, texts}
+use Rattle.command_words.specs.Words.{CommandRow, Seen, command_in, is_dashed, meaning, nothing_seen, packets_options, path_options, retired_options}
+use Rattle.command_words.specs.Words.{row, seen_of, selftest_options, texts, times_options, trace_options}
 use Rattle.command_words.specs.WordRules.{command_by, etm, is_true_text, seen_in}
 use Rattle.command_words.proofs.WordParses.{IsFault, Key, Named, Positional, Shows, fault_first, fault_then, id_of, leaf, lookup, row_for, rules, same_other}
 use Rattle.command_words.proofs.WordEnds.{Same, end_fault, finished_same}
@@ -104,19 +105,22 @@ record Begins (line : CommandRow) : Type 0 where
   named : (rows : List Row) → command_by (line.word, rows) ≡ command_in line.name (seen_in rows)
 
 abbrev path_row : CommandRow
-path_row = row (codes "path") name.Path (option.Raw ∷ option.Wrap ∷ option.Depth ∷ option.Vmid ∷ option.Cid ∷ option.Settings ∷ []) true
+path_row = row (codes "path") name.Path path_options true
 
 abbrev packets_row : CommandRow
-packets_row = row (codes "packets") name.Packets (option.Raw ∷ option.Wrap ∷ option.Vmid ∷ option.Cid ∷ option.Settings ∷ []) false
+packets_row = row (codes "packets") name.Packets packets_options false
+
+abbrev times_row : CommandRow
+times_row = row (codes "times") name.Times times_options false
 
 abbrev retired_row : CommandRow
-retired_row = row (codes "retired") name.Retired [] true
+retired_row = row (codes "retired") name.Retired retired_options true
 
 abbrev trace_row : CommandRow
-trace_row = row (codes "trace") name.Trace (option.Last ∷ []) true
+trace_row = row (codes "trace") name.Trace trace_options true
 
 abbrev selftest_row : CommandRow
-selftest_row = row (codes "selftest") name.Selftest (option.Cut ∷ []) true
+selftest_row = row (codes "selftest") name.Selftest selftest_options true
 
 path_begins : Begins path_row
 unfolding walked
@@ -125,6 +129,10 @@ path_begins = record { clean = refl; walks = refl; enters = λ words. refl; find
 packets_begins : Begins packets_row
 unfolding walked
 packets_begins = record { clean = refl; walks = refl; enters = λ words. refl; finds = λ words. refl; named = λ rows. refl }
+
+times_begins : Begins times_row
+unfolding walked
+times_begins = record { clean = refl; walks = refl; enters = λ words. refl; finds = λ words. refl; named = λ rows. refl }
 
 retired_begins : Begins retired_row
 unfolding walked
@@ -172,50 +180,66 @@ first_is : (k : Key) (rows : List Row) (text : Option Text) → lookup (id_of k)
 first_is k rows None is = simp is
 first_is k rows (Some v) is = simp is
 
-flag_is : (rows : List Row) (raw : Bool) → lookup (codes "raw") rows ≡ option_map (row_for (Named option.Raw)) (if raw then Some (codes "true") else None)
-    → is_true_text (first_of (codes "raw") rows) ≡ raw
-flag_is rows true is = simp is
-flag_is rows false is = simp is
+-- whether a flag stood
+flag_is : (k : Key) (rows : List Row) (stood : Bool) → lookup (id_of k) rows ≡ option_map (row_for k) (if stood then Some (codes "true") else None)
+    → is_true_text (first_of (id_of k) rows) ≡ stood
+flag_is k rows true is = simp is
+flag_is k rows false is = simp is
 
-abbrev all_seen : Bool → Option Text → Option Text → Option Text → Option Text → Option Text → Option Text → Option Text → Option Text → Seen
-all_seen raw wrap depth vmid cid settings last cut positional = record {
+abbrev all_seen : Bool → Option Text → Bool → Option Text → Option Text → Option Text → Option Text → Bool → Option Text → Option Text → Option Text
+    → Option Text → Seen
+all_seen raw wrap sync depth vmid cid settings elf last every cut positional = record {
   raw = raw;
   wrap = wrap;
+  sync = sync;
   depth = depth;
   vmid = vmid;
   cid = cid;
   settings = settings;
+  elf = elf;
   last = last;
+  every = every;
   cut = cut;
   positional = positional;
   waits = None;
   ended = false;
 }
 
-in_all : (n : CommandName) (seen : Seen)
-    → command_in n (all_seen seen.raw seen.wrap seen.depth seen.vmid seen.cid seen.settings seen.last seen.cut seen.positional) ≡ command_in n seen
+-- what was seen, with no option that waits
+abbrev all_of : Seen → Seen
+all_of seen =
+    all_seen seen.raw seen.wrap seen.sync seen.depth seen.vmid seen.cid seen.settings seen.elf seen.last seen.every seen.cut seen.positional
+
+in_all : (n : CommandName) (seen : Seen) → command_in n (all_of seen) ≡ command_in n seen
 in_all name.Path seen = refl
 in_all name.Packets seen = refl
+in_all name.Times seen = refl
 in_all name.Retired seen = refl
 in_all name.Trace seen = refl
 in_all name.Selftest seen = refl
 
-pub same_seen : {a b : Bool} {c d e f g h i j k l m n o p q r : Option Text} → a ≡ b → c ≡ d → e ≡ f → g ≡ h → i ≡ j → k ≡ l → m ≡ n → o ≡ p → q ≡ r
-    → all_seen a c e g i k m o q ≡ all_seen b d f h j l n p r
-same_seen s t u v w x y z a = (λ i. all_seen (s i) (t i) (u i) (v i) (w i) (x i) (y i) (z i) (a i))
+pub same_seen : {raw raw' sync sync' elf elf' : Bool} {wrap wrap' depth depth' vmid vmid' cid cid' settings settings' last last' : Option Text}
+    {every every' cut cut' positional positional' : Option Text} → raw ≡ raw' → wrap ≡ wrap' → sync ≡ sync' → depth ≡ depth' → vmid ≡ vmid' → cid ≡ cid'
+    → settings ≡ settings' → elf ≡ elf' → last ≡ last' → every ≡ every' → cut ≡ cut' → positional ≡ positional'
+    → all_seen raw wrap sync depth vmid cid settings elf last every cut positional
+    ≡ all_seen raw' wrap' sync' depth' vmid' cid' settings' elf' last' every' cut' positional'
+same_seen r w s d v c l e n y k p = (λ i. all_seen (r i) (w i) (s i) (d i) (v i) (c i) (l i) (e i) (n i) (y i) (k i) (p i))
 
 command_same : (n : CommandName) (rows more : List Row) (seen : Seen) → Shows rows seen → Same rows more → command_in n (seen_in more) ≡ command_in n seen
 command_same n rows more seen shows same =
-    let raw = same.raw ∙ flag_is rows seen.raw (shows (Named option.Raw)) in
+    let raw = same.flags (codes "raw") ∙ flag_is (Named option.Raw) rows seen.raw (shows (Named option.Raw)) in
     let wrap = first_is (Named option.Wrap) more seen.wrap (same.texts (codes "wrap") refl ∙ shows (Named option.Wrap)) in
+    let sync = same.flags (codes "sync") ∙ flag_is (Named option.Sync) rows seen.sync (shows (Named option.Sync)) in
     let depth = first_is (Named option.Depth) more seen.depth (same.texts (codes "depth") refl ∙ shows (Named option.Depth)) in
     let vmid = first_is (Named option.Vmid) more seen.vmid (same.texts (codes "vmid") refl ∙ shows (Named option.Vmid)) in
     let cid = first_is (Named option.Cid) more seen.cid (same.texts (codes "cid") refl ∙ shows (Named option.Cid)) in
     let settings = first_is (Named option.Settings) more seen.settings (same.texts (codes "settings") refl ∙ shows (Named option.Settings)) in
+    let elf = same.flags (codes "elf") ∙ flag_is (Named option.Elf) rows seen.elf (shows (Named option.Elf)) in
     let last = first_is (Named option.Last) more seen.last (same.texts (codes "last") refl ∙ shows (Named option.Last)) in
+    let every = first_is (Named option.SyncEvery) more seen.every (same.texts (codes "sync-every") refl ∙ shows (Named option.SyncEvery)) in
     let cut = first_is (Named option.Cut) more seen.cut (same.texts (codes "cut") refl ∙ shows (Named option.Cut)) in
     let positional = first_is Positional more seen.positional (same.texts (codes "POSITIONAL") refl ∙ shows Positional) in
-    ap (command_in n) (same_seen raw wrap depth vmid cid settings last cut positional) ∙ in_all n seen
+    ap (command_in n) (same_seen raw wrap sync depth vmid cid settings elf last every cut positional) ∙ in_all n seen
 
 -- ---- the meaning
 
@@ -231,11 +255,14 @@ not_both (k ∷ kinds) e bad = absurd cc
 nothing_shown : Shows [] nothing_seen
 nothing_shown (Named option.Raw) = refl
 nothing_shown (Named option.Wrap) = refl
+nothing_shown (Named option.Sync) = refl
 nothing_shown (Named option.Depth) = refl
 nothing_shown (Named option.Vmid) = refl
 nothing_shown (Named option.Cid) = refl
 nothing_shown (Named option.Settings) = refl
+nothing_shown (Named option.Elf) = refl
 nothing_shown (Named option.Last) = refl
+nothing_shown (Named option.SyncEvery) = refl
 nothing_shown (Named option.Cut) = refl
 nothing_shown Positional = refl
 
@@ -263,14 +290,16 @@ line_means line begins words are means (Some end) is =
 
 -- ---- a first word that names no command
 
-no_name : (word : Text) → bytes_eq word (codes "path") ≡ false → bytes_eq word (codes "packets") ≡ false → bytes_eq word (codes "retired") ≡ false
-    → bytes_eq word (codes "trace") ≡ false → bytes_eq word (codes "selftest") ≡ false → subcommand_met names idle word ≡ None
-no_name word x y z w v =
+no_name : (word : Text) → bytes_eq word (codes "path") ≡ false → bytes_eq word (codes "packets") ≡ false → bytes_eq word (codes "times") ≡ false
+    → bytes_eq word (codes "retired") ≡ false → bytes_eq word (codes "trace") ≡ false → bytes_eq word (codes "selftest") ≡ false
+    → subcommand_met names idle word ≡ None
+no_name word x y u z w v =
     let a : bytes_eq (codes "path") word ≡ false = same_other (codes "path") word ∙ x in
     let b : bytes_eq (codes "packets") word ≡ false = same_other (codes "packets") word ∙ y in
-    let c : bytes_eq (codes "retired") word ≡ false = same_other (codes "retired") word ∙ z in
-    let d : bytes_eq (codes "trace") word ≡ false = same_other (codes "trace") word ∙ w in
-    let e : bytes_eq (codes "selftest") word ≡ false = same_other (codes "selftest") word ∙ v in simp (a, b, c, d, e)
+    let c : bytes_eq (codes "times") word ≡ false = same_other (codes "times") word ∙ u in
+    let d : bytes_eq (codes "retired") word ≡ false = same_other (codes "retired") word ∙ z in
+    let e : bytes_eq (codes "trace") word ≡ false = same_other (codes "trace") word ∙ w in
+    let f : bytes_eq (codes "selftest") word ≡ false = same_other (codes "selftest") word ∙ v in simp (a, b, c, d, e, f)
 
 -- no flag and no option stands at the top
 refuses : (k : ℕ) (flags : Text) (h : Held) (first : Option ℕ) → slice_get (chars flags) 0 ≡ first
@@ -333,35 +362,45 @@ no_words : IsFault (fault_of etm [])
 unfolding walk_fault defaults_fault
 no_words = tt
 
-word_means : (word : Text) (words : List Text) → AreTexts words → (a b c d e : Bool) → bytes_eq word (codes "path") ≡ a
-    → bytes_eq word (codes "packets") ≡ b → bytes_eq word (codes "retired") ≡ c → bytes_eq word (codes "trace") ≡ d
-    → bytes_eq word (codes "selftest") ≡ e → Means (word ∷ words)
-word_means word words are true b c d e x y z t v =
+word_means : (word : Text) (words : List Text) → AreTexts words → (a b c d e f : Bool) → bytes_eq word (codes "path") ≡ a
+    → bytes_eq word (codes "packets") ≡ b → bytes_eq word (codes "times") ≡ c → bytes_eq word (codes "retired") ≡ d → bytes_eq word (codes "trace") ≡ e
+    → bytes_eq word (codes "selftest") ≡ f → Means (word ∷ words)
+word_means word words are true b c d e f x y u z t v =
     subst (λ (w : Text). Means (w ∷ words)) (sym ((bytes_eq-Decides word (codes "path")).0 x))
     (line_means path_row path_begins words are refl (seen_of path_row nothing_seen words) refl)
-word_means word words are false true c d e x y z t v =
+word_means word words are false true c d e f x y u z t v =
     subst (λ (w : Text). Means (w ∷ words)) (sym ((bytes_eq-Decides word (codes "packets")).0 y))
     (line_means packets_row packets_begins words are refl (seen_of packets_row nothing_seen words) refl)
-word_means word words are false false true d e x y z t v =
+word_means word words are false false true d e f x y u z t v =
+    subst (λ (w : Text). Means (w ∷ words)) (sym ((bytes_eq-Decides word (codes "times")).0 u))
+    (line_means times_row times_begins words are refl (seen_of times_row nothing_seen words) refl)
+word_means word words are false false false true e f x y u z t v =
     subst (λ (w : Text). Means (w ∷ words)) (sym ((bytes_eq-Decides word (codes "retired")).0 z))
     (line_means retired_row retired_begins words are refl (seen_of retired_row nothing_seen words) refl)
-word_means word words are false false false true e x y z t v =
+word_means word words are false false false false true f x y u z t v =
     subst (λ (w : Text). Means (w ∷ words)) (sym ((bytes_eq-Decides word (codes "trace")).0 t))
     (line_means trace_row trace_begins words are refl (seen_of trace_row nothing_seen words) refl)
-word_means word words are false false false false true x y z t v =
+word_means word words are false false false false false true x y u z t v =
     subst (λ (w : Text). Means (w ∷ words)) (sym ((bytes_eq-Decides word (codes "selftest")).0 v))
     (line_means selftest_row selftest_begins words are refl (seen_of selftest_row nothing_seen words) refl)
-word_means word words are false false false false false x y z t v =
-    let none : meaning (word ∷ words) ≡ None = simp (x, y, z, t, v) in let bad = other_bad word words (no_name word x y z t v) in
+word_means word words are false false false false false false x y u z t v =
+    let none : meaning (word ∷ words) ≡ None = simp (x, y, u, z, t, v) in let bad = other_bad word words (no_name word x y u z t v) in
     record { clean = λ f. absurd (not_both (fault_of etm (word ∷ words)) f bad); faulty = λ some. none }
 
 pub means : (words : List Text) → AreTexts words → Means words
 means [] are = record { clean = λ e. absurd (not_both (fault_of etm []) e no_words); faulty = λ some. refl }
 means (word ∷ words) are =
-    word_means word words are.1 (bytes_eq word (codes "path")) (bytes_eq word (codes "packets")) (bytes_eq word (codes "retired"))
-    (bytes_eq word (codes "trace")) (bytes_eq word (codes "selftest")) refl refl refl refl refl
+    word_means word words are.1 (bytes_eq word (codes "path")) (bytes_eq word (codes "packets")) (bytes_eq word (codes "times"))
+    (bytes_eq word (codes "retired")) (bytes_eq word (codes "trace")) (bytes_eq word (codes "selftest")) refl refl refl refl refl refl
 
 -- ---- what the code finds
+
+-- no rule of the commands is of a kind that their parse does not determine
+pub etm_is_simple : is_simple etm ≡ true
+etm_is_simple = refl
+
+pub etm_is_free : is_simple_and_free etm ≡ true
+etm_is_free = refl
 
 pub sub_is : {Z : Type 0} (sub : Option (Box SubCommand Z)) (word : Text) (rows : List Row)
     → Some word ≡ option_map (λ b. (out-SubCommand (box_value b)).name.now) sub → Some rows ≡ option_map (λ p. p.1) (subcommand_rows sub)

@@ -15,7 +15,7 @@ use Rattle.clap.specs.declared.builder.value_parser.Reading.TheVariants.{AsWritt
 use Rattle.clap.specs.declared.parser.matches.ValueSource.TheVariants.{CommandLine}
 use Rattle.command_words.specs.declared.words.CommandOption.{CommandOption}
 use Rattle.command_words.specs.declared.words.CommandOption.TheVariants as option
-use Rattle.command_words.specs.Words.{CommandRow, Seen, commands, name_of, takes_value, with_value}
+use Rattle.command_words.specs.Words.{CommandRow, Seen, commands, key_of, name_of, takes_value, with_value}
 use Rattle.command_words.specs.WordRules.{etm, positional_rule, rule_for}
 use Rattle.command_words.proofs.WordTurns.{Has}
 
@@ -124,24 +124,62 @@ pub by_short : (row : CommandRow) (x : ℕ) → arg_by_short (rules row) x ≡ N
 by_short row x =
     find_before _ (map done_option row.options) (positional_part row.has_positional) (no_short row.has_positional x) ∙ no_options _ row.options (λ o. refl)
 
-pub by_id : (row : CommandRow) (o : CommandOption) → Has row o → arg_by_id (rules row) (name_of o) ≡ Some (done_option o)
+-- two options of one name are known by different keys
+pub same_key : (o p : CommandOption) → bytes_eq (key_of o) (key_of p) ≡ true → o ≡ p
+same_key option.Raw option.Raw e = refl
+same_key option.Wrap option.Wrap e = refl
+same_key option.Sync option.Sync e = refl
+same_key option.Depth option.Depth e = refl
+same_key option.Vmid option.Vmid e = refl
+same_key option.Cid option.Cid e = refl
+same_key option.Settings option.Settings e = refl
+same_key option.Elf option.Elf e = refl
+same_key option.Last option.Last e = refl
+same_key option.SyncEvery option.SyncEvery e = refl
+same_key option.Cut option.Cut e = refl
+same_key o p e = absurd cc
+
+pub own_key : (o : CommandOption) → bytes_eq (key_of o) (key_of o) ≡ true
+own_key o = (bytes_eq-Decides (key_of o) (key_of o)).1 refl
+
+-- an option that is found by its name is found by its key
+key_by : (o p : CommandOption) (os : List CommandOption) (named known : Bool) → bytes_eq (name_of o) (name_of p) ≡ named
+    → bytes_eq (key_of o) (key_of p) ≡ known
+    → (find (λ q. bytes_eq (name_of o) (name_of q)) os ≡ Some o → find (λ q. bytes_eq (key_of o) (key_of q)) os ≡ Some o)
+    → find (λ q. bytes_eq (name_of o) (name_of q)) (p ∷ os) ≡ Some o → find (λ q. bytes_eq (key_of o) (key_of q)) (p ∷ os) ≡ Some o
+key_by o p os named true is same rest e = let this : p ≡ o = sym (same_key o p same) in simp same (ap Some this)
+key_by o p os false false is other rest e = simp other (rest (simp is at e))
+key_by o p os true false is other rest e =
+    let this : p ≡ o = (let f = simp is at e in cc) in
+    let known = subst (λ (q : CommandOption). bytes_eq (key_of o) (key_of q) ≡ false) this other in absurd (let g = sym (own_key o) ∙ known in cc)
+
+pub key_found : (o : CommandOption) (os : List CommandOption) → find (λ q. bytes_eq (name_of o) (name_of q)) os ≡ Some o
+    → find (λ q. bytes_eq (key_of o) (key_of q)) os ≡ Some o
+key_found o [] e = absurd cc
+key_found o (p ∷ os) e = key_by o p os (bytes_eq (name_of o) (name_of p)) (bytes_eq (key_of o) (key_of p)) refl refl (key_found o os) e
+
+pub by_id : (row : CommandRow) (o : CommandOption) → Has row o → arg_by_id (rules row) (key_of o) ≡ Some (done_option o)
 by_id row o has =
     find_some _ (map done_option row.options) (positional_part row.has_positional) (done_option o)
-    (find_options _ (λ p. bytes_eq (name_of o) (name_of p)) row.options (λ p. same_other (name_of p) (name_of o)) ∙ ap (option_map done_option) has)
+    (find_options _ (λ p. bytes_eq (key_of o) (key_of p)) row.options (λ p. same_other (key_of p) (key_of o))
+    ∙ ap (option_map done_option) (key_found o row.options has))
 
-no_name : (o : CommandOption) → bytes_eq (name_of o) (codes "POSITIONAL") ≡ false
-no_name option.Raw = refl
-no_name option.Wrap = refl
-no_name option.Depth = refl
-no_name option.Vmid = refl
-no_name option.Cid = refl
-no_name option.Settings = refl
-no_name option.Last = refl
-no_name option.Cut = refl
+no_key : (o : CommandOption) → bytes_eq (key_of o) (codes "POSITIONAL") ≡ false
+no_key option.Raw = refl
+no_key option.Wrap = refl
+no_key option.Sync = refl
+no_key option.Depth = refl
+no_key option.Vmid = refl
+no_key option.Cid = refl
+no_key option.Settings = refl
+no_key option.Elf = refl
+no_key option.Last = refl
+no_key option.SyncEvery = refl
+no_key option.Cut = refl
 
 pub positional_by_id : (row : CommandRow) → row.has_positional ≡ true → arg_by_id (rules row) (codes "POSITIONAL") ≡ Some done_positional
 positional_by_id row has =
-    find_none _ (map done_option row.options) (positional_part row.has_positional) (no_options _ row.options no_name)
+    find_none _ (map done_option row.options) (positional_part row.has_positional) (no_options _ row.options no_key)
     ∙ ap (λ b. arg_by_id (positional_part b) (codes "POSITIONAL")) has
 
 pub at_index : (row : CommandRow) (n : ℕ) → arg_by_index (rules row) n ≡ arg_by_index (positional_part row.has_positional) n
@@ -155,7 +193,7 @@ pub data Key : Type 0 where
   Positional : Key
 
 abbrev pub id_of : Key → Text
-id_of (Named o) = name_of o
+id_of (Named o) = key_of o
 id_of Positional = codes "POSITIONAL"
 
 abbrev pub rule_of : Key → Rule
@@ -166,11 +204,14 @@ rule_of Positional = done_positional
 abbrev pub text_in : Key → Seen → Option Text
 text_in (Named option.Raw) seen = if seen.raw then Some (codes "true") else None
 text_in (Named option.Wrap) seen = seen.wrap
+text_in (Named option.Sync) seen = if seen.sync then Some (codes "true") else None
 text_in (Named option.Depth) seen = seen.depth
 text_in (Named option.Vmid) seen = seen.vmid
 text_in (Named option.Cid) seen = seen.cid
 text_in (Named option.Settings) seen = seen.settings
+text_in (Named option.Elf) seen = if seen.elf then Some (codes "true") else None
 text_in (Named option.Last) seen = seen.last
+text_in (Named option.SyncEvery) seen = seen.every
 text_in (Named option.Cut) seen = seen.cut
 text_in Positional seen = seen.positional
 
@@ -187,22 +228,28 @@ Shows rows seen = (k : Key) → lookup (id_of k) rows ≡ option_map (row_for k)
 abbrev pub values_for : Key → Text → List Text
 values_for (Named option.Raw) text = []
 values_for (Named option.Wrap) text = text ∷ []
+values_for (Named option.Sync) text = []
 values_for (Named option.Depth) text = text ∷ []
 values_for (Named option.Vmid) text = text ∷ []
 values_for (Named option.Cid) text = text ∷ []
 values_for (Named option.Settings) text = text ∷ []
+values_for (Named option.Elf) text = []
 values_for (Named option.Last) text = text ∷ []
+values_for (Named option.SyncEvery) text = text ∷ []
 values_for (Named option.Cut) text = text ∷ []
 values_for Positional text = text ∷ []
 
 abbrev pub text_for : Key → Text → Text
 text_for (Named option.Raw) text = codes "true"
 text_for (Named option.Wrap) text = text
+text_for (Named option.Sync) text = codes "true"
 text_for (Named option.Depth) text = text
 text_for (Named option.Vmid) text = text
 text_for (Named option.Cid) text = text
 text_for (Named option.Settings) text = text
+text_for (Named option.Elf) text = codes "true"
 text_for (Named option.Last) text = text
+text_for (Named option.SyncEvery) text = text
 text_for (Named option.Cut) text = text
 text_for Positional text = text
 
@@ -252,12 +299,18 @@ pub used_adds : (k : Key) (text : Text) (rows : List Row) → lookup (id_of k) r
 used_adds (Named option.Raw) text rows e =
     put_added (codes "raw") (more_values CommandLine (codes "true" ∷ [])) (row_for (Named option.Raw) (codes "true") ∷ []) rows e
 used_adds (Named option.Wrap) text rows e = put_added (codes "wrap") (more_values CommandLine (text ∷ [])) (row_for (Named option.Wrap) text ∷ []) rows e
+used_adds (Named option.Sync) text rows e =
+    put_added (codes "sync") (more_values CommandLine (codes "true" ∷ [])) (row_for (Named option.Sync) (codes "true") ∷ []) rows e
 used_adds (Named option.Depth) text rows e = put_added (codes "depth") (more_values CommandLine (text ∷ [])) (row_for (Named option.Depth) text ∷ []) rows e
 used_adds (Named option.Vmid) text rows e = put_added (codes "vmid") (more_values CommandLine (text ∷ [])) (row_for (Named option.Vmid) text ∷ []) rows e
 used_adds (Named option.Cid) text rows e = put_added (codes "cid") (more_values CommandLine (text ∷ [])) (row_for (Named option.Cid) text ∷ []) rows e
 used_adds (Named option.Settings) text rows e =
     put_added (codes "settings") (more_values CommandLine (text ∷ [])) (row_for (Named option.Settings) text ∷ []) rows e
+used_adds (Named option.Elf) text rows e =
+    put_added (codes "elf") (more_values CommandLine (codes "true" ∷ [])) (row_for (Named option.Elf) (codes "true") ∷ []) rows e
 used_adds (Named option.Last) text rows e = put_added (codes "last") (more_values CommandLine (text ∷ [])) (row_for (Named option.Last) text ∷ []) rows e
+used_adds (Named option.SyncEvery) text rows e =
+    put_added (codes "sync-every") (more_values CommandLine (text ∷ [])) (row_for (Named option.SyncEvery) text ∷ []) rows e
 used_adds (Named option.Cut) text rows e = put_added (codes "cut") (more_values CommandLine (text ∷ [])) (row_for (Named option.Cut) text ∷ []) rows e
 used_adds Positional text rows e = put_added (codes "POSITIONAL") (more_values CommandLine (text ∷ [])) (row_for Positional text ∷ []) rows e
 
@@ -270,20 +323,26 @@ shows_by : (k j : Key) (text : Text) (rows : List Row) (seen : Seen) → lookup 
     → lookup (id_of j) (rows ++ row_for k (text_for k text) ∷ []) ≡ option_map (row_for j) (text_in j (seen_with k text seen))
 shows_by (Named option.Raw) (Named option.Raw) text rows seen is none = shows_this (Named option.Raw) (codes "true") rows none refl
 shows_by (Named option.Wrap) (Named option.Wrap) text rows seen is none = shows_this (Named option.Wrap) text rows none refl
+shows_by (Named option.Sync) (Named option.Sync) text rows seen is none = shows_this (Named option.Sync) (codes "true") rows none refl
 shows_by (Named option.Depth) (Named option.Depth) text rows seen is none = shows_this (Named option.Depth) text rows none refl
 shows_by (Named option.Vmid) (Named option.Vmid) text rows seen is none = shows_this (Named option.Vmid) text rows none refl
 shows_by (Named option.Cid) (Named option.Cid) text rows seen is none = shows_this (Named option.Cid) text rows none refl
 shows_by (Named option.Settings) (Named option.Settings) text rows seen is none = shows_this (Named option.Settings) text rows none refl
+shows_by (Named option.Elf) (Named option.Elf) text rows seen is none = shows_this (Named option.Elf) (codes "true") rows none refl
 shows_by (Named option.Last) (Named option.Last) text rows seen is none = shows_this (Named option.Last) text rows none refl
+shows_by (Named option.SyncEvery) (Named option.SyncEvery) text rows seen is none = shows_this (Named option.SyncEvery) text rows none refl
 shows_by (Named option.Cut) (Named option.Cut) text rows seen is none = shows_this (Named option.Cut) text rows none refl
 shows_by Positional Positional text rows seen is none = shows_this Positional text rows none refl
 shows_by Positional (Named option.Raw) text rows seen is none = find_before _ rows (row_for Positional text ∷ []) refl ∙ is
 shows_by Positional (Named option.Wrap) text rows seen is none = find_before _ rows (row_for Positional text ∷ []) refl ∙ is
+shows_by Positional (Named option.Sync) text rows seen is none = find_before _ rows (row_for Positional text ∷ []) refl ∙ is
 shows_by Positional (Named option.Depth) text rows seen is none = find_before _ rows (row_for Positional text ∷ []) refl ∙ is
 shows_by Positional (Named option.Vmid) text rows seen is none = find_before _ rows (row_for Positional text ∷ []) refl ∙ is
 shows_by Positional (Named option.Cid) text rows seen is none = find_before _ rows (row_for Positional text ∷ []) refl ∙ is
 shows_by Positional (Named option.Settings) text rows seen is none = find_before _ rows (row_for Positional text ∷ []) refl ∙ is
+shows_by Positional (Named option.Elf) text rows seen is none = find_before _ rows (row_for Positional text ∷ []) refl ∙ is
 shows_by Positional (Named option.Last) text rows seen is none = find_before _ rows (row_for Positional text ∷ []) refl ∙ is
+shows_by Positional (Named option.SyncEvery) text rows seen is none = find_before _ rows (row_for Positional text ∷ []) refl ∙ is
 shows_by Positional (Named option.Cut) text rows seen is none = find_before _ rows (row_for Positional text ∷ []) refl ∙ is
 shows_by k j text rows seen is none = find_before _ rows (row_for k (text_for k text) ∷ []) refl ∙ is
 
@@ -311,11 +370,14 @@ fault_then (k ∷ kinds) b bad = tt
 pub use_passes : (k : Key) (text : Text) (rows : List Row) → has_row (id_of k) rows ≡ false → use_fault false (rule_of k) (values_for k text) rows ≡ []
 use_passes (Named option.Raw) text rows none = simp none
 use_passes (Named option.Wrap) text rows none = simp none
+use_passes (Named option.Sync) text rows none = simp none
 use_passes (Named option.Depth) text rows none = simp none
 use_passes (Named option.Vmid) text rows none = simp none
 use_passes (Named option.Cid) text rows none = simp none
 use_passes (Named option.Settings) text rows none = simp none
+use_passes (Named option.Elf) text rows none = simp none
 use_passes (Named option.Last) text rows none = simp none
+use_passes (Named option.SyncEvery) text rows none = simp none
 use_passes (Named option.Cut) text rows none = simp none
 use_passes Positional text rows none = simp none
 
@@ -330,24 +392,30 @@ action_again a values rows there is =
     subst IsFault (sym is) (fault_then (range_kinds (unwrap_or_range a.range).start_inclusive (most_values a) (length values))
     (set_fault false a (values_or_missing a values) rows) (set_again a (values_or_missing a values) rows there))
 
-pub use_again : (o : CommandOption) (values : List Text) (rows : List Row) → has_row (name_of o) rows ≡ true
+pub use_again : (o : CommandOption) (values : List Text) (rows : List Row) → has_row (key_of o) rows ≡ true
     → IsFault (use_fault false (done_option o) values rows)
 use_again option.Raw values rows there = action_again (done_option option.Raw) values rows there refl
 use_again option.Wrap values rows there = action_again (done_option option.Wrap) values rows there refl
+use_again option.Sync values rows there = action_again (done_option option.Sync) values rows there refl
 use_again option.Depth values rows there = action_again (done_option option.Depth) values rows there refl
 use_again option.Vmid values rows there = action_again (done_option option.Vmid) values rows there refl
 use_again option.Cid values rows there = action_again (done_option option.Cid) values rows there refl
 use_again option.Settings values rows there = action_again (done_option option.Settings) values rows there refl
+use_again option.Elf values rows there = action_again (done_option option.Elf) values rows there refl
 use_again option.Last values rows there = action_again (done_option option.Last) values rows there refl
+use_again option.SyncEvery values rows there = action_again (done_option option.SyncEvery) values rows there refl
 use_again option.Cut values rows there = action_again (done_option option.Cut) values rows there refl
 
 -- an option has a value
 pub use_bare : (o : CommandOption) (rows : List Row) → takes_value o ≡ true → IsFault (use_fault false (done_option o) [] rows)
 use_bare option.Raw rows takes = absurd cc
 use_bare option.Wrap rows takes = tt
+use_bare option.Sync rows takes = absurd cc
 use_bare option.Depth rows takes = tt
 use_bare option.Vmid rows takes = tt
 use_bare option.Cid rows takes = tt
 use_bare option.Settings rows takes = tt
+use_bare option.Elf rows takes = absurd cc
 use_bare option.Last rows takes = tt
+use_bare option.SyncEvery rows takes = tt
 use_bare option.Cut rows takes = tt

@@ -13,9 +13,10 @@ use Rattle.clap.specs.Kinds.{Kinds, or_else}
 use Rattle.clap.specs.declared.error.ErrorKind.TheVariants as kind
 use Rattle.command_words.specs.declared.words.CommandOption.{CommandOption}
 use Rattle.command_words.specs.declared.words.CommandOption.TheVariants as option
-use Rattle.command_words.specs.Words.{CommandRow, is_dashed, name_and_value, name_of, takes_value}
+use Rattle.command_words.specs.Words.{CommandRow, is_dashed, key_of, name_and_value, name_of, takes_value}
 use Rattle.command_words.proofs.WordTurns.{Has}
-use Rattle.command_words.proofs.WordParses.{IsFault, at_index, by_id, by_long, by_short, done_option, done_positional, fault_first, leaf, positional_part}
+use Rattle.command_words.proofs.WordParses.{IsFault, at_index, by_id, by_long, by_short, done_option, done_positional, fault_first, leaf, own_key}
+use Rattle.command_words.proofs.WordParses.{positional_part}
 use Rattle.command_words.proofs.WordParses.{rules}
 
 abbrev pub Pending : Type 0
@@ -135,37 +136,30 @@ positional_walk row rows p t word is has =
 most_is : (o : CommandOption) → takes_value o ≡ true → most_values (done_option o) ≡ 1
 most_is option.Raw takes = absurd cc
 most_is option.Wrap takes = refl
+most_is option.Sync takes = absurd cc
 most_is option.Depth takes = refl
 most_is option.Vmid takes = refl
 most_is option.Cid takes = refl
 most_is option.Settings takes = refl
+most_is option.Elf takes = absurd cc
 most_is option.Last takes = refl
+most_is option.SyncEvery takes = refl
 most_is option.Cut takes = refl
-
-same_text : (o : CommandOption) → bytes_eq (name_of o) (name_of o) ≡ true
-same_text option.Raw = refl
-same_text option.Wrap = refl
-same_text option.Depth = refl
-same_text option.Vmid = refl
-same_text option.Cid = refl
-same_text option.Settings = refl
-same_text option.Last = refl
-same_text option.Cut = refl
 
 -- the step over a value
 value_step : (row : CommandRow) (rows : List Row) (o : CommandOption) (word : Text) → Has row o → takes_value o ≡ true
-    → plain_word (rules row) (waits_for (name_of o)) word (hold rows (Some (name_of o, []))) ≡ (hold rows (Some (name_of o, word ∷ [])), next idle)
-value_step row rows o word has takes = simp (by_id row o has, same_text o, most_is o takes)
+    → plain_word (rules row) (waits_for (key_of o)) word (hold rows (Some (key_of o, []))) ≡ (hold rows (Some (key_of o, word ∷ [])), next idle)
+value_step row rows o word has takes = simp (by_id row o has, own_key o, most_is o takes)
 
 pub value_turn : (row : CommandRow) (rows : List Row) (n : ℕ) (o : CommandOption) (word : Text) → Has row o → takes_value o ≡ true → is_dashed word ≡ false
-    → (turn_fault (leaf row) [] (at rows (Some (name_of o, [])) (waits_for (name_of o)) n false) word ≡ [])
-    × (walked (rules row) [] (at rows (Some (name_of o, [])) (waits_for (name_of o)) n false) word ≡ at rows (Some (name_of o, word ∷ [])) idle n false)
+    → (turn_fault (leaf row) [] (at rows (Some (key_of o, [])) (waits_for (key_of o)) n false) word ≡ [])
+    × (walked (rules row) [] (at rows (Some (key_of o, [])) (waits_for (key_of o)) n false) word ≡ at rows (Some (key_of o, word ∷ [])) idle n false)
 value_turn row rows n o word has takes plain =
-    let p = Some (name_of o, []) in let w = waits_for (name_of o) in
-    let m = met_plain row n word (hold rows p) w (inr (name_of o, refl)) plain in
+    let p = Some (key_of o, []) in let w = waits_for (key_of o) in
+    let m = met_plain row n word (hold rows p) w (inr (key_of o, refl)) plain in
     let met = m.0 ∙ value_step row rows o word has takes in (
-      turn_by row rows p w n false word (hold rows (Some (name_of o, word ∷ [])), next idle) [] met m.1,
-      walk_by row rows p w n false word (hold rows (Some (name_of o, word ∷ [])), next idle) met,
+      turn_by row rows p w n false word (hold rows (Some (key_of o, word ∷ [])), next idle) [] met m.1,
+      walk_by row rows p w n false word (hold rows (Some (key_of o, word ∷ [])), next idle) met,
     )
 
 -- ---- `--`
@@ -234,9 +228,9 @@ pub wait_turn : (row : CommandRow) (rows : List Row) (p : Pending) (n x : ℕ) (
     → find (λ q. bytes_eq name (name_of q)) row.options ≡ Some o → takes_value o ≡ true
     → (turn_fault (leaf row) [] (at rows p idle n false) (45 ∷ 45 ∷ x ∷ text) ≡ or_else (settle_fault (rules row) false (hold rows p)) [])
     × (walked (rules row) [] (at rows p idle n false) (45 ∷ 45 ∷ x ∷ text)
-    ≡ at (settled_rows (rules row) p rows) (Some (name_of o, [])) (waits_for (name_of o)) n false)
+    ≡ at (settled_rows (rules row) p rows) (Some (key_of o, [])) (waits_for (key_of o)) n false)
 wait_turn row rows p n x text name o cut is takes =
-    let word = 45 ∷ 45 ∷ x ∷ text in let m : Held × Step = (hold (settled_rows (rules row) p rows) (Some (name_of o, [])), next (waits_for (name_of o))) in
+    let word = 45 ∷ 45 ∷ x ∷ text in let m : Held × Step = (hold (settled_rows (rules row) p rows) (Some (key_of o, [])), next (waits_for (key_of o))) in
     let long : long_met (rules row) (Some (done_option o)) None (hold rows p) ≡ option_met (rules row) (done_option o) None (hold rows p) = simp takes in
     let met = long_met_is row rows p n x text name None (Some o) cut is
     ∙ ap (λ (l : Held × Outcome). after_flag (rules row) idle word l.0 l.1) long in

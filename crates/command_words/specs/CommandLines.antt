@@ -1,16 +1,19 @@
 -- How the words of a command line stand in a row.
-use Rattle.std.specs.Prelude.{◌≡◌, ◌≢◌, ℕ, ◌≤◌, true, false, List, [], ◌∷◌, ◌++◌, codes, Option, Some, None, All, length, if◌then◌else◌}
-use Rattle.std.specs.List.{AllPairs, AllZip, join_with_byte}
+use Rattle.std.specs.Prelude.{◌≡◌, ◌≢◌, ℕ, ◌≤◌, Bool, true, false, List, [], ◌∷◌, ◌++◌, codes, Option, Some, None, All, length, if◌then◌else◌}
+use Rattle.std.specs.List.{AllPairs, AllZip, join_with_byte, list_any}
 use Rattle.std.specs.Str.{bytes_eq}
 use Rattle.etm_types.specs.Id.{IsId}
 use Rattle.etm_types.specs.Settings.{AreSettings, Sizes, default_sizes}
 use Rattle.etm_types.specs.SettingsTable.{sizes_at}
 use Rattle.line_words.specs.Line.{decimal_of, two_digits_of}
-use Rattle.command_words.specs.Words.{Intake, Program, is_dashed, most_cut, most_last, most_number, most_wrap, name_of, takes_value}
+use Rattle.command_words.specs.Words.{Intake, Program, is_dashed, key_of, most_cut, most_every, most_last, most_number, most_wrap, name_of}
+use Rattle.command_words.specs.Words.{packets_options, path_options, retired_options, selftest_options, takes_value, times_options, trace_options}
 use Rattle.command_words.specs.declared.words.CommandOption.{CommandOption}
 use Rattle.command_words.specs.declared.words.CommandOption.TheVariants as option
 use Rattle.command_words.specs.declared.words.Layout.{Layout}
-use Rattle.command_words.specs.declared.words.Layout.TheVariants.{Raw, Frames, Wrapped}
+use Rattle.command_words.specs.declared.words.Layout.TheVariants.{Raw, Frames, Wrapped, Synced}
+use Rattle.command_words.specs.declared.words.ProgramForm.{ProgramForm}
+use Rattle.command_words.specs.declared.words.ProgramForm.TheVariants as form
 
 -- ---- the pieces of a line
 
@@ -50,9 +53,16 @@ IsEnd (word ∷ words) positionals = (word ≡ codes "--") × (words ≡ positio
 
 -- ---- what the pieces say
 
+abbrev pub is_same : CommandOption → CommandOption → Bool
+is_same o p = bytes_eq (key_of o) (key_of p)
+
+-- whether an option is one of these
+abbrev pub has_option : List CommandOption → CommandOption → Bool
+has_option options o = list_any (is_same o) options
+
 -- the value is added where the options are the same
 abbrev pub value_for : CommandOption → CommandOption → List ℕ → List (List ℕ) → List (List ℕ)
-value_for o p value values = if bytes_eq (name_of o) (name_of p) then value ∷ values else values
+value_for o p value values = if is_same o p then value ∷ values else values
 
 -- the values of an option, in their order, and of a flag an empty one for each time that it stands
 abbrev pub values_of : CommandOption → List Piece → List (List ℕ)
@@ -70,13 +80,20 @@ positionals_of (Joined p value ∷ pieces) = positionals_of pieces
 positionals_of (Flag p ∷ pieces) = positionals_of pieces
 positionals_of (Positional word ∷ pieces) = word ∷ positionals_of pieces
 
--- by the values of `--raw` and `--wrap`: `--raw` once stands for one stream that is not framed, one number of `--wrap` for the frame of a
--- buffer that is its oldest, and the absence of both for frames in their order
-abbrev pub IsLayout : List (List ℕ) → List (List ℕ) → Layout → Type 0
-IsLayout [] [] layout = layout ≡ Frames
-IsLayout (flag ∷ []) [] layout = layout ≡ Raw
-IsLayout [] (value ∷ []) layout = (k : ℕ) × (decimal_of value ≡ Some k) × (k ≤ most_wrap) × (layout ≡ Wrapped k)
-IsLayout flags values layout = ⊥
+-- By the values of `--raw`, `--wrap` and `--sync`: `--raw` once stands for one stream that is not framed, one number of `--wrap` for the frame
+-- of a buffer that is its oldest, `--sync` once for frames among synchronisation packets, and the absence of all for frames in their order.
+abbrev pub IsLayout : List (List ℕ) → List (List ℕ) → List (List ℕ) → Layout → Type 0
+IsLayout [] [] [] layout = layout ≡ Frames
+IsLayout (flag ∷ []) [] [] layout = layout ≡ Raw
+IsLayout [] (value ∷ []) [] layout = (k : ℕ) × (decimal_of value ≡ Some k) × (k ≤ most_wrap) × (layout ≡ Wrapped k)
+IsLayout [] [] (flag ∷ []) layout = layout ≡ Synced
+IsLayout raws values syncs layout = ⊥
+
+-- `--elf` once stands for an ELF file, and its absence for the text of an image
+abbrev pub IsForm : List (List ℕ) → ProgramForm → Type 0
+IsForm [] file = file ≡ form.Text
+IsForm (flag ∷ []) file = file ≡ form.Elf
+IsForm (flag ∷ other ∷ flags) file = ⊥
 
 -- one value is a number, and the absence of one stands for the default
 abbrev pub IsNumber : ℕ → List (List ℕ) → ℕ → Type 0
@@ -90,15 +107,11 @@ IsCut [] cut = cut ≡ None
 IsCut (value ∷ []) cut = (k : ℕ) × (decimal_of value ≡ Some k) × (k ≤ most_cut) × (cut ≡ Some k)
 IsCut (value ∷ other ∷ values) cut = ⊥
 
--- one value is how many frames are written, and its absence stands for all
-abbrev pub IsLast : List (List ℕ) → Option ℕ → Type 0
-IsLast [] last = last ≡ None
-IsLast (value ∷ []) last = (n : ℕ) × (decimal_of value ≡ Some n) × (1 ≤ n) × (n ≤ most_last) × (last ≡ Some n)
-IsLast (value ∷ other ∷ values) last = ⊥
-
--- no option stands but this one
-abbrev pub NoOther : CommandOption → List Piece → Type 0
-NoOther o pieces = (p : CommandOption) → p ≢ o → values_of p pieces ≡ []
+-- one value is how many, at least one and no more than the most, and its absence stands for none
+abbrev pub IsCount : ℕ → List (List ℕ) → Option ℕ → Type 0
+IsCount most [] count = count ≡ None
+IsCount most (value ∷ []) count = (n : ℕ) × (decimal_of value ≡ Some n) × (1 ≤ n) × (n ≤ most) × (count ≡ Some n)
+IsCount most (value ∷ other ∷ values) count = ⊥
 
 -- ---- the settings of single IDs
 
@@ -146,8 +159,8 @@ IsUnits (list ∷ other ∷ lists) all units = ⊥
 
 -- ---- lines
 
--- the words of a command: its own, pieces in any order, and an end, with these positionals among them
-pub record IsLine (word : List ℕ) (words positionals : List (List ℕ)) : Type 0 where
+-- the words of a command: its own, pieces in any order, whose options are among these, and an end, with these positionals among them
+pub record IsLine (word : List ℕ) (options : List CommandOption) (words positionals : List (List ℕ)) : Type 0 where
   pub pieces : List Piece
   pub ended : List (List ℕ)
   pub behind : List (List ℕ)
@@ -155,50 +168,50 @@ pub record IsLine (word : List ℕ) (words positionals : List (List ℕ)) : Type
   pub are_pieces : All IsPiece pieces
   pub end_is : IsEnd ended behind
   pub positionals_are : positionals_of pieces ++ behind ≡ positionals
+  pub only : (o : CommandOption) → has_option options o ≡ false → values_of o pieces ≡ []
 
--- `path`, with numbers in range and one positional
+-- how an input is taken by what the pieces say: its layout, and the sizes of all IDs, with numbers in range
+pub record IsTakenBy (pieces : List Piece) (intake : Intake) : Type 0 where
+  pub layout_is : IsLayout (values_of option.Raw pieces) (values_of option.Wrap pieces) (values_of option.Sync pieces) intake.layout
+  pub all : Sizes
+  pub depth_is : IsNumber default_sizes.depth (values_of option.Depth pieces) all.depth
+  pub vmid_is : IsNumber default_sizes.vmid_bytes (values_of option.Vmid pieces) all.vmid_bytes
+  pub cid_is : IsNumber default_sizes.cid_bytes (values_of option.Cid pieces) all.cid_bytes
+  pub within : AreSettings all
+  pub units_are : IsUnits (values_of option.Settings pieces) all intake.units
+
+-- `path`, with one positional
 pub record IsPathLine (words : List (List ℕ)) (program : Program) (intake : Intake) : Type 0 where
-  pub line : IsLine (codes "path") words (program.name ∷ [])
-  pub layout_is : IsLayout (values_of option.Raw line.pieces) (values_of option.Wrap line.pieces) intake.layout
-  pub no_last : values_of option.Last line.pieces ≡ []
-  pub no_cut : values_of option.Cut line.pieces ≡ []
-  pub all : Sizes
-  pub depth_is : IsNumber default_sizes.depth (values_of option.Depth line.pieces) all.depth
-  pub vmid_is : IsNumber default_sizes.vmid_bytes (values_of option.Vmid line.pieces) all.vmid_bytes
-  pub cid_is : IsNumber default_sizes.cid_bytes (values_of option.Cid line.pieces) all.cid_bytes
-  pub within : AreSettings all
-  pub units_are : IsUnits (values_of option.Settings line.pieces) all intake.units
+  pub line : IsLine (codes "path") path_options words (program.name ∷ [])
+  pub form_is : IsForm (values_of option.Elf line.pieces) program.form
+  pub taken : IsTakenBy line.pieces intake
 
--- `packets`, with numbers in range and no positional; no packet depends on the depth, which is the default
+-- `packets`, with no positional; no packet depends on the depth, which is the default
 pub record IsPacketsLine (words : List (List ℕ)) (intake : Intake) : Type 0 where
-  pub line : IsLine (codes "packets") words []
-  pub layout_is : IsLayout (values_of option.Raw line.pieces) (values_of option.Wrap line.pieces) intake.layout
-  pub no_depth : values_of option.Depth line.pieces ≡ []
-  pub no_last : values_of option.Last line.pieces ≡ []
-  pub no_cut : values_of option.Cut line.pieces ≡ []
-  pub all : Sizes
-  pub depth_is : all.depth ≡ default_sizes.depth
-  pub vmid_is : IsNumber default_sizes.vmid_bytes (values_of option.Vmid line.pieces) all.vmid_bytes
-  pub cid_is : IsNumber default_sizes.cid_bytes (values_of option.Cid line.pieces) all.cid_bytes
-  pub within : AreSettings all
-  pub units_are : IsUnits (values_of option.Settings line.pieces) all intake.units
+  pub line : IsLine (codes "packets") packets_options words []
+  pub taken : IsTakenBy line.pieces intake
 
--- `retired`, with no option and one positional
+-- `times`, with no positional
+pub record IsTimesLine (words : List (List ℕ)) (intake : Intake) : Type 0 where
+  pub line : IsLine (codes "times") times_options words []
+  pub taken : IsTakenBy line.pieces intake
+
+-- `retired`, with one positional
 pub record IsRetiredLine (words : List (List ℕ)) (program : Program) : Type 0 where
-  pub line : IsLine (codes "retired") words (program.name ∷ [])
-  pub no_option : (o : CommandOption) → values_of o line.pieces ≡ []
+  pub line : IsLine (codes "retired") retired_options words (program.name ∷ [])
+  pub form_is : IsForm (values_of option.Elf line.pieces) program.form
 
--- `trace`, with how many frames are written, and one positional
-pub record IsTraceLine (words : List (List ℕ)) (program : Program) (last : Option ℕ) : Type 0 where
-  pub line : IsLine (codes "trace") words (program.name ∷ [])
-  pub last_is : IsLast (values_of option.Last line.pieces) last
-  pub no_other : NoOther option.Last line.pieces
+-- `trace`, with how many frames are written, and from one synchronisation packet to the next, and one positional
+pub record IsTraceLine (words : List (List ℕ)) (program : Program) (last every : Option ℕ) : Type 0 where
+  pub line : IsLine (codes "trace") trace_options words (program.name ∷ [])
+  pub form_is : IsForm (values_of option.Elf line.pieces) program.form
+  pub last_is : IsCount most_last (values_of option.Last line.pieces) last
+  pub every_is : IsCount most_every (values_of option.SyncEvery line.pieces) every
 
 -- `selftest`, with a number in range as its positional, and how many bytes are read
 pub record IsSelftestLine (words : List (List ℕ)) (n : ℕ) (cut : Option ℕ) : Type 0 where
   pub number : List ℕ
-  pub line : IsLine (codes "selftest") words (number ∷ [])
+  pub line : IsLine (codes "selftest") selftest_options words (number ∷ [])
   pub number_is : decimal_of number ≡ Some n
   pub number_within : n ≤ most_number
   pub cut_is : IsCut (values_of option.Cut line.pieces) cut
-  pub no_other : NoOther option.Cut line.pieces

@@ -5,12 +5,12 @@ use Rattle.std.specs.Prelude.{find}
 use Rattle.std.specs.Str.{bytes_eq}
 use Rattle.clap.specs.Words.{App, Row, Rule, Shape, Text, first_of, new_app, new_rule, with_rule}
 use Rattle.clap.specs.declared.builder.ArgAction.TheVariants.{Set, SetTrue}
-use Rattle.command_words.specs.Words.{Command, CommandRow, Seen, command_in, commands, name_of, takes_value}
+use Rattle.command_words.specs.Words.{Command, CommandRow, Seen, command_in, commands, key_of, name_of, takes_value}
 use Rattle.command_words.specs.declared.words.CommandOption.{CommandOption}
 
 -- an option, by its long name
 abbrev pub rule_for : CommandOption → Rule
-rule_for o = record (new_rule (name_of o)) { long = Some (name_of o); action = Some (if takes_value o then Set else SetTrue) }
+rule_for o = record (new_rule (key_of o)) { long = Some (name_of o); action = Some (if takes_value o then Set else SetTrue) }
 
 -- the positional, which is required
 abbrev pub positional_rule : Rule
@@ -49,11 +49,14 @@ abbrev pub seen_in : List Row → Seen
 seen_in rows = record {
   raw = is_true_text (first_of (codes "raw") rows);
   wrap = first_of (codes "wrap") rows;
+  sync = is_true_text (first_of (codes "sync") rows);
   depth = first_of (codes "depth") rows;
   vmid = first_of (codes "vmid") rows;
   cid = first_of (codes "cid") rows;
   settings = first_of (codes "settings") rows;
+  elf = is_true_text (first_of (codes "elf") rows);
   last = first_of (codes "last") rows;
+  every = first_of (codes "sync-every") rows;
   cut = first_of (codes "cut") rows;
   positional = first_of (codes "POSITIONAL") rows;
   waits = None;

@@ -12,15 +12,18 @@ use Rattle.command_words.specs.declared.words.CommandName.TheVariants as name
 use Rattle.command_words.specs.declared.words.CommandOption.{CommandOption}
 use Rattle.command_words.specs.declared.words.CommandOption.TheVariants as option
 use Rattle.command_words.specs.declared.words.Layout.{Layout}
-use Rattle.command_words.specs.declared.words.Layout.TheVariants.{Raw, Frames, Wrapped}
+use Rattle.command_words.specs.declared.words.Layout.TheVariants.{Raw, Frames, Wrapped, Synced}
+use Rattle.command_words.specs.declared.words.ProgramForm.{ProgramForm}
+use Rattle.command_words.specs.declared.words.ProgramForm.TheVariants as form
 
 -- the bytes of each word
 abbrev pub texts : {Z : Type 0} → List (String Z) → List (List ℕ)
 texts words = map (λ word. string_bytes word) words
 
--- the program that ran: the name of its image
+-- the program that ran: the name of its file, and whether that is the text of an image or an ELF file
 pub record Program : Type 0 where
   pub name : List ℕ
+  pub form : ProgramForm
 
 -- how an input is taken: the sizes of the trace unit of each ID, and how it is laid out
 pub record Intake : Type 0 where
@@ -33,10 +36,13 @@ pub data Command : Type 0 where
   Path : Program → Intake → Command
   -- the packets of each stream
   Packets : Intake → Command
+  -- the times of the P0 elements of each stream
+  Times : Intake → Command
   -- the retired path of each stream of a run file
   Retired : Program → Command
-  -- the trace of each stream of a run file, in frames: how many of the last, where not all are
-  Trace : Program → Option ℕ → Command
+  -- the trace of each stream of a run file, in frames: how many of the last, where not all are; and how many stand from one synchronisation
+  -- packet to the next, where there are such
+  Trace : Program → Option ℕ → Option ℕ → Command
   -- both ends tried on the run file of a number: the number, and how many bytes of its frames are read, where not all are
   Selftest : ℕ → Option ℕ → Command
 
@@ -44,8 +50,9 @@ pub data Command : Type 0 where
 abbrev pub program_of : Command → Option Program
 program_of (Path program intake) = Some program
 program_of (Packets intake) = None
+program_of (Times intake) = None
 program_of (Retired program) = Some program
-program_of (Trace program last) = Some program
+program_of (Trace program last every) = Some program
 program_of (Selftest n cut) = None
 
 -- what a command reads
@@ -64,8 +71,9 @@ abbrev pub kind_of : Option Command → Kind
 kind_of None = NoCommand
 kind_of (Some (Path program intake)) = PathKind
 kind_of (Some (Packets intake)) = BareKind
+kind_of (Some (Times intake)) = BareKind
 kind_of (Some (Retired program)) = RunFileKind
-kind_of (Some (Trace program last)) = RunFileKind
+kind_of (Some (Trace program last every)) = RunFileKind
 kind_of (Some (Selftest n cut)) = NumberKind
 
 -- ---- the commands and their options
@@ -74,22 +82,33 @@ kind_of (Some (Selftest n cut)) = NumberKind
 abbrev pub name_of : CommandOption → List ℕ
 name_of option.Raw = codes "raw"
 name_of option.Wrap = codes "wrap"
+name_of option.Sync = codes "sync"
 name_of option.Depth = codes "depth"
 name_of option.Vmid = codes "vmid"
 name_of option.Cid = codes "cid"
 name_of option.Settings = codes "settings"
+name_of option.Elf = codes "elf"
 name_of option.Last = codes "last"
+name_of option.SyncEvery = codes "sync"
 name_of option.Cut = codes "cut"
+
+-- What an option is known by: its name. But `--sync` is a flag of one command and takes a value in another, and these are two options.
+abbrev pub key_of : CommandOption → List ℕ
+key_of option.SyncEvery = codes "sync-every"
+key_of o = name_of o
 
 -- an option takes a value, and a flag none
 abbrev pub takes_value : CommandOption → Bool
 takes_value option.Raw = false
 takes_value option.Wrap = true
+takes_value option.Sync = false
 takes_value option.Depth = true
 takes_value option.Vmid = true
 takes_value option.Cid = true
 takes_value option.Settings = true
+takes_value option.Elf = false
 takes_value option.Last = true
+takes_value option.SyncEvery = true
 takes_value option.Cut = true
 
 -- a command: its word, its options, and whether it has a positional: an IMAGE, or a number
@@ -102,14 +121,35 @@ pub record CommandRow : Type 0 where
 abbrev pub row : List ℕ → CommandName → List CommandOption → Bool → CommandRow
 row word name options has_positional = record { word = word; name = name; options = options; has_positional = has_positional }
 
--- the table of commands; no packet depends on the depth
+-- the options of each command; no packet depends on the depth, nor on an image
+abbrev pub path_options : List CommandOption
+path_options =
+    option.Raw ∷ option.Wrap ∷ option.Sync ∷ option.Depth ∷ option.Vmid ∷ option.Cid ∷ option.Settings ∷ option.Elf ∷ []
+
+abbrev pub packets_options : List CommandOption
+packets_options = option.Raw ∷ option.Wrap ∷ option.Sync ∷ option.Vmid ∷ option.Cid ∷ option.Settings ∷ []
+
+abbrev pub times_options : List CommandOption
+times_options = option.Raw ∷ option.Depth ∷ option.Vmid ∷ option.Cid ∷ option.Settings ∷ []
+
+abbrev pub retired_options : List CommandOption
+retired_options = option.Elf ∷ []
+
+abbrev pub trace_options : List CommandOption
+trace_options = option.Last ∷ option.SyncEvery ∷ option.Elf ∷ []
+
+abbrev pub selftest_options : List CommandOption
+selftest_options = option.Cut ∷ []
+
+-- the table of commands
 abbrev pub commands : List CommandRow
 commands =
-    row (codes "path") name.Path (option.Raw ∷ option.Wrap ∷ option.Depth ∷ option.Vmid ∷ option.Cid ∷ option.Settings ∷ []) true
-    ∷ row (codes "packets") name.Packets (option.Raw ∷ option.Wrap ∷ option.Vmid ∷ option.Cid ∷ option.Settings ∷ []) false
-    ∷ row (codes "retired") name.Retired [] true
-    ∷ row (codes "trace") name.Trace (option.Last ∷ []) true
-    ∷ row (codes "selftest") name.Selftest (option.Cut ∷ []) true
+    row (codes "path") name.Path path_options true
+    ∷ row (codes "packets") name.Packets packets_options false
+    ∷ row (codes "times") name.Times times_options false
+    ∷ row (codes "retired") name.Retired retired_options true
+    ∷ row (codes "trace") name.Trace trace_options true
+    ∷ row (codes "selftest") name.Selftest selftest_options true
     ∷ []
 
 -- ---- a word
@@ -134,15 +174,18 @@ name_and_value text = (before_first is_equals text, if list_any is_equals text t
 
 -- ---- the walk over the words behind a command
 
--- what was seen so far: the flag, the values of the options and the positional
+-- what was seen so far: the flags, the values of the options and the positional
 pub record Seen : Type 0 where
   pub raw : Bool
   pub wrap : Option (List ℕ)
+  pub sync : Bool
   pub depth : Option (List ℕ)
   pub vmid : Option (List ℕ)
   pub cid : Option (List ℕ)
   pub settings : Option (List ℕ)
+  pub elf : Bool
   pub last : Option (List ℕ)
+  pub every : Option (List ℕ)
   pub cut : Option (List ℕ)
   pub positional : Option (List ℕ)
   -- the option that takes the next word
@@ -154,11 +197,14 @@ abbrev pub nothing_seen : Seen
 nothing_seen = record {
   raw = false;
   wrap = None;
+  sync = false;
   depth = None;
   vmid = None;
   cid = None;
   settings = None;
+  elf = false;
   last = None;
+  every = None;
   cut = None;
   positional = None;
   waits = None;
@@ -168,22 +214,28 @@ nothing_seen = record {
 abbrev pub is_seen : CommandOption → Seen → Bool
 is_seen option.Raw seen = seen.raw
 is_seen option.Wrap seen = is_some seen.wrap
+is_seen option.Sync seen = seen.sync
 is_seen option.Depth seen = is_some seen.depth
 is_seen option.Vmid seen = is_some seen.vmid
 is_seen option.Cid seen = is_some seen.cid
 is_seen option.Settings seen = is_some seen.settings
+is_seen option.Elf seen = seen.elf
 is_seen option.Last seen = is_some seen.last
+is_seen option.SyncEvery seen = is_some seen.every
 is_seen option.Cut seen = is_some seen.cut
 
 -- an option is seen, with its value, of which a flag has none
 abbrev pub with_value : CommandOption → List ℕ → Seen → Seen
 with_value option.Raw value seen = record seen { raw = true; waits = None }
 with_value option.Wrap value seen = record seen { wrap = Some value; waits = None }
+with_value option.Sync value seen = record seen { sync = true; waits = None }
 with_value option.Depth value seen = record seen { depth = Some value; waits = None }
 with_value option.Vmid value seen = record seen { vmid = Some value; waits = None }
 with_value option.Cid value seen = record seen { cid = Some value; waits = None }
 with_value option.Settings value seen = record seen { settings = Some value; waits = None }
+with_value option.Elf value seen = record seen { elf = true; waits = None }
 with_value option.Last value seen = record seen { last = Some value; waits = None }
+with_value option.SyncEvery value seen = record seen { every = Some value; waits = None }
 with_value option.Cut value seen = record seen { cut = Some value; waits = None }
 
 -- the word is the positional, which stands once
@@ -246,20 +298,27 @@ number_to most text = option_and_then (λ n. if nat_le n most then Some n else N
 abbrev pub most_wrap : ℕ
 most_wrap = 65536
 
--- one stream where `--raw` stood, frames from the oldest on where `--wrap` did, and frames in their order where neither did; there is
--- no layout where both did
-abbrev pub layout_by : Bool → Option (List ℕ) → Option Layout
-layout_by false None = Some Frames
-layout_by true None = Some Raw
-layout_by false (Some text) = option_map Wrapped (number_to most_wrap text)
-layout_by true (Some text) = None
+-- one stream where `--raw` stood, frames from the oldest on where `--wrap` did, frames among synchronisation packets where `--sync` did, and
+-- frames in their order where none did; there is no layout where two did
+abbrev pub layout_by : Bool → Option (List ℕ) → Bool → Option Layout
+layout_by false None false = Some Frames
+layout_by true None false = Some Raw
+layout_by false (Some text) false = option_map Wrapped (number_to most_wrap text)
+layout_by false None true = Some Synced
+layout_by true (Some text) sync = None
+layout_by true None true = None
+layout_by false (Some text) true = None
 
 abbrev pub layout_in : Seen → Option Layout
-layout_in seen = layout_by seen.raw seen.wrap
+layout_in seen = layout_by seen.raw seen.wrap seen.sync
 
--- the positional names the image of the program
+-- the file is an ELF file where `--elf` stood
+abbrev pub form_by : Bool → ProgramForm
+form_by elf = if elf then form.Elf else form.Text
+
+-- the positional names the file of the program
 abbrev pub program_in : Seen → Option Program
-program_in seen = option_map (λ image. record { name = image }) seen.positional
+program_in seen = option_map (λ file. record { name = file; form = form_by seen.elf }) seen.positional
 
 -- how the input is taken, where the sizes are in range and there is a layout
 abbrev pub intake_in : Seen → Option Intake
@@ -269,13 +328,19 @@ intake_in seen = option_and_then (λ units. option_map (λ layout. record { unit
 abbrev pub most_last : ℕ
 most_last = 65536
 
--- how many frames are written, where `--last` stands: none where that is no such number, or 0
-abbrev pub last_of : Option (List ℕ) → Option (Option ℕ)
-last_of None = Some None
-last_of (Some text) = option_and_then (λ n. if n == 0 then None else Some (Some n)) (number_to most_last text)
+-- the most frames between two synchronisation packets that `--sync` writes
+abbrev pub most_every : ℕ
+most_every = 65535
+
+-- how many an option says, where it stands: there is no answer where that is no number up to the most, or 0
+abbrev pub count_of : ℕ → Option (List ℕ) → Option (Option ℕ)
+count_of most None = Some None
+count_of most (Some text) = option_and_then (λ n. if n == 0 then None else Some (Some n)) (number_to most text)
 
 abbrev pub trace_in : Seen → Option Command
-trace_in seen = option_and_then (λ program. option_map (Trace program) (last_of seen.last)) (program_in seen)
+trace_in seen =
+    option_and_then (λ program. option_and_then (λ last. option_map (Trace program last) (count_of most_every seen.every))
+    (count_of most_last seen.last)) (program_in seen)
 
 -- the highest number that is tried
 abbrev pub most_number : ℕ
@@ -296,6 +361,7 @@ selftest_in seen = option_and_then (λ word. option_and_then (λ n. option_map (
 abbrev pub command_in : CommandName → Seen → Option Command
 command_in name.Path seen = option_and_then (λ program. option_map (Path program) (intake_in seen)) (program_in seen)
 command_in name.Packets seen = option_map Packets (intake_in seen)
+command_in name.Times seen = option_map Times (intake_in seen)
 command_in name.Retired seen = option_map Retired (program_in seen)
 command_in name.Trace seen = trace_in seen
 command_in name.Selftest seen = selftest_in seen

@@ -17,4 +17,4 @@ mod words;
 
 pub use laws::words_mean_what_they_spell;
 pub use parser::command_of;
-pub use words::{Command, Intake, Layout, Program, image_name};
+pub use words::{Command, Intake, Layout, Program, ProgramForm, image_name};

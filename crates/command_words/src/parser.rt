@@ -24,8 +24,9 @@ fn option_arg<'a>(alloc: Global, option: CommandOption) -> Arg<'a>
     } else {
         ArgAction::SetTrue
     };
+    let key: &'a str = option.key();
     let name: &'a str = option.name();
-    Arg::new(alloc, name).long(name).action(action)
+    Arg::new(alloc, key).long(name).action(action)
 }
 
 /// The positional.
@@ -118,11 +119,14 @@ fn seen_in<'a>(matches: &ArgMatches<'a>) -> Seen<'a>
     Seen {
         raw: is_true_text(matches.get_str("raw")),
         wrap: matches.get_str("wrap"),
+        sync: is_true_text(matches.get_str("sync")),
         depth: matches.get_str("depth"),
         vmid: matches.get_str("vmid"),
         cid: matches.get_str("cid"),
         settings: matches.get_str("settings"),
+        elf: is_true_text(matches.get_str("elf")),
         last: matches.get_str("last"),
+        every: matches.get_str("sync-every"),
         cut: matches.get_str("cut"),
         positional: matches.get_str("POSITIONAL"),
         waits: None,

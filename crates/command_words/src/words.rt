@@ -2,13 +2,13 @@
 ghost use Rattle.std.specs.Prelude.{◌≡◌, IfSome, find, map};
 ghost use Rattle.std.specs.Option.{option_map};
 ghost use Rattle.std.specs.Str.{bytes_eq};
-ghost use Rattle.command_words.specs.Words.{behind_dash, commands, command_in, cut_of, image_of, intake_in, is_dashed, is_seen, is_whole, last_of};
+ghost use Rattle.command_words.specs.Words.{behind_dash, commands, command_in, count_of, cut_of, image_of, intake_in, is_dashed, is_seen, is_whole, key_of};
 ghost use Rattle.command_words.specs.Words.{layout_in, meaning, name_and_value, name_of, nothing_seen, number_of, number_to, program_in, seen_of};
 ghost use Rattle.command_words.specs.Words.{selftest_in, sizes_in, takes_value, texts, trace_in, units_in, with_dashed, with_named, with_option};
 ghost use Rattle.command_words.specs.Words.{with_positional, with_value, with_word};
 ghost use Rattle.etm_types.specs.Settings.{AreSettings};
 ghost use Rattle.etm_types.specs.SettingsTable.{IsTable};
-ghost use Rattle.command_words.specs.Said.{IsInRange, IsIntake, IsLaidOut, IsLastCount, line_of, said, said_intake, said_program, seen_by};
+ghost use Rattle.command_words.specs.Said.{IsInRange, IsIntake, IsLaidOut, IsCountTo, line_of, said, said_intake, said_program, seen_by};
 
 use crate::lists::{settings_of, table_of};
 use etm_types::{Settings, SettingsTable};
@@ -26,6 +26,9 @@ const MOST_WRAP: u32 = 65_536;
 /// The most frames that `--last` leaves.
 const MOST_LAST: u32 = 65_536;
 
+/// The most frames between two synchronisation packets that `--sync` writes.
+const MOST_EVERY: u32 = 65_535;
+
 /// How the input is laid out.
 #[derive(Clone, Copy, Debug, PartialEq, Eq)]
 pub enum Layout {
@@ -35,13 +38,26 @@ pub enum Layout {
     Frames,
     /// Such frames in a buffer that was written round (`--wrap`): the number of its oldest frame, from 0 on.
     Wrapped(u32),
+    /// Such frames from a trace port, with synchronisation packets among them (`--sync`).
+    Synced,
+}
+
+/// What the file of a program is.
+#[derive(Clone, Copy, Debug, PartialEq, Eq)]
+pub enum ProgramForm {
+    /// The text of an image.
+    Text,
+    /// An ELF file (`--elf`).
+    Elf,
 }
 
 /// The program that ran.
 #[derive(Clone, Copy, Debug)]
 pub struct Program<'a> {
-    /// The name of its image.
+    /// The name of its file.
     pub name: &'a str,
+    /// What that file is.
+    pub form: ProgramForm,
 }
 
 /// How an input is taken.
@@ -65,14 +81,20 @@ pub enum Command<'a> {
     Packets {
         intake: Intake,
     },
+    /// The times of the P0 elements of each stream.
+    Times {
+        intake: Intake,
+    },
     /// The retired path of each stream of a run file, over the image of a program.
     Retired {
         program: Program<'a>,
     },
-    /// The trace of each stream of a run file, over the image of a program. So many of its last frames are written, or all.
+    /// The trace of each stream of a run file, over the image of a program. So many of its last frames are written, or all; and
+    /// a synchronisation packet before the first of these and each so-many-th behind it, or none.
     Trace {
         program: Program<'a>,
         last: Option<u32>,
+        every: Option<u32>,
     },
     /// Both ends, tried on the run file that is made from a number. Of its frames so many bytes are read, or all.
     Selftest {
@@ -86,21 +108,25 @@ pub enum Command<'a> {
 pub enum CommandName {
     Path,
     Packets,
+    Times,
     Retired,
     Trace,
     Selftest,
 }
 
-/// The options of the commands. `--raw` is a flag, and the others take a value.
+/// The options of the commands. `--raw`, `--elf`, and `--sync` where an input is read, are flags, and the others take a value.
 #[derive(Clone, Copy, Debug)]
 pub enum CommandOption {
     Raw,
     Wrap,
+    Sync,
     Depth,
     Vmid,
     Cid,
     Settings,
+    Elf,
     Last,
+    SyncEvery,
     Cut,
 }
 
@@ -112,12 +138,24 @@ impl CommandOption {
         match self {
             CommandOption::Raw => "raw",
             CommandOption::Wrap => "wrap",
+            CommandOption::Sync | CommandOption::SyncEvery => "sync",
             CommandOption::Depth => "depth",
             CommandOption::Vmid => "vmid",
             CommandOption::Cid => "cid",
             CommandOption::Settings => "settings",
+            CommandOption::Elf => "elf",
             CommandOption::Last => "last",
             CommandOption::Cut => "cut",
+        }
+    }
+
+    /// What `clap` knows it by. That is its name, but a flag and an option with a value may have one name.
+    pub fn key(self) -> &'static str
+        ensures { result.now ≡ key_of self }
+    {
+        match self {
+            CommandOption::SyncEvery => "sync-every",
+            option => option.name(),
         }
     }
 
@@ -125,7 +163,10 @@ impl CommandOption {
     pub fn takes_value(self) -> bool
         ensures { result ≡ takes_value self }
     {
-        !matches!(self, CommandOption::Raw)
+        !matches!(
+            self,
+            CommandOption::Raw | CommandOption::Sync | CommandOption::Elf
+        )
     }
 }
 
@@ -138,20 +179,23 @@ pub struct CommandLine {
     pub has_positional: bool,
 }
 
-/// The commands: `path [--raw] [--wrap K] [--depth N] [--vmid N] [--cid N] [--settings LIST] IMAGE`,
-/// `packets [--raw] [--wrap K] [--vmid N] [--cid N] [--settings LIST]`, `retired IMAGE`, `trace [--last N] IMAGE` and
-/// `selftest [--cut K] N`.
-pub const COMMANDS: [CommandLine; 5] = [
+/// The commands: `path [--raw] [--wrap K] [--sync] [--depth N] [--vmid N] [--cid N] [--settings LIST] [--elf] IMAGE`,
+/// `packets [--raw] [--wrap K] [--sync] [--vmid N] [--cid N] [--settings LIST]`,
+/// `times [--raw] [--depth N] [--vmid N] [--cid N] [--settings LIST]`, `retired [--elf] IMAGE`,
+/// `trace [--last N] [--sync N] [--elf] IMAGE` and `selftest [--cut K] N`.
+pub const COMMANDS: [CommandLine; 6] = [
     CommandLine {
         word: "path",
         name: CommandName::Path,
         options: &[
             CommandOption::Raw,
             CommandOption::Wrap,
+            CommandOption::Sync,
             CommandOption::Depth,
             CommandOption::Vmid,
             CommandOption::Cid,
             CommandOption::Settings,
+            CommandOption::Elf,
         ],
         has_positional: true,
     },
@@ -161,6 +205,19 @@ pub const COMMANDS: [CommandLine; 5] = [
         options: &[
             CommandOption::Raw,
             CommandOption::Wrap,
+            CommandOption::Sync,
+            CommandOption::Vmid,
+            CommandOption::Cid,
+            CommandOption::Settings,
+        ],
+        has_positional: false,
+    },
+    CommandLine {
+        word: "times",
+        name: CommandName::Times,
+        options: &[
+            CommandOption::Raw,
+            CommandOption::Depth,
             CommandOption::Vmid,
             CommandOption::Cid,
             CommandOption::Settings,
@@ -170,13 +227,17 @@ pub const COMMANDS: [CommandLine; 5] = [
     CommandLine {
         word: "retired",
         name: CommandName::Retired,
-        options: &[],
+        options: &[CommandOption::Elf],
         has_positional: true,
     },
     CommandLine {
         word: "trace",
         name: CommandName::Trace,
-        options: &[CommandOption::Last],
+        options: &[
+            CommandOption::Last,
+            CommandOption::SyncEvery,
+            CommandOption::Elf,
+        ],
         has_positional: true,
     },
     CommandLine {
@@ -210,11 +271,14 @@ pub fn line_of(word: &str) -> Option<CommandLine>
 pub struct Seen<'a> {
     pub raw: bool,
     pub wrap: Option<&'a str>,
+    pub sync: bool,
     pub depth: Option<&'a str>,
     pub vmid: Option<&'a str>,
     pub cid: Option<&'a str>,
     pub settings: Option<&'a str>,
+    pub elf: bool,
     pub last: Option<&'a str>,
+    pub every: Option<&'a str>,
     pub cut: Option<&'a str>,
     pub positional: Option<&'a str>,
     /// The option that takes the next word.
@@ -258,11 +322,14 @@ impl<'a> Seen<'a> {
         Self {
             raw: false,
             wrap: None,
+            sync: false,
             depth: None,
             vmid: None,
             cid: None,
             settings: None,
+            elf: false,
             last: None,
+            every: None,
             cut: None,
             positional: None,
             waits: None,
@@ -277,11 +344,14 @@ impl<'a> Seen<'a> {
         match option {
             CommandOption::Raw => self.raw,
             CommandOption::Wrap => self.wrap.is_some(),
+            CommandOption::Sync => self.sync,
             CommandOption::Depth => self.depth.is_some(),
             CommandOption::Vmid => self.vmid.is_some(),
             CommandOption::Cid => self.cid.is_some(),
             CommandOption::Settings => self.settings.is_some(),
+            CommandOption::Elf => self.elf,
             CommandOption::Last => self.last.is_some(),
+            CommandOption::SyncEvery => self.every.is_some(),
             CommandOption::Cut => self.cut.is_some(),
         }
     }
@@ -294,11 +364,14 @@ impl<'a> Seen<'a> {
         match option {
             CommandOption::Raw => self.raw = true,
             CommandOption::Wrap => self.wrap = Some(value),
+            CommandOption::Sync => self.sync = true,
             CommandOption::Depth => self.depth = Some(value),
             CommandOption::Vmid => self.vmid = Some(value),
             CommandOption::Cid => self.cid = Some(value),
             CommandOption::Settings => self.settings = Some(value),
+            CommandOption::Elf => self.elf = true,
             CommandOption::Last => self.last = Some(value),
+            CommandOption::SyncEvery => self.every = Some(value),
             CommandOption::Cut => self.cut = Some(value),
         }
         self
@@ -398,11 +471,12 @@ impl<'a> Seen<'a> {
         ensures value { result ≡ layout_in (seen_by self.now) }
         ensures within { IfSome result IsLaidOut }
     {
-        match (self.raw, self.wrap) {
-            (false, None) => Some(Layout::Frames),
-            (true, None) => Some(Layout::Raw),
-            (false, Some(text)) => number_to(text, MOST_WRAP).map(Layout::Wrapped),
-            (true, Some(_)) => None,
+        match (self.raw, self.wrap, self.sync) {
+            (false, None, false) => Some(Layout::Frames),
+            (true, None, false) => Some(Layout::Raw),
+            (false, Some(text), false) => number_to(text, MOST_WRAP).map(Layout::Wrapped),
+            (false, None, true) => Some(Layout::Synced),
+            _ => None,
         }
     }
 
@@ -411,7 +485,12 @@ impl<'a> Seen<'a> {
         ensures { option_map said_program result ≡ program_in (seen_by self.now) }
     {
         let name = self.positional?;
-        Some(Program { name })
+        let form = if self.elf {
+            ProgramForm::Elf
+        } else {
+            ProgramForm::Text
+        };
+        Some(Program { name, form })
     }
 
     /// How the input is taken, where the values are numbers in range.
@@ -424,26 +503,19 @@ impl<'a> Seen<'a> {
         Some(Intake { settings, layout })
     }
 
-    /// How many frames are written, where `--last` stands. There is no answer where its value is no such number, or 0.
-    fn last(&self) -> Option<Option<u32>>
-        ensures value { result ≡ last_of (seen_by self.now).last }
-        ensures within { IfSome result IsLastCount }
-    {
-        let Some(text) = self.last else {
-            return Some(None);
-        };
-        let count = number_to(text, MOST_LAST)?;
-        if count == 0 { None } else { Some(Some(count)) }
-    }
-
     /// The command `trace`.
     fn trace(&self) -> Option<Command<'a>>
         ensures value { option_map said result ≡ trace_in (seen_by self.now) }
         ensures within { IfSome result IsInRange }
     {
         let program = self.program()?;
-        let last = self.last()?;
-        Some(Command::Trace { program, last })
+        let last = count_of(self.last, MOST_LAST)?;
+        let every = count_of(self.every, MOST_EVERY)?;
+        Some(Command::Trace {
+            program,
+            last,
+            every,
+        })
     }
 
     /// How many bytes of frames are read, where `--cut` stands. There is no answer where its value is no such number.
@@ -481,6 +553,10 @@ impl<'a> Seen<'a> {
                 let intake = self.intake()?;
                 Some(Command::Packets { intake })
             }
+            CommandName::Times => {
+                let intake = self.intake()?;
+                Some(Command::Times { intake })
+            }
             CommandName::Retired => {
                 let program = self.program()?;
                 Some(Command::Retired { program })
@@ -515,6 +591,18 @@ fn number_to(text: &str, most: u32) -> Option<u32>
     let number = decimal(text.as_bytes())?;
     let number = u32::try_from(number).ok()?;
     if number <= most { Some(number) } else { None }
+}
+
+/// How many an option says, where it stands. There is no answer where its value is no number up to `most`, or 0.
+fn count_of(value: Option<&str>, most: u32) -> Option<Option<u32>>
+    ensures value { result ≡ count_of most (option_map (λ v. v.now) value.entry) }
+    ensures within { IfSome result (IsCountTo most) }
+{
+    let Some(text) = value else {
+        return Some(None);
+    };
+    let count = number_to(text, most)?;
+    if count == 0 { None } else { Some(Some(count)) }
 }
 
 /// What is seen of the words behind a command.
@@ -554,7 +642,7 @@ pub fn image_name(words: &[String]) -> Option<&str>
             | Command::Retired { program }
             | Command::Trace { program, .. },
         ) => Some(program.name),
-        Some(Command::Packets { .. } | Command::Selftest { .. }) => None,
+        Some(Command::Packets { .. } | Command::Times { .. } | Command::Selftest { .. }) => None,
         None => None,
     }
 }

@@ -267,7 +267,7 @@ fn words_without_a_meaning_print_the_usage(rt: HostRuntime) -> Result<(), Fail> 
         &mut sink,
     );
     assert_eq!(rt; status, Status::Usage);
-    let usage = b"usage: etm path|packets|trace|retired|selftest\n";
+    let usage = b"usage: etm path|packets|trace|retired|selftest|times\n";
     assert_eq!(rt; sink.written(), usage.as_slice());
     Ok(())
 }

@@ -122,6 +122,7 @@ closed laid is_laid g stands a c old here new took (Ok status.Faulted) ends =
 closed laid is_laid g stands a c old here new took (Ok status.Usage) ends = absurd ends
 closed laid is_laid g stands a c old here new took (Ok (status.ImageBad _ _)) ends = absurd ends
 closed laid is_laid g stands a c old here new took (Ok (status.BenchBad _ _)) ends = absurd ends
+closed laid is_laid g stands a c old here new took (Ok (status.ElfBad _)) ends = absurd ends
 closed laid is_laid g stands a c old here new took (Ok status.ReadFault) ends = absurd ends
 closed laid is_laid g stands a c old here new took (Ok status.WriteFault) ends = absurd ends
 closed laid is_laid g stands a c old here new took (Ok status.NoMemory) ends = absurd ends

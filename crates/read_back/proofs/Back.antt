@@ -2,6 +2,7 @@
 use Rattle.std.proofs.Common.{◌≡◌, ℕ, Bool, true, false, List, ◌++◌, length, Option, Some, None, Result, Ok, Err}
 use Rattle.std.proofs.Common.{refl, sym, ap, subst, ◌∙◌, inl, inr}
 use Rattle.std.proofs.lemmas.List.{append_cancel_left}
+use Rattle.std.specs.Option.{option_and_then}
 use Rattle.std.specs.Prelude.{nat_lt, if◌then◌else◌}
 use Rattle.bench_text.proofs.Benches.{parsed_good}
 use Rattle.bench_text.specs.BenchText.{parsed}
@@ -9,20 +10,24 @@ use Rattle.bench_text.specs.Parts.{BenchParts, IsBench}
 use Rattle.bench_text.specs.Refusals.{bench_of, most_text, refusal_among, unless, unless_refused}
 use Rattle.bench_text.specs.declared.fault.BenchWhy.{BenchWhy}
 use Rattle.bench_text.specs.declared.fault.BenchWhy.TheVariants.{TooLong}
-use Rattle.program_image.specs.ImageText.{image_of}
+use Rattle.command_words.specs.Words.{Program, program_of}
+use Rattle.command_words.specs.declared.words.ProgramForm.{ProgramForm}
 use Rattle.program_image.specs.declared.image.Image.{Image}
 use Rattle.read_back.specs.ReadBack.{AsksBack, PathReadsBack, ReadsBack, Traces}
 use Rattle.std.specs.Io.KnownBytes.{Appends}
 use Rattle.answer_laws.proofs.Complete.{paths_are_done}
 use Rattle.answer_laws.proofs.TracedCalls.{prints_traces, taken_are}
-use Rattle.trace_cmd.specs.Answers.{Answers, Asks, Call, HasImage, IsRetired, IsTested, IsTraced}
+use Rattle.trace_cmd.specs.Answers.{Answers, Asks, Call, HasImage, IsPathUnder, IsRetired, IsTested, IsTraced}
+use Rattle.trace_cmd.specs.Programs.{IsSpelled, Spells}
+use Rattle.trace_cmd.proofs.Programs.{one_program}
+use Rattle.answer_laws.proofs.WordTables.{trace_counts}
 use Rattle.answer_laws.specs.Complete.{IsDone, IsDoneOrFaulted}
-use Rattle.trace_cmd.specs.Printing.{PacketsOf, PathsOf, What}
-use Rattle.traced_runs.specs.Traced.{AreAccepted, AreTracedFrames, IsTracedFrames, trace_frames}
-use Rattle.answer_laws.specs.TracedCalls.{IsPathOfTrace, PrintsTraces, frames_under}
+use Rattle.trace_cmd.specs.Printing.{PacketsOf, PathsOf, TimesOf, What}
+use Rattle.traced_runs.specs.Traced.{AreAccepted, AreTracedFrames, IsTracedFrames, trace_frames, with_syncs}
+use Rattle.answer_laws.specs.TracedCalls.{IsPathOfTrace, PrintsTraces, written_under}
 use Rattle.answer_lines.specs.declared.status.Status.{Status}
 use Rattle.answer_lines.specs.declared.status.Status.TheVariants as status
-use Rattle.trace_cmd.proofs.WordKinds.{one_last, path_kind, path_program}
+use Rattle.trace_cmd.proofs.WordKinds.{one_framing, path_kind, path_program}
 use Rattle.trace_io.specs.Bytes.{AppendsAll}
 use Rattle.trace_io.specs.State.{IoState}
 
@@ -59,41 +64,45 @@ appended_are (Some xs) (Some ys) before frames bytes was is appends =
 
 -- ---- the call of `trace`
 
-module _ (t : Call) (old new : IoState) (text file frames : List ℕ) (traces : Traces t old new text file frames) where
+module _ (t : Call) (old new : IoState) (program file written : List ℕ) (traces : Traces t old new program file written) where
   not_of_input : (what : What) → Asks t what → ⊥
-  not_of_input (PathsOf image r) asked = let both : _ ≡ _ = sym asked.0.1 ∙ traces.words.1 in cc
-  not_of_input (PacketsOf r) asked = let both : _ ≡ _ = sym asked ∙ traces.words.1 in cc
+  not_of_input (PathsOf image r) asked = let both : _ ≡ _ = sym asked.0.1 ∙ traces.words in cc
+  not_of_input (TimesOf r) asked = let both : _ ≡ _ = sym asked ∙ traces.words in cc
+  not_of_input (PacketsOf r) asked = let both : _ ≡ _ = sym asked ∙ traces.words in cc
 
   not_retired : (bytes : List ℕ) → IsRetired t bytes → ⊥
-  not_retired bytes ((p, words), over) = let both : _ ≡ _ = sym words ∙ traces.words.1 in cc
+  not_retired bytes ((p, words), over) = let both : _ ≡ _ = sym words ∙ traces.words in cc
 
   not_tested : (bytes : List ℕ) → IsTested t bytes → ⊥
-  not_tested bytes (n, cut, words, summary) = let both : _ ≡ _ = sym words ∙ traces.words.1 in cc
+  not_tested bytes (n, cut, words, summary) = let both : _ ≡ _ = sym words ∙ traces.words in cc
 
   all_traced : (last : Option ℕ) (image : Image) (bytes : List ℕ) → last ≡ None → AreTracedFrames image last t.input t.input' bytes
       → IsTracedFrames image t.input t.input' bytes
   all_traced last image bytes none are = subst (λ (l : Option ℕ). AreTracedFrames image l t.input t.input' bytes) none are
 
-  -- image and run file are good, and these are their frames
+  -- the program's file and the run file are good, and this was written of their frames
   record Good : Type 0 where
     image : Image
     bench : BenchParts
-    image_is : image_of text ≡ Ok image
+    spells : IsSpelled traces.of program image
     bench_is : bench_of image file ≡ Ok bench
-    frames_are : frames ≡ trace_frames image bench
+    written_is : written ≡ with_syncs traces.every (trace_frames image bench)
 
   traced_good : (bytes : List ℕ) → IsTraced t bytes → AppendsAll old new bytes → Good
-  traced_good bytes (last, (asked, (parts, (p, named, (other, taken, spells)), are))) appends =
-      let traced = all_traced last parts bytes (one_last last None t.words asked traces.words) are in
-      let same = taken_are t.image.bytes t.image'.bytes text other traces.image_text taken in
+  traced_good bytes (last, every, (asked, (parts, (p, named, (other, taken, spells)), are))) appends =
+      let framing = one_framing last every None traces.every t.words asked (traces.of, traces.words) in
+      let traced = all_traced last parts are.frames framing.0 are.traced in
+      let same = taken_are t.image.bytes t.image'.bytes program other traces.image_bytes taken in
       let run_file = taken_are t.input.bytes t.input'.bytes file traced.run_file traces.run_file traced.read in
-      let all = appended_are old.bytes new.bytes traces.before frames bytes traces.shown traces.appended appends in
+      let all = appended_are old.bytes new.bytes traces.before written bytes traces.shown traces.appended appends in
+      let programs = one_program traces.of p t.words (ap (option_and_then program_of) traces.words) named in
+      let by_form = subst (λ (q : Program). IsSpelled q other parts) programs spells in
       record {
         image = parts;
         bench = traced.bench;
-        image_is = subst (λ (l : List ℕ). image_of l ≡ Ok parts) same spells;
+        spells = subst (λ (l : List ℕ). IsSpelled traces.of l parts) same by_form;
         bench_is = subst (λ (l : List ℕ). bench_of parts l ≡ Ok traced.bench) run_file traced.accepted;
-        frames_are = sym all ∙ traced.written;
+        written_is = sym all ∙ are.synced ∙ ap (λ (e : Option ℕ). with_syncs e are.frames) framing.1 ∙ ap (with_syncs traces.every) traced.written;
       }
 
   good : Answers t old new status.Done → Good
@@ -104,32 +113,43 @@ module _ (t : Call) (old new : IoState) (text file frames : List ℕ) (traces : 
 
   -- ---- the call of `path`
 
-  module _ (g : Good) (p : Call) (out out' : IoState) (answer : Status) (asks : AsksBack p out out' text frames g.bench)
-      (answers : Answers p out out' answer) where
+  module _ (g : Good) (p : Call) (out out' : IoState) (answer : Status)
+      (asks : AsksBack p out out' program written traces.of.form traces.every g.bench) (answers : Answers p out out' answer) where
     is_bench : IsBench g.bench
     is_bench = parsed_good file g.bench (accepted_parts g.image file g.bench g.bench_is).0
 
     accepted : AreAccepted g.image g.bench
     accepted = (accepted_parts g.image file g.bench g.bench_is).1
 
+    abbrev under : IsPathUnder (written_under traces.every asks.table) p.words
+    under = (asks.of, asks.words)
+
     has_image : HasImage p g.image
     has_image = record {
-      program = asks.words.0;
-      named = path_program (frames_under asks.table) p.words asks.words;
-      bytes = text;
-      shows = asks.image_text;
-      spells = g.image_is;
+      program = asks.of;
+      named = path_program (written_under traces.every asks.table) p.words under;
+      bytes = program;
+      shows = asks.image_bytes;
+      spells = subst (λ (f : ProgramForm). Spells f program g.image) (sym asks.same_form) g.spells;
     }
 
     of_trace : IsPathOfTrace p g.image g.bench
-    of_trace = record { table = asks.table; suits = asks.suits; words = asks.words; is_same = has_image; input = asks.input ∙ ap Some g.frames_are }
+    of_trace = record {
+      table = asks.table;
+      suits = asks.suits;
+      every = traces.every;
+      some = trace_counts traces.of None traces.every t.words traces.words;
+      words = under;
+      is_same = has_image;
+      input = asks.input ∙ ap Some g.written_is;
+    }
 
     prints : PrintsTraces g.image g.bench out out' answer
     prints = prints_traces p out out' g.image g.bench is_bench accepted of_trace answer answers
 
     decided : IsDoneOrFaulted answer
-    decided = paths_are_done p out out' answer g.image (path_kind (frames_under asks.table) p.words asks.words) has_image
-        (record { bytes = frames; shows = asks.input; few = asks.few }) asks.nothing answers
+    decided = paths_are_done p out out' answer g.image (path_kind (written_under traces.every asks.table) p.words under) has_image
+        (record { bytes = written; shows = asks.input; few = asks.few }) asks.nothing answers
 
     no_fault : IsDoneOrFaulted answer → IsDone answer
     no_fault (inl is) = inl is
@@ -140,6 +160,6 @@ module _ (t : Call) (old new : IoState) (text file frames : List ℕ) (traces : 
     back = record { done = no_fault decided; printed = λ is. subst (PrintsTraces g.image g.bench out out') is prints }
 
 pub reads_back : PathReadsBack
-reads_back t old new text file frames traces =
-    let g = good t old new text file frames traces traces.answered in
-    (g.image, g.bench, g.image_is, g.bench_is, back t old new text file frames traces g)
+reads_back t old new program file written traces =
+    let g = good t old new program file written traces traces.answered in
+    (g.image, g.bench, g.spells, g.bench_is, back t old new program file written traces g)

@@ -6,12 +6,14 @@ use Rattle.answer_lines.specs.UsageLine.{usage_line}
 use Rattle.answer_lines.specs.declared.status.Status.TheVariants as status
 use Rattle.command_words.specs.Words.{Intake, Program, meaning}
 use Rattle.command_words.specs.declared.words.Layout.{Layout}
-use Rattle.command_words.specs.declared.words.Layout.TheVariants.{Raw, Frames, Wrapped}
+use Rattle.command_words.specs.declared.words.Layout.TheVariants.{Raw, Frames, Wrapped, Synced}
+use Rattle.command_words.specs.declared.words.ProgramForm.TheVariants as form
+use Rattle.elf_image.specs.declared.fault.ElfWhy.TheVariants.{Header}
 use Rattle.path_text.specs.Lines.{in_base}
 use Rattle.program_image.specs.declared.fault.ImageWhy.TheVariants.{Unaligned}
 use Rattle.trace_cmd.specs.Answers.{Answers, IsTraceOf, call}
 use Rattle.trace_cmd.specs.Printing.{PacketsOf, laid_of, sizes_by}
-use Rattle.trace_cmd.specs.Programs.{BadText, line_of, most_taken, program_named}
+use Rattle.trace_cmd.specs.Programs.{BadFile, BadText, IsRefused, line_of, most_taken, program_named}
 use Rattle.trace_io.specs.State.{IoState}
 
 -- ---- command lines
@@ -37,8 +39,17 @@ number_words = codes "selftest" ∷ codes "7" ∷ []
 abbrev unknown_words : List (List ℕ)
 unknown_words = codes "pat" ∷ codes "img" ∷ []
 
+abbrev synced_words : List (List ℕ)
+synced_words = codes "trace" ∷ codes "--sync" ∷ codes "3" ∷ codes "--elf" ∷ codes "img" ∷ []
+
+abbrev elf_words : List (List ℕ)
+elf_words = codes "path" ∷ codes "--elf" ∷ codes "--sync" ∷ codes "img" ∷ []
+
 abbrev img : Program
-img = record { name = codes "img" }
+img = record { name = codes "img"; form = form.Text }
+
+abbrev elf : Program
+elf = record { name = codes "img"; form = form.Elf }
 
 -- ---- programs
 
@@ -55,28 +66,40 @@ of_trace = refl
 pub of_last : program_named last_words ≡ Some img
 of_last = refl
 
+pub of_synced : program_named synced_words ≡ Some elf
+of_synced = refl
+
 pub of_packets : program_named packets_words ≡ None
 of_packets = refl
 
 pub of_number : program_named number_words ≡ None
 of_number = refl
 
--- all frames of a trace are asked for, or the last two
-pub all_frames : IsTraceOf None trace_words
+-- all frames of a trace are asked for, or the last two, or with a synchronisation packet behind each third
+pub all_frames : IsTraceOf None None trace_words
 all_frames = (img, refl)
 
-pub last_two_frames : IsTraceOf (Some 2) last_words
+pub last_two_frames : IsTraceOf (Some 2) None last_words
 last_two_frames = (img, refl)
 
-pub no_last_word : IsTraceOf (Some 2) trace_words → ⊥
+pub synced_by_threes : IsTraceOf None (Some 3) synced_words
+synced_by_threes = (elf, refl)
+
+pub no_last_word : IsTraceOf (Some 2) None trace_words → ⊥
 no_last_word (p, is) = absurd cc
 
-pub not_all_frames : IsTraceOf None last_words → ⊥
+pub not_all_frames : IsTraceOf None None last_words → ⊥
 not_all_frames (p, is) = absurd cc
 
--- a byte more than 64 MiB of a program, and nothing of none
+pub not_the_last_three : IsTraceOf (Some 3) None synced_words → ⊥
+not_the_last_three (p, is) = absurd cc
+
+-- a byte more than 64 MiB of a text, or than 256 MiB of an ELF file, and nothing of no program
 pub most_of_path : most_taken path_words ≡ 67108865
 most_of_path = refl
+
+pub most_of_elf : most_taken elf_words ≡ 268435457
+most_of_elf = refl
 
 pub most_of_packets : most_taken packets_words ≡ 0
 most_of_packets = refl
@@ -85,6 +108,17 @@ most_of_packets = refl
 pub line_of_unaligned : line_of (BadText 3 Unaligned) ≡ codes "image line 3: unaligned" ++ 10 ∷ []
 unfolding in_base
 line_of_unaligned = refl
+
+-- and of an ELF file that spells none
+pub line_of_header : line_of (BadFile Header) ≡ codes "elf: header" ++ 10 ∷ []
+line_of_header = refl
+
+-- a file is one of the two: a text is refused by its line, an ELF file by its reason
+pub no_line_of_a_file : IsRefused elf [] (BadText 0 Unaligned) → ⊥
+no_line_of_a_file is = is
+
+pub no_reason_of_a_text : IsRefused img [] (BadFile Header) → ⊥
+no_reason_of_a_text is = is
 
 -- ---- inputs
 
@@ -148,6 +182,26 @@ another_oldest e = absurd (omega (arith, ap first_id e))
 -- and before the end no more is carried
 pub not_before_the_end : (laid_of (PacketsOf (taken (Wrapped 1)))).carried buffer ≡ of_older ++ of_newer → ⊥
 not_before_the_end e = absurd (omega (arith, ap length e))
+
+-- of a trace port nothing comes before a full synchronisation packet, and packets are no bytes of frames
+abbrev port : List ℕ
+port = 0x05 ∷ 0xff ∷ 0xff ∷ 0xff ∷ 0x7f ∷ (newer ++ 0xff ∷ 0xff ∷ 0xff ∷ 0x7f ∷ older)
+
+pub port_bytes : (laid_of (PacketsOf (taken Synced))).carried port ≡ of_newer ++ of_older
+port_bytes = refl
+
+pub port_whole : (laid_of (PacketsOf (taken Synced))).whole port ≡ of_newer ++ of_older
+port_whole = refl
+
+pub port_unsynced : (laid_of (PacketsOf (taken Synced))).carried buffer ≡ []
+port_unsynced = refl
+
+-- bytes that might have been of a packet are left over
+pub port_left : (laid_of (PacketsOf (taken Synced))).left (port ++ 0xff ∷ 0xff ∷ 0xff ∷ []) ≡ 3
+port_left = refl
+
+pub port_not_as_frames : (laid_of (PacketsOf (taken Frames))).carried port ≡ of_newer ++ of_older → ⊥
+port_not_as_frames e = absurd (omega (arith, ap length e))
 
 -- each stream has the sizes of its ID
 pub sizes_of_110 : sizes_by (taken Frames) 110 ≡ all

@@ -1,5 +1,5 @@
 -- Answers of a call from those of its parts, and behind the flush.
-use Rattle.std.proofs.Common.{◌≡◌, ◌⊎◌, ℕ, ◌≤◌, true, false, List, [], None, Option, Result, Ok, Err, refl, sym, subst, inl, inr, arith}
+use Rattle.std.proofs.Common.{◌≡◌, ◌⊎◌, ℕ, ◌≤◌, true, false, List, [], None, Option, Result, Ok, Err, refl, sym, subst, ◌∙◌, inl, inr, arith}
 use Rattle.std.specs.Prelude.{IfOk}
 use Rattle.std.proofs.KnownBytes.{Appends-kept, Appends-nil, Consumes-nil}
 use Rattle.bench_text.specs.declared.fault.BenchWhy.{BenchWhy}
@@ -8,14 +8,16 @@ use Rattle.program_image.specs.declared.image.Image.{Image}
 use Rattle.program_image.specs.declared.fault.ImageWhy.{ImageWhy}
 use Rattle.trace_cmd.specs.Answers.{Answers, AnswersSo, Asks, Call, HasRead, IsBenchBad, IsBenchFault, IsCall, IsImageFault, IsNoMemory}
 use Rattle.trace_cmd.specs.Answers.{IsOwnBenchBad, IsOwnImageBad, IsOwnTooLong, IsPacketsUnder, IsPathUnder, IsProgramBad, IsRetired, IsRetiredCall}
-use Rattle.trace_cmd.specs.Answers.{IsRunFileCall, IsSelftestOf, IsTested, IsTextOf, IsTraceOf, IsTraced, IsUsage, IsWriteFault}
+use Rattle.trace_cmd.specs.Answers.{IsRunFileCall, IsSelftestOf, IsTested, IsTextOf, IsTimesUnder, IsTraceOf, IsTraced, IsUsage, IsWriteFault}
 use Rattle.trace_cmd.specs.Answers.{BenchText, ImageText, OwnBenchText, OwnImageText, RetiredText, TestText, TraceText, UsageText}
-use Rattle.trace_cmd.specs.Programs.{BadText, NoProgram}
-use Rattle.trace_cmd.proofs.WordKinds.{one_kind, packets_kind, path_kind, retired_kind, trace_kind}
+use Rattle.trace_cmd.specs.Programs.{BadFile, BadText, NoProgram}
+use Rattle.trace_cmd.proofs.WordKinds.{one_kind, packets_kind, path_kind, retired_kind, times_kind, trace_kind}
 use Rattle.answer_lines.specs.UsageLine.{usage_line}
 use Rattle.answer_lines.specs.Prints.{Prints, PrintsFront}
 use Rattle.retired_paths.specs.Retired.{RetiresSo, RunsSo}
-use Rattle.stream_demux.specs.Laid.{IsLaid, frames_laid_is, raw_laid_is}
+use Rattle.elf_image.specs.declared.fault.ElfWhy.{ElfWhy}
+use Rattle.stream_demux.specs.Laid.{IsLaid, Laid, frames_laid_is, raw_laid_is}
+use Rattle.stream_demux.specs.Texts.{Listing}
 use Rattle.input_pieces.specs.Listed.{Interrupts, Listed}
 use Rattle.trace_cmd.specs.Printing.{What, intake_of, laid_in, laid_of, listing_of}
 use Rattle.traced_runs.specs.Selftest.{TestsSo}
@@ -24,26 +26,31 @@ use Rattle.command_words.specs.Words.{BareKind, Intake, PathKind, Retired, RunFi
 use Rattle.answer_lines.specs.declared.status.Status.{Status}
 use Rattle.answer_lines.specs.declared.status.Status.TheVariants as status
 use Rattle.command_words.specs.declared.words.Layout.{Layout}
-use Rattle.command_words.specs.declared.words.Layout.TheVariants.{Raw, Frames, Wrapped}
+use Rattle.command_words.specs.declared.words.Layout.TheVariants.{Raw, Frames, Wrapped, Synced}
 use Rattle.input_pieces.proofs.Interrupts.{broken_cut, completed_cut, exceeded_cut}
 use Rattle.trace_io.specs.Bytes.{AppendsAll, KeepsBytes, TakesAtMost}
 use Rattle.trace_io.specs.Causes.{HasCause, Rose}
 use Rattle.trace_io.specs.State.{IoState}
 use Rattle.trace_io.specs.declared.traits.Failed.{Failed}
 use Rattle.trace_io.proofs.Known.{front_kept, front_of_all}
+use Rattle.sync_frames.specs.Laid.{synced_laid_is}
 use Rattle.wrapped_capture.specs.Laid.{wrapped_laid_is}
 
 -- where nothing was read, nothing was taken
 pub none_taken : (s : IoState) (most : ℕ) → TakesAtMost s s most
 none_taken s most = ([], omega arith, Consumes-nil s.bytes)
 
--- neither paths nor packets are of a run file
+-- neither paths nor packets nor times are of a run file
 pub path_of_no_run_file : (r : Intake) (words : List (List ℕ)) → IsPathUnder r words → IsRunFileCall words → ⊥
 path_of_no_run_file r words path file = let both : PathKind ≡ RunFileKind = one_kind PathKind RunFileKind words (path_kind r words path) file in cc
 
 pub packets_of_no_run_file : (r : Intake) (words : List (List ℕ)) → IsPacketsUnder r words → IsRunFileCall words → ⊥
 packets_of_no_run_file r words packets file =
     let both : BareKind ≡ RunFileKind = one_kind BareKind RunFileKind words (packets_kind r words packets) file in cc
+
+pub times_of_no_run_file : (r : Intake) (words : List (List ℕ)) → IsTimesUnder r words → IsRunFileCall words → ⊥
+times_of_no_run_file r words times file =
+    let both : BareKind ≡ RunFileKind = one_kind BareKind RunFileKind words (times_kind r words times) file in cc
 
 -- ---- what a failed write leaves of each answer
 
@@ -94,6 +101,7 @@ pub layout_is_laid : (layout : Layout) → IsLaid (laid_in layout)
 layout_is_laid Raw = raw_laid_is
 layout_is_laid Frames = frames_laid_is
 layout_is_laid (Wrapped k) = wrapped_laid_is k
+layout_is_laid Synced = synced_laid_is
 
 -- what is asked for was printed of the input, or a write failed
 pub so_of_listed : (c : Call) (what : What) → Asks c what → (old new : IoState) (r : Result Status Failed)
@@ -104,6 +112,7 @@ so_of_listed c what asks old new (Ok status.ReadFault) listed cause = inr (inr (
 so_of_listed c what asks old new (Ok status.InputTooLong) listed cause = inl (what, asks, listed)
 so_of_listed c what asks old new (Ok status.Usage) listed cause = absurd listed
 so_of_listed c what asks old new (Ok (status.ImageBad line why)) listed cause = absurd listed
+so_of_listed c what asks old new (Ok (status.ElfBad why)) listed cause = absurd listed
 so_of_listed c what asks old new (Ok (status.BenchBad line why)) listed cause = absurd listed
 so_of_listed c what asks old new (Ok status.WriteFault) listed cause = absurd listed
 so_of_listed c what asks old new (Ok status.NoMemory) listed cause = absurd listed
@@ -120,14 +129,28 @@ so_of_memory c old new command untouched same = record { command = inl command; 
 pub so_of_words : (c : Call) (old : IoState) → c.image' ≡ c.image → c.input' ≡ c.input → IsNoMemory c old old
 so_of_words c old image input = record { command = inr (image, input); untouched = inl input; printed = nothing_printed old old refl }
 
--- either of these two
-pub so_by : (c : Call) (what : What) → Asks c what → (old new : IoState) (r : Result Status Failed) → IsCall c.words → HasCause old new r
-    → (r ≡ Ok status.NoMemory → (c.input' ≡ c.input) × (new ≡ old))
-    → (r ≡ Ok status.NoMemory) ⊎ Listed (laid_of what) (listing_of what) c.input c.input' old new r → AnswersSo c old new r
-so_by c what asks old new r command cause memory (inr listed) = so_of_listed c what asks old new r listed cause
-so_by c what asks old new r command cause memory (inl none) =
-    let kept = memory none in
-    subst (AnswersSo c old new) (sym none) (so_of_memory c old new command kept.0 kept.1)
+-- the memory was wanting, and nothing was touched
+pub so_of_none : (c : Call) (old new : IoState) (r : Result Status Failed) → IsCall c.words → r ≡ Ok status.NoMemory → c.input' ≡ c.input → new ≡ old
+    → AnswersSo c old new r
+so_of_none c old new r command none input out = subst (AnswersSo c old new) (sym none) (so_of_memory c old new command input out)
+
+-- where the input decides the answer, memory was not wanting, and no answer tells why there is no program
+module _ (laid : Laid) (g : Listing) (input input' old new : IoState) (r : Result Status Failed) (listed : Listed laid g input input' old new r) where
+  pub listed_no_memory : r ≡ Ok status.NoMemory → ⊥
+  listed_no_memory is = subst (Listed laid g input input' old new) is listed
+
+  pub listed_no_image : (line : ℕ) (why : ImageWhy) → r ≡ Ok (status.ImageBad line why) → ⊥
+  listed_no_image line why is = subst (Listed laid g input input' old new) is listed
+
+  pub listed_no_file : (why : ElfWhy) → r ≡ Ok (status.ElfBad why) → ⊥
+  listed_no_file why is = subst (Listed laid g input input' old new) is listed
+
+-- want of memory is told by one answer
+pub none_no_image : (r : Result Status Failed) (line : ℕ) (why : ImageWhy) → r ≡ Ok status.NoMemory → r ≡ Ok (status.ImageBad line why) → ⊥
+none_no_image r line why none is = let f = sym none ∙ is in cc
+
+pub none_no_file : (r : Result Status Failed) (why : ElfWhy) → r ≡ Ok status.NoMemory → r ≡ Ok (status.ElfBad why) → ⊥
+none_no_file r why none is = let f = sym none ∙ is in cc
 
 -- the line of usage
 pub so_of_usage : (c : Call) (old new : IoState) (r : Result Status Failed) → meaning c.words ≡ None → Writes old new r usage_line
@@ -146,6 +169,7 @@ module _ (c : Call) (image : Image) (asks : IsRunFileCall c.words) (some : IsCal
   by_run_file (Ok status.NoMemory) none cause = record { command = inl some; untouched = inr asks; printed = none }
   by_run_file (Ok status.Usage) none cause = absurd none
   by_run_file (Ok (status.ImageBad line why)) none cause = absurd none
+  by_run_file (Ok (status.ElfBad why)) none cause = absurd none
   by_run_file (Ok status.Faulted) none cause = absurd none
   by_run_file (Ok status.WriteFault) none cause = absurd none
   by_run_file (Ok status.InputTooLong) none cause = absurd none
@@ -160,12 +184,12 @@ so_of_retired c image asks read old new =
     (λ prints. inr (inl (prints.0, (asks, (image, read, prints.1)), prints.2)))
     (λ prints. retired_front c old new (prints.0, (asks, (image, read, prints.1)), prints.2))
 
-pub so_of_traced : (c : Call) (image : Image) (last : Option ℕ) → IsTraceOf last c.words → HasRead c image → (old new : IoState)
-    (r : Result Status Failed) → TracesSo image last c.input c.input' old new r → HasCause old new r → AnswersSo c old new r
-so_of_traced c image last asks read old new =
-    by_run_file c image (trace_kind last c.words asks) (Trace asks.0 last, asks.1) read _ old new
-    (λ prints. inr (inr (inl (prints.0, (last, (asks, (image, read, prints.1))), prints.2))))
-    (λ prints. traced_front c old new (prints.0, (last, (asks, (image, read, prints.1))), prints.2))
+pub so_of_traced : (c : Call) (image : Image) (last every : Option ℕ) → IsTraceOf last every c.words → HasRead c image → (old new : IoState)
+    (r : Result Status Failed) → TracesSo image last every c.input c.input' old new r → HasCause old new r → AnswersSo c old new r
+so_of_traced c image last every asks read old new =
+    by_run_file c image (trace_kind last every c.words asks) (Trace asks.0 last every, asks.1) read _ old new
+    (λ prints. inr (inr (inl (prints.0, (last, every, (asks, (image, read, prints.1))), prints.2))))
+    (λ prints. traced_front c old new (prints.0, (last, every, (asks, (image, read, prints.1))), prints.2))
 
 -- a number was answered, and the input not touched
 module _ (c : Call) (n : ℕ) (cut : Option ℕ) (asks : IsSelftestOf n cut c.words) (untouched : c.input' ≡ c.input) (old new : IoState) where
@@ -176,6 +200,7 @@ module _ (c : Call) (n : ℕ) (cut : Option ℕ) (asks : IsSelftestOf n cut c.wo
   so_of_number (Ok status.InputTooLong) (long, none) cause = inr ((n, cut, asks, long), none)
   so_of_number (Ok status.NoMemory) none cause = record { command = inl (Selftest n cut, asks); untouched = inl untouched; printed = none }
   so_of_number (Ok status.Usage) none cause = absurd none
+  so_of_number (Ok (status.ElfBad why)) none cause = absurd none
   so_of_number (Ok status.Faulted) none cause = absurd none
   so_of_number (Ok status.ReadFault) none cause = absurd none
   so_of_number (Ok status.WriteFault) none cause = absurd none
@@ -247,6 +272,7 @@ module _ (c : Call) (old new newer : IoState) (kept : KeepsBytes new newer) wher
   all_flushed status.Usage later prints = kept_line (IsUsage c) prints
   all_flushed (status.ImageBad line why) later (inl prints) = inl (kept_line (IsProgramBad c (BadText line why)) prints)
   all_flushed (status.ImageBad line why) later (inr prints) = inr (kept_line (IsOwnImageBad c line why) prints)
+  all_flushed (status.ElfBad why) later prints = kept_line (IsProgramBad c (BadFile why)) prints
   all_flushed (status.BenchBad line why) later (inl prints) = inl (kept_line (IsBenchBad c line why) prints)
   all_flushed (status.BenchBad line why) later (inr prints) = inr (kept_line (IsOwnBenchBad c line why) prints)
   all_flushed status.ReadFault later (inl f) = inl (kept_image f)
@@ -281,6 +307,7 @@ module _ (c : Call) (old new newer : IoState) (kept : KeepsBytes new newer) wher
   cut status.Usage prints = inl (UsageText, line_front (IsUsage c) prints)
   cut (status.ImageBad line why) (inl prints) = image_front c old newer (BadText line why) (line_front (IsProgramBad c (BadText line why)) prints)
   cut (status.ImageBad line why) (inr prints) = own_image_front c old newer line why (line_front (IsOwnImageBad c line why) prints)
+  cut (status.ElfBad why) prints = image_front c old newer (BadFile why) (line_front (IsProgramBad c (BadFile why)) prints)
   cut (status.BenchBad line why) (inl prints) = bench_front c old newer line why (line_front (IsBenchBad c line why) prints)
   cut (status.BenchBad line why) (inr prints) = own_bench_front c old newer line why (line_front (IsOwnBenchBad c line why) prints)
   cut status.ReadFault (inl f) = image_fault_front c old newer (kept_image f)

@@ -1,9 +1,11 @@
 -- How the layouts of an input begin.
-use Rattle.std.proofs.Common.{◌≡◌, ℕ, ◌*◌, false, List, [], length, ap, ◌∙◌, arith}
+use Rattle.std.proofs.Common.{◌≡◌, ℕ, ◌*◌, false, List, [], length, Result, Ok, Err, ap, ◌∙◌, arith}
+use Rattle.std.specs.Prelude.{IfOk}
 use Rattle.std.proofs.lemmas.List.{drop_all, take_all}
 use Rattle.etm_types.specs.Settings.{Sizes}
 use Rattle.formatter_frames.specs.Unframed.{begun_frame}
 use Rattle.stream_demux.specs.Demuxed.{Demuxed}
+use Rattle.sync_frames.specs.Synchronised.{IsAfter, Synchronised}
 use Rattle.wrapped_capture.specs.Laid.{later_none}
 use Rattle.wrapped_capture.specs.Unwrapping.{Unwrapping}
 use Rattle.wrapped_capture.specs.Wrapped.{HaveTaken, taken_of}
@@ -16,3 +18,18 @@ fresh_wrapped stands sizes t u d taken =
     let begun = taken.unwrap.begun ∙ ap begun_frame (drop_all (16 * u.frames) [] (omega arith)) in
     let came = taken.demux.taken ∙ ap length (later_none u.frames) in
     (taken.demux.whole, omega (arith, ap length kept, ap length begun, came))
+
+-- what is so of each value that was made is so of the one that was
+pub of_made : {X E : Type 0} (P Q : X → Type 0) (made : Result X E) → IfOk made P → ((x : X) → P x → Q x) → IfOk made Q
+of_made P Q (Ok x) is so = so x is
+of_made P Q (Err e) is so = tt
+
+-- a printer of a trace port that took nothing
+pub fresh_synced : {X : Type 0} (stands : X → List ℕ → Type 0) (sizes : X → Sizes) (t : ℕ → Sizes) (s : Synchronised X) → IsAfter stands sizes t s []
+    → (s.demux.broken ≡ false) × (s.taken ≡ 0)
+fresh_synced stands sizes t s is = (is.0.demux.whole, is.1)
+
+-- and what two properties give of it
+pub by_both : {X E : Type 0} (P Q R : X → Type 0) (made : Result X E) → IfOk made P → IfOk made Q → ((x : X) → P x → Q x → R x) → IfOk made R
+by_both P Q R (Ok x) is also so = so x is also
+by_both P Q R (Err e) is also so = tt

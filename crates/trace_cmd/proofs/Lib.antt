@@ -1,4 +1,5 @@
 mod AnswerExamples
 pub mod AnswerLemmas
 mod Layouts
+pub mod Programs
 pub mod WordKinds

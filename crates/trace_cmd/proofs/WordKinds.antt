@@ -2,9 +2,9 @@
 use Rattle.std.proofs.Common.{◌≡◌, ◌⊎◌, ℕ, ◌+◌, List, Option, Some, None, refl, sym, ap, subst, ◌∙◌, inl, inr}
 use Rattle.std.specs.Option.{option_and_then, option_map_or}
 use Rattle.command_words.specs.Words.{Command, Intake, Kind, NoCommand, Packets, Path, PathKind, Program, Retired, RunFileKind}
-use Rattle.command_words.specs.Words.{Selftest, Trace, kind_of, meaning, program_of}
+use Rattle.command_words.specs.Words.{Selftest, Times, Trace, kind_of, meaning, program_of}
 use Rattle.trace_cmd.specs.Answers.{IsBareCall, IsOfKind, IsPacketsUnder, IsPathCall, IsPathUnder, IsRetiredCall, IsRunFileCall, IsSelftestCall}
-use Rattle.trace_cmd.specs.Answers.{IsSelftestOf, IsTraceOf}
+use Rattle.trace_cmd.specs.Answers.{IsSelftestOf, IsTimesUnder, IsTraceOf}
 use Rattle.trace_cmd.specs.Answers.{Call, ReadsFirst}
 use Rattle.trace_cmd.specs.Programs.{HasProgram, TakesProgram, most_of, most_taken}
 use Rattle.program_image.specs.declared.image.Image.{Image}
@@ -19,11 +19,14 @@ path_kind r words (p, is) = ap kind_of is
 pub packets_kind : (r : Intake) (words : List (List ℕ)) → IsPacketsUnder r words → IsBareCall words
 packets_kind r words is = ap kind_of is
 
+pub times_kind : (r : Intake) (words : List (List ℕ)) → IsTimesUnder r words → IsBareCall words
+times_kind r words is = ap kind_of is
+
 pub retired_kind : (words : List (List ℕ)) → IsRetiredCall words → IsRunFileCall words
 retired_kind words (p, is) = ap kind_of is
 
-pub trace_kind : (last : Option ℕ) (words : List (List ℕ)) → IsTraceOf last words → IsRunFileCall words
-trace_kind last words (p, is) = ap kind_of is
+pub trace_kind : (last every : Option ℕ) (words : List (List ℕ)) → IsTraceOf last every words → IsRunFileCall words
+trace_kind last every words (p, is) = ap kind_of is
 
 pub number_kind : (n : ℕ) (cut : Option ℕ) (words : List (List ℕ)) → IsSelftestOf n cut words → IsSelftestCall words
 number_kind n cut words is = ap kind_of is
@@ -35,9 +38,11 @@ no_kind words none = ap kind_of none
 pub one_kind : (k other : Kind) (words : List (List ℕ)) → IsOfKind k words → IsOfKind other words → k ≡ other
 one_kind k other words is also = sym is ∙ also
 
--- they ask for all frames, or for one number of them
-pub one_last : (last other : Option ℕ) (words : List (List ℕ)) → IsTraceOf last words → IsTraceOf other words → last ≡ other
-one_last last other words (p, is) (q, also) = let both : Some (Trace p last) ≡ Some (Trace q other) = sym is ∙ also in cc
+-- they ask for all frames, or for one number of them, and for synchronisation packets in one way
+pub one_framing : (last every other often : Option ℕ) (words : List (List ℕ)) → IsTraceOf last every words → IsTraceOf other often words
+    → (last ≡ other) × (every ≡ often)
+one_framing last every other often words (p, is) (q, also) =
+    let both : Some (Trace p last every) ≡ Some (Trace q other often) = sym is ∙ also in (cc, cc)
 
 -- ---- whether it names a program
 
@@ -47,15 +52,16 @@ path_program r words (p, is) = ap (option_and_then program_of) is
 pub retired_program : (words : List (List ℕ)) (asks : IsRetiredCall words) → HasProgram asks.0 words
 retired_program words (p, is) = ap (option_and_then program_of) is
 
-pub trace_program : (last : Option ℕ) (words : List (List ℕ)) (asks : IsTraceOf last words) → HasProgram asks.0 words
-trace_program last words (p, is) = ap (option_and_then program_of) is
+pub trace_program : (last every : Option ℕ) (words : List (List ℕ)) (asks : IsTraceOf last every words) → HasProgram asks.0 words
+trace_program last every words (p, is) = ap (option_and_then program_of) is
 
 by_program : (said : Option Command) (p : Program) → option_and_then program_of said ≡ Some p → (kind_of said ≡ PathKind) ⊎ (kind_of said ≡ RunFileKind)
 by_program None p is = absurd cc
 by_program (Some (Path q r)) p is = inl refl
 by_program (Some (Packets r)) p is = absurd cc
+by_program (Some (Times r)) p is = absurd cc
 by_program (Some (Retired q)) p is = inr refl
-by_program (Some (Trace q last)) p is = inr refl
+by_program (Some (Trace q last every)) p is = inr refl
 by_program (Some (Selftest n cut)) p is = absurd cc
 
 -- a command that names one reads an input or a run file over its image

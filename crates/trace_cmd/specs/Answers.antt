@@ -11,13 +11,13 @@ use Rattle.retired_paths.specs.Retired.{IsBadBench, IsRetiredText}
 use Rattle.answer_lines.specs.Prints.{Prints, PrintsFront}
 use Rattle.answer_lines.specs.UsageLine.{usage_line}
 use Rattle.traced_runs.specs.Selftest.{HasBadBench, HasBadImage, IsSummary, IsTooLong}
-use Rattle.traced_runs.specs.Traced.{AreTracedFrames}
-use Rattle.command_words.specs.Words.{Command, Intake, Kind, Program, Path, Packets, Retired, Selftest, Trace}
+use Rattle.traced_runs.specs.Traced.{AreWritten}
+use Rattle.command_words.specs.Words.{Command, Intake, Kind, Program, Path, Packets, Retired, Selftest, Times, Trace}
 use Rattle.command_words.specs.Words.{BareKind, NumberKind, PathKind, RunFileKind, kind_of, meaning}
 use Rattle.bench_text.specs.declared.fault.BenchWhy.{BenchWhy}
 use Rattle.input_pieces.specs.Listed.{Breaks, Completes, Exceeds, Interrupts}
-use Rattle.trace_cmd.specs.Printing.{What, PathsOf, PacketsOf, laid_of, listing_of}
-use Rattle.trace_cmd.specs.Programs.{BadText, HasProgram, IsSpelled, NoProgram, TakesNoProgram, TakesProgram, line_of}
+use Rattle.trace_cmd.specs.Printing.{What, PathsOf, PacketsOf, TimesOf, laid_of, listing_of}
+use Rattle.trace_cmd.specs.Programs.{BadFile, BadText, HasProgram, IsSpelled, NoProgram, TakesNoProgram, TakesProgram, line_of}
 use Rattle.trace_io.specs.declared.traits.Failed.{Failed}
 
 -- ---- a call
@@ -35,20 +35,23 @@ call words image image' input input' = record { words = words; image = image; im
 
 -- ---- what the words ask for
 
--- the path, and the packets, of an input that is taken so
+-- the path, the packets, and the times of the P0 elements, of an input that is taken so
 abbrev pub IsPathUnder : Intake → List (List ℕ) → Type 0
 IsPathUnder r words = (p : Program) × (meaning words ≡ Some (Path p r))
 
 abbrev pub IsPacketsUnder : Intake → List (List ℕ) → Type 0
 IsPacketsUnder r words = meaning words ≡ Some (Packets r)
 
+abbrev pub IsTimesUnder : Intake → List (List ℕ) → Type 0
+IsTimesUnder r words = meaning words ≡ Some (Times r)
+
 -- the retired paths of a run file
 abbrev pub IsRetiredCall : List (List ℕ) → Type 0
 IsRetiredCall words = (p : Program) × (meaning words ≡ Some (Retired p))
 
--- its traces, all their frames, or so many of the last
-abbrev pub IsTraceOf : Option ℕ → List (List ℕ) → Type 0
-IsTraceOf last words = (p : Program) × (meaning words ≡ Some (Trace p last))
+-- its traces, all their frames, or so many of the last; and synchronisation packets among these, each behind so many, or none
+abbrev pub IsTraceOf : Option ℕ → Option ℕ → List (List ℕ) → Type 0
+IsTraceOf last every words = (p : Program) × (meaning words ≡ Some (Trace p last every))
 
 -- both ends tried on the run file of a number, and how many bytes of its frames are read
 abbrev pub IsSelftestOf : ℕ → Option ℕ → List (List ℕ) → Type 0
@@ -112,7 +115,7 @@ pub record IsUsage (c : Call) (text : List ℕ) : Type 0 where
   pub meaningless : meaning c.words ≡ None
   pub printed : text ≡ usage_line
 
--- ImageBad: the image, read to its end or past the most that is read, spells none, for this first
+-- ImageBad and ElfBad: the image, read to its end or past the most that is read, spells none, for this first
 pub record IsProgramBad (c : Call) (refusal : NoProgram) (text : List ℕ) : Type 0 where
   pub program : Program
   pub named : HasProgram program c.words
@@ -123,6 +126,7 @@ pub record IsProgramBad (c : Call) (refusal : NoProgram) (text : List ℕ) : Typ
 abbrev pub Asks : Call → What → Type 0
 Asks c (PathsOf image r) = IsPathUnder r c.words × HasRead c image
 Asks c (PacketsOf r) = IsPacketsUnder r c.words
+Asks c (TimesOf r) = IsTimesUnder r c.words
 
 -- ReadFault by the image: nothing of the input was taken, and nothing printed
 pub record IsImageFault (c : Call) (out out' : IoState) : Type 0 where
@@ -131,8 +135,8 @@ pub record IsImageFault (c : Call) (out out' : IoState) : Type 0 where
   pub untouched : c.input' ≡ c.input
   pub printed : AppendsAll out out' []
 
--- NoMemory, by a command, or while the words were read, before image and input were touched: nothing was printed, and of paths and packets
--- nothing of the input taken. Of a run file, for its retired paths or its traces, some of the input may be.
+-- NoMemory, by a command, or while the words were read, before image and input were touched: nothing was printed, and of paths, packets and
+-- times nothing of the input taken. Of a run file, for its retired paths or its traces, some of the input may be.
 pub record IsNoMemory (c : Call) (out out' : IoState) : Type 0 where
   pub command : IsCall c.words ⊎ ((c.image' ≡ c.image) × (c.input' ≡ c.input))
   pub untouched : (c.input' ≡ c.input) ⊎ IsRunFileCall c.words
@@ -148,9 +152,10 @@ OverImage Asked c Way = Asked c.words × ((image : Image) × HasRead c image × 
 abbrev pub IsRetired : Call → List ℕ → Type 0
 IsRetired c text = OverImage IsRetiredCall c (λ image. IsRetiredText image c.input c.input' text)
 
--- the frames of its traces, or the last of them that the words ask for
+-- the frames of its traces, or the last of them that the words ask for, and synchronisation packets among these where they do
 abbrev pub IsTraced : Call → List ℕ → Type 0
-IsTraced c frames = (last : Option ℕ) × OverImage (IsTraceOf last) c (λ image. AreTracedFrames image last c.input c.input' frames)
+IsTraced c bytes =
+    (last : Option ℕ) × (every : Option ℕ) × OverImage (IsTraceOf last every) c (λ image. AreWritten image last every c.input c.input' bytes)
 
 -- BenchBad, of retired paths or of traces: the run file has this fault first
 abbrev pub IsBenchBad : Call → ℕ → BenchWhy → List ℕ → Type 0
@@ -226,6 +231,7 @@ Answers c old new (status.ImageBad line why) =
     Prints (IsTextOf c (ImageText (BadText line why))) old new ⊎ Prints (IsTextOf c (OwnImageText line why)) old new
 Answers c old new (status.BenchBad line why) =
     Prints (IsTextOf c (BenchText line why)) old new ⊎ Prints (IsTextOf c (OwnBenchText line why)) old new
+Answers c old new (status.ElfBad why) = Prints (IsTextOf c (ImageText (BadFile why))) old new
 Answers c old new status.InputTooLong =
     OfInput c (λ what. Exceeds (laid_of what) (listing_of what) c.input c.input' old new) ⊎ IsOwnTooLong c old new
 Answers c old new status.ReadFault =

@@ -2,8 +2,14 @@
 use Rattle.std.specs.Prelude.{◌≡◌, ◌⊎◌, ℕ, ◌+◌, ◌<◌, List, length, Option, Some, Ok, Err}
 use Rattle.std.specs.Io.KnownBytes.{Consumes, IsAtEnd}
 use Rattle.std.specs.Option.{option_and_then, option_map_or}
+use Rattle.answer_lines.specs.ElfLine.{elf_line}
 use Rattle.answer_lines.specs.ImageLine.{image_line}
 use Rattle.command_words.specs.Words.{Program, meaning, program_of}
+use Rattle.command_words.specs.declared.words.ProgramForm.{ProgramForm}
+use Rattle.command_words.specs.declared.words.ProgramForm.TheVariants as form
+use Rattle.elf_image.specs.ElfText.{elf_text}
+use Rattle.elf_image.specs.Refusals.{most_file}
+use Rattle.elf_image.specs.declared.fault.ElfWhy.{ElfWhy}
 use Rattle.program_image.specs.ImageText.{image_of, most_text}
 use Rattle.program_image.specs.declared.fault.ImageWhy.{ImageWhy}
 use Rattle.program_image.specs.declared.image.Image.{Image}
@@ -12,25 +18,42 @@ use Rattle.trace_io.specs.State.{IoState}
 
 -- ---- what bytes say of it
 
--- the bytes spell this image
+-- the bytes spell this image, as its text, or as an ELF file whose code is told as such a text
+abbrev pub Spells : ProgramForm → List ℕ → Image → Type 0
+Spells form.Text bytes image = image_of bytes ≡ Ok image
+Spells form.Elf bytes image = (text : List ℕ) × (elf_text bytes ≡ Ok text) × (image_of text ≡ Ok image)
+
 abbrev pub IsSpelled : Program → List ℕ → Image → Type 0
-IsSpelled p bytes image = image_of bytes ≡ Ok image
+IsSpelled p bytes image = Spells p.form bytes image
 
 -- why they spell none
 pub data NoProgram : Type 0 where
   -- a text has a fault, this one first, at this line
   BadText : ℕ → ImageWhy → NoProgram
+  -- an ELF file has a refusal, this one first
+  BadFile : ElfWhy → NoProgram
+
+abbrev pub Refuses : ProgramForm → List ℕ → NoProgram → Type 0
+Refuses form.Text bytes (BadText line why) = image_of bytes ≡ Err (line, why)
+Refuses form.Text bytes (BadFile why) = ⊥
+Refuses form.Elf bytes (BadText line why) = ⊥
+Refuses form.Elf bytes (BadFile why) = elf_text bytes ≡ Err why
 
 abbrev pub IsRefused : Program → List ℕ → NoProgram → Type 0
-IsRefused p bytes (BadText line why) = image_of bytes ≡ Err (line, why)
+IsRefused p bytes refusal = Refuses p.form bytes refusal
 
 -- the line that says so
 abbrev pub line_of : NoProgram → List ℕ
 line_of (BadText line why) = image_line line why
+line_of (BadFile why) = elf_line why
 
 -- the most bytes that it may have
+abbrev pub most_by : ProgramForm → ℕ
+most_by form.Text = most_text
+most_by form.Elf = most_file
+
 abbrev pub most_of : Program → ℕ
-most_of p = most_text
+most_of p = most_by p.form
 
 -- ---- what is read of it
 

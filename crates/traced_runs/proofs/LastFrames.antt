@@ -1,7 +1,10 @@
 -- The last frames of a run file's traces, and how they are written.
-use Rattle.std.proofs.Common.{◌≡◌, ℕ, ◌+◌, ◌-◌, ◌*◌, ◌%◌, List, ◌++◌, length, take, drop, Ok, Err, Result, Option, Some, None}
-use Rattle.std.proofs.Common.{sym, ap, subst, ◌∙◌, append_assoc, arith, length-drop, take-add, take-append-drop}
-use Rattle.std.specs.Prelude.{OnErr, OnOk, slice_index_or}
+use Rattle.std.proofs.Common.{◌≡◌, ◌⊎◌, ℕ, ◌+◌, ◌-◌, ◌*◌, ◌%◌, List, [], ◌++◌, length, take, drop, Ok, Err, Result, Option, Some, None, inl, inr}
+use Rattle.std.proofs.Common.{refl, sym, ap, subst, ◌∙◌, append_assoc, arith, length-drop, take-add, take-append-drop}
+use Rattle.std.proofs.KnownBytes.{Appends-nil}
+use Rattle.std.specs.Prelude.{IfOk, OnErr, OnOk, slice_index_or}
+use Rattle.answer_lines.specs.declared.status.Status.{Status}
+use Rattle.answer_lines.specs.declared.status.Status.TheVariants as status
 use Rattle.bench_text.specs.Parts.{BenchParts, IsBench}
 use Rattle.formatter_frames.proofs.Pieces.{length-left_over}
 use Rattle.formatter_frames.proofs.RoundTrip.{nothing_left}
@@ -11,15 +14,19 @@ use Rattle.path_text.specs.Writing.{Writes}
 use Rattle.program_image.specs.Part.{IsImage}
 use Rattle.program_image.specs.declared.image.Image.{Image}
 use Rattle.retired_paths.proofs.RetiredStreams.{bench_accepted}
-use Rattle.retired_paths.specs.Retired.{TakesBench}
+use Rattle.retired_paths.specs.Retired.{RunsSo, TakesBench}
 use Rattle.stream_demux.specs.Texts.{of}
 use Rattle.trace_io.proofs.Known.{front_of_shorter}
 use Rattle.trace_io.specs.Bytes.{AppendsAll, AppendsShorter, ShowsAsBefore}
 use Rattle.trace_io.specs.Causes.{HasCause}
 use Rattle.trace_io.specs.State.{IoState}
+use Rattle.trace_io.specs.declared.traits.Failed.{Failed}
 use Rattle.traced_runs.proofs.TracedStreams.{traces_are_shown}
-use Rattle.traced_runs.specs.Traced.{AreAccepted, AreTracedFrames, IsLastFrames, IsTracedFrames, trace_frames, traces}
+use Rattle.traced_runs.proofs.Tracing.{traced_so}
+use Rattle.traced_runs.specs.Traced.{AreAccepted, AreTracedFrames, AreWritten, IsLastFrames, TracesSo, WritesTraces, kept_frames, last_of, trace_frames}
+use Rattle.traced_runs.specs.Traced.{trace_pairs, traces, with_syncs}
 use Rattle.wrapped_capture.proofs.LastOfEach.{each_ends, ends_behind}
+use Rattle.wrapped_capture.proofs.MissingFrames.{last_end}
 use Rattle.wrapped_capture.specs.Ends.{EndsWith}
 
 -- ---- whole frames
@@ -32,36 +39,58 @@ whole_last bytes n whole = omega (arith, length-drop (length bytes - 16 * n) byt
 
 -- ---- the answer
 
-pub last_so : (image : Image) (input input' : IoState) (b : BenchParts) (n : ℕ) (frames : List ℕ) → TakesBench input input' b → IsImage image
-    → IsBench b → AreAccepted image b → frames ≡ drop (length (trace_frames image b) - 16 * n) (trace_frames image b)
-    → EndsWith (unframed frames) (unframed (trace_frames image b)) → IsLastFrames image input input' n frames
-last_so image input input' b n frames taken is bench none written ends =
-    let whole = unframed (trace_frames image b) in
-    let left = unframed frames in
+last_so : (image : Image) (input input' : IoState) (b : BenchParts) (n : ℕ) → TakesBench input input' b → IsImage image → IsBench b
+    → AreAccepted image b → IsLastFrames image input input' n (last_of n (trace_frames image b))
+last_so image input input' b n taken is bench none =
+    let all = trace_frames image b in
+    let left = unframed (last_of n all) in
     let shown = traces_are_shown image b is bench none in
+    let ends = last_end all n (whole_framed (trace_pairs image b)) in
     record {
       run_file = taken.0;
       read = taken.1;
       bench = b;
       accepted = bench_accepted image taken.0 b taken.2 taken.3 none;
       last = record {
-        written = written;
+        written = refl;
         carried = λ k d within.
             let t = slice_index_or (traces image b) k d in
-            ends_behind (of t.0 left) t.1 (subst (λ (l : List ℕ). EndsWith (of t.0 left) l) (shown.carried k d within) (each_ends left whole t.0 ends));
+            ends_behind (of t.0 left) t.1
+            (subst (λ (l : List ℕ). EndsWith (of t.0 left) l) (shown.carried k d within) (each_ends left (unframed all) t.0 ends));
       };
     }
 
--- of all frames or of the last ones, as they are wanted
-pub all_wanted : (image : Image) (last : Option ℕ) (input input' : IoState) (frames : List ℕ) → last ≡ None → IsTracedFrames image input input' frames
-    → AreTracedFrames image last input input' frames
-all_wanted image last input input' frames is traced =
-    subst (λ (l : Option ℕ). AreTracedFrames image l input input' frames) (sym is) traced
+-- all frames, or the last ones, as they are wanted
+kept_so : (image : Image) (last : Option ℕ) (input input' : IoState) (b : BenchParts) → TakesBench input input' b → IsImage image → IsBench b
+    → AreAccepted image b → AreTracedFrames image last input input' (kept_frames last (trace_frames image b))
+kept_so image None input input' b taken is bench none = traced_so image input input' b taken is bench none
+kept_so image (Some n) input input' b taken is bench none = last_so image input input' b n taken is bench none
 
-pub last_wanted : (image : Image) (last : Option ℕ) (input input' : IoState) (n : ℕ) (frames : List ℕ) → last ≡ Some n
-    → IsLastFrames image input input' n frames → AreTracedFrames image last input input' frames
-last_wanted image last input input' n frames is traced =
-    subst (λ (l : Option ℕ). AreTracedFrames image l input input' frames) (sym is) traced
+-- the frames are written, or memory is wanting and nothing is
+answered_by : (kind : List ℕ → Type 0) (image : Image) (input input' old new : IoState) (text : List ℕ) (r : Result Status Failed)
+    → (r ≡ Ok status.NoMemory) ⊎ (Writes old new r text × IfOk r (λ s. s ≡ status.Done)) → (r ≡ Ok status.NoMemory → new ≡ old) → kind text
+    → RunsSo kind image input input' old new r
+answered_by kind image input input' old new text r (inl none) memory is =
+    subst (RunsSo kind image input input' old new) (sym none)
+    (subst (λ (s : IoState). AppendsAll old s []) (sym (memory none)) (Appends-nil old.bytes))
+answered_by kind image input input' old new text (Ok s) (inr (w, done)) memory is =
+    subst (λ (t : Status). RunsSo kind image input input' old new (Ok t)) (sym done) (text, is, w.whole)
+answered_by kind image input input' old new text (Err e) (inr (w, done)) memory is = inl (text, is, w.front)
+
+pub traces_so : (image : Image) (last every : Option ℕ) (input input' old new : IoState) (b : BenchParts) (made : List (ℕ × List ℕ))
+    (r : Result Status Failed) → TakesBench input input' b → IsImage image → IsBench b → AreAccepted image b → made ≡ traces image b
+    → WritesTraces b.weaves made last every old new r → (r ≡ Ok status.NoMemory → new ≡ old) → TracesSo image last every input input' old new r
+traces_so image last every input input' old new b made r taken is bench none made_is writes memory =
+    let frames = kept_frames last (trace_frames image b) in
+    let by_traces = subst (λ (t : List (ℕ × List ℕ)). WritesTraces b.weaves t last every old new r) made_is writes in
+    answered_by (AreWritten image last every input input') image input input' old new (with_syncs every frames) r by_traces memory
+    (record { frames = frames; traced = kept_so image last input input' b taken is bench none; synced = refl })
+
+-- ---- which frames are kept
+
+pub kept_whole : (last : Option ℕ) (frames : List ℕ) → length frames % 16 ≡ 0 → length (kept_frames last frames) % 16 ≡ 0
+kept_whole None frames whole = whole
+kept_whole (Some n) frames whole = whole_last frames n whole
 
 -- ---- a frame is written at once
 

@@ -2,6 +2,7 @@ pub mod LastFrames
 mod SelftestExamples
 pub mod SelftestLines
 pub mod SelftestTexts
+pub mod SyncedFrames
 mod TracedExamples
 pub mod TracedPaths
 pub mod TracedStreams

@@ -88,6 +88,7 @@ all_printed image b s s' out out' status.InputTooLong few c =
 all_printed image b s s' out out' status.Usage few none = absurd none
 all_printed image b s s' out out' (status.ImageBad line why) few none = absurd none
 all_printed image b s s' out out' (status.BenchBad line why) few none = absurd none
+all_printed image b s s' out out' (status.ElfBad why) few none = absurd none
 all_printed image b s s' out out' status.WriteFault few none = absurd none
 all_printed image b s s' out out' status.NoMemory few none = absurd none
 

@@ -18,7 +18,8 @@ use Rattle.spec_run.specs.declared.event.Event.TheVariants as event
 use Rattle.stream_demux.specs.Laws.{lines_with}
 use Rattle.stream_demux.specs.Texts.{Printed, lines_under, of, text_of}
 use Rattle.retired_paths.specs.Retired.{stream_text}
-use Rattle.traced_runs.specs.Traced.{AreLast, ShowsTraces, Suits, end_lines, is_of_one, table_of, trace_frames, trace_lines, trace_pairs, traces}
+use Rattle.traced_runs.specs.Traced.{AreLast, ShowsTraces, Suits, end_lines, is_of_one, kept_frames, table_of, trace_frames, trace_lines, trace_pairs}
+use Rattle.traced_runs.specs.Traced.{traces, with_syncs}
 use Rattle.woven_traces.specs.Woven.{under}
 use Rattle.atom_formats.specs.Bytes.{byte_of}
 
@@ -174,6 +175,35 @@ not_none last = absurd (omega (arith, ap length (written_so 9 [] last)))
 -- and the ID that held is not told anew
 not_anew : AreLast loop bench 2 (0x0b ∷ drop 1 third_frame ++ fourth_frame) → ⊥
 not_anew last = absurd (omega (arith, ap first_of (written_so 2 (0x0b ∷ drop 1 third_frame ++ fourth_frame) last)))
+
+-- ---- as they are written
+
+abbrev sync : List ℕ
+sync = 0xff ∷ 0xff ∷ 0xff ∷ 0x7f ∷ []
+
+pub without_syncs : with_syncs None all_frames ≡ all_frames
+without_syncs = refl
+
+-- before the first frame, and before each second or third behind it
+pub synced_by_twos : with_syncs (Some 2) all_frames ≡ sync ++ (first_frame ++ (second_frame ++ (sync ++ (third_frame ++ fourth_frame))))
+synced_by_twos = refl
+
+pub synced_by_threes : with_syncs (Some 3) all_frames ≡ sync ++ (first_frame ++ (second_frame ++ (third_frame ++ (sync ++ fourth_frame))))
+synced_by_threes = refl
+
+-- frames are counted from the first that is written
+pub last_synced : with_syncs (Some 3) (kept_frames (Some 2) all_frames) ≡ sync ++ (third_frame ++ fourth_frame)
+last_synced = refl
+
+-- and where there is none, nothing is written
+pub none_synced : with_syncs (Some 1) (kept_frames (Some 2) []) ≡ []
+none_synced = refl
+
+not_before_the_second : with_syncs (Some 2) all_frames ≡ first_frame ++ (sync ++ (second_frame ++ (third_frame ++ (sync ++ fourth_frame)))) → ⊥
+not_before_the_second e = absurd (omega (arith, ap first_of e))
+
+not_behind_the_last : with_syncs (Some 4) all_frames ≡ sync ++ (all_frames ++ sync) → ⊥
+not_behind_the_last e = absurd (omega (arith, ap length e))
 
 -- ---- their lines
 

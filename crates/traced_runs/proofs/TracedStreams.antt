@@ -44,7 +44,8 @@ use Rattle.stream_demux.specs.Texts.{Printed, by_sizes, lines_under, of, text_of
 use Rattle.retired_paths.proofs.RetiredStreams.{accepted_by, both_none, lines_are}
 use Rattle.traced_runs.proofs.TracedTables.{some_table_suits}
 use Rattle.traced_runs.proofs.TracedPaths.{EndsWell, clean_lines, ids_are, text_has, text_well}
-use Rattle.woven_traces.proofs.WovenWhole.{others_have_no_byte, woven_bytes, woven_whole}
+use Rattle.woven_traces.proofs.WovenWhole.{others_have_no_byte, woven_alone, woven_bytes, woven_whole}
+use Rattle.sync_frames.specs.Synced.{IsSourcePair}
 use Rattle.retired_paths.specs.Retired.{items_after, stream_text}
 use Rattle.traced_runs.specs.Traced.{AreAccepted, IsTraceText, NoEventNoLine, ShowsTraces, Suits, TracesAreShown, end_lines}
 use Rattle.traced_runs.specs.Traced.{is_of_one, table_of, trace_frames, trace_lines, trace_pairs, traces}
@@ -182,6 +183,14 @@ module _ (image : Image) (b : BenchParts) (is : IsImage image) (bench : IsBench 
       let again = pairs_again (trace_pairs image b) in
       subst (All HasByte) (sym again.2)
       (All-append HasByte (trace_pairs image b) (replicate again.0 (0, 0)) pairs_small (All-replicate HasByte again.0 (0, 0) (lit< tt)))
+
+  -- each is of a stream of the run file, whose ID is that of a source
+  pub sources_are : All IsSourcePair (trace_pairs image b)
+  sources_are k d within =
+      let pair = slice_index_or (trace_pairs image b) k d in
+      let st = found IsBenchStream pair.0 b.streams bench.streams
+      (sym (same_ids bytes_of pair.0 b.streams) ∙ woven_alone b.weaves (traces image b) k d within) in
+      let id = subst IsId st.2 st.1.id in (id.0, id.1, pairs_small k d within)
 
   -- the zeros behind the pairs are of no stream
   carried : (id : ℕ) → 0 < id → of id frames_carry ≡ of id (trace_pairs image b)

@@ -1,7 +1,8 @@
 -- What `trace` writes of a run file over an image, and what is printed of the paths in that.
 use Rattle.std.specs.Prelude.{◌≡◌, ℕ, ◌-◌, ◌≤◌, Bool, true, false, All, List, [], ◌∷◌, ◌++◌, length, drop, map, replicate, slice_set}
-use Rattle.std.specs.Prelude.{Option, Some, None, Result, Ok}
+use Rattle.std.specs.Prelude.{◌⊎◌, IfOk, Option, Some, None, Result, Ok}
 use Rattle.std.specs.List.{concat}
+use Rattle.bench_text.specs.declared.line.Weave.{Weave}
 use Rattle.bench_text.specs.Parts.{BenchParts, BenchStream, IsBench, events_of, has_stream}
 use Rattle.bench_text.specs.Refusals.{bench_of, refusal_among}
 use Rattle.etm_types.specs.Settings.{Sizes, default_sizes}
@@ -11,6 +12,7 @@ use Rattle.formatter_frames.specs.Unframed.{begun_frame, unframed}
 use Rattle.packet_grammar.specs.declared.end.End.TheVariants as end
 use Rattle.path_text.specs.EndLines.{end_line}
 use Rattle.path_text.specs.PathLines.{line_list}
+use Rattle.path_text.specs.Writing.{Writes}
 use Rattle.program_image.specs.declared.image.Image.{Image}
 use Rattle.spec_run.specs.RunAfter.{run_after}
 use Rattle.spec_run.specs.declared.event.Event.{Event}
@@ -18,8 +20,10 @@ use Rattle.stream_demux.specs.Laws.{lines_with}
 use Rattle.stream_demux.specs.Paths.{paths}
 use Rattle.stream_demux.specs.Texts.{IsText, Printed, by_sizes, lines_under, of, text_of}
 use Rattle.retired_paths.specs.Retired.{RunsSo, items_after, stream_text}
+use Rattle.sync_frames.specs.Synced.{synced_every}
 use Rattle.woven_traces.specs.Woven.{woven}
 use Rattle.answer_lines.specs.declared.status.Status.{Status}
+use Rattle.answer_lines.specs.declared.status.Status.TheVariants as status
 use Rattle.trace_io.specs.Bytes.{TakesAll}
 use Rattle.trace_io.specs.State.{IoState}
 use Rattle.trace_io.specs.declared.traits.Failed.{Failed}
@@ -115,9 +119,18 @@ pub record IsTracedFrames (image : Image) (input input' : IoState) (frames : Lis
   pub written : frames ≡ trace_frames image bench
   pub shown : TracesAreShown image bench
 
+-- the last n of these frames, or all where they are no more
+abbrev pub last_of : ℕ → List ℕ → List ℕ
+last_of n frames = drop (length frames - in_bytes n) frames
+
+-- all frames, or the last ones
+abbrev pub kept_frames : Option ℕ → List ℕ → List ℕ
+kept_frames None frames = frames
+kept_frames (Some n) frames = last_of n frames
+
 -- The last n of the frames, or all where they are no more. Each stream has in them its trace from some byte on.
 pub record AreLast (image : Image) (b : BenchParts) (n : ℕ) (frames : List ℕ) : Type 0 where
-  pub written : frames ≡ drop (length (trace_frames image b) - in_bytes n) (trace_frames image b)
+  pub written : frames ≡ last_of n (trace_frames image b)
   pub carried : All (λ (t : ℕ × List ℕ). (missing : ℕ) × (missing ≤ length t.1) × (of t.0 (unframed frames) ≡ drop missing t.1)) (traces image b)
 
 -- a run file was read in the same way, and these are the last n frames of its traces
@@ -133,6 +146,25 @@ abbrev pub AreTracedFrames : Image → Option ℕ → IoState → IoState → Li
 AreTracedFrames image None input input' frames = IsTracedFrames image input input' frames
 AreTracedFrames image (Some n) input input' frames = IsLastFrames image input input' n frames
 
+-- ---- as they are written
+
+-- frames as they stand, or with a full synchronisation packet before the first of them and before each so-many-th behind it
+abbrev pub with_syncs : Option ℕ → List ℕ → List ℕ
+with_syncs None frames = frames
+with_syncs (Some every) frames = synced_every every frames
+
+-- all frames of its traces, or the last ones, and synchronisation packets among these where they are asked for
+pub record AreWritten (image : Image) (last every : Option ℕ) (input input' : IoState) (bytes : List ℕ) : Type 0 where
+  pub frames : List ℕ
+  pub traced : AreTracedFrames image last input input' frames
+  pub synced : bytes ≡ with_syncs every frames
+
+-- the frames of traces are written, woven so: all of them, or the last ones, and synchronisation packets among these; or memory is wanting
+abbrev pub WritesTraces : List Weave → List (ℕ × List ℕ) → Option ℕ → Option ℕ → IoState → IoState → Result Status Failed → Type 0
+WritesTraces weaves traces last every old new result =
+    (result ≡ Ok status.NoMemory)
+    ⊎ (Writes old new result (with_syncs every (kept_frames last (framed (woven weaves traces)))) × IfOk result (λ s. s ≡ status.Done))
+
 -- how a run file is answered by its traces
-abbrev pub TracesSo : Image → Option ℕ → IoState → IoState → IoState → IoState → Result Status Failed → Type 0
-TracesSo image last input input' = RunsSo (AreTracedFrames image last input input') image input input'
+abbrev pub TracesSo : Image → Option ℕ → Option ℕ → IoState → IoState → IoState → IoState → Result Status Failed → Type 0
+TracesSo image last every input input' = RunsSo (AreWritten image last every input input') image input input'

@@ -1,8 +1,8 @@
 //! The command `trace`: the streams of a run file are traced, one after the other, and then their traces are woven into frames.
 //!
 //! Nothing is written before the last stream is traced, so that a run file that is bad, or want of memory, leaves no frame. Where only
-//! the last frames are wanted, all of them are woven in memory first.
-ghost use Rattle.std.specs.Prelude.{◌≡◌, ◌⊎◌, ℕ, ◌+◌, ◌%◌, ◌≤◌, ◌<◌, List, [], length, None, Some, Ok, Err, IsOk, IfOk, slice_get};
+//! the last frames are wanted, or synchronisation packets among them, all frames are woven in memory first.
+ghost use Rattle.std.specs.Prelude.{◌≡◌, ◌⊎◌, ℕ, ◌+◌, ◌%◌, ◌≤◌, ◌<◌, List, [], length, None, Some, Ok, Err, IsOk, IfOk, IfSome, slice_get};
 ghost use Rattle.bench_text.specs.Parts.{BenchStream, IsBench, events_of};
 ghost use Rattle.bench_text.specs.Refusals.{most_text, refusal_among, stream_refusal};
 ghost use Rattle.formatter_frames.specs.Framed.{framed};
@@ -12,7 +12,7 @@ ghost use Rattle.spec_run.specs.RunAfter.{IsEvent};
 ghost use Rattle.spec_run.specs.declared.event.Event.{Event};
 ghost use Rattle.spec_run.specs.declared.run_fault.RunFault.{RunFault as Refusal};
 ghost use Rattle.retired_paths.specs.Retiring.{RefusesLine, events_with};
-ghost use Rattle.traced_runs.specs.Traced.{TracesSo, traces};
+ghost use Rattle.traced_runs.specs.Traced.{TracesSo, WritesTraces, kept_frames, traces, with_syncs};
 ghost use Rattle.traced_runs.specs.Tracing.{IsTracing, refused_at};
 ghost use Rattle.woven_traces.specs.Weaving.{all_left};
 ghost use Rattle.woven_traces.specs.Woven.{woven};
@@ -27,6 +27,7 @@ use program_image::Image;
 use retired_paths::{Unread, read_bench, refuse};
 use spec_run::RunFault;
 use std::alloc::{AllocError, Global};
+use sync_frames::write_synced;
 use trace_io::{Failed, MemSink, Sink, Source, write_all};
 use trace_unit::{Unit, UnitFault};
 use woven_traces::{Trace, write_woven};
@@ -167,7 +168,7 @@ pub fn woven_frames(
 }
 
 /// Writes whole frames, each of them at once.
-fn write_frames<K: Sink>(frames: &[u8], out: &mut K) -> Result<(), Failed>
+fn write_whole<K: Sink>(frames: &[u8], out: &mut K) -> Result<(), Failed>
     requires { length frames.now % frame_bytes ≡ 0 }
     ensures { Writes (K.state out.old) (K.state out.new) result frames.now }
 {
@@ -180,16 +181,85 @@ fn write_frames<K: Sink>(frames: &[u8], out: &mut K) -> Result<(), Failed>
     Ok(())
 }
 
-/// Reads a run file and traces all of it, then writes the frames of its traces: all of them, or the last ones of them. For these all
-/// frames stand in memory first, and nothing is written where it is wanting.
+/// Writes whole frames, each of them at once, and a synchronisation packet before the first of them and before each so-many-th
+/// behind it, or none.
+fn write_frames<K: Sink>(frames: &[u8], every: Option<u32>, out: &mut K) -> Result<(), Failed>
+    requires whole { length frames.now % frame_bytes ≡ 0 }
+    requires some { IfSome every (λ n. 0 < n) }
+    ensures { Writes (K.state out.old) (K.state out.new) result (with_syncs every frames.now) }
+{
+    match every {
+        Some(every) => write_synced(frames, every, out),
+        None => write_whole(frames, out),
+    }
+}
+
+/// The last ones of whole frames, or all of them.
+fn kept_frames(frames: &[u8], last: Option<u32>) -> &[u8]
+    requires { length frames.now % frame_bytes ≡ 0 }
+    ensures value { result.now ≡ kept_frames last frames.now }
+    ensures whole { length result.now % frame_bytes ≡ 0 }
+{
+    match last {
+        Some(count) => last_frames(frames, count),
+        None => frames,
+    }
+}
+
+/// Weaves traces into frames in memory, and then writes these. Where memory is wanting, nothing is written.
+fn write_kept<K: Sink>(
+    alloc: Global,
+    bench: &Bench,
+    traces: &mut [Trace],
+    last: Option<u32>,
+    every: Option<u32>,
+    out: &mut K,
+) -> Result<Status, Failed>
+    requires { IfSome every (λ n. 0 < n) }
+    ensures written { WritesTraces bench.now.weaves (all_left traces.old) last every (K.state out.old) (K.state out.new) result }
+    ensures memory { result ≡ Ok Status.NoMemory → out.new ≡ out.old }
+{
+    let Ok(frames) = woven_frames(alloc, bench, traces) else {
+        return Ok(Status::NoMemory);
+    };
+    write_frames(kept_frames(frames.written(), last), every, out)?;
+    Ok(Status::Done)
+}
+
+/// Writes the frames of traces, woven as a run file says: all of them at once, or the last ones, or with synchronisation packets
+/// among them.
+fn write_traces<K: Sink>(
+    alloc: Global,
+    bench: &Bench,
+    traces: &mut [Trace],
+    last: Option<u32>,
+    every: Option<u32>,
+    out: &mut K,
+) -> Result<Status, Failed>
+    requires { IfSome every (λ n. 0 < n) }
+    ensures written { WritesTraces bench.now.weaves (all_left traces.old) last every (K.state out.old) (K.state out.new) result }
+    ensures memory { result ≡ Ok Status.NoMemory → out.new ≡ out.old }
+{
+    if last.is_some() || every.is_some() {
+        return write_kept(alloc, bench, traces, last, every, out);
+    }
+    write_woven(bench, traces, out)?;
+    Ok(Status::Done)
+}
+
+/// Reads a run file and traces all of it, then writes the frames of its traces: all of them, or the last ones of them; and among
+/// these, where that is asked for, synchronisation packets. For both all frames stand in memory first, and nothing is written where
+/// it is wanting.
 pub fn trace_input<J: Source, K: Sink>(
     alloc: Global,
     image: &Image,
     last: Option<u32>,
+    every: Option<u32>,
     input: &mut J,
     out: &mut K,
 ) -> Result<Status, Failed>
-    ensures answer { TracesSo image.now last (J.state input.old) (J.state input.new) (K.state out.old) (K.state out.new) result }
+    requires { IfSome every (λ n. 0 < n) }
+    ensures answer { TracesSo image.now last every (J.state input.old) (J.state input.new) (K.state out.old) (K.state out.new) result }
     ensures few { TakesAtMost (J.state input.old) (J.state input.new) (most_text + 1) }
     ensures kept { (result ≡ Ok Status.ReadFault) ⊎ KeepsFaults (J.state input.old) (J.state input.new) }
     ensures input_shows { ShowsAsBefore (J.state input.old) (J.state input.new) }
@@ -207,15 +277,7 @@ pub fn trace_input<J: Source, K: Sink>(
         Ok(mut traces) => {
             // No two parts of an image overlap, as the contract of this call tells.
             let _word = image.word_at(0);
-            let Some(count) = last else {
-                write_woven(&bench, &mut traces, out)?;
-                return Ok(Status::Done);
-            };
-            let Ok(frames) = woven_frames(alloc, &bench, &mut traces) else {
-                return Ok(Status::NoMemory);
-            };
-            write_frames(last_frames(frames.written(), count), out)?;
-            Ok(Status::Done)
+            write_traces(alloc, &bench, &mut traces, last, every, out)
         }
         Err(Untraced::Refused { line, fault }) => refuse(line, BenchWhy::Run(fault), out),
         Err(Untraced::Memory) => Ok(Status::NoMemory),

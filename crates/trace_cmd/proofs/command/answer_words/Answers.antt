@@ -1,32 +1,91 @@
-use Rattle.std.proofs.Common.{Option, Some, IfSome, inr, refl, sym, ap, subst, ◌∙◌}
+use Rattle.std.proofs.Common.{Option, Some, IfSome, inl, inr, refl, sym, ap, subst, ◌∙◌}
 use Rattle.std.specs.Option.{option_map}
 use Rattle.trace_cmd.specs.Answers.{call}
-use Rattle.trace_cmd.specs.Printing.{PacketsOf}
+use Rattle.trace_cmd.specs.Printing.{PacketsOf, TimesOf}
 use Rattle.command_words.specs.Said.{IsInRange, said, said_intake, said_program}
-use Rattle.command_words.specs.Words.{Packets, texts}
+use Rattle.command_words.specs.Words.{Packets, Times, texts}
 use Rattle.command_words.specs.declared.words.Command.{Command as Told}
-use Rattle.trace_cmd.proofs.AnswerLemmas.{none_taken, packets_of_no_run_file, path_of_no_run_file, so_by, so_of_number, so_of_usage, so_of_words}
+use Rattle.trace_cmd.proofs.AnswerLemmas.{listed_no_file, listed_no_image, listed_no_memory, none_no_file, none_no_image}
+use Rattle.trace_cmd.proofs.AnswerLemmas.{none_taken, packets_of_no_run_file, path_of_no_run_file, so_of_listed, so_of_none, so_of_number, so_of_usage}
+use Rattle.trace_cmd.proofs.AnswerLemmas.{so_of_words, times_of_no_run_file}
 use Rattle.trace_cmd.proofs.WordKinds.{path_program, read_first, retired_kind, retired_program, trace_kind, trace_program}
 use Rattle.trace_cmd.proofs.command.answer_words.Goals as goal
 
 pub returns-in-Path-clause-answer : goal.returns-in-Path-clause-answer
 returns-in-Path-clause-answer g c =
     let means = sym c.in-Ok-Some.ensures.value ∙ ap (option_map said) (c.in-Ok-Some.field-0-is ∙ ap (λ (command : Told). Some command) c.in-Path.is) in
-    c.answer_path.ensures.answer (texts c.args.words.now) (said_program c.in-Path.program, means)
+    c.answer_path.ensures.answer (texts c.args.words.now) means
 
 pub returns-in-Packets-clause-answer : goal.returns-in-Packets-clause-answer
 returns-in-Packets-clause-answer g c =
     let means = sym c.in-Ok-Some.ensures.value ∙ ap (option_map said) (c.in-Ok-Some.field-0-is ∙ ap (λ (command : Told). Some command) c.in-Packets.is) in
     let image = g.I.Source.state in let input = g.J.Source.state in let out = g.K.Sink.state in
     let asked = call (texts c.args.words.now) (image c.args.image.now) (image c.args.image.now) (input c.args.input.now) (input c.print_streams.new.input) in
-    so_by asked (PacketsOf (said_intake c.in-Packets.intake)) means (out c.args.out.now) (out c.print_streams.new.out) c.print_streams.result
-    (Packets (said_intake c.in-Packets.intake), means) c.print_streams.ensures.cause
-    (λ is. let kept = c.print_streams.ensures.memory is in (ap input kept.0, ap out kept.1)) c.print_streams.ensures.listed
+    elim c.print_streams.ensures.listed [
+      | inl none ↦
+          so_of_none asked (out c.args.out.now) (out c.print_streams.new.out) c.print_streams.result (Packets (said_intake c.in-Packets.intake), means) none.0
+          (ap input none.1) (ap out none.2)
+      | inr listed ↦
+          so_of_listed asked (PacketsOf (said_intake c.in-Packets.intake)) means (out c.args.out.now) (out c.print_streams.new.out) c.print_streams.result
+          listed c.print_streams.ensures.cause
+    ]
+
+pub returns-in-Packets-clause-memory : goal.returns-in-Packets-clause-memory
+returns-in-Packets-clause-memory g c is = elim c.print_streams.ensures.listed [
+  | inl none ↦ inl none.1
+  | inr listed ↦ absurd (listed_no_memory _ _ _ _ _ _ c.print_streams.result listed is)
+]
+
+pub returns-in-Packets-clause-image_first : goal.returns-in-Packets-clause-image_first
+returns-in-Packets-clause-image_first g c line why is = elim c.print_streams.ensures.listed [
+  | inl none ↦ absurd (none_no_image c.print_streams.result line why none.0 is)
+  | inr listed ↦ absurd (listed_no_image _ _ _ _ _ _ c.print_streams.result listed line why is)
+]
+
+pub returns-in-Packets-clause-elf_first : goal.returns-in-Packets-clause-elf_first
+returns-in-Packets-clause-elf_first g c why is = elim c.print_streams.ensures.listed [
+  | inl none ↦ absurd (none_no_file c.print_streams.result why none.0 is)
+  | inr listed ↦ absurd (listed_no_file _ _ _ _ _ _ c.print_streams.result listed why is)
+]
+
+pub returns-in-Times-clause-answer : goal.returns-in-Times-clause-answer
+returns-in-Times-clause-answer g c =
+    let means = sym c.in-Ok-Some.ensures.value ∙ ap (option_map said) (c.in-Ok-Some.field-0-is ∙ ap (λ (command : Told). Some command) c.in-Times.is) in
+    let image = g.I.Source.state in let input = g.J.Source.state in let out = g.K.Sink.state in
+    let words = texts c.args.words.now in
+    let asked = call words (image c.args.image.now) (image c.args.image.now) (input c.args.input.now) (input c.print_streams-in-Times.new.input) in
+    elim c.print_streams-in-Times.ensures.listed [
+      | inl none ↦
+          so_of_none asked (out c.args.out.now) (out c.print_streams-in-Times.new.out) c.print_streams-in-Times.result
+          (Times (said_intake c.in-Times.intake), means) none.0
+          (ap input none.1) (ap out none.2)
+      | inr listed ↦
+          so_of_listed asked (TimesOf (said_intake c.in-Times.intake)) means (out c.args.out.now) (out c.print_streams-in-Times.new.out)
+          c.print_streams-in-Times.result listed c.print_streams-in-Times.ensures.cause
+    ]
+
+pub returns-in-Times-clause-memory : goal.returns-in-Times-clause-memory
+returns-in-Times-clause-memory g c is = elim c.print_streams-in-Times.ensures.listed [
+  | inl none ↦ inl none.1
+  | inr listed ↦ absurd (listed_no_memory _ _ _ _ _ _ c.print_streams-in-Times.result listed is)
+]
+
+pub returns-in-Times-clause-image_first : goal.returns-in-Times-clause-image_first
+returns-in-Times-clause-image_first g c line why is = elim c.print_streams-in-Times.ensures.listed [
+  | inl none ↦ absurd (none_no_image c.print_streams-in-Times.result line why none.0 is)
+  | inr listed ↦ absurd (listed_no_image _ _ _ _ _ _ c.print_streams-in-Times.result listed line why is)
+]
+
+pub returns-in-Times-clause-elf_first : goal.returns-in-Times-clause-elf_first
+returns-in-Times-clause-elf_first g c why is = elim c.print_streams-in-Times.ensures.listed [
+  | inl none ↦ absurd (none_no_file c.print_streams-in-Times.result why none.0 is)
+  | inr listed ↦ absurd (listed_no_file _ _ _ _ _ _ c.print_streams-in-Times.result listed why is)
+]
 
 pub returns-in-Retired-clause-answer : goal.returns-in-Retired-clause-answer
 returns-in-Retired-clause-answer g c =
     let means = sym c.in-Ok-Some.ensures.value ∙ ap (option_map said) (c.in-Ok-Some.field-0-is ∙ ap (λ (command : Told). Some command) c.in-Retired.is) in
-    c.answer_retired.ensures.answer (texts c.args.words.now) (said_program c.in-Retired.program, means)
+    c.answer_retired.ensures.answer (texts c.args.words.now) means
 
 pub returns-in-Retired-clause-memory : goal.returns-in-Retired-clause-memory
 returns-in-Retired-clause-memory g c is =
@@ -36,12 +95,12 @@ returns-in-Retired-clause-memory g c is =
 pub returns-in-Trace-clause-answer : goal.returns-in-Trace-clause-answer
 returns-in-Trace-clause-answer g c =
     let means = sym c.in-Ok-Some.ensures.value ∙ ap (option_map said) (c.in-Ok-Some.field-0-is ∙ ap (λ (command : Told). Some command) c.in-Trace.is) in
-    c.answer_trace.ensures.answer (texts c.args.words.now) (said_program c.in-Trace.program, means)
+    c.answer_trace.ensures.answer (texts c.args.words.now) means
 
 pub returns-in-Trace-clause-memory : goal.returns-in-Trace-clause-memory
 returns-in-Trace-clause-memory g c is =
     let means = sym c.in-Ok-Some.ensures.value ∙ ap (option_map said) (c.in-Ok-Some.field-0-is ∙ ap (λ (command : Told). Some command) c.in-Trace.is) in
-    inr (trace_kind c.in-Trace.last (texts c.args.words.now) (said_program c.in-Trace.program, means))
+    inr (trace_kind c.in-Trace.last c.in-Trace.every (texts c.args.words.now) (said_program c.in-Trace.program, means))
 
 pub test_number-requires : goal.test_number-requires
 test_number-requires g c =
@@ -83,6 +142,14 @@ returns-in-Packets-clause-few g c file =
 pub returns-in-Packets-clause-image_few : goal.returns-in-Packets-clause-image_few
 returns-in-Packets-clause-image_few g c = none_taken (g.I.Source.state c.args.image.now) _
 
+pub returns-in-Times-clause-few : goal.returns-in-Times-clause-few
+returns-in-Times-clause-few g c file =
+    let means = sym c.in-Ok-Some.ensures.value ∙ ap (option_map said) (c.in-Ok-Some.field-0-is ∙ ap (λ (command : Told). Some command) c.in-Times.is) in
+    absurd (times_of_no_run_file _ (texts c.args.words.now) means file)
+
+pub returns-in-Times-clause-image_few : goal.returns-in-Times-clause-image_few
+returns-in-Times-clause-image_few g c = none_taken (g.I.Source.state c.args.image.now) _
+
 pub returns-in-Selftest-clause-few : goal.returns-in-Selftest-clause-few
 returns-in-Selftest-clause-few g c file = none_taken (g.J.Source.state c.args.input.now) _
 
@@ -108,7 +175,8 @@ returns-in-Path-clause-order g c =
     let means = sym c.in-Ok-Some.ensures.value ∙ ap (option_map said) (c.in-Ok-Some.field-0-is ∙ ap (λ (command : Told). Some command) c.in-Path.is) in
     let image = g.I.Source.state in let input = g.J.Source.state in let words = texts c.args.words.now in
     let asked = call words (image c.args.image.now) (image c.answer_path.new.image) (input c.args.input.now) (input c.answer_path.new.input) in
-    read_first asked (said_program c.in-Path.program) _ (path_program (said_intake c.in-Path.intake) words (said_program c.in-Path.program, means)) c.answer_path.ensures.order
+    read_first asked (said_program c.in-Path.program) _ (path_program (said_intake c.in-Path.intake) words (said_program c.in-Path.program, means))
+    c.answer_path.ensures.order
 
 pub returns-in-Retired-clause-order : goal.returns-in-Retired-clause-order
 returns-in-Retired-clause-order g c =
@@ -122,4 +190,5 @@ returns-in-Trace-clause-order g c =
     let means = sym c.in-Ok-Some.ensures.value ∙ ap (option_map said) (c.in-Ok-Some.field-0-is ∙ ap (λ (command : Told). Some command) c.in-Trace.is) in
     let image = g.I.Source.state in let input = g.J.Source.state in let words = texts c.args.words.now in
     let asked = call words (image c.args.image.now) (image c.answer_trace.new.image) (input c.args.input.now) (input c.answer_trace.new.input) in
-    read_first asked (said_program c.in-Trace.program) _ (trace_program c.in-Trace.last words (said_program c.in-Trace.program, means)) c.answer_trace.ensures.order
+    read_first asked (said_program c.in-Trace.program) _ (trace_program c.in-Trace.last c.in-Trace.every words (said_program c.in-Trace.program, means))
+    c.answer_trace.ensures.order

@@ -3,7 +3,7 @@ use Rattle.std.proofs.lemmas.List.{take_all}
 use Rattle.std.proofs.lemmas.Result.{err_from_is_err_and}
 use Rattle.path_text.proofs.Wrote.{Wrote, fails_after, wrote_by, wrote_more, writes_all}
 use Rattle.traced_runs.proofs.LastFrames.{frame_between, frame_next, one_written}
-use Rattle.traced_runs.proofs.traced.write_frames.Goals as goal
+use Rattle.traced_runs.proofs.traced.write_whole.Goals as goal
 
 pub returns-in_err-write_all : goal.returns-in_err-write_all
 returns-in_err-write_all g c =

@@ -1,6 +1,6 @@
 use Rattle.std.proofs.Common.{◌≡◌, ◌-◌, ◌%◌, ◌≤◌, length, take}
 use Rattle.path_text.proofs.Wrote.{Wrote}
-use Rattle.traced_runs.proofs.traced.write_frames.Given as goal
+use Rattle.traced_runs.proofs.traced.write_whole.Given as goal
 
 abbrev pub invariant-loop-at : goal.invariant-loop-at
 invariant-loop-at g l = record {
