@@ -4,27 +4,30 @@
 Usage: hostile_inputs.py PROGRAM [COUNT [WORKERS [MINUTES]]]
        hostile_inputs.py --keep NUMBER FOLDER
 
-Streams, captures in frames, images and run files are taken from the stored cases beside this script and from examples/, and are
+Streams, captures in frames, images, ELF files and run files are taken from the stored cases beside this script and from examples/, and are
 changed: bits are flipped, parts cut, repeated, moved, joined with those of another or written over, and lines and words of texts
-likewise. Others are packets in a row that mostly fit their image, captures that a formatter may write of such streams, and run files
-that go on by some events and weaves more. Some captures are read as a ring, from any frame on, and of some traces the last frames alone
-are written. Each input comes of its number and a fixed seed, so it is the same whatever is run before it;
---keep writes the one of a number, with its words and its image, into a folder.
+likewise, and fields and headers of ELF files. Others are packets in a row that mostly fit their image, captures that a formatter may write
+of such streams, and run files that go on by some events and weaves more. Some captures are read as a ring, from any frame on, and some as a
+trace port sends them, with synchronisation packets among the frames; of some traces the last frames alone are written, and some are written
+as for a port. Each input comes of its number and a fixed seed, so it is the same whatever is run before it; --keep writes the one of a
+number, with its words and its image, into a folder.
 
-COUNT inputs are run, 20,000 where it is left out, by WORKERS processes, 4 where it is left out, for so many MINUTES at most. Of each it
-is checked that the program
+COUNT inputs are run, 40,000 where it is left out, of which every second one has an ELF file, by WORKERS processes, 4 where it is left out,
+for so many MINUTES at most. Of each it is checked that the program
 
 - ends by itself, within ten seconds;
-- ends with a status that such an input may have: 0, 2 or 4 with `path`, 0 or 4 with `packets`, 0, 2 or 3 with `trace` and `retired`;
+- ends with a status that such an input may have: 0, 2 or 4 with `path`, 0 or 4 with `packets` and `times`, 0, 2 or 3 with `trace` and
+  `retired`, and with `--elf` 9 in place of 2;
 - writes nothing to standard error;
 - takes no more than 64 MiB of memory, or than this script did, since the system tells no less; and no more than 256 MiB of addresses;
 - prints lines of docs/FORMATS.md alone, in their order: those of streams, then one for the end of each stream, by their IDs, then one
-  for a frame that is cut; or the one line of a bad image or run file; or whole frames, no more than were asked for. What is printed fits
-  the status.
+  for a frame that is cut; or the one line of a bad image, ELF file or run file; or whole frames, no more than were asked for, with
+  synchronisation packets where they were asked for and nowhere else. What is printed fits the status; of `times` the numbers of a stream
+  begin with 0 and grow, and each has another time than the one before.
 
 Before them captures are run that hold as much as may be held: of all 111 IDs, each at the greatest depth by a list of settings, and as many
-atoms of each as its queue has room for, or one more. They are read in 104 MiB of memory and 112 MiB of addresses; in 96 MiB of addresses
-memory is refused, and nothing is printed.
+atoms of each as its queue has room for, or one more. `path` reads them in 104 MiB of memory and 112 MiB of addresses; in 96 MiB of addresses
+memory is refused, and nothing is printed. So does `times`, which has a timestamp beside each atom, in 132 MiB and 140 MiB, and in 124 MiB not.
 
 Prints how many were run, how often each status came, and the most memory and time, and the most memory of the queues that are full.
 Where one is answered otherwise it ends with 1 and standard error says which and how, and so it does where a status that may come never did.
@@ -42,26 +45,29 @@ import tempfile
 import time
 
 import capture_cases
+import elf_cases
 import path_cases
 import speculation_cases
+import sync_cases
 from packet_cases import SPELLINGS, SYNC
 from run_stored_cases import cases_of
 
 HERE = pathlib.Path(__file__).resolve().parent
 EXAMPLES = HERE.parent / "examples"
 SEED = "hostile inputs"
-COUNT, WORKERS = 20_000, 4
+COUNT, WORKERS = 40_000, 4
 AT_ONCE = 250  # inputs that a worker takes at once
 SECONDS = 10
 MOST_MEMORY, MOST_ADDRESSES, MOST_OUTPUT = 64 << 10, 256 << 20, 256 << 20  # KiB, and bytes
-MOST_INPUT, MOST_BESIDE_AN_IMAGE, MOST_IMAGE = 8192, 1024, 4096
-MOST_FRAMES = 65536  # that --wrap and --last tell
-DEEPEST, MOST_FULL_MEMORY, FULL_ADDRESSES, FEW_ADDRESSES = 16384, 104 << 10, 112 << 10, 96 << 10  # KiB
+MOST_INPUT, MOST_BESIDE_AN_IMAGE, MOST_IMAGE, MOST_PROGRAM = 8192, 1024, 4096, 1 << 16
+MOST_FRAMES, MOST_EVERY = 65536, 65535  # that --wrap and --last tell, and --sync
+DEEPEST = 16384
 LIMITED = ["/bin/sh", "-c", 'ulimit -v "$0" && exec "$@"']  # a program with so many KiB of addresses
 FRAME = 16
 ENVIRONMENT = dict(os.environ)
 
-DUE = {"path": (0, 2, 4), "packets": (0, 4), "trace": (0, 2, 3), "retired": (0, 2, 3)}
+DUE = {"path": (0, 2, 4), "packets": (0, 4), "times": (0, 4), "trace": (0, 2, 3), "retired": (0, 2, 3),
+       "path --elf": (0, 4, 9), "trace --elf": (0, 3, 9), "retired --elf": (0, 3, 9)}
 
 Stored = collections.namedtuple("Stored", "words image given")
 Case = collections.namedtuple("Case", "words image given")
@@ -73,7 +79,7 @@ Ended = collections.namedtuple("Ended", "status out err memory seconds")
 def stored_blocks(name):
     """The cases of a file that tests/run_stored_cases.py runs."""
     for case in cases_of((HERE / name).read_text()):
-        yield Stored(case.words, case.image.encode(), case.given)
+        yield Stored(case.words, case.image, case.given)
 
 
 def stored_traces():
@@ -101,22 +107,24 @@ def stored_examples():
         yield Stored([*words, "IMAGE"], (folder / "image.txt").read_bytes(), (folder / "capture.bin").read_bytes())
     for name in ("run.txt", "interrupt.txt", "two_cores.txt", "two_units.txt"):
         yield Stored(["retired", "IMAGE"], (EXAMPLES / "run" / "image.txt").read_bytes(), (EXAMPLES / "run" / name).read_bytes())
+    yield Stored(["path", "--elf", "--raw", "--depth", "0", "IMAGE"], (EXAMPLES / "elf" / "program").read_bytes(), SYNC)
 
 
 class Corpus:
-    """What is stored: streams, captures and run files, each with the words and the image that belong to it."""
+    """What is stored: streams, captures, run files and ELF files, each with the words and what else belongs to it."""
 
     def __init__(self):
         names = ["cases_of_packets/cases.txt", "cases_of_paths/cases.txt", "cases_of_speculation/cases.txt", "cases_of_captures/cases.txt",
                  "cases_of_opencsd/raw.txt", "cases_of_opencsd/framed.txt", "cases_of_opencsd/raw_at_targets.txt",
                  "cases_of_opencsd/framed_at_targets.txt", "cases_of_opencsd/framed_listed.txt", "cases_of_runs/cases.txt",
-                 "cases_of_runs/worked.txt"]
+                 "cases_of_runs/worked.txt", "cases_of_syncs/cases.txt", "cases_of_elf/cases.txt", "cases_of_times/cases.txt"]
         every = [*stored_folders(), *stored_examples(), *stored_traces()]
         every += [case for name in names for case in stored_blocks(name)]
-        every = [case for case in every if 0 < len(case.given) <= MOST_INPUT]
+        self.programs = [case for case in every if "--elf" in case.words and 0 < len(case.image) <= MOST_PROGRAM]
+        every = [case for case in every if 0 < len(case.given) <= MOST_INPUT and "--elf" not in case.words]
         self.runs = [case for case in every if case.words[0] in ("trace", "retired")]
         self.streams = [case for case in every if "--raw" in case.words]
-        self.captures = [case for case in every if case.words[0] in ("path", "packets") and "--raw" not in case.words]
+        self.captures = [case for case in every if case.words[0] in ("path", "packets", "times") and "--raw" not in case.words]
         self.imaged = [case for case in every if 0 < len(case.image) <= MOST_IMAGE and len(case.given) <= MOST_BESIDE_AN_IMAGE]
 
 
@@ -278,6 +286,73 @@ def changed_text(rng, text, other):
     return b"\n".join(lines)
 
 
+# ---- ELF files that are changed ----------------------------------------------------
+
+# places and sizes in bytes of the fields of a file's header and of the header of a segment
+FILE_FIELDS = [(0, 4), (4, 1), (5, 1), (16, 2), (18, 2), (24, 8), (32, 8), (40, 8), (52, 2), (54, 2), (56, 2), (56, 2)]
+SEGMENT_FIELDS = [(0, 4), (4, 4), (8, 8), (8, 8), (16, 8), (16, 8), (24, 8), (32, 8), (32, 8), (40, 8), (48, 8)]
+FEW_HEADERS, MANY_HEADERS = 8, 600
+
+
+def number_at(file, at, size):
+    return int.from_bytes(file[at:at + size], "little")
+
+
+def put_number(file, at, size, number):
+    """The file with a number at a place, where it has that place."""
+    if at + size > len(file):
+        return file
+    return file[:at] + (number % (1 << 8 * size)).to_bytes(size, "little") + file[at + size:]
+
+
+def headers_of(file):
+    """The places of the headers of segments, of few of them."""
+    table, count = number_at(file, 32, 8), number_at(file, 56, 2)
+    return [table + elf_cases.HEADER.size * number for number in range(min(count, FEW_HEADERS))]
+
+
+def any_number(rng, file):
+    near = rng.choice([0, 4, 16, 56, 64, len(file), 0x1000, 1 << 16, 1 << 24, 1 << 28, 1 << 32, 1 << 63, 1 << 64])
+    return near + rng.choice([0, 0, -1, 1, -4, 4, -8, 2, -56, rng.randrange(-64, 64)])
+
+
+def field_changed(rng, file, other):
+    """A field with another number, one near the one that it has, or one of another field."""
+    headers = headers_of(file)
+    here, (at, size) = (0, rng.choice(FILE_FIELDS)) if not headers or rng.random() < 0.25 else (rng.choice(headers), rng.choice(SEGMENT_FIELDS))
+    there, (from_at, _) = (rng.choice(headers), rng.choice(SEGMENT_FIELDS)) if headers else (0, (32, 8))
+    found = number_at(file, here + at, size)
+    return put_number(file, here + at, size, rng.choice([any_number(rng, file), any_number(rng, file), found + rng.choice([1, -1, 2, 4, -4, 16]),
+                                                         found ^ 1 << rng.randrange(8 * size), number_at(file, there + from_at, size)]))
+
+
+def header_moved(rng, file, other):
+    """A header in the place of another, or the two the other way round."""
+    headers = headers_of(file)
+    if not headers or headers[-1] + elf_cases.HEADER.size > len(file):
+        return field_changed(rng, file, other)
+    (one, two), size = rng.choices(headers, k=2), elf_cases.HEADER.size
+    first, second = file[one:one + size], file[two:two + size]
+    changed_file = file[:two] + first + file[two + size:]
+    return changed_file[:one] + second + changed_file[one + size:] if rng.random() < 0.5 else changed_file
+
+
+def headers_added(rng, file, other):
+    """More headers like those that are there, mostly at other addresses, in a table behind the file."""
+    size, headers = elf_cases.HEADER.size, headers_of(file)
+    table = [file[at:at + size] for at in headers if at + size <= len(file)]
+    if not table:
+        return field_changed(rng, file, other)
+    step = rng.choice([0, 4, 16, 0x1000, 1 << 20])
+    more = [put_number(rng.choice(table), 16, 8, number_at(table[0], 16, 8) + step * number) for number in range(1, rng.choice([2, 5, 80, MANY_HEADERS]))]
+    file = put_number(put_number(file, 32, 8, len(file)), 56, 2, len(table) + len(more))
+    return file + b"".join(table + more)
+
+
+PROGRAM_CHANGES = [field_changed] * 10 + [header_moved] * 2 + [headers_added, bits_flipped, bytes_put, part_dropped, cut, part_repeated,
+                                                               part_moved, joined, part_of_another, written_over]
+
+
 # ---- run files that go on ----
 
 PLAIN_EVENTS = (b"step", b"taken", b"not", b"to", b"eret", b"exc", b"flip", b"retire", b"cancel", b"context", b"sync", b"on")
@@ -370,7 +445,7 @@ def options_of(rng, words, layout=()):
 
 def oldest_told(rng, options):
     """The options, and at times the place of the oldest frame, if none is told."""
-    if rng.random() < 0.8 or any(word.startswith("--wrap") for word in options):
+    if rng.random() < 0.8 or any(word.startswith(("--wrap", "--sync")) for word in options):
         return options
     return [*options, "--wrap", str(rng.choice([0, 1, 2, 3, 5, 8, rng.randrange(64), MOST_FRAMES]))]
 
@@ -381,8 +456,11 @@ def without_depth(options):
 
 
 def words_of(rng, layout, options):
-    if rng.random() < 0.3:
+    kind = rng.random()
+    if kind < 0.3:
         return ["packets", *layout, *without_depth(options)]
+    if kind < 0.5 and not any(word.startswith(("--wrap", "--sync")) for word in [*layout, *options]):
+        return ["times", *layout, *options]
     return ["path", *layout, *options, "IMAGE"]
 
 
@@ -397,6 +475,22 @@ def of_captures(rng, corpus):
     image = chosen.image or rng.choice(corpus.imaged).image
     options = oldest_told(rng, options_of(rng, chosen.words))
     return Case(words_of(rng, [], options), image, changed(rng, chosen.given, other.given))
+
+
+def of_ports(rng, corpus):
+    """A capture as a port sends it, or one that was sent and stored."""
+    chosen, other = rng.choice(corpus.captures), rng.choice(corpus.captures)
+    image, options = chosen.image or rng.choice(corpus.imaged).image, options_of(rng, chosen.words)
+    options = [word for place, word in enumerate(options)
+               if word != "--sync" and not word.startswith("--wrap") and (place == 0 or options[place - 1] != "--wrap")]
+    given = chosen.given
+    if "--sync" not in chosen.words:
+        given = sync_cases.junk(rng, given) + sync_cases.FULL + sync_cases.sprinkled(rng, given)
+    if rng.random() < 0.3:
+        given = sync_cases.misplaced(rng, given)
+    elif rng.random() < 0.7:
+        given = changed(rng, given, other.given)
+    return Case(words_of(rng, ["--sync"], options), image, given)
 
 
 def of_sequences(rng, corpus):
@@ -414,7 +508,7 @@ def of_sequences(rng, corpus):
 def of_images(rng, corpus):
     chosen, other = rng.choice(corpus.imaged), rng.choice(corpus.imaged)
     words = [word for word in chosen.words if word != "IMAGE"]
-    if words[0] == "packets":
+    if words[0] in ("packets", "times"):
         words = ["path", *words[1:]]
     elif words[0] in ("trace", "retired"):
         words = [rng.choice(["trace", "retired"])]
@@ -425,17 +519,24 @@ def of_run_files(rng, corpus):
     chosen, other = rng.choice(corpus.runs), rng.choice(corpus.runs)
     given = going_on(rng, chosen.given) if rng.random() < 0.5 else changed_text(rng, chosen.given, other.given)
     last = ["--last", str(rng.choice([1, 2, 3, rng.randrange(1, 64), MOST_FRAMES]))]
-    words = rng.choice([["retired"], ["retired"], ["trace"], ["trace", *last]])
+    sync = ["--sync", str(rng.choice([1, 1, 2, 3, rng.randrange(1, 64), MOST_EVERY]))]
+    words = rng.choice([["retired"], ["retired"], ["trace"], ["trace", *last], ["trace", *sync], ["trace", *sync, *last]])
     return Case([*words, "IMAGE"], chosen.image, given)
 
 
-KINDS = {"streams": of_streams, "captures": of_captures, "sequences": of_sequences, "images": of_images, "run files": of_run_files}
+def of_programs(rng, corpus):
+    chosen, other = rng.choice(corpus.programs), rng.choice(corpus.programs)
+    return Case(chosen.words, changed(rng, chosen.image, other.image, PROGRAM_CHANGES)[:MOST_PROGRAM], chosen.given)
+
+
+KINDS = {"streams": of_streams, "captures": of_captures, "ports": of_ports, "sequences": of_sequences, "images": of_images,
+         "run files": of_run_files}
 
 
 def case_of(number, corpus):
     """The input of a number."""
     rng = random.Random(f"{SEED} {number}")
-    case = list(KINDS.values())[number % len(KINDS)](rng, corpus)
+    case = of_programs(rng, corpus) if number % 2 else list(KINDS.values())[number // 2 % len(KINDS)](rng, corpus)
     return case._replace(given=case.given[:MOST_INPUT])
 
 
@@ -490,6 +591,7 @@ CONTEXT = b"ctx el[0-3] n?s %b %b" % (SHORT, SHORT)
 TOLD_CONTEXT = b"ctx el[0-3] n?s (?:-|%b) (?:-|%b)" % (SHORT, SHORT)
 EXCEPTION = (b"exc (?:reset|debug-halt|call|trap|system-error|inst-debug|data-debug|alignment|inst-fault|data-fault|irq|fiq"
              b"|[589]|13|1[6-9]|2[0-9]|3[01]) %b" % HEX)
+TIME = b"(?:event (?:[1-9]|1[0-5])|p0 %b) (?:-|%b)" % (DECIMAL, DECIMAL)
 ITEM = b"(?:on|gap|stop|\\?|%b|%b|%b)" % (HEX, CONTEXT, EXCEPTION)
 FEW = b"(?:-|E|EE|N)"
 FORM = b"(?:match [0-2]|(?:short1|short2|long32|long64) %b)" % HEX
@@ -500,9 +602,9 @@ PACKET = b"%b (?:%b)" % (DECIMAL, b"|".join([
 PACKET_REASON = b"|".join([
     b"(?:reserved|extension|info-control|exception-two-byte|exception-form|aarch32-context) " + BYTE, b"broken-sync", b"number-too-long",
     b"refused (?:cycle-count|time-cycle|data-sync|conditional|q|m-profile|aarch32-address) " + BYTE, b"info-mode [1-9][0-9]*"])
-PATH_REASON = b"|".join([
-    PACKET_REASON, b"address-awaited", b"(?:commit-overrun|cancel-overrun|spec-too-deep) %b %b" % (DECIMAL, DECIMAL), b"no-atom %b" % DECIMAL,
-    b"(?:no-code|odd|bad-atom) %b" % HEX, b"(?:address-mismatch|return-missed) %b %b" % (HEX, HEX)])
+TIMES_REASON = b"|".join([
+    PACKET_REASON, b"address-awaited", b"(?:commit-overrun|cancel-overrun|spec-too-deep) %b %b" % (DECIMAL, DECIMAL), b"no-atom %b" % DECIMAL])
+PATH_REASON = b"|".join([TIMES_REASON, b"(?:no-code|odd|bad-atom) %b" % HEX, b"(?:address-mismatch|return-missed) %b %b" % (HEX, HEX)])
 RUN_REASON = b"|".join([
     b"header|syntax|id-range|duplicate-id|range|too-long|not-on|already-on|no-branch|context-place|window-full",
     b"(?:wrong-kind|no-code|odd|unaligned) %b" % HEX, b"(?:too-deep|retire-too-many|cancel-too-many) %b %b" % (DECIMAL, DECIMAL)])
@@ -514,14 +616,27 @@ def streams_text(line, reason):
     return re.compile(b"(?P<body>(?:%b %b\n)*)(?P<ends>(?:%b %b\n)*)(?:frame cut (?P<cut>[0-9]+)\n)?" % (ID, line, ID, end))
 
 
-PRINTED = {"path": streams_text(ITEM, PATH_REASON), "packets": streams_text(PACKET, PACKET_REASON)}
+PRINTED = {"path": streams_text(ITEM, PATH_REASON), "packets": streams_text(PACKET, PACKET_REASON), "times": streams_text(TIME, TIMES_REASON)}
 RETIRED = re.compile(b"(?:%b (?:on|gap|stop|%b|%b|%b)\n)*" % (ID, HEX, CONTEXT, EXCEPTION))
 REFUSED = {2: re.compile(b"image line %b: (?:syntax|unaligned|overlap|wraps|too-large|too-long)\n" % DECIMAL),
-           3: re.compile(b"bench line %b: (?:%b)\n" % (DECIMAL, RUN_REASON))}
+           3: re.compile(b"bench line %b: (?:%b)\n" % (DECIMAL, RUN_REASON)),
+           9: re.compile(b"elf: (?:too-long|header|table|(?:segment|unaligned|wraps|overlap) %b|too-large)\n" % DECIMAL)}
 
 
 def ids_of(lines):
     return [line[:2] for line in lines.splitlines()]
+
+
+def kind_of(case):
+    """The command, and whether it has an ELF file: what is due goes by both."""
+    return case.words[0] + " --elf" * ("--elf" in case.words)
+
+
+def left_over(case):
+    """How many bytes of a frame the input ends with."""
+    if "--raw" in case.words:
+        return 0
+    return len(sync_cases.unsynced(case.given) if "--sync" in case.words else case.given) % FRAME
 
 
 def wrong_streams(case, ended):
@@ -535,18 +650,44 @@ def wrong_streams(case, ended):
     is_raw = "--raw" in case.words
     if is_raw and ends != ([b"01"] if case.given else []):
         return "one stream that is not framed does not end as one"
-    if int(found["cut"] or 0) != (0 if is_raw else len(case.given) % FRAME):
+    if int(found["cut"] or 0) != left_over(case):
         return "the line of a frame that is cut"
+    if case.words[0] == "times" and has_wrong_numbers(found["body"]):
+        return "numbers of P0 elements, or their times"
     is_faulty = found["cut"] is not None or b" fault " in found["ends"]
     return None if is_faulty == (ended.status == 4) else "lines that do not fit the status"
 
 
+def has_wrong_numbers(body):
+    """Whether the numbers of a stream do not grow from 0 on, or one has the time of the one before."""
+    last = {}
+    for source, kind, number, stamp in (line.split() for line in body.splitlines()):
+        if kind == b"p0":
+            number_before, stamp_before = last.get(source, (-1, None))
+            if int(number) <= number_before or number_before < 0 < int(number) or stamp == stamp_before:
+                return True
+            last[source] = int(number), stamp
+    return False
+
+
+def value_of(words, option):
+    """The number that the words tell of an option, or None."""
+    for word, after in zip(words, [*words[1:], ""]):
+        name, _, value = word.partition("=")
+        if name == option:
+            return int(value or after)
+    return None
+
+
 def wrong_frames(case, ended):
     """What is wrong with the frames of a trace."""
-    if len(ended.out) % FRAME:
-        return "no whole frames"
-    is_last = case.words[1] == "--last"
-    return "more frames than the last that are asked for" if is_last and len(ended.out) > FRAME * int(case.words[2]) else None
+    every, last = value_of(case.words, "--sync"), value_of(case.words, "--last")
+    frames = sync_cases.unsynced(ended.out) if every else ended.out
+    if len(frames) % FRAME or (every and sync_cases.synced(frames, every) != ended.out):
+        return "no whole frames, or other packets among them"
+    if not sync_cases.without_packets(frames):
+        return "a byte of a frame that begins a packet"
+    return "more frames than the last that are asked for" if last and len(frames) > FRAME * last else None
 
 
 def wrong_output(case, ended):
@@ -566,7 +707,7 @@ def complaint(case, ended):
         return f"it does not end within {SECONDS} seconds"
     if ended.status < 0:
         return f"signal {-ended.status}"
-    if ended.status not in DUE[case.words[0]]:
+    if ended.status not in DUE[kind_of(case)]:
         return f"status {ended.status}"
     if ended.err:
         return f"standard error has {ended.err[:80]!r}"
@@ -582,6 +723,10 @@ LOOP = b"@1000\n1f2003d5 40000054 1f2003d5 fdffff17\n"  # NOP, B.EQ to 100c, NOP
 LOOPED = ["on", "ctx el0 s 0 0", "1000", "1004"]  # what the oldest atom shows
 IDS = range(1, 0x70)
 
+# what a command takes, in KiB: its memory, the addresses in which it ends well, and those in which it does not
+Takes = collections.namedtuple("Takes", "memory addresses few")
+FULL = {"path": Takes(104 << 10, 112 << 10, 96 << 10), "times": Takes(132 << 10, 140 << 10, 124 << 10)}
+
 
 def full_stream(more):
     """A stream with as many atoms as a queue holds at the greatest depth, and some more, each of which commits the oldest."""
@@ -589,27 +734,28 @@ def full_stream(more):
     return head + b"\xd4" * (DEEPEST // 24) + b"\xcc" + b"\xf7" * more
 
 
-def full_case(more):
+def full_case(command, more):
     """A capture of such a stream for each ID, and what must be printed."""
     settings = ",".join(f"{source:02x}:{DEEPEST}:0:0" for source in IDS)
     given = [(source, byte) for source in IDS for byte in full_stream(more)]
-    shown = [f"{source:02x} {item}" for source in IDS for item in LOOPED * more] + [f"{source:02x} end" for source in IDS]
+    items = (LOOPED if command == "path" else ["p0 0 -"]) * more
+    shown = [f"{source:02x} {item}" for source in IDS for item in items] + [f"{source:02x} end" for source in IDS]
     frames = capture_cases.framed_freely(random.Random(SEED), given)
-    return Case(["path", "--settings", settings, "IMAGE"], LOOP, frames), "".join(line + "\n" for line in shown).encode()
+    return Case([command, "--settings", settings, *["IMAGE"] * (command == "path")], LOOP, frames), "".join(line + "\n" for line in shown).encode()
 
 
-def full_queues(room):
-    """The most memory in KiB, and what is wrong, or None."""
-    most = 0
+def full_queues(room, command):
+    """The most memory in KiB that a command takes, and what is wrong, or None."""
+    most, takes = 0, FULL[command]
     for more in (0, 1):
-        case, wanted = full_case(more)
-        for addresses, status, printed in ((FULL_ADDRESSES, 0, wanted), (FEW_ADDRESSES, 7, b"")):
+        case, wanted = full_case(command, more)
+        for addresses, status, printed in ((takes.addresses, 0, wanted), (takes.few, 7, b"")):
             ended = room.run(case, [*LIMITED, str(addresses)])
             most = max(most, ended.memory)
             if (ended.status, ended.out, ended.err) != (status, printed, b""):
-                return most, f"in {addresses >> 10} MiB of addresses: status {ended.status}, not {status}, or {ended.out[-80:]!r}"
-    most_due = max(MOST_FULL_MEMORY, resource.getrusage(resource.RUSAGE_SELF).ru_maxrss)
-    return most, f"{most >> 10} MiB of memory" if most > most_due else None
+                return most, f"{command} in {addresses >> 10} MiB of addresses: status {ended.status}, not {status}, or {ended.out[-80:]!r}"
+    most_due = max(takes.memory, resource.getrusage(resource.RUSAGE_SELF).ru_maxrss)
+    return most, f"{command} in {most >> 10} MiB of memory" if most > most_due else None
 
 
 # ---- many of them ----------------------------------------------------------------------
@@ -635,7 +781,7 @@ class Worker:
             wrong = complaint(case, ended)
             if wrong:
                 return Tally(ran, statuses, memory, seconds, [f"input {number}, {' '.join(case.words)}: {wrong}"])
-            statuses[case.words[0], ended.status] += 1
+            statuses[kind_of(case), ended.status] += 1
             memory, seconds, ran = max(memory, ended.memory), max(seconds, ended.seconds), ran + 1
         return Tally(ran, statuses, memory, seconds, [])
 
@@ -656,18 +802,19 @@ def work(numbers):
     return worker.run(numbers)
 
 
-def work_full():
-    return full_queues(worker.room)
+def work_full(command):
+    return full_queues(worker.room, command)
 
 
 def run_all(program, count, workers, deadline):
-    """The sum of all tallies, up to the first that complains, and the most memory of queues that are full, in KiB."""
-    chunks = [range(first, min(first + AT_ONCE, count)) for first in range(0, count, AT_ONCE)]
+    """The sum of all tallies, up to the first that complains, and by each command the most memory of queues that are full, in KiB."""
+    chunks, full = [range(first, min(first + AT_ONCE, count)) for first in range(0, count, AT_ONCE)], {}
     total = Tally(0, collections.Counter(), 0, 0.0, [])
     with multiprocessing.get_context("fork").Pool(workers, begin, (program, deadline, Corpus())) as pool:
-        full, wrong = pool.apply(work_full)
-        if wrong:
-            return total._replace(complaints=[f"queues that are full: {wrong}"]), full
+        for command in FULL:
+            full[command], wrong = pool.apply(work_full, [command])
+            if wrong:
+                return total._replace(complaints=[f"queues that are full: {wrong}"]), full
         for tally in pool.imap_unordered(work, chunks):
             total = Tally(total.ran + tally.ran, total.statuses + tally.statuses, max(total.memory, tally.memory),
                           max(total.seconds, tally.seconds), tally.complaints)
@@ -697,7 +844,8 @@ def main(words):
     if total.complaints or missing:
         sys.exit(total.complaints[0] if total.complaints else f"of {total.ran} inputs none was answered by {', '.join(missing)}")
     statuses = ", ".join(f"{command} " + " ".join(f"{total.statuses[command, status]}x{status}" for status in due) for command, due in DUE.items())
-    print(f"{total.ran}: {statuses}; at most {total.memory >> 10} MiB and {total.seconds:.2f} s; full queues in {full >> 10} MiB")
+    queues = ", ".join(f"{command} in {memory >> 10} MiB" for command, memory in full.items())
+    print(f"{total.ran}: {statuses}; at most {total.memory >> 10} MiB and {total.seconds:.2f} s; full queues: {queues}")
 
 
 if __name__ == "__main__":

@@ -7,7 +7,7 @@ import importlib
 import sys
 
 PROFILE = "final"  # units tell an exception at its target; each stream may have settings of its own
-REACH = 17  # the options of the command line go up to `--wrap` and `--last`
+REACH = 20  # the commands go up to `times`
 PARTS = ("base", "frames", "image", "packets", "path", "randoms", "runs", "text", "top", "unit")
 
 
@@ -19,9 +19,14 @@ def loaded(folder):
     return sys.modules["etm_model"]
 
 
+def answered(model, words, image, given):
+    """The status of a command over the bytes of an image and of an input, and the bytes that are printed."""
+    sink = model.top.MemSink()
+    status = model.top.run(words, model.top.MemSource(image), model.top.MemSource(given), sink, PROFILE, REACH)
+    return model.top.STATUS[status], bytes(sink.got)
+
+
 def answer(model, words, image, given):
     """The status and the lines of a command over the lines of an image and an input."""
-    sink = model.top.MemSink()
-    text = "".join(line + "\n" for line in image).encode()
-    status = model.top.run(words, model.top.MemSource(text), model.top.MemSource(given), sink, PROFILE, REACH)
-    return model.top.STATUS[status], bytes(sink.got).decode().splitlines()
+    status, printed = answered(model, words, "".join(line + "\n" for line in image).encode(), given)
+    return status, printed.decode().splitlines()
