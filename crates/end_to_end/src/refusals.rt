@@ -6,7 +6,7 @@ use std::io::{ErrorKind, Write};
 use std::process::Abort;
 use std::test::Fail;
 use trace_cmd::{Status, run};
-use trace_io::{MemSink, MemSource, NoSource, SafeSource, Sink, Source, StdSink, read_all};
+use trace_io::{BufferedSink, MemSink, MemSource, NoSource, SafeSource, Sink, Source, read_all};
 
 /// NOP at 1000; B.EQ to 100c; NOP; B to 1000.
 const IMAGE: &[u8] = b"@1000\n1f2003d5 40000054 1f2003d5 fdffff17\n";
@@ -195,7 +195,7 @@ fn a_flush_that_is_refused_is_told(rt: HostRuntime) -> Result<(), Fail> {
         (&["walk"], FRAMES),
     ] {
         let mut source = SafeSource::new(input.to_vec(alloc)?, 4096);
-        let mut sink = StdSink::new(Unflushed);
+        let mut sink = BufferedSink::new(alloc, Unflushed)?;
         let status = answer(alloc, command, &mut source, &mut sink)?;
         assert_eq!(rt; status, Status::WriteFault);
     }

@@ -2,16 +2,13 @@
 #![tactic(auto)]
 
 use std::fs::File;
-use std::io::{self, BufWriter, ErrorKind};
+use std::io::{self, ErrorKind};
 use std::process::ExitCode;
 use trace_cmd::{Status, image_name, run};
-use trace_io::{NoSource, SafeSource, Source, StdSink, StdSource};
+use trace_io::{BufferedSink, NoSource, SafeSource, Source, StdSource};
 
 /// The exit status where the system refuses the words, as one that is not UTF-8.
 const WORDS_REFUSED: u8 = 10;
-
-/// The size of the buffer before standard output.
-const OUTPUT_BUFFER: usize = 64 << 10;
 
 /// Reads the words, without the name of the program.
 fn words(rt: &HostRuntime) -> Result<Vec<String>, u8> {
@@ -27,10 +24,10 @@ fn words(rt: &HostRuntime) -> Result<Vec<String>, u8> {
 
 /// Calls `run` over standard input and standard output, and gives the status of its answer.
 fn call<I: Source>(rt: &HostRuntime, words: &[String], image: &mut I) -> u8 {
-    match BufWriter::with_capacity(rt.alloc(), OUTPUT_BUFFER, rt.stdout()) {
-        Ok(out) => {
+    match BufferedSink::new(rt.alloc(), rt.stdout()) {
+        Ok(mut out) => {
             let mut input = StdSource::new(rt.stdin());
-            run(rt.alloc(), words, image, &mut input, &mut StdSink::new(out)).code()
+            run(rt.alloc(), words, image, &mut input, &mut out).code()
         }
         Err(_) => Status::NoMemory.code(),
     }

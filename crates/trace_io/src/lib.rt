@@ -8,11 +8,12 @@
 //! - `Source` and `Sink`: what a call gives or takes, and that it fails only where the count rose.
 //! - `write_all`: all the bytes were appended, or a front of them that is shorter.
 //! - `read_all`: all that was left, unless it is more than a limit.
-//! - `StdSource` and `StdSink`: the edge to std's readers and writers, used by the program.
+//! - `StdSource` and `BufferedSink`: the edge to std's readers and writers, used by the program. The sink has a buffer of 64 KiB.
 //! - `MemSource`, `SafeSource`, `NoSource`, `MemSink` and `NullSink`: objects over memory, for
 //!   callers that hold their bytes and for tests.
 #![tactic(auto)]
 
+mod buffered_sink;
 mod faults;
 mod memory_sink;
 mod memory_source;
@@ -22,10 +23,11 @@ mod script;
 mod traits;
 mod whole;
 
+pub use buffered_sink::BufferedSink;
 pub use memory_sink::MemSink;
 pub use memory_source::{MemSource, SafeSource};
 pub use null::{NoSource, NullSink};
-pub use over_std::{StdSink, StdSource};
+pub use over_std::StdSource;
 pub use traits::{Failed, Sink, Source};
 pub use whole::{ReadAllFault, read_all, write_all};
 

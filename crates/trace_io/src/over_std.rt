@@ -1,4 +1,4 @@
-//! The edge to std: a source over any reader, and a sink over any writer.
+//! The edge to std: a source over any reader.
 ghost use Rattle.std.specs.Prelude.{◌≡◌, ◌-◌, ◌^◌, ◌<◌, ◌≤◌, true, false, length, None, IsTrue, IfOk, OnOk, OnErr};
 ghost use Rattle.std.specs.Io.{ReadsAtMost, WritesAtMost};
 ghost use Rattle.std.specs.Io.KnownBytes.{ReadConsumes, WriteAppends, Keeps};
@@ -57,88 +57,6 @@ impl<R: Read> Source for StdSource<R> {
     {
         match self.inner.read(buf) {
             Ok(count) => Ok(count),
-            Err(_) => Err(counted(&mut self.faults)),
-        }
-    }
-}
-
-/// A sink over a writer of std. Every error of the writer, whatever its kind, is a fault, and so is
-/// a write of nothing from a piece that is not empty. No call is tried again. It tells no content,
-/// but the writer's own bytes go as the writer says.
-#[derive(Drop)]
-pub struct StdSink<W: Write> {
-    inner: W,
-    faults: u64,
-    flushed: bool,
-}
-
-impl<W: Write> Model for StdSink<W> {
-    ghost use Rattle.std.specs.Prelude.{◌<◌, ◌^◌};
-    ghost use Rattle.trace_io.specs.OverStd.{OverWriter, writer_code};
-
-    ghost Value = { OverWriter W };
-
-    ghost coded = { writer_code W.code };
-
-    ghost view = { λ s. record { inner = s.inner; faults = s.faults; flushed = s.flushed } };
-
-    ghost invariant = { λ s. s.faults < 2 ^ 64 };
-}
-
-impl<W: Write> StdSink<W> {
-    /// A sink that passes what it takes to `inner`.
-    pub fn new(inner: W) -> Self
-        ensures inner { result.inner ≡ inner }
-        ensures faults { result.faults ≡ 0 }
-        ensures flushed { result.flushed ≡ true }
-    {
-        StdSink {
-            inner,
-            faults: 0,
-            flushed: true,
-        }
-    }
-}
-
-impl<W: Write> Sink for StdSink<W> {
-    ghost state = { λ s. hidden_state s.faults };
-
-    ghost flushed = { λ s. s.flushed };
-
-    fn write(&mut self, bytes: &[u8]) -> Result<usize, Failed>
-        ensures bound { WritesAtMost result bytes.now }
-        ensures progress { 0 < length bytes.now → IfOk result (λ n. 0 < n) }
-        ensures bytes { WriteAppends None None result bytes.now }
-        ensures shows { ShowsAsBefore (hidden_state self.old.faults) (hidden_state self.new.faults) }
-        ensures cause { HasCause (hidden_state self.old.faults) (hidden_state self.new.faults) result }
-        ensures most { self.new.faults ≤ 2 ^ 64 - 1 }
-        ensures counts { Counts (hidden_state self.old.faults) (hidden_state self.new.faults) result }
-        ensures held { self.new.flushed ≡ false }
-        ensures inner { WriteAppends (W.contents self.old.inner) (W.contents self.new.inner)
-            result bytes.now }
-    {
-        self.flushed = false;
-        match self.inner.write(bytes) {
-            Ok(count) if count > 0 || bytes.is_empty() => Ok(count),
-            _ => Err(counted(&mut self.faults)),
-        }
-    }
-
-    fn flush(&mut self) -> Result<(), Failed>
-        ensures done { OnOk result (IsTrue self.new.flushed) }
-        ensures bytes { KeepsBytes (hidden_state self.old.faults) (hidden_state self.new.faults) }
-        ensures shows { ShowsAsBefore (hidden_state self.old.faults) (hidden_state self.new.faults) }
-        ensures cause { HasCause (hidden_state self.old.faults) (hidden_state self.new.faults) result }
-        ensures most { self.new.faults ≤ 2 ^ 64 - 1 }
-        ensures counts { Counts (hidden_state self.old.faults) (hidden_state self.new.faults) result }
-        ensures not_done { OnErr result (self.new.flushed ≡ self.old.flushed) }
-        ensures inner { Keeps (W.contents self.old.inner) (W.contents self.new.inner) }
-    {
-        match self.inner.flush() {
-            Ok(()) => {
-                self.flushed = true;
-                Ok(())
-            }
             Err(_) => Err(counted(&mut self.faults)),
         }
     }

@@ -63,19 +63,26 @@ fn a_reader_of_std_is_a_source(rt: HostRuntime) -> Result<(), Fail> {
 
 #[test]
 fn a_writer_of_std_is_a_sink(rt: HostRuntime) -> Result<(), Fail> {
-    let mut taken = Vec::new(rt.alloc());
-    let mut sink = StdSink::new(&mut taken);
+    let alloc = rt.alloc();
+    let long = vec![in alloc; b'x'; 65_537]?;
+    let mut taken = Vec::new(alloc);
+    let mut sink = BufferedSink::new(alloc, &mut taken)?;
     assert_eq!(rt; write_all(&mut sink, b"hello"), Ok(()));
+    assert_eq!(rt; write_all(&mut sink, &long), Ok(()));
     assert_eq!(rt; sink.flush(), Ok(()));
-    assert_eq!(rt; taken.as_slice(), b"hello".as_slice());
+    drop(sink);
+    assert_eq!(rt; taken.len(), 65_542);
+    assert_eq!(rt; taken.get(..6), Some(b"hellox".as_slice()));
 
-    let mut failing = StdSink::new(Stutter { calls: 0 });
-    for expected in [Ok(1), Err(Failed), Err(Failed), Ok(1)] {
-        assert_eq!(rt; failing.write(b"hello"), expected);
+    let mut failing = BufferedSink::new(alloc, Stutter { calls: 0 })?;
+    assert_eq!(rt; failing.write(b"hello"), Ok(5));
+    for expected in [Err(Failed), Ok(())] {
+        assert_eq!(rt; failing.flush(), expected);
     }
-    let mut unflushed = StdSink::new(Stutter { calls: 1 });
-    assert_eq!(rt; unflushed.flush(), Err(Failed));
-    assert_eq!(rt; unflushed.flush(), Ok(()));
+    let mut unflushed = BufferedSink::new(alloc, Stutter { calls: 1 })?;
+    for expected in [Err(Failed), Ok(())] {
+        assert_eq!(rt; unflushed.flush(), expected);
+    }
     Ok(())
 }
 
