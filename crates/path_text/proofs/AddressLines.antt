@@ -1,12 +1,12 @@
 -- The line of an instruction, when it moves to another address.
-use Rattle.std.proofs.Common.{◌≡◌, ℕ, ◌+◌, ◌-◌, ◌/◌, ◌<◌, ◌≤◌, List, [], ◌∷◌, ◌++◌, length, take, drop, set, refl, sym, ap, ◌∙◌, arith, append_assoc}
+use Rattle.std.proofs.Common.{◌≡◌, ℕ, ◌+◌, ◌-◌, ◌/◌, ◌<◌, ◌≤◌, List, [], ◌∷◌, ◌++◌, length, take, drop, set, refl, sym, ap, ◌∙◌, arith, append_assoc, take_all}
 use Rattle.std.specs.Prelude.{map}
 use Rattle.std.specs.Int.Digits.{digits_of}
 use Rattle.std.proofs.lemmas.List.{length-append, length-take-le, length-drop, take-append-drop, take-take, take_at, take_more_set}
 use Rattle.std.proofs.Math.Seq.{drop-append_seam}
 use Rattle.path_text.specs.Lines.{digit, hex, last_four_hex, line_start, address_line}
 use Rattle.path_text.proofs.DigitLemmas.{before_last}
-use Rattle.path_text.proofs.HexLemmas.{hex_four}
+use Rattle.path_text.proofs.HexLemmas.{hex_four, at_least_four_hex}
 
 -- the bytes of the line: its start, and then the digits, where they end at `end`
 pub front_there : (id address n : ℕ) (bytes : List ℕ) → 3 ≤ n → take n bytes ≡ address_line id address → take 3 bytes ≡ line_start id
@@ -86,3 +86,40 @@ line_made id new end bytes front place within =
     ∙ take_more_set (made ++ rest) end 10 (omega (arith, len, within, length-append made rest, length-drop end bytes))
     ∙ ap (λ t. t ++ (10 ∷ [])) (take_at made rest end len ∙ ap (λ t. t ++ hex new) front)
     ∙ append_assoc (line_start id) (hex new) (10 ∷ [])
+
+-- ---- bytes that are the line and no more
+
+pub whole_length : (id address : ℕ) (bytes : List ℕ) → bytes ≡ address_line id address → length bytes ≡ length (hex address) + 4
+whole_length id address bytes is =
+    omega (arith, ap length is, length-append (line_start id) (hex address ++ (10 ∷ [])), length-append (hex address) (10 ∷ []))
+
+pub whole_changed : (id old new end : ℕ) (bytes : List ℕ) → 4096 ≤ old → 4096 ≤ new → old / 65536 ≡ new / 65536 → length bytes ≡ end + 1
+    → bytes ≡ address_line id old → take (end - 4) bytes ++ (last_four_hex new ++ drop end bytes) ≡ address_line id new
+whole_changed id old new end bytes some_old some_new same len is =
+    let four = at_least_four_hex old some_old in let many = whole_length id old bytes is in
+    let made = take (end - 4) bytes ++ (last_four_hex new ++ drop end bytes) in
+    let short : length made ≤ end + 1 = omega (
+      arith,
+      len,
+      four,
+      many,
+      length-append (take (end - 4) bytes) (last_four_hex new ++ drop end bytes),
+      length-append (last_four_hex new) (drop end bytes),
+      length-take-le (end - 4) bytes (omega (arith, len)),
+      length-drop end bytes,
+    ) in
+    sym (take_all (end + 1) made short)
+    ∙ line_changed id old new end bytes some_old some_new same (omega (arith, len, many)) (take_all (end + 1) bytes (omega (arith, len)) ∙ is)
+
+pub same_size : (new end : ℕ) (bytes : List ℕ) → 4 ≤ end → length bytes ≡ end + 1
+    → length (take (end - 4) bytes ++ (last_four_hex new ++ drop end bytes)) ≡ end + 1
+same_size new end bytes four len =
+    omega (
+      arith,
+      len,
+      four,
+      length-append (take (end - 4) bytes) (last_four_hex new ++ drop end bytes),
+      length-append (last_four_hex new) (drop end bytes),
+      length-take-le (end - 4) bytes (omega (arith, len)),
+      length-drop end bytes,
+    )

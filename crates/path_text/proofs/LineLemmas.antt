@@ -43,7 +43,7 @@ context_line-again : (id : ℕ) (ctx : Ctx) → context_line id (Some ctx) ctx �
 context_line-again id ctx = simp (same_context-refl ctx)
 
 -- the lines of instructions whose context was printed
-lines_of-instructions : (id address : ℕ) (ctx : Ctx) (n : ℕ) (took : Bool)
+pub lines_of-instructions : (id address : ℕ) (ctx : Ctx) (n : ℕ) (took : Bool)
     → lines_of id (Some ctx) (instructions ctx address n took) ≡ instruction_lines id address n
 lines_of-instructions id address ctx zero took = refl
 lines_of-instructions id address ctx (suc n) took =
@@ -70,6 +70,10 @@ lines_of-append id shown (x ∷ xs) ys =
 pub shown_after_all-append : (shown : Option Ctx) (xs ys : List Item) → shown_after_all shown (xs ++ ys) ≡ shown_after_all (shown_after_all shown xs) ys
 shown_after_all-append shown [] ys = refl
 shown_after_all-append shown (x ∷ xs) ys = shown_after_all-append (shown_after shown x) xs ys
+
+pub shown_after_all-instructions : (ctx : Ctx) (address n : ℕ) (took : Bool) → shown_after_all (Some ctx) (instructions ctx address n took) ≡ Some ctx
+shown_after_all-instructions ctx address zero took = refl
+shown_after_all-instructions ctx address (suc n) took = shown_after_all-instructions ctx ((address + 4) % 2 ^ 64) n took
 
 pub shown_after_all-run : (shown : Option Ctx) (ctx : Ctx) (address n : ℕ) (took : Bool) → 0 < n
     → shown_after_all shown (instructions ctx address n took) ≡ Some ctx

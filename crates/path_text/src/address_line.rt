@@ -7,7 +7,6 @@ ghost use Rattle.path_text.specs.Lines.{hex};
 ghost use Rattle.path_text.specs.Writing.{Writes};
 
 use crate::digits::{digit, hex_count, put_hex, put_last_four_hex};
-use a64_branches::INSTRUCTION_BYTES;
 use etm_types::Id;
 use std::marker::Model;
 use trace_io::{Failed, Sink, write_all};
@@ -87,17 +86,21 @@ impl AddressLine {
         self.address = address;
     }
 
-    /// Moves to the next instruction, whose address differs in no digit but the last four, and has at least these.
+    /// The address of the instruction.
     #[inline(always)]
-    pub(crate) fn step(&mut self)
-        requires four { 4096 ≤ self.old.address }
-        requires near { self.old.address % 65536 + 4 < 65536 }
-        ensures id { self.new.id ≡ self.old.id }
-        ensures address { self.new.address ≡ self.old.address + 4 }
-        ensures within { self.new.address < 2 ^ 64 }
+    pub(crate) fn address(&self) -> u64
+        ensures { result ≡ self.now.address }
     {
-        self.address += INSTRUCTION_BYTES;
-        put_last_four_hex(self.address, &mut self.bytes, self.len - 1);
+        self.address
+    }
+
+    /// The bytes of the line.
+    #[inline(always)]
+    pub(crate) fn bytes(&self) -> &[u8]
+        ensures line { result.now ≡ address_line self.now.id self.now.address }
+        ensures short { length result.now ≤ 20 }
+    {
+        &self.bytes[..self.len]
     }
 
     /// Writes the line by one call.

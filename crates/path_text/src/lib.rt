@@ -26,4 +26,6 @@ pub use laws::lines_stand_one_by_one;
 pub use line::Line;
 pub use packet_grammar::End;
 pub use packet_line::{PacketLine, write_packet_line};
-pub use path_lines::{write_gap, write_stop, write_walked, write_walked_on};
+pub use path_lines::{
+    add_exception_name, write_gap, write_instructions, write_stop, write_walked, write_walked_on,
+};

@@ -1,16 +1,17 @@
 //! The lines of a path.
 ghost use Rattle.std.specs.Prelude.{◌≡◌, ◌+◌, ◌-◌, ◌*◌, ◌%◌, ◌++◌, ◌≤◌, ◌<◌, length, codes, IfOk, Some, None};
 ghost use Rattle.etm_types.specs.Walked.{exception, items_of};
-ghost use Rattle.path_text.specs.Lines.{HasRoom, AddsAtMost, line_of, hex};
+ghost use Rattle.path_text.specs.Lines.{HasRoom, AddsAtMost, line_of, hex, address_line};
 ghost use Rattle.path_text.specs.PathLines.{whole_context_text, exception_names, name_among, exception_text, context_line};
 ghost use Rattle.path_text.specs.PathLines.{instruction_lines, lines_of, shown_after_all, on_line, block_items, run_lines, run_shown};
 ghost use Rattle.path_text.specs.Writing.{Writes};
 
 use crate::address_line::AddressLine;
+use crate::digits::put_last_four_hex;
 use crate::line::Line;
 use a64_branches::INSTRUCTION_BYTES;
 use etm_types::{Ctx, ExcMark, Id, Walked};
-use trace_io::{Failed, Sink};
+use trace_io::{Failed, Sink, write_all};
 
 /// Writes the line of one text.
 fn write_text<K: Sink>(id: Id, text: &[u8], sink: &mut K) -> Result<(), Failed>
@@ -23,6 +24,7 @@ fn write_text<K: Sink>(id: Id, text: &[u8], sink: &mut K) -> Result<(), Failed>
 }
 
 /// Writes the line of a context.
+#[inline(never)]
 fn write_context<K: Sink>(id: Id, ctx: &Ctx, sink: &mut K) -> Result<(), Failed>
     ensures { Writes (K.state sink.old) (K.state sink.new) result (line_of id (whole_context_text ctx.now)) }
 {
@@ -41,6 +43,7 @@ fn write_context<K: Sink>(id: Id, ctx: &Ctx, sink: &mut K) -> Result<(), Failed>
 }
 
 /// Writes the line of a context, unless it was printed last.
+#[inline(always)]
 fn write_context_once<K: Sink>(
     id: Id,
     ctx: &Ctx,
@@ -60,7 +63,8 @@ fn write_context_once<K: Sink>(
 }
 
 /// Writes the lines of so many instructions, one after the other: as many at once as differ in no digit but the last four.
-fn write_instructions<K: Sink>(
+#[inline(always)]
+pub fn write_instructions<K: Sink>(
     line: &mut AddressLine,
     start: u64,
     count: u64,
@@ -98,20 +102,77 @@ fn near_lines(address: u64) -> u64
 
 /// Writes the lines of instructions of which only the last four digits differ, from that of the line's address on.
 #[inline(always)]
-fn write_near<K: Sink>(line: &mut AddressLine, count: u64, sink: &mut K) -> Result<(), Failed>
+fn write_near<K: Sink>(line: &AddressLine, count: u64, sink: &mut K) -> Result<(), Failed>
     requires some { 0 < count }
-    requires near { (1 < count) → (4096 ≤ line.old.address) × (line.old.address % 65536 + 4 * (count - 1) < 65536) }
-    ensures id { line.new.id ≡ line.old.id }
-    ensures lines { Writes (K.state sink.old) (K.state sink.new) result (instruction_lines line.old.id line.old.address count) }
+    requires near { (1 < count) → (4096 ≤ line.now.address) × (line.now.address % 65536 + 4 * (count - 1) < 65536) }
+    ensures { Writes (K.state sink.old) (K.state sink.new) result (instruction_lines line.now.id line.now.address count) }
 {
-    for _done in 1..count {
-        line.write(sink)?;
-        line.step();
+    let len = line.bytes().len();
+    if len == 8 {
+        write_lines_of::<8, K>(line, count, sink)
+    } else if len == 9 {
+        write_lines_of::<9, K>(line, count, sink)
+    } else if len == 10 {
+        write_lines_of::<10, K>(line, count, sink)
+    } else if len == 11 {
+        write_lines_of::<11, K>(line, count, sink)
+    } else if len == 12 {
+        write_lines_of::<12, K>(line, count, sink)
+    } else if len == 13 {
+        write_lines_of::<13, K>(line, count, sink)
+    } else if len == 14 {
+        write_lines_of::<14, K>(line, count, sink)
+    } else if len == 15 {
+        write_lines_of::<15, K>(line, count, sink)
+    } else if len == 16 {
+        write_lines_of::<16, K>(line, count, sink)
+    } else if len == 17 {
+        write_lines_of::<17, K>(line, count, sink)
+    } else if len == 18 {
+        write_lines_of::<18, K>(line, count, sink)
+    } else if len == 19 {
+        write_lines_of::<19, K>(line, count, sink)
+    } else if len == 20 {
+        write_lines_of::<20, K>(line, count, sink)
+    } else {
+        line.write(sink)
     }
-    line.write(sink)
+}
+
+/// Writes the bytes of a line by one call.
+#[inline(always)]
+fn write_bytes<K: Sink>(bytes: &[u8], sink: &mut K) -> Result<(), Failed>
+    ensures { Writes (K.state sink.old) (K.state sink.new) result bytes.now }
+{
+    write_all(sink, bytes)
+}
+
+/// The same of lines of `L` bytes. Since their number is known where this is compiled, a line is copied by a store or two, and not by a call.
+#[inline(always)]
+fn write_lines_of<const L: usize, K: Sink>(
+    first: &AddressLine,
+    count: u64,
+    sink: &mut K,
+) -> Result<(), Failed>
+    requires some { 0 < count }
+    requires near { (1 < count) → (4096 ≤ first.now.address) × (first.now.address % 65536 + 4 * (count - 1) < 65536) }
+    requires short { L ≤ 20 }
+    requires len { L ≡ length (address_line first.now.id first.now.address) }
+    ensures { Writes (K.state sink.old) (K.state sink.new) result (instruction_lines first.now.id first.now.address count) }
+{
+    let mut bytes = [0; L];
+    bytes.copy_from_slice(first.bytes());
+    let mut address = first.address();
+    for _done in 1..count {
+        write_bytes(&bytes, sink)?;
+        address += INSTRUCTION_BYTES;
+        put_last_four_hex(address, &mut bytes, L - 1);
+    }
+    write_bytes(&bytes, sink)
 }
 
 /// Writes the lines of the instructions of a walk, after that of their context.
+#[inline(always)]
 fn write_run<K: Sink>(
     line: &mut AddressLine,
     walked: &Walked,
@@ -160,7 +221,7 @@ fn write_on<K: Sink>(id: Id, on: bool, sink: &mut K) -> Result<(), Failed>
 }
 
 /// Adds the name of an exception's type, or its number where it has none (Arm IHI 0064, exception types).
-fn add_name(line: &mut Line, kind: u8)
+pub fn add_exception_name(line: &mut Line, kind: u8)
     requires { HasRoom 12 line.old }
     ensures value { line.new ≡ line.old ++ name_among exception_names kind }
     ensures short { AddsAtMost 12 line.old line.new }
@@ -188,7 +249,7 @@ fn write_mark<K: Sink>(id: Id, mark: &ExcMark, sink: &mut K) -> Result<(), Faile
 {
     let mut line = Line::begin(id);
     line.text(b"exc ");
-    add_name(&mut line, mark.kind);
+    add_exception_name(&mut line, mark.kind);
     line.text(b" ");
     line.hex(mark.ret);
     line.write(sink)

@@ -15,7 +15,7 @@ returns-in_err-write_near-clause-lines g c =
     let text = ap (λ n. instruction_lines n moved.address near ++ instruction_lines id ((address + near * 4) % 2 ^ 64) (left - near)) (c.move_to.ensures.id ∙ i.same_id)
     ∙ ap (λ n. instruction_lines id n near ++ instruction_lines id ((address + near * 4) % 2 ^ 64) (left - near)) c.move_to.ensures.address
     ∙ instruction_lines-parts id address near left some few in
-    rw p.1 (fails_after _ _ _ c.in_err-write_near.field-0.0 p.0 i.so_far.0 _ _ _ (ap (λ t. i.so_far.0 ++ t) text ∙ i.so_far.2) i.so_far.1 c.in_err-write_near.ensures.lines)
+    rw p.1 (fails_after _ _ _ c.in_err-write_near.field-0.0 p.0 i.so_far.0 _ _ _ (ap (λ t. i.so_far.0 ++ t) text ∙ i.so_far.2) i.so_far.1 c.in_err-write_near.ensures)
 
 pub loop-left-preserved : goal.loop-left-preserved
 loop-left-preserved g c =
@@ -25,10 +25,10 @@ loop-left-preserved g c =
     let few : near ≤ left = omega (arith, c.min-near.ensures) in
     let rest = instruction_lines id ((address + near * 4) % 2 ^ 64) (left - near) in
     record {
-      same_id = c.write_near.ensures.id ∙ c.move_to.ensures.id ∙ i.same_id;
+      same_id = c.move_to.ensures.id ∙ i.same_id;
       so_far = (
         text ++ instruction_lines moved.id moved.address near,
-        wrote_more _ _ _ _ _ i.so_far.1 (wrote_by _ _ _ _ c.in_ok-write_near.ensures.lines),
+        wrote_more _ _ _ _ _ i.so_far.1 (wrote_by _ _ _ _ c.in_ok-write_near.ensures),
         append_assoc text (instruction_lines moved.id moved.address near) rest
             ∙ ap (λ n. text ++ (instruction_lines n moved.address near ++ rest)) (c.move_to.ensures.id ∙ i.same_id)
             ∙ ap (λ n. text ++ (instruction_lines id n near ++ rest)) c.move_to.ensures.address
