@@ -1,7 +1,8 @@
 -- Images, lines and faults that were worked out by hand, each beside what a wrong definition would say.
 use Rattle.std.proofs.Common.{◌≡◌, ℕ, zero, suc, ◌<◌, ◌^◌, ◌-◌, true, false, List, [], ◌∷◌, Some, None, Ok, Err, refl, arith}
-use Rattle.std.specs.Prelude.{codes, replicate}
-use Rattle.a64_branches.specs.declared.class.Class.TheVariants.{Plain}
+use Rattle.std.specs.Prelude.{codes, replicate, pos, Option}
+use Rattle.a64_branches.specs.declared.class.Class.{Class}
+use Rattle.a64_branches.specs.declared.class.Class.TheVariants.{Plain, Jump}
 use Rattle.std.specs.Str.{is_utf8}
 use Rattle.a64_branches.specs.Classes.{class_of}
 use Rattle.hex.specs.Hex.{decode_pairs}
@@ -9,7 +10,8 @@ use Rattle.program_image.specs.Part.{Part, word_of}
 use Rattle.line_words.specs.Line.{words_in}
 use Rattle.program_image.specs.ImageText.{add_bytes, add_line, add_lines, add_words, bytes_of, begin_part, by_address, growth_fault, has_between, image_of}
 use Rattle.program_image.specs.Blocks.{behind, class_at}
-use Rattle.program_image.specs.Runs.{IsRunLength, runs_of}
+use Rattle.program_image.specs.Runs.{IsRun, IsRunLength, runs_of}
+use Rattle.program_image.specs.declared.run.Run.{Run}
 use Rattle.program_image.specs.declared.fault.ImageWhy.TheVariants.{Syntax, Unaligned, Overlap, Wraps, TooLarge}
 
 abbrev nop : List ℕ → List ℕ
@@ -181,6 +183,23 @@ not_to_the_last_address : IsRunLength code (2 ^ 64 - 8) 2 → ⊥
 unfolding class_of
 not_to_the_last_address run = run.1 refl
 
-runs_before_a_branch : runs_of (nop (nop (here (nop [])))) 5 ≡ 2 ∷ 1 ∷ 0 ∷ 6 ∷ []
+abbrev run : ℕ → Option Class → Run
+run plain class = record { plain = plain; class = class }
+
+-- the run from each of four words on: the branch ends those before it, and the last word is one more of the run behind it
+runs_before_a_branch : runs_of (nop (nop (here (nop [])))) (run 5 None)
+    ≡ run 2 (Some (Jump (pos 0) false)) ∷ run 1 (Some (Jump (pos 0) false)) ∷ run 0 (Some (Jump (pos 0) false)) ∷ run 6 None ∷ []
 unfolding class_of
 runs_before_a_branch = refl
+
+ends_at_the_branch : IsRun code 0x1000 (run 2 (Some (Jump (pos 0) false)))
+unfolding class_of
+ends_at_the_branch = (over_parts_that_touch, refl)
+
+not_where_no_word_begins : IsRun code 0x1000 (run 2 None) → ⊥
+unfolding class_of
+not_where_no_word_begins is = let e : Some (Jump (pos 0) false) ≡ None = is.1 in cc
+
+not_at_a_call : IsRun code 0x1000 (run 2 (Some (Jump (pos 0) true))) → ⊥
+unfolding class_of
+not_at_a_call is = let e : Some (Jump (pos 0) false) ≡ Some (Jump (pos 0) true) = is.1 in cc

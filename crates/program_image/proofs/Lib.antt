@@ -10,4 +10,6 @@ pub mod Gaps
 pub mod First
 pub mod Runs
 pub mod Tables
+pub mod WordsBelow
+pub mod WordPlaces
 pub mod Examples

@@ -6,3 +6,4 @@ pub mod Spelling
 pub mod Answers
 pub mod Blocks
 pub mod Runs
+pub mod Places

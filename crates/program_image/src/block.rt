@@ -1,13 +1,9 @@
 //! Blocks of an image: the plain words from an address on, up to the next word that is traced.
-ghost use Rattle.std.specs.Prelude.{length, ◌≡◌, ◌≢◌, ◌%◌, ◌^◌, ◌<◌, Some, None, MatchOption};
+ghost use Rattle.std.specs.Prelude.{◌≢◌, Some};
 ghost use Rattle.a64_branches.specs.declared.class.Class.TheVariants.{Plain};
-ghost use Rattle.program_image.specs.Part.{IsImage};
-ghost use Rattle.program_image.specs.Blocks.{EndsAs, HasGap, IsBlock, class_at};
-ghost use Rattle.program_image.specs.Runs.{IsRunLength};
+ghost use Rattle.program_image.specs.Blocks.{EndsAs};
 
-use crate::lookup::class_at;
-use crate::part::Part;
-use a64_branches::{Class, class_of};
+use a64_branches::Class;
 
 /// The plain words from an address on, and what stands after them.
 #[derive(Clone, Copy, Debug, PartialEq, Eq)]
@@ -38,19 +34,5 @@ pub fn end_at(class: Option<Class>, addr: u64) -> BlockEnd
         Some(Class::Odd) => BlockEnd::Odd(addr),
         Some(class) => BlockEnd::P0 { addr, class },
         None => BlockEnd::NoCode(addr),
-    }
-}
-
-/// The end of a block at an address, whose word is looked for in this part first.
-#[inline(always)]
-pub fn end_near(parts: &[Part], place: usize, addr: u64) -> BlockEnd
-    requires image { IsImage parts.now }
-    requires place { place < length parts.now }
-    requires not_plain { class_at parts.now addr ≢ Some Plain }
-    ensures { EndsAs (class_at parts.now addr) addr result }
-{
-    match parts[place].word_at(addr) {
-        Some(word) => end_at(Some(class_of(word)), addr),
-        None => end_at(class_at(parts, addr), addr),
     }
 }

@@ -1,19 +1,22 @@
 //! The image of a program: the parts of a core's memory that hold it.
-ghost use Rattle.std.specs.Prelude.{◌≡◌, ◌⊎◌, ℕ, ◌+◌, ◌%◌, ◌^◌, ◌<◌, ◌≤◌, [], length, None, MatchOption, IfOk, IfSome, IsErrOf};
+ghost use Rattle.std.specs.Prelude.{◌≡◌, ◌⊎◌, ℕ, ◌+◌, ◌/◌, ◌%◌, ◌^◌, ◌<◌, ◌≤◌, [], length, slice_get, Some, None, MatchOption, IfOk, IsErrOf};
 ghost use Rattle.std.specs.Str.Lines.{lines};
 ghost use Rattle.trace_io.specs.Causes.{KeepsFaults, Rose};
 ghost use Rattle.trace_io.specs.Bytes.{ShowsAsBefore, TakesAtMost};
-ghost use Rattle.program_image.specs.Part.{IsImage, word_of};
+ghost use Rattle.program_image.specs.Part.{IsImage, most_bytes, word_of};
+ghost use Rattle.program_image.specs.Places.{word_addresses, word_count};
 ghost use Rattle.program_image.specs.ImageText.{add_lines, image_of, most_text};
 ghost use Rattle.program_image.specs.Answers.{AnswersText, TakesImage, TakesNoImage};
 ghost use Rattle.program_image.specs.Blocks.{HasGap, IsBlock, class_at};
-ghost use Rattle.program_image.specs.Runs.{IsRunLength};
+ghost use Rattle.program_image.specs.Runs.{IsRun};
 
-use crate::block::{Block, BlockEnd, end_near};
+use crate::block::{Block, BlockEnd, end_at};
 use crate::draft::Draft;
 use crate::fault::{ImageFault, ImageWhy, LineFault};
 use crate::lookup::{part_at, word_at};
 use crate::part::Part;
+use crate::places::Places;
+use crate::run::Run;
 use crate::run_table::{Runs, table};
 use a64_branches::INSTRUCTION_BYTES;
 use line_words::NumberedLines;
@@ -35,20 +38,24 @@ const TOO_LONG: ImageFault = ImageFault::Bad {
 pub struct Image {
     /// By their addresses.
     parts: Vec<Part>,
-    /// How many plain words follow from each word of each part on.
+    /// The run from each word of each part on.
     table: Vec<Runs>,
+    /// How many words stand before each part.
+    places: Places,
 }
 
 impl Model for Image {
-    ghost use Rattle.std.specs.Prelude.{List};
+    ghost use Rattle.std.specs.Prelude.{◌≡◌, List};
     ghost use Rattle.program_image.specs.Part.{IsImage, Part};
+    ghost use Rattle.program_image.specs.Places.{words_before};
     ghost use Rattle.program_image.specs.Runs.{IsTable};
 
     ghost Value = { List Part };
 
     ghost view = { λ image. image.parts.items };
 
-    ghost invariant = { λ image. IsImage image.parts.items × IsTable image.parts.items image.parts.items image.table.items };
+    ghost invariant = { λ image. IsImage image.parts.items × IsTable image.parts.items image.parts.items image.table.items
+        × (image.places ≡ words_before 0 image.parts.items) };
 }
 
 impl Image {
@@ -92,7 +99,12 @@ impl Image {
         let draft = draft_of(alloc, text)?;
         let parts = draft.by_address(alloc).map_err(|_| ImageFault::Memory)?;
         let table = table(alloc, &parts).map_err(|_| ImageFault::Memory)?;
-        Ok(Image { parts, table })
+        let places = Places::new(alloc, &parts).map_err(|_| ImageFault::Memory)?;
+        Ok(Image {
+            parts,
+            table,
+            places,
+        })
     }
 
     /// The instruction word at an address: none where no word begins there.
@@ -113,29 +125,67 @@ impl Image {
         ensures few { result.plain < 2 ^ 62 }
         ensures gap { HasGap self.now }
     {
-        let Some((place, run)) = self.run_at(pc) else {
+        // It does nothing: what holds of each image is known where a field is used.
+        let _ = &self.parts;
+        let Some(run) = self.run_at(pc) else {
             return Block {
                 plain: 0,
                 end: BlockEnd::NoCode(pc),
             };
         };
-        let plain = u64::from(run);
+        let plain = u64::from(run.plain);
         let addr = pc.wrapping_add(plain * INSTRUCTION_BYTES);
-        let end = end_near(&self.parts, place, addr);
-        Block { plain, end }
+        Block {
+            plain,
+            end: end_at(run.class, addr),
+        }
     }
 
-    /// Which part the word at an address is of, and how many plain words there are from it on: none
-    /// where no word begins there.
-    fn run_at(&self, addr: u64) -> Option<(usize, u32)>
+    /// How many words there are.
+    pub fn word_count(&self) -> usize
+        ensures value { result ≡ word_count self.now }
+        ensures few { result ≤ most_bytes / 4 }
+        ensures parts { IsImage self.now }
+    {
+        self.places.count_before(self.parts.len())
+    }
+
+    /// The place of the word at an address among all words, in the order of their addresses and counted from 0: none where no
+    /// word begins there. It costs the search of a part among at most 64.
+    #[inline(always)]
+    pub fn place_at(&self, addr: u64) -> Option<usize>
+        ensures place { MatchOption result (word_of self.now addr ≡ None)
+            (λ place. slice_get (word_addresses self.now) place ≡ Some addr) }
+        ensures parts { IsImage self.now }
+    {
+        let part = part_at(&self.parts, addr)?;
+        self.parts[part].word_at(addr)?;
+        let offset = addr - self.parts[part].start();
+        Some(self.places.count_before(part) + (offset / INSTRUCTION_BYTES) as usize)
+    }
+
+    /// The address of the word at a place: none where there are no more words. It costs as much.
+    pub fn address_of(&self, place: usize) -> Option<u64>
+        ensures address { result ≡ slice_get (word_addresses self.now) place }
+        ensures parts { IsImage self.now }
+    {
+        if place >= self.word_count() {
+            return None;
+        }
+        let part = self.places.part_of(place);
+        let offset = (place - self.places.count_before(part)) as u64 * INSTRUCTION_BYTES;
+        Some(self.parts[part].start() + offset)
+    }
+
+    /// The run from the word at an address on: none where no word begins there.
+    #[inline(always)]
+    fn run_at(&self, addr: u64) -> Option<Run>
         requires { addr % 4 ≡ 0 }
-        ensures run { MatchOption result (class_at self.now addr ≡ None) (λ run. IsRunLength self.now addr run.1) }
-        ensures within { IfSome result (λ run. run.0 < length self.now) }
+        ensures run { MatchOption result (class_at self.now addr ≡ None) (IsRun self.now addr) }
     {
         let place = part_at(&self.parts, addr)?;
         let offset = addr - self.parts[place].start();
-        let run = self.table[place].at((offset / INSTRUCTION_BYTES) as usize);
-        run.map(|run| (place, run))
+        self.table[place].at((offset / INSTRUCTION_BYTES) as usize)
     }
 }
 

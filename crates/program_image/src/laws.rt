@@ -1,8 +1,9 @@
 //! What the definitions mean, as contracts of functions that do nothing.
-ghost use Rattle.std.specs.Prelude.{◌≡◌, ◌↔◌, ℕ, ◌+◌, ◌%◌, ◌^◌, ◌<◌, ◌≤◌, ◌⊎◌, List, length, Contains, Ok, Err, None, Some};
+ghost use Rattle.std.specs.Prelude.{◌≡◌, ◌↔◌, ℕ, ◌+◌, ◌%◌, ◌^◌, ◌<◌, ◌≤◌, ◌⊎◌, List, length, Contains, slice_get, IsSome, Ok, Err, None, Some};
 ghost use Rattle.program_image.specs.Part.{IsImage, Part, word_in, word_of};
 ghost use Rattle.program_image.specs.ImageText.{image_of, most_text};
 ghost use Rattle.program_image.specs.FirstFault.{IsFirstFault};
+ghost use Rattle.program_image.specs.Places.{word_addresses, word_count, words_below};
 ghost use Rattle.program_image.specs.Spelling.{text_of};
 ghost use Rattle.program_image.specs.declared.fault.ImageWhy.{ImageWhy};
 ghost use Rattle.program_image.specs.declared.fault.ImageWhy.TheVariants.{TooLong};
@@ -32,4 +33,14 @@ pub fn words_are_of_their_parts()
 pub fn each_image_has_a_gap()
     ensures { (image : List Part) → IsImage image
         → (addr : ℕ) × (addr < 2 ^ 64) × (addr % 4 ≡ 0) × (word_of image addr ≡ None) }
+{}
+
+/// The words of an image stand in the order of their addresses: as many as there are, each at its address once, and at the
+/// place that is the number of words below it.
+pub fn words_have_places()
+    ensures count { (image : List Part) → IsImage image → length (word_addresses image) ≡ word_count image }
+    ensures each { (image : List Part) (place addr : ℕ) → IsImage image
+        → (slice_get (word_addresses image) place ≡ Some addr) ↔ (IsSome (word_of image addr) × (place ≡ words_below image addr)) }
+    ensures ascend { (image : List Part) (addr next : ℕ) → IsImage image → addr < next → IsSome (word_of image addr)
+        → IsSome (word_of image next) → words_below image addr < words_below image next }
 {}

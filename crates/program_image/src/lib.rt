@@ -10,6 +10,7 @@
 //! - [`Image::read`]: the same of the text that a source has left.
 //! - [`Image::word_at`]: the instruction word at an address.
 //! - [`Image::block`]: the plain words from an address on, and what stands after them.
+//! - [`Image::place_at`] and [`Image::address_of`]: the place of a word among all words of the image, and back.
 //! - the laws: what a text spells, and what holds of every image.
 #![tactic(auto)]
 
@@ -21,6 +22,8 @@ mod laws;
 mod line_bytes;
 mod lookup;
 mod part;
+mod places;
+mod run;
 mod run_table;
 
 pub use block::{Block, BlockEnd};
@@ -28,7 +31,7 @@ pub use fault::{ImageFault, ImageWhy};
 pub use image::Image;
 pub use laws::{
     a_fault_is_that_of_the_first_line, each_image_has_a_gap, reads_what_is_spelled,
-    words_are_of_their_parts,
+    words_are_of_their_parts, words_have_places,
 };
 
 #[cfg(test)]

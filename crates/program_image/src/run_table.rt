@@ -1,7 +1,7 @@
-//! How many plain words follow from each word of an image on: one number of 32 bits a word, counted once
-//! when the image is read, so that a block costs the same whatever its length.
+//! How many plain words follow from each word of an image on, and what stands behind them: one entry of 12 bytes a word, made once
+//! when the image is read, so that a block is one look-up whatever its length.
 //!
-//! The run from a plain word on is one more than that from the next word on. So the parts are taken from
+//! The run from a plain word on is one longer than that from the next word on, and ends likewise. So the parts are taken from
 //! the last to the first, and the words of each likewise. A run goes on over parts that touch, and from
 //! the last address to address 0.
 ghost use Rattle.std.specs.Prelude.{◌≡◌, ◌==◌, ◌+◌, ◌%◌, ◌^◌, ◌<◌, ◌≤◌, if◌then◌else◌, length, slice_get, Some, IfOk, IsTrue, ◌↔◌};
@@ -9,10 +9,11 @@ ghost use Rattle.a64_branches.specs.Classes.{class_of};
 ghost use Rattle.program_image.specs.Part.{IsImage, end_of, total};
 ghost use Rattle.a64_branches.specs.declared.class.Class.TheVariants.{Plain};
 ghost use Rattle.program_image.specs.Blocks.{class_at};
-ghost use Rattle.program_image.specs.Runs.{IsFollowedBy, IsRunLength, IsTable, first_run, run_from, runs_of};
+ghost use Rattle.program_image.specs.Runs.{IsFollowedBy, IsRun, IsRunLength, IsTable, first_run, no_word, run_from, runs_of};
 
 use crate::lookup::class_at;
 use crate::part::{ADDRESSES, Part};
+use crate::run::{Run, TableEntry};
 use a64_branches::{Class, INSTRUCTION_BYTES, class_of};
 use byteorder::{ByteOrder, LittleEndian};
 use std::alloc::{AllocError, Global};
@@ -21,45 +22,49 @@ use std::marker::Model;
 /// The runs from each word of a part on.
 #[derive(Drop)]
 pub struct Runs {
-    of_words: Vec<u32>,
+    of_words: Vec<TableEntry>,
 }
 
 impl Model for Runs {
-    ghost use Rattle.std.specs.Prelude.{List, ℕ};
+    ghost use Rattle.std.specs.Prelude.{List};
+    ghost use Rattle.program_image.specs.declared.run.Run.{Run};
 
-    ghost Value = { List ℕ };
+    ghost Value = { List Run };
 
     ghost view = { λ runs. runs.of_words.items };
 }
 
 impl Runs {
     /// The run from a word on; words count from 0.
-    pub fn at(&self, word: usize) -> Option<u32>
+    pub fn at(&self, word: usize) -> Option<Run>
         ensures { result ≡ slice_get self.now word }
     {
-        self.of_words.get(word).copied()
+        match self.of_words.get(word) {
+            Some(entry) => Some(entry.run()),
+            None => None,
+        }
     }
 
     /// The run from the first word on; that from the next word on where there is none.
-    fn first(&self, next: u32) -> u32
+    fn first(&self, next: Run) -> Run
         ensures { result ≡ first_run self.now next }
     {
         self.at(0).unwrap_or(next)
     }
 
     /// The runs from each word of the bytes on, by that from the next word on.
-    fn of_bytes(alloc: Global, bytes: &[u8], next: u32) -> Result<Runs, AllocError>
+    fn of_bytes(alloc: Global, bytes: &[u8], next: Run) -> Result<Runs, AllocError>
         requires whole { length bytes.now % 4 ≡ 0 }
-        requires fits { next + length bytes.now < 2 ^ 32 }
+        requires fits { next.plain + length bytes.now < 2 ^ 32 }
         ensures value { IfOk result (λ runs. runs ≡ runs_of bytes.now next) }
-        ensures small { IfOk result (λ runs. first_run runs next ≤ next + length bytes.now) }
+        ensures small { IfOk result (λ runs. (first_run runs next).plain ≤ next.plain + length bytes.now) }
     {
         let mut of_words = Vec::with_capacity(alloc, bytes.len() / INSTRUCTION_BYTES as usize)?;
         let mut rest = bytes;
         let mut run = next;
         while let Some((before, word)) = rest.split_last_chunk::<4>() {
             run = run_from(LittleEndian::read_u32(word), run);
-            of_words.push(run)?;
+            of_words.push(TableEntry::new(run))?;
             rest = before;
         }
         of_words.reverse();
@@ -68,14 +73,20 @@ impl Runs {
 }
 
 /// The run from a word on, by that from the next word on.
-fn run_from(word: u32, next: u32) -> u32
-    requires { next + 1 < 2 ^ 32 }
+fn run_from(word: u32, next: Run) -> Run
+    requires { next.plain + 1 < 2 ^ 32 }
     ensures value { result ≡ run_from (class_of word) next }
-    ensures small { result ≤ next + 1 }
+    ensures small { result.plain ≤ next.plain + 1 }
 {
     match class_of(word) {
-        Class::Plain => next + 1,
-        _ => 0,
+        Class::Plain => Run {
+            plain: next.plain + 1,
+            class: next.class,
+        },
+        class => Run {
+            plain: 0,
+            class: Some(class),
+        },
     }
 }
 
@@ -101,30 +112,41 @@ pub fn table(alloc: Global, parts: &[Part]) -> Result<Vec<Runs>, AllocError>
 }
 
 /// The run after a part: that from an address on, where the part ends there.
-fn run_after(part: &Part, start: u64, run: u32) -> u32
-    ensures { result ≡ (if end_of part.now % 2 ^ 64 == start then run else 0) }
+fn run_after(part: &Part, start: u64, run: Run) -> Run
+    ensures { result ≡ (if end_of part.now % 2 ^ 64 == start then run else no_word) }
 {
     if part.end() % ADDRESSES == u128::from(start) {
         run
     } else {
-        0
+        Run::no_word()
     }
 }
 
 /// The run that follows the last part from address 0 on, where the part has the last address.
-fn run_past_last(parts: &[Part]) -> u32
+fn run_past_last(parts: &[Part]) -> Run
     requires { IsImage parts.now }
     ensures run { IsFollowedBy parts.now parts.now 0 result }
-    ensures small { result ≤ total parts.now }
+    ensures small { result.plain ≤ total parts.now }
 {
     match parts.last() {
         Some(part) if part.end() == ADDRESSES => run_from_zero(parts),
-        _ => 0,
+        _ => Run::no_word(),
     }
 }
 
 /// The run from address 0 on, a word after another.
-fn run_from_zero(parts: &[Part]) -> u32
+fn run_from_zero(parts: &[Part]) -> Run
+    requires { IsImage parts.now }
+    ensures run { IsRun parts.now 0 result }
+    ensures small { result.plain ≤ total parts.now }
+{
+    let plain = plain_from_zero(parts);
+    let class = class_at(parts, u64::from(plain) * INSTRUCTION_BYTES);
+    Run { plain, class }
+}
+
+/// How many plain words there are from address 0 on.
+fn plain_from_zero(parts: &[Part]) -> u32
     requires { IsImage parts.now }
     ensures run { IsRunLength parts.now 0 result }
     ensures small { result ≤ total parts.now }

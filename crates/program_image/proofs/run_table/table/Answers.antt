@@ -18,7 +18,7 @@ loop-part-preserved c =
     let part = c.in-Some.part.now in
     let next = c.run_after-next.result in
     let runs = c.in_ok-runs.ensures.value ∙ ap (λ bytes. runs_of bytes next) c.bytes.ensures in
-    let more : first_run c.in_ok-runs.runs next ≤ next + length part.bytes = rw c.bytes.ensures at c.in_ok-runs.ensures.small in
+    let more : (first_run c.in_ok-runs.runs next).plain ≤ next.plain + length part.bytes = rw c.bytes.ensures at c.in_ok-runs.ensures.small in
     part_tabled c.args.parts.now c.loop-part.rest.now c.in-Some.before.now part c.loop-part.table.items c.push.new.self.items c.in_ok-runs.runs
     c.loop-part.start c.loop-part.run next
     c.start-start.result c.first-run.result c.requires c.loop-part.invariant c.in-Some.ensures.cases.0 c.run_after-next.ensures runs c.first-run.ensures more

@@ -2,7 +2,7 @@ use Rattle.std.proofs.Common.{◌≡◌, ◌-◌, ◌/◌, ◌<◌, ◌≤◌, �
 use Rattle.std.specs.Prelude.{slice_get, MatchOption, None}
 use Rattle.program_image.specs.Part.{Part, word_in, word_of}
 use Rattle.program_image.specs.Blocks.{class_at}
-use Rattle.program_image.specs.Runs.{IsRunLength}
+use Rattle.program_image.specs.Runs.{IsRun}
 use Rattle.program_image.proofs.Tables.{run_found, same_length}
 use Rattle.program_image.proofs.image.Image.run_at.Goals as goal
 
@@ -11,8 +11,8 @@ index-requires-2 c =
     let same = same_length c.self.inside.parts.items c.self.inside.parts.items c.self.inside.table.items c.self.invariant.1 in
     omega (arith, c.in_ok-place.ensures.within, ap length c.deref.ensures.value, same)
 
-pub returns-clause-run : goal.returns-clause-run
-returns-clause-run c =
+pub returns : goal.returns
+returns c =
     let addr = c.args.addr in
     let place = c.in_ok-place.place in
     let part = c.index.result.now in
@@ -25,9 +25,9 @@ returns-clause-run c =
     let found =
     run_found c.self.inside.parts.items c.self.inside.table.items addr place part runs c.self.invariant.0 c.self.invariant.1 c.requires within
     c.index.ensures c.index-2.ensures word begun in
-    let at : slice_get runs ((addr - part.start) / 4) ≡ c.at-run.result =
-    ap (λ start. slice_get runs ((addr - start) / 4)) (sym c.start.ensures) ∙ sym c.at-run.ensures in
-    let told : MatchOption c.at-run.result (class_at c.args.self.now addr ≡ None) (IsRunLength c.args.self.now addr) =
-    subst (λ (parts : List Part). MatchOption c.at-run.result (class_at parts addr ≡ None) (IsRunLength parts addr)) c.self.view_is
-    (subst (λ run. MatchOption run (class_at c.self.inside.parts.items addr ≡ None) (IsRunLength c.self.inside.parts.items addr)) at found) in
+    let at : slice_get runs ((addr - part.start) / 4) ≡ c.at.result =
+    ap (λ start. slice_get runs ((addr - start) / 4)) (sym c.start.ensures) ∙ sym c.at.ensures in
+    let told : MatchOption c.at.result (class_at c.args.self.now addr ≡ None) (IsRun c.args.self.now addr) =
+    subst (λ (parts : List Part). MatchOption c.at.result (class_at parts addr ≡ None) (IsRun parts addr)) c.self.view_is
+    (subst (λ run. MatchOption run (class_at c.self.inside.parts.items addr ≡ None) (IsRun c.self.inside.parts.items addr)) at found) in
     search rules

@@ -1,6 +1,6 @@
 use Rattle.std.proofs.Common.{◌*◌, ap, arith}
 use Rattle.program_image.proofs.Runs.{zero_run_more, zero_run_short}
-use Rattle.program_image.proofs.run_table.run_from_zero.Goals as goal
+use Rattle.program_image.proofs.run_table.plain_from_zero.Goals as goal
 
 pub overflow_add-run : goal.overflow_add-run
 overflow_add-run c =

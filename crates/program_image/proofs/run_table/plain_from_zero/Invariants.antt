@@ -1,7 +1,7 @@
 use Rattle.std.proofs.Common.{◌-◌}
 use Rattle.program_image.specs.Blocks.{IsPlainRun}
 use Rattle.program_image.specs.Part.{total}
-use Rattle.program_image.proofs.run_table.run_from_zero.Given as goal
+use Rattle.program_image.proofs.run_table.plain_from_zero.Given as goal
 
 abbrev pub invariant-loop-run : goal.invariant-loop-run
 invariant-loop-run l = IsPlainRun l.parts 0 l.run

@@ -1,0 +1,123 @@
+//! A run of plain words and what stands behind it, as contracts see it and as the table of an image keeps it.
+ghost use Rattle.std.specs.Prelude.{◌≡◌};
+ghost use Rattle.program_image.specs.Runs.{class_behind, no_word};
+
+use a64_branches::Class;
+use std::marker::Model;
+
+/// The most bytes that an entry of a table takes.
+const MOST_ENTRY: usize = 12;
+
+const _: () = prove!(size_of::<TableEntry>() <= MOST_ENTRY);
+
+/// How many plain words there are from a word on, and the class of the word behind them: none where no word begins there.
+#[derive(Clone, Copy, Debug, PartialEq, Eq)]
+pub struct Run {
+    pub plain: u32,
+    pub class: Option<Class>,
+}
+
+impl Run {
+    /// The run where no word begins.
+    pub fn no_word() -> Run
+        ensures { result ≡ no_word }
+    {
+        Run {
+            plain: 0,
+            class: None,
+        }
+    }
+}
+
+/// The word behind a run: an `Option<Class>` in 8 bytes. Offsets are in bytes.
+#[derive(Clone, Copy, Debug, PartialEq, Eq)]
+pub enum WordBehind {
+    NoWord,
+    PlainWord,
+    Branch { off: i32 },
+    BranchWithLink { off: i32 },
+    BranchConditionally { off: i32 },
+    Barrier,
+    BranchToRegister,
+    BranchWithLinkToRegister,
+    ExceptionReturn,
+    NotRead,
+}
+
+impl WordBehind {
+    /// The word of a class.
+    fn of(class: Option<Class>) -> WordBehind
+        ensures { class_behind result ≡ class }
+    {
+        match class {
+            None => WordBehind::NoWord,
+            Some(Class::Plain) => WordBehind::PlainWord,
+            Some(Class::Jump { off, link: false }) => WordBehind::Branch { off },
+            Some(Class::Jump { off, link: true }) => WordBehind::BranchWithLink { off },
+            Some(Class::Cond { off }) => WordBehind::BranchConditionally { off },
+            Some(Class::Isb) => WordBehind::Barrier,
+            Some(Class::Ind { link: false }) => WordBehind::BranchToRegister,
+            Some(Class::Ind { link: true }) => WordBehind::BranchWithLinkToRegister,
+            Some(Class::Eret) => WordBehind::ExceptionReturn,
+            Some(Class::Odd) => WordBehind::NotRead,
+        }
+    }
+
+    /// Its class.
+    #[inline(always)]
+    fn class(self) -> Option<Class>
+        ensures { result ≡ class_behind self }
+    {
+        match self {
+            WordBehind::NoWord => None,
+            WordBehind::PlainWord => Some(Class::Plain),
+            WordBehind::Branch { off } => Some(Class::Jump { off, link: false }),
+            WordBehind::BranchWithLink { off } => Some(Class::Jump { off, link: true }),
+            WordBehind::BranchConditionally { off } => Some(Class::Cond { off }),
+            WordBehind::Barrier => Some(Class::Isb),
+            WordBehind::BranchToRegister => Some(Class::Ind { link: false }),
+            WordBehind::BranchWithLinkToRegister => Some(Class::Ind { link: true }),
+            WordBehind::ExceptionReturn => Some(Class::Eret),
+            WordBehind::NotRead => Some(Class::Odd),
+        }
+    }
+}
+
+/// A run as the table of an image keeps it. Contracts see the run.
+#[derive(Drop)]
+pub struct TableEntry {
+    plain: u32,
+    behind: WordBehind,
+}
+
+impl Model for TableEntry {
+    ghost use Rattle.program_image.specs.declared.run.Run.{Run};
+    ghost use Rattle.program_image.specs.Runs.{class_behind};
+
+    ghost Value = { Run };
+
+    ghost view = { λ entry. record { plain = entry.plain; class = class_behind entry.behind } };
+}
+
+impl TableEntry {
+    /// The entry of a run.
+    pub fn new(run: Run) -> TableEntry
+        ensures { result ≡ run }
+    {
+        TableEntry {
+            plain: run.plain,
+            behind: WordBehind::of(run.class),
+        }
+    }
+
+    /// Its run.
+    #[inline(always)]
+    pub fn run(&self) -> Run
+        ensures { result ≡ self.now }
+    {
+        Run {
+            plain: self.plain,
+            class: self.behind.class(),
+        }
+    }
+}
