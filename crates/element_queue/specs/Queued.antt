@@ -15,7 +15,7 @@ use Rattle.element_queue.specs.declared.queue.Committed.{Committed}
 use Rattle.element_queue.specs.declared.queue.Committed.TheVariants as committed
 use Rattle.element_queue.specs.declared.queue.PreElem.{PreElem}
 use Rattle.element_queue.specs.declared.queue.PreElem.TheVariants as pre_elem
-use Rattle.element_queue.specs.Counting.{Balances, counts_after, entries, made_by}
+use Rattle.element_queue.specs.Counting.{Balances, add, counts_after, entries, made_by}
 use Rattle.element_queue.specs.Pending.{Gone, Pending, taken}
 
 -- what is held, oldest first, what was given since, the most that may be held, and the counts
@@ -65,6 +65,14 @@ committed_by q p0 = let all = q.held ++ Seen (record { pre = q.pre; p0 = p0 }) �
 -- an atom before which nothing was given but, where there is one, an address
 abbrev pub entry_of : AtomEntry → Entry
 entry_of atom = record { pre = record nothing_told { addr = atom.addr }; p0 = Atom atom.taken }
+
+-- at depth 0, so many P0 elements more, at least one, are made and committed at once
+abbrev pub passed : ℕ → Queued → Queued
+passed n q =
+    record q {
+      pre = nothing_told;
+      counts = record (q.counts) { made = add (q.counts).made n; committed = add (q.counts).committed n };
+    }
 
 -- what is committed, as a thing
 abbrev pub thing_of : Committed → Thing

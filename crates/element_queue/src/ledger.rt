@@ -13,8 +13,8 @@ pub struct Counts {
     pub lost: u64,
 }
 
-/// Keeps [`Counts`]. They rise only where an [`Uncommitted`](crate::Uncommitted) is made or ended, and by
-/// [`Ledger::absorb`]. It is no copy of another one.
+/// Keeps [`Counts`]. They rise only where an [`Uncommitted`](crate::Uncommitted) is made or ended, by
+/// [`Queue::pass_many`](crate::Queue::pass_many), and by [`Ledger::absorb`]. It is no copy of another one.
 #[derive(Drop)]
 pub struct Ledger {
     counts: Counts,
@@ -72,6 +72,15 @@ impl Ledger {
         ensures { self.new ≡ record (self.old) { made = add self.old.made 1 } }
     {
         self.counts.made = self.counts.made.wrapping_add(1);
+    }
+
+    /// So many were made and committed at once.
+    pub(crate) fn count_passed(&mut self, n: u32)
+        ensures { self.new ≡ record (self.old) { made = add self.old.made n; committed = add self.old.committed n } }
+    {
+        let n = u64::from(n);
+        self.counts.made = self.counts.made.wrapping_add(n);
+        self.counts.committed = self.counts.committed.wrapping_add(n);
     }
 
     /// One more was committed.

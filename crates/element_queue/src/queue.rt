@@ -1,14 +1,14 @@
 //! The queue of P0 elements that are not committed.
-ghost use Rattle.std.specs.Prelude.{◌≡◌, ◌≤◌, ◌<◌, ◌-◌, ◌↔◌, [], length, take, drop, map, replicate, Ok, Err};
+ghost use Rattle.std.specs.Prelude.{◌≡◌, ◌≤◌, ◌<◌, ◌-◌, ◌↔◌, ℕ, [], length, take, drop, map, replicate, Option, Ok, Err};
 ghost use Rattle.std.specs.Prelude.{IfOk, IfSome, IsOk, IsErr, IsSome, IsTrue, ◌∷◌};
-ghost use Rattle.etm_types.specs.Pre.{trace_missing};
+ghost use Rattle.etm_types.specs.Pre.{nothing_told, trace_missing};
 ghost use Rattle.etm_types.specs.declared.element.Elem.TheVariants as elem;
 ghost use Rattle.etm_types.specs.declared.element.P0.TheVariants.{Atom};
 ghost use Rattle.etm_types.specs.declared.element.Thing.TheVariants.{Seen, Unseen};
 ghost use Rattle.etm_types.specs.declared.queue_fault.QueueFault.{QueueFault};
 ghost use Rattle.element_queue.specs.Counting.{AreCounts, Balances, counts_after, no_counts};
 ghost use Rattle.element_queue.specs.Pending.{cancelling, committing, flip_newest, losing, nothing_gone};
-ghost use Rattle.element_queue.specs.Queued.{IsQueued, Refuses, Takes, committed_by, entry_of, noted, things_of};
+ghost use Rattle.element_queue.specs.Queued.{IsQueued, Refuses, Takes, committed_by, entry_of, noted, passed, things_of};
 ghost use Rattle.element_queue.specs.declared.queue.AtomEntry.{AtomEntry};
 
 use crate::ledger::{Counts, Ledger};
@@ -148,6 +148,40 @@ impl Queue {
         let entry = Uncommitted::new(Entry { pre: self.pre, p0 }, &mut self.ledger);
         self.pre = Pre::nothing_told();
         entry.commit(&mut self.ledger)
+    }
+
+    /// The address that was given before the next P0 element, where one was, if each is committed as it is made and nothing else
+    /// was given before it.
+    #[inline(always)]
+    pub fn passing(&self) -> Option<Option<u64>>
+        ensures value { IfSome result (λ addr. (self.now.depth ≡ 0) × (self.now.pre ≡ record nothing_told { addr = addr })) }
+        ensures some { (addr : Option ℕ) → self.now.depth ≡ 0 → self.now.pre ≡ record nothing_told { addr = addr } → IsSome result }
+    {
+        if self.depth > 0 {
+            return None;
+        }
+        match self.pre {
+            Pre {
+                flush: false,
+                on: false,
+                lost: false,
+                ctx: None,
+                addr,
+            } => Some(addr),
+            _ => None,
+        }
+    }
+
+    /// So many P0 elements more, where each is committed as it is made.
+    #[inline(always)]
+    pub fn pass_many(&mut self, n: u32)
+        requires depth { self.old.depth ≡ 0 }
+        ensures value { self.new ≡ passed n self.old }
+        ensures queued { IsQueued self.new }
+        ensures counted { AreCounts self.new.counts }
+    {
+        self.pre = Pre::nothing_told();
+        self.ledger.count_passed(n);
     }
 
     /// Which entry one atom more commits: the oldest that is held, or that atom itself where the depth is 0. `None` where it

@@ -1,7 +1,7 @@
 -- The walk of one entry over an image: what it shows and the state after it, or the fault with which it stops (Arm IHI 0064,
 -- "Descriptions of Trace Elements": the atom and exception elements). Which faults there are is this project's own choice.
 use Rattle.std.specs.Prelude.{◌≡◌, ◌≢◌, ◌⊎◌, ℕ, ◌+◌, ◌-◌, ◌<◌, Bool, true, false, ◌&&◌}
-use Rattle.std.specs.Prelude.{List, Option, Some, None, is_none, Result, Ok, Err, ⊤}
+use Rattle.std.specs.Prelude.{List, [], ◌∷◌, ◌++◌, Option, Some, None, is_none, Result, Ok, Err, ⊤}
 use Rattle.std.specs.Option.{unwrap_or}
 use Rattle.a64_branches.specs.declared.class.Class.{Class}
 use Rattle.a64_branches.specs.declared.class.Class.TheVariants.{Cond, Plain, Odd}
@@ -13,6 +13,8 @@ use Rattle.etm_types.specs.declared.element.Entry.{Entry}
 use Rattle.etm_types.specs.Pre.{nothing_told}
 use Rattle.etm_types.specs.declared.walked.Walked.{Walked}
 use Rattle.etm_types.specs.declared.walked.ExcMark.{ExcMark}
+use Rattle.etm_types.specs.Walked.{items_of}
+use Rattle.etm_types.specs.declared.item.Item.{Item}
 use Rattle.etm_types.specs.declared.walk_fault.WalkFault.{WalkFault}
 use Rattle.etm_types.specs.declared.walk_fault.WalkFault.TheVariants as fault
 use Rattle.etm_types.specs.declared.context.Ctx.{Ctx}
@@ -104,6 +106,11 @@ walked_in ctx stretch = record {
   took = stretch.took;
   exc = None;
 }
+
+-- the items of atoms that show nothing else, one after the other
+abbrev pub items_in : Ctx → List Stretch → List Item
+items_in ctx [] = []
+items_in ctx (stretch ∷ run) = items_of (walked_in ctx stretch) ++ items_in ctx run
 
 -- the entry is walked
 pub record Shows (image : Image) (s : State) (entry : Entry) (walked : Walked) (after : State) : Type 0 where

@@ -1,8 +1,12 @@
 //! What most atoms show.
-ghost use Rattle.std.specs.Prelude.{◌≡◌};
+ghost use Rattle.std.specs.Prelude.{◌≡◌, ◌↔◌, ◌<◌, ◌∷◌, ◌++◌, [], IsTrue, length};
 ghost use Rattle.path_walker.specs.Walk.{walked_in};
 
 use etm_types::{Ctx, Walked};
+use std::marker::Model;
+
+/// The most stretches that are kept: a packet has no more atoms.
+const MOST: usize = 24;
 
 /// The instructions of an atom that shows nothing else. Their context is that of the walk.
 #[derive(Clone, Copy, Debug, PartialEq, Eq)]
@@ -30,5 +34,89 @@ impl Stretch {
             took: self.took,
             exc: None,
         }
+    }
+}
+
+/// The stretches of atoms that were walked one after the other, at most 24. Contracts see their list.
+#[derive(Drop)]
+pub struct Stretches {
+    all: [Stretch; MOST],
+    len: usize,
+}
+
+impl Model for Stretches {
+    ghost use Rattle.std.specs.Prelude.{◌≡◌, ◌≤◌, List, length, take};
+    ghost use Rattle.path_walker.specs.declared.stretch.Stretch.{Stretch};
+
+    ghost Value = { List Stretch };
+
+    ghost view = { λ s. take s.len s.all };
+
+    ghost invariant = { λ s. (length s.all ≡ 24) × (s.len ≤ 24) };
+}
+
+impl Stretches {
+    /// None.
+    pub fn new() -> Stretches
+        ensures { result ≡ [] }
+    {
+        Stretches {
+            all: [Stretch {
+                start: 0,
+                count: 0,
+                took: false,
+            }; MOST],
+            len: 0,
+        }
+    }
+
+    /// Forgets all.
+    #[inline(always)]
+    pub fn clear(&mut self)
+        ensures { self.new ≡ [] }
+    {
+        self.len = 0;
+    }
+
+    /// How many there are.
+    #[inline(always)]
+    pub fn len(&self) -> usize
+        ensures { result ≡ length self.now }
+    {
+        self.len
+    }
+
+    /// Whether there is none.
+    #[inline(always)]
+    pub fn is_empty(&self) -> bool
+        ensures { IsTrue result ↔ (self.now ≡ []) }
+    {
+        self.len() == 0
+    }
+
+    /// Whether one more has room.
+    #[inline(always)]
+    pub fn has_room(&self) -> bool
+        ensures { IsTrue result ↔ (length self.now < 24) }
+    {
+        self.len() < MOST
+    }
+
+    /// One more.
+    #[inline(always)]
+    pub fn push(&mut self, stretch: Stretch)
+        requires { length self.old < 24 }
+        ensures { self.new ≡ self.old ++ stretch ∷ [] }
+    {
+        self.all[self.len] = stretch;
+        self.len += 1;
+    }
+
+    /// All of them, in order.
+    #[inline(always)]
+    pub fn all(&self) -> &[Stretch]
+        ensures { result.now ≡ self.now }
+    {
+        &self.all[..self.len]
     }
 }

@@ -13,3 +13,4 @@ pub mod Quiet
 pub mod Standing
 pub mod Growing
 pub mod Examples
+pub mod Runs

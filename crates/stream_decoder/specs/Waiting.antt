@@ -4,6 +4,7 @@ use Rattle.element_queue.specs.Counting.{AreCounts, Balances, add, counts_after,
 use Rattle.element_queue.specs.Pending.{Gone, Pending, taken}
 use Rattle.element_queue.specs.Queued.{Queued, committed_by as queue_commits}
 use Rattle.element_queue.specs.declared.ledger.Counts.{Counts}
+use Rattle.etm_types.specs.Pre.{nothing_told}
 use Rattle.etm_types.specs.declared.element.Elem.{Elem}
 use Rattle.etm_types.specs.declared.element.P0.{P0}
 use Rattle.etm_types.specs.declared.element.Thing.{Thing}
@@ -37,6 +38,13 @@ committed_by w p0 = queue_commits (queue_of w) p0
 -- what became of the P0 elements, once what is due is committed
 abbrev pub counted_with : Counts → List Thing → Counts
 counted_with c due = record c { committed = add c.committed (entries due) }
+
+-- at depth 0, so many P0 elements more, at least one, are made and committed at once
+abbrev pub counts_passed : ℕ → Counts → Counts
+counts_passed n c = record c { made = add c.made n; committed = add c.committed n }
+
+abbrev pub passed : ℕ → Waiting → Waiting
+passed n w = record w { pending = record (w.pending) { pre = nothing_told }; counts = counts_passed n w.counts }
 
 -- what holds at any time
 pub record IsWaiting (w : Waiting) : Type 0 where

@@ -6,6 +6,8 @@ use Rattle.element_queue.specs.declared.ledger.Counts.{Counts}
 use Rattle.etm_types.specs.Walked.{items_of}
 use Rattle.etm_types.specs.declared.context.Ctx.{Ctx}
 use Rattle.etm_types.specs.declared.element.Elem.{Elem}
+use Rattle.etm_types.specs.declared.element.Elem.TheVariants as elem
+use Rattle.etm_types.specs.declared.element.P0.TheVariants.{Atom}
 use Rattle.etm_types.specs.declared.element.Thing.{Thing}
 use Rattle.etm_types.specs.declared.item.Item.{Item}
 use Rattle.etm_types.specs.declared.item.Item.TheVariants as item
@@ -23,8 +25,10 @@ use Rattle.path_elements.specs.Path.{unplaced}
 use Rattle.path_elements.specs.Running.{Outcome, Runs}
 use Rattle.path_text.specs.PathLines.{lines_of, shown_after_all}
 use Rattle.path_text.specs.Writing.{Writes}
-use Rattle.path_walker.specs.State.{State}
+use Rattle.path_walker.specs.State.{State, IsState}
 use Rattle.path_walker.specs.Things.{Walks}
+use Rattle.path_walker.specs.Walk.{Shows, atom_at, walked_in}
+use Rattle.path_walker.specs.declared.stretch.Stretch.{Stretch}
 use Rattle.program_image.specs.declared.image.Image.{Image}
 use Rattle.stream_decoder.specs.Decoding.{Decoding, AtRest, counted, depth_of}
 use Rattle.stream_decoder.specs.declared.found.Found.{Found}
@@ -85,6 +89,14 @@ pub record Leaves (d d' : Decoding) (thing : Option Thing) : Type 0 where
   pub commits : LeavesBy d took d'.pending (option_to_list thing ++ d'.due)
   pub counts : counted d' ≡ tally (depth_of d) d.pending (counted d) took
   pub rest : d' ≡ record d { pending = d'.pending; due = d'.due; todo = d'.todo; counts = d'.counts }
+
+-- The elements begin with atoms that were walked one after the other, each committed at once, before the first of which this address
+-- was given, where one was, and nothing before the others: these are their stretches, and the walk goes on from a state.
+abbrev pub WalksAtoms : Image → State → Option ℕ → List Elem → List Stretch → State → Type 0
+WalksAtoms image s addr elements [] s' = s' ≡ s
+WalksAtoms image s addr elements (stretch ∷ run) s' =
+    (taken : Bool) × (others : List Elem) × (next : State) × (elements ≡ elem.P0 (Atom taken) ∷ others)
+    × Shows image s (atom_at addr taken) (walked_in s.ctx stretch) next × IsState next × WalksAtoms image next None others run s'
 
 -- the next element has a fault
 pub record Refuses (d : Decoding) (f : QueueFault) : Type 0 where

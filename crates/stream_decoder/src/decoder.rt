@@ -12,6 +12,7 @@ ghost use Rattle.path_elements.specs.Path.{IsPath, IsPathTaking, unplaced};
 ghost use Rattle.path_text.specs.EndLines.{end_line};
 ghost use Rattle.path_text.specs.PathLines.{lines_of, shown_after_all};
 ghost use Rattle.path_text.specs.Writing.{Writes};
+ghost use Rattle.path_walker.specs.Walk.{items_in};
 ghost use Rattle.program_image.specs.Blocks.{HasGap};
 ghost use Rattle.program_image.specs.declared.image.Image.{Image};
 ghost use Rattle.stream_decoder.specs.Decoding.{AtRest, IsDecoding};
@@ -25,7 +26,8 @@ use crate::found::{Found, write_found};
 use element_queue::{Counts, Ledger};
 use etm_types::{Ctx, Id, Settings};
 use packet_grammar::End;
-use path_text::{AddressLine, write_end, write_walked_on};
+use path_text::{AddressLine, write_end, write_instructions, write_walked_on};
+use path_walker::Stretches;
 use program_image::Image;
 use std::alloc::{AllocError, Global};
 use std::marker::Model;
@@ -44,6 +46,8 @@ pub struct StreamDecoder {
     line: AddressLine,
     /// Whether a write failed.
     broken: bool,
+    /// The atoms that were walked last in one loop. It stands here so that it is not made anew for each byte.
+    run: Stretches,
 }
 
 impl Model for StreamDecoder {
@@ -70,6 +74,7 @@ impl StreamDecoder {
             shown: None,
             line: AddressLine::new(first_id()),
             broken: false,
+            run: Stretches::new(),
         })
     }
 
@@ -106,6 +111,7 @@ impl StreamDecoder {
             &mut self.decoding,
             &mut self.shown,
             &mut self.line,
+            &mut self.run,
             image,
             sink,
         ) {
@@ -181,6 +187,7 @@ impl StreamDecoder {
             shown: _,
             line: _,
             broken: _,
+            run: _,
         } = self;
         decoding.close()
     }
@@ -207,6 +214,7 @@ fn write_rest<K: Sink>(
     decoding: &mut Decoding,
     shown: &mut Option<Ctx>,
     line: &mut AddressLine,
+    run: &mut Stretches,
     image: &Image,
     sink: &mut K,
 ) -> Result<(), Failed>
@@ -224,7 +232,7 @@ fn write_rest<K: Sink>(
     if decoding.is_at_rest() {
         return Ok(());
     }
-    write_some(decoding, shown, line, image, sink)
+    write_some(decoding, shown, line, run, image, sink)
 }
 
 /// Writes what all that is left to do shows, where some is left: as much as goes the short way; where that ends, one thing that
@@ -234,6 +242,7 @@ fn write_some<K: Sink>(
     decoding: &mut Decoding,
     shown: &mut Option<Ctx>,
     line: &mut AddressLine,
+    run: &mut Stretches,
     image: &Image,
     sink: &mut K,
 ) -> Result<(), Failed>
@@ -250,7 +259,7 @@ fn write_some<K: Sink>(
 {
     has_gap(image);
     loop {
-        write_atoms(decoding, shown, line, image, sink)?;
+        write_atoms(decoding, shown, line, run, image, sink)?;
         if decoding.is_at_rest() {
             return Ok(());
         }
@@ -265,9 +274,38 @@ fn write_some<K: Sink>(
 }
 
 /// Writes what goes the short way: what is due, and what the next elements show, as long as these are atoms before which nothing
-/// but an address was given.
+/// but an address was given. Where each is committed as it is made, those of a packet are walked first, and then written.
 #[inline(always)]
 fn write_atoms<K: Sink>(
+    decoding: &mut Decoding,
+    shown: &mut Option<Ctx>,
+    line: &mut AddressLine,
+    run: &mut Stretches,
+    image: &Image,
+    sink: &mut K,
+) -> Result<(), Failed>
+    requires holds { IsDecoding decoding.old }
+    ensures prints { (items : List Item) × Goes image.now decoding.old items decoding.new
+        × Writes (K.state sink.old) (K.state sink.new) result (lines_of line.old.id shown.old items)
+        × IfOk result (λ done. shown.new ≡ shown_after_all shown.old items) }
+    ensures fewer { left decoding.new ≤ left decoding.old }
+    ensures stopped { AtRest decoding.old → (result ≡ Ok tt) × (decoding.new ≡ decoding.old) × (shown.new ≡ shown.old) × (sink.new ≡ sink.old) }
+    ensures cause { HasCause (K.state sink.old) (K.state sink.new) result }
+    ensures shows { ShowsAsBefore (K.state sink.old) (K.state sink.new) }
+    ensures reader { decoding.new.reader ≡ decoding.old.reader }
+    ensures id { line.new.id ≡ line.old.id }
+    ensures holds { IsDecoding decoding.new }
+{
+    decoding.next_run(image, run);
+    if run.is_empty() {
+        return write_each_atom(decoding, shown, line, image, sink);
+    }
+    write_run(line, run, &decoding.context(), shown, sink)
+}
+
+/// The same, one atom after the other.
+#[inline(always)]
+fn write_each_atom<K: Sink>(
     decoding: &mut Decoding,
     shown: &mut Option<Ctx>,
     line: &mut AddressLine,
@@ -289,6 +327,72 @@ fn write_atoms<K: Sink>(
     while let Some(stretch) = decoding.next_atom(image) {
         let walked = stretch.in_context(decoding.context());
         write_walked_on(line, &walked, shown, sink)?;
+    }
+    Ok(())
+}
+
+/// Writes the lines of a run of atoms in a context. Mostly the context is the one that was printed last.
+#[inline(always)]
+fn write_run<K: Sink>(
+    line: &mut AddressLine,
+    run: &Stretches,
+    ctx: &Ctx,
+    shown: &mut Option<Ctx>,
+    sink: &mut K,
+) -> Result<(), Failed>
+    ensures id { line.new.id ≡ line.old.id }
+    ensures lines { Writes (K.state sink.old) (K.state sink.new) result (lines_of line.old.id shown.old (items_in ctx.now run.now)) }
+    ensures shown { IfOk result (λ _. shown.new ≡ shown_after_all shown.old (items_in ctx.now run.now)) }
+{
+    if is_shown(shown, ctx) {
+        write_lines_alone(line, run, sink)
+    } else {
+        write_with_context(line, run, ctx, shown, sink)
+    }
+}
+
+/// Whether a context was printed last.
+#[inline(always)]
+fn is_shown(shown: &Option<Ctx>, ctx: &Ctx) -> bool
+    ensures { IsTrue result → shown.now ≡ Some ctx.now }
+{
+    match shown {
+        Some(last) => *last == *ctx,
+        None => false,
+    }
+}
+
+/// Writes the lines of a run of atoms in whatever context was printed last.
+#[inline(always)]
+fn write_lines_alone<K: Sink>(
+    line: &mut AddressLine,
+    run: &Stretches,
+    sink: &mut K,
+) -> Result<(), Failed>
+    ensures id { line.new.id ≡ line.old.id }
+    ensures lines { (ctx : Ctx) → Writes (K.state sink.old) (K.state sink.new) result (lines_of line.old.id (Some ctx) (items_in ctx run.now)) }
+{
+    for stretch in run.all() {
+        write_instructions(line, stretch.start, stretch.count, sink)?;
+    }
+    Ok(())
+}
+
+/// Writes the lines of a run of atoms in a context, and before them that of the context, unless it was printed last.
+#[inline(never)]
+fn write_with_context<K: Sink>(
+    line: &mut AddressLine,
+    run: &Stretches,
+    ctx: &Ctx,
+    shown: &mut Option<Ctx>,
+    sink: &mut K,
+) -> Result<(), Failed>
+    ensures id { line.new.id ≡ line.old.id }
+    ensures lines { Writes (K.state sink.old) (K.state sink.new) result (lines_of line.old.id shown.old (items_in ctx.now run.now)) }
+    ensures shown { IfOk result (λ _. shown.new ≡ shown_after_all shown.old (items_in ctx.now run.now)) }
+{
+    for stretch in run.all() {
+        write_walked_on(line, &stretch.in_context(*ctx), shown, sink)?;
     }
     Ok(())
 }

@@ -1,8 +1,9 @@
 //! One stream, from its bytes to what they show: a machine that knows no sink.
 ghost use Rattle.std.specs.Prelude.{◌≡◌, ◌<◌, ◌≤◌, ◌+◌, ◌^◌, ◌++◌, ◌∷◌, [], List, ℕ, Ok};
-ghost use Rattle.std.specs.Prelude.{Err, Some, None, IfOk, IfSome, IsErr, IsTrue, false, All, ◌↔◌, option_to_list};
+ghost use Rattle.std.specs.Prelude.{length, Err, Some, None, IfOk, IfSome, IsErr, IsTrue, false, All, ◌↔◌, option_to_list};
 ghost use Rattle.element_queue.specs.Counting.{Balances, counts_after};
 ghost use Rattle.element_queue.specs.Pending.{losing};
+ghost use Rattle.etm_types.specs.Pre.{nothing_told};
 ghost use Rattle.etm_types.specs.Walked.{items_of};
 ghost use Rattle.etm_types.specs.declared.queue_fault.QueueFault.{QueueFault};
 ghost use Rattle.etm_types.specs.declared.walk_fault.WalkFault.{WalkFault};
@@ -13,11 +14,12 @@ ghost use Rattle.packet_reader.specs.Answered.{fault_of};
 ghost use Rattle.packet_reader.specs.Stands as stands;
 ghost use Rattle.path_elements.specs.Held.{CanBeTaken};
 ghost use Rattle.path_walker.specs.Things.{IsAlignedThing, Walks};
-ghost use Rattle.path_walker.specs.Walk.{walked_in};
+ghost use Rattle.path_walker.specs.State.{IsState};
+ghost use Rattle.path_walker.specs.Walk.{ToldIsAligned, items_in, walked_in};
 ghost use Rattle.program_image.specs.declared.image.Image.{Image};
 ghost use Rattle.stream_decoder.specs.Decoding.{AtRest, Begins, IsDecoding};
 ghost use Rattle.stream_decoder.specs.Stands.{end_at};
-ghost use Rattle.stream_decoder.specs.Yields.{Begun, Ends, Goes, Leaves, OpensPacket, Refuses, Stops, items_of_found, items_found, left};
+ghost use Rattle.stream_decoder.specs.Yields.{Begun, Ends, Goes, Leaves, OpensPacket, Refuses, Stops, WalksAtoms, items_of_found, items_found, left};
 
 use crate::found::Found;
 use crate::todo::Todo;
@@ -27,7 +29,7 @@ use etm_types::{AtomRun, Ctx, QueueFault, Settings, Thing};
 use packet_grammar::{End, Fault, Packet};
 use packet_reader::{PacketReader, Step};
 use path_elements::{Awaited, ElemMaker};
-use path_walker::{Stretch, Walker};
+use path_walker::{Stretch, Stretches, Walker};
 use program_image::Image;
 use std::alloc::{AllocError, Global};
 use std::marker::Model;
@@ -357,7 +359,46 @@ impl Decoding {
         Some(stretch)
     }
 
-    /// The context of the walk: that of the stretch that [`next_atom`](Decoding::next_atom) gave last.
+    /// Walks the next atoms, where nothing but an address was given before them, and each is committed as it is made: those of a packet in
+    /// one loop. Where there is none, and where the first is not walked, nothing changes: [`next_atom`](Decoding::next_atom) goes on from
+    /// there.
+    #[inline(always)]
+    pub fn next_run(&mut self, image: &Image, run: &mut Stretches)
+        ensures goes { Goes image.now self.old (items_in self.new.walk.ctx run.new) self.new }
+        ensures fewer { left self.new ≤ left self.old }
+        ensures none { run.new ≡ [] → self.new ≡ self.old }
+        ensures stopped { AtRest self.old → run.new ≡ [] }
+        ensures reader { self.new.reader ≡ self.old.reader }
+        ensures holds { IsDecoding self.new }
+    {
+        run.clear();
+        if let Some(given) = self.waiting.passing() {
+            self.walk_passing(image, given, run);
+        }
+    }
+
+    /// The same, where this address was given before the first atom, or none.
+    #[inline(always)]
+    fn walk_passing(&mut self, image: &Image, given: Option<u64>, run: &mut Stretches)
+        requires none { run.old ≡ [] }
+        requires due { self.old.due ≡ [] }
+        requires depth { self.old.reader.settings.depth ≡ 0 }
+        requires given { self.old.pending.pre ≡ record nothing_told { addr = given } }
+        ensures goes { Goes image.now self.old (items_in self.new.walk.ctx run.new) self.new }
+        ensures fewer { left self.new ≤ left self.old }
+        ensures none { run.new ≡ [] → self.new ≡ self.old }
+        ensures stopped { AtRest self.old → run.new ≡ [] }
+        ensures reader { self.new.reader ≡ self.old.reader }
+        ensures holds { IsDecoding self.new }
+    {
+        walk_run(&mut self.walker, image, &self.todo, given, run);
+        if !run.is_empty() {
+            self.waiting.pass_many(run.len() as u32);
+            self.todo.advance_by(run.len());
+        }
+    }
+
+    /// The context of the walk: that of the stretch or stretches that were given last.
     #[inline(always)]
     pub fn context(&self) -> Ctx
         ensures { result ≡ self.now.walk.ctx }
@@ -533,5 +574,35 @@ impl Decoding {
             fault: _,
         } = self;
         waiting.close()
+    }
+}
+
+/// Walks the atoms that are next, one after the other, as far as each shows a stretch: before the first this address was given, where
+/// one was, and nothing before the others.
+#[inline(always)]
+fn walk_run(
+    walker: &mut Walker,
+    image: &Image,
+    todo: &Todo,
+    given: Option<u64>,
+    run: &mut Stretches,
+)
+    requires aligned { ToldIsAligned given }
+    requires none { run.old ≡ [] }
+    ensures walks { WalksAtoms image.now walker.old given todo.now.elements run.new walker.new }
+    ensures few { length run.new ≤ 24 }
+    ensures context { walker.new.ctx ≡ walker.old.ctx }
+    ensures unchanged { run.new ≡ [] → walker.new ≡ walker.old }
+{
+    let mut addr = given;
+    while run.has_room() {
+        let Some(taken) = todo.atom(run.len()) else {
+            return;
+        };
+        let Some(stretch) = walker.walk_atom(image, addr, taken) else {
+            return;
+        };
+        run.push(stretch);
+        addr = None;
     }
 }

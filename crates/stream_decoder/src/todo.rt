@@ -1,5 +1,5 @@
 //! The elements of a packet that are still to be taken.
-ghost use Rattle.std.specs.Prelude.{◌≡◌, ◌∷◌, [], ◌↔◌, Bool, IfSome, IsSome, IsTrue, List, Some, None};
+ghost use Rattle.std.specs.Prelude.{◌≡◌, ◌≤◌, ◌<◌, ◌∷◌, [], ◌↔◌, drop, length, slice_get, Bool, IfSome, IsSome, IsTrue, List, Some, None};
 ghost use Rattle.etm_types.specs.declared.element.Elem.TheVariants as elem;
 ghost use Rattle.etm_types.specs.declared.element.P0.TheVariants.{Atom};
 
@@ -77,6 +77,26 @@ impl Todo {
         ensures some { IsSome result ↔ ((taken : Bool) × (others : List Elem) × (self.now.elements ≡ elem.P0 (Atom taken) ∷ others)) }
     {
         self.elems.atom(self.next)
+    }
+
+    /// The atom that stands so many places behind the next one, where an atom of a run of atoms stands there.
+    #[inline(always)]
+    pub fn atom(&self, k: usize) -> Option<bool>
+        ensures { IfSome result (λ taken. slice_get self.now.elements k ≡ Some (elem.P0 (Atom taken))) }
+    {
+        let place = self.next.checked_add(k)?;
+        self.elems.atom(place)
+    }
+
+    /// So many are taken.
+    #[inline(always)]
+    pub fn advance_by(&mut self, n: usize)
+        requires { n ≤ length self.old.elements }
+        ensures { self.new ≡ record (self.old) { elements = drop n self.old.elements } }
+    {
+        if n <= self.elems.len() - self.next {
+            self.next += n;
+        }
     }
 
     /// How many the next one commits, where it is a commit and the first of its packet.

@@ -11,7 +11,8 @@ ghost use Rattle.etm_types.specs.declared.element.P0.{P0};
 ghost use Rattle.etm_types.specs.declared.element.Thing.TheVariants.{Seen};
 ghost use Rattle.etm_types.specs.declared.element.Thing.{Thing};
 ghost use Rattle.etm_types.specs.declared.queue_fault.QueueFault.{QueueFault};
-ghost use Rattle.stream_decoder.specs.Waiting.{Commits, IsWaiting, committed_by};
+ghost use Rattle.stream_decoder.specs.Waiting.{Commits, IsWaiting, committed_by, passed};
+ghost use Rattle.etm_types.specs.Pre.{nothing_told};
 
 use element_queue::{AtomEntry, Committed, Counts, Ledger, PreElem, Queue};
 use etm_types::{Elem, P0, QueueFault, Thing};
@@ -110,6 +111,30 @@ impl Waiting {
         ensures holds { IsWaiting self.new }
     {
         self.queue.push(P0::Atom(taken));
+    }
+
+    /// The address that was given before the next P0 element, where one was, if each is committed as it is made, nothing is due and
+    /// nothing else was given before it.
+    #[inline(always)]
+    pub fn passing(&self) -> Option<Option<u64>>
+        ensures { IfSome result (λ addr. (self.now.due ≡ []) × (self.now.depth ≡ 0)
+            × (self.now.pending.pre ≡ record nothing_told { addr = addr })) }
+    {
+        if self.due > 0 {
+            return None;
+        }
+        self.queue.passing()
+    }
+
+    /// So many P0 elements more, each committed as it is made.
+    #[inline(always)]
+    pub fn pass_many(&mut self, n: u32)
+        requires due { self.old.due ≡ [] }
+        requires depth { self.old.depth ≡ 0 }
+        ensures value { self.new ≡ passed n self.old }
+        ensures holds { IsWaiting self.new }
+    {
+        self.queue.pass_many(n);
     }
 
     /// Whether one P0 element more commits nothing: nothing is due, and there is room for it.

@@ -2,7 +2,7 @@ use Rattle.std.proofs.Common.{◌≡◌, ◌≤◌}
 use Rattle.stream_decoder.specs.Decoding.{AtRest, IsDecoding}
 use Rattle.stream_decoder.specs.Yields.{left}
 use Rattle.stream_decoder.proofs.Printing.{Printed}
-use Rattle.stream_decoder.proofs.decoder.write_atoms.Given as goal
+use Rattle.stream_decoder.proofs.decoder.write_each_atom.Given as goal
 
 abbrev pub decreases-loop-stretch : goal.decreases-loop-stretch
 decreases-loop-stretch g l = left l.decoding
