@@ -1,0 +1,11 @@
+pub mod Steps
+pub mod Fronts
+pub mod LevelSums
+pub mod Rounds
+pub mod Rings
+pub mod Stretches
+pub mod Points
+pub mod Kth
+pub mod Counted
+pub mod TextSteps
+pub mod Examples
