@@ -1,15 +1,20 @@
 -- Timestamps, marks and lines worked out by hand, and what wrong rules would give.
-use Rattle.std.proofs.Common.{◌≡◌, ℕ, ◌+◌, ◌*◌, true, false, List, [], ◌∷◌, ◌++◌, length, map, Some, None, refl, ap, arith}
+use Rattle.std.proofs.Common.{◌≡◌, ℕ, ◌+◌, ◌*◌, ◌<◌, true, false, List, [], ◌∷◌, ◌++◌, length, map, Some, None, refl, ap, arith}
 use Rattle.std.specs.Prelude.{codes, get_or}
+use Rattle.std.proofs.lemmas.List.Elements.{All-head}
 use Rattle.etm_types.specs.declared.address.AddrForm.TheVariants.{Short1}
 use Rattle.packet_grammar.specs.declared.packet.Packet.{Packet}
 use Rattle.packet_grammar.specs.declared.packet.Packet.TheVariants as packet
 use Rattle.packet_grammar.specs.declared.stream_fault.Fault.TheVariants.{AddressAwaited, Queue}
 use Rattle.etm_types.specs.declared.queue_fault.QueueFault.TheVariants.{CancelOverrun}
+use Rattle.path_elements.specs.Elements.{untold}
 use Rattle.path_text.specs.Lines.{in_base}
+use Rattle.time_marks.specs.MarkLaws.{stamps_of}
+use Rattle.time_marks.specs.Runs.{AreRuns, marks_of}
 use Rattle.time_marks.specs.Stamps.{Stamp, stamp_after, with_low}
 use Rattle.time_marks.specs.TimeLines.{time_line}
 use Rattle.time_marks.specs.Times.{times_of}
+use Rattle.time_marks.specs.declared.marks.Run.{Run}
 use Rattle.time_marks.specs.declared.time_line.TimeLine.{TimeLine}
 use Rattle.time_marks.specs.declared.time_line.TimeLine.TheVariants.{Event, P0}
 
@@ -100,6 +105,29 @@ before_any_info = refl
 pub others_keep_it : stamp_after true (Some 5) packet.Overflow ≡ Some 5
 others_keep_it = refl
 
+-- ---- the timestamps of P0 elements
+
+abbrev stamps : List Packet → List Stamp
+stamps packets = stamps_of untold None (at_zero packets)
+
+abbrev stamp_codes : List Stamp → List ℕ
+stamp_codes marks = map stamp_code marks
+
+pub those_of_one_packet : stamps (info ∷ atom ∷ time 5 ∷ atoms_3 ∷ time 6 ∷ atom ∷ commit 5 ∷ []) ≡ None ∷ Some 5 ∷ Some 5 ∷ Some 5 ∷ Some 6 ∷ []
+those_of_one_packet = refl
+
+pub that_of_one_cancelled : stamps (info ∷ time 5 ∷ atom ∷ time 6 ∷ atom ∷ cancel 1 ∷ time 7 ∷ atom ∷ []) ≡ Some 5 ∷ Some 6 ∷ Some 7 ∷ []
+that_of_one_cancelled = refl
+
+pub that_of_an_address : stamps (info ∷ time 5 ∷ exception ∷ time 6 ∷ address ∷ time 7 ∷ []) ≡ Some 6 ∷ []
+that_of_an_address = refl
+
+pub none_before_an_info : stamps (atom ∷ time 5 ∷ info ∷ atom ∷ []) ≡ None ∷ []
+none_before_an_info = refl
+
+pub not_that_of_the_commit : stamps (info ∷ time 5 ∷ atom ∷ time 6 ∷ commit 1 ∷ []) ≡ Some 6 ∷ [] → ⊥
+not_that_of_the_commit e = absurd (omega (arith, ap (λ (marks : List Stamp). get_or (stamp_codes marks) 0 0) e))
+
 -- ---- cancels
 
 -- two atoms at 5, both cancelled, and two at 9
@@ -140,6 +168,10 @@ not_that_of_the_flip e = absurd (omega (arith, ap (code_at 0) e))
 -- an overflow keeps the timestamp, and the gap has no number
 pub over_a_gap : printed 4 (info ∷ time 5 ∷ atom ∷ atom ∷ commit 1 ∷ packet.Overflow ∷ atom ∷ commit 1 ∷ []) ≡ P0 0 (Some 5) ∷ []
 over_a_gap = refl
+
+-- what a discard loses goes with its mark
+pub over_a_discard : printed 4 (info ∷ time 5 ∷ atom ∷ packet.Discard ∷ time 6 ∷ atom ∷ commit 1 ∷ []) ≡ P0 0 (Some 6) ∷ []
+over_a_discard = refl
 
 abbrev with_a_second_info : List Packet
 with_a_second_info = info ∷ time 5 ∷ atom ∷ atom ∷ commit 1 ∷ packet.Async ∷ info ∷ atom ∷ commit 2 ∷ []
@@ -219,6 +251,10 @@ lines_before_a_fault = refl
 pub the_fault : (times_of 4 with_a_fault).fault ≡ Some (21, Queue (CancelOverrun 9 1))
 the_fault = refl
 
+-- the first one of a packet, whose flip would have another
+pub the_first_fault : (times_of 4 ((12, info) ∷ (15, packet.Cancel 9 true) ∷ [])).fault ≡ Some (15, Queue (CancelOverrun 9 0))
+the_first_fault = refl
+
 -- and so within a packet: what its first elements commit is printed
 pub within_a_packet : printed 1 (info ∷ time 5 ∷ atom ∷ packet.Cancel2 (record { count = 1; first = true }) ∷ []) ≡ P0 0 (Some 5) ∷ []
 within_a_packet = refl
@@ -228,6 +264,32 @@ an_address_is_awaited = refl
 
 pub events_behind_a_fault : printed 4 (info ∷ packet.Event 1 ∷ flip ∷ packet.Event 2 ∷ []) ≡ Event 1 None ∷ []
 events_behind_a_fault = refl
+
+-- ---- marks that are held
+
+-- so many of each, oldest first; the runs of a mark that comes back stand apart
+abbrev of_5 : ℕ → Run
+of_5 count = record { stamp = 5; known = true; count = count }
+
+abbrev of_none : ℕ → Run
+of_none count = record { stamp = 5; known = false; count = count }
+
+pub as_often_as_counted : marks_of (of_5 2 ∷ of_none 1 ∷ of_5 1 ∷ []) ≡ Some 5 ∷ Some 5 ∷ None ∷ Some 5 ∷ []
+as_often_as_counted = refl
+
+pub not_once_for_each_run : marks_of (of_5 2 ∷ of_none 1 ∷ of_5 1 ∷ []) ≡ Some 5 ∷ None ∷ Some 5 ∷ [] → ⊥
+not_once_for_each_run e = absurd (omega (arith, ap (λ (marks : List Stamp). length marks) e))
+
+pub not_joined : marks_of (of_5 2 ∷ of_none 1 ∷ of_5 1 ∷ []) ≡ Some 5 ∷ Some 5 ∷ Some 5 ∷ None ∷ [] → ⊥
+not_joined e = absurd (omega (arith, ap (λ (marks : List Stamp). get_or (map stamp_code marks) 2 0) e))
+
+-- a timestamp that is not known is none, whatever number stands there
+pub not_known : marks_of (of_none 1 ∷ []) ≡ Some 5 ∷ [] → ⊥
+not_known e = absurd (omega (arith, ap (λ (marks : List Stamp). get_or (map stamp_code marks) 0 0) e))
+
+-- one that counts no mark is no run
+pub none_is_no_run : AreRuns (of_5 0 ∷ []) → ⊥
+none_is_no_run are = absurd (omega (arith, All-head (λ (run : Run). 0 < run.count) (of_5 0) [] are))
 
 -- ---- texts
 

@@ -1,5 +1,5 @@
 -- Each P0 element has its own mark.
-use Rattle.std.proofs.Common.{◌≡◌, ℕ, zero, suc, ◌+◌, ◌-◌, ◌≤◌, Bool, true, false, if◌then◌else◌, List, [], ◌∷◌, ◌++◌, length, take}
+use Rattle.std.proofs.Common.{◌≡◌, ℕ, zero, suc, ◌+◌, ◌-◌, ◌≤◌, Bool, true, false, if◌then◌else◌, List, [], ◌∷◌, ◌++◌, length, map, take}
 use Rattle.std.proofs.Common.{drop, replicate, Option, Some, None, Result, Ok, Err}
 use Rattle.std.proofs.Common.{refl, ap, sym, ◌∙◌, subst, arith, append-nil, append_assoc, length-append, length-drop}
 use Rattle.std.specs.Prelude.{nat_le, ◌==◌, not, slice_get}
@@ -55,7 +55,7 @@ module _ (p0s : List P0) where
   carry_others (Gap ∷ xs) ys ms c = carry_others xs ys ms c
   carry_others (Stop ∷ xs) ys ms c = carry_others xs ys ms c
 
-  carry_count : (xs : List Thing) (ms : List Stamp) → CarryOwn p0s xs ms → length ms ≡ entries xs
+  pub carry_count : (xs : List Thing) (ms : List Stamp) → CarryOwn p0s xs ms → length ms ≡ entries xs
   carry_count [] [] c = refl
   carry_count [] (m ∷ ms) c = absurd c
   carry_count (Seen e ∷ xs) (Some n ∷ ms) c = ap suc (carry_count xs ms c.1)
@@ -64,6 +64,17 @@ module _ (p0s : List P0) where
   carry_count (Unseen ∷ xs) ms c = carry_count xs ms c
   carry_count (Gap ∷ xs) ms c = carry_count xs ms c
   carry_count (Stop ∷ xs) ms c = carry_count xs ms c
+
+  -- these are numbers
+  pub carry_numbers : (xs : List Thing) (ms : List Stamp) → CarryOwn p0s xs ms → (ns : List ℕ) × (ms ≡ map Some ns)
+  carry_numbers [] [] c = ([], refl)
+  carry_numbers [] (m ∷ ms) c = absurd c
+  carry_numbers (Seen e ∷ xs) (Some n ∷ ms) c = let later = carry_numbers xs ms c.1 in (n ∷ later.0, ap (λ (l : List Stamp). Some n ∷ l) later.1)
+  carry_numbers (Seen e ∷ xs) (None ∷ ms) c = absurd c
+  carry_numbers (Seen e ∷ xs) [] c = absurd c
+  carry_numbers (Unseen ∷ xs) ms c = carry_numbers xs ms c
+  carry_numbers (Gap ∷ xs) ms c = carry_numbers xs ms c
+  carry_numbers (Stop ∷ xs) ms c = carry_numbers xs ms c
 
   carry_unseen : (n : ℕ) → CarryOwn p0s (replicate n Unseen) []
   carry_unseen zero = tt
@@ -190,12 +201,12 @@ abbrev p0_of : Elem → List P0
 p0_of (elem.P0 p0) = p0 ∷ []
 p0_of e = []
 
-get_more : (xs ys : List P0) (k : ℕ) (x : P0) → slice_get xs k ≡ Some x → slice_get (xs ++ ys) k ≡ Some x
+pub get_more : {A : Type 0} (xs ys : List A) (k : ℕ) (x : A) → slice_get xs k ≡ Some x → slice_get (xs ++ ys) k ≡ Some x
 get_more [] ys k x is = absurd cc
 get_more (y ∷ xs) ys zero x is = is
 get_more (y ∷ xs) ys (suc k) x is = get_more xs ys k x is
 
-get_last : (xs : List P0) (x : P0) → slice_get (xs ++ x ∷ []) (length xs) ≡ Some x
+pub get_last : {A : Type 0} (xs : List A) (x : A) → slice_get (xs ++ x ∷ []) (length xs) ≡ Some x
 get_last [] x = refl
 get_last (y ∷ xs) x = get_last xs x
 
@@ -217,7 +228,7 @@ may_self (Exc kind ret) = (refl, refl)
 
 -- ---- numbers rise
 
-rise_first : (low high : ℕ) (xs ys : List Stamp) → Rise low (xs ++ ys) high → Rise low xs high
+pub rise_first : (low high : ℕ) (xs ys : List Stamp) → Rise low (xs ++ ys) high → Rise low xs high
 rise_first low high [] ys rise = within low ys rise
   where
     within : (low : ℕ) (ys : List Stamp) → Rise low ys high → low ≤ high

@@ -1,5 +1,7 @@
+pub mod Frequent
 pub mod MarkLaws
 pub mod Marked
+pub mod Runs
 pub mod Stamps
 pub mod TimeLaws
 pub mod TimeLines

@@ -1,12 +1,15 @@
 -- What holds of the times that are printed of streams, as a whole.
-use Rattle.std.specs.Prelude.{◌≡◌, ◌≤◌, ℕ, All, Bool, false, List, [], ◌∷◌, ◌++◌, length}
+use Rattle.std.specs.Prelude.{◌≡◌, ◌≤◌, ℕ, All, Bool, false, List, [], ◌∷◌, ◌++◌, length, None}
 use Rattle.element_queue.specs.Counting.{entries}
 use Rattle.etm_types.specs.Id.{IsId}
 use Rattle.etm_types.specs.Settings.{AreSettings, Sizes}
 use Rattle.etm_types.specs.declared.element.Elem.{Elem}
 use Rattle.etm_types.specs.declared.item.Item.{Item}
+use Rattle.packet_grammar.specs.Parsed.{Ending, IsStream}
 use Rattle.packet_grammar.specs.declared.end.End.{End}
-use Rattle.path_elements.specs.Path.{IsPathTaking, WalksAll}
+use Rattle.packet_grammar.specs.declared.packet.Packet.{Packet}
+use Rattle.path_elements.specs.Elements.{untold}
+use Rattle.path_elements.specs.Path.{IsPathTaking, WalksAll, unplaced}
 use Rattle.path_elements.specs.PathLaws.{BeginsWith}
 use Rattle.path_text.specs.EndLines.{end_line}
 use Rattle.path_text.specs.Lines.{IsLine}
@@ -14,6 +17,7 @@ use Rattle.program_image.specs.declared.image.Image.{Image}
 use Rattle.stream_decoder.specs.Stands.{shows_walk_fault}
 use Rattle.stream_demux.specs.Laws.{HasByte, lines_with}
 use Rattle.stream_demux.specs.Texts.{BodyFrom, IsText, Printed, by_sizes, lines_under, of}
+use Rattle.time_marks.specs.MarkLaws.{HaveOwnStamps, stamps_of}
 use Rattle.time_marks.specs.TimeLines.{time_lines}
 use Rattle.time_marks.specs.TimeList.{IsTimes, times}
 use Rattle.time_marks.specs.Times.{Times}
@@ -59,19 +63,24 @@ EachTimeIsALine =
 
 -- ---- the P0 elements that are numbered
 
--- Of the elements that a path took, these have no fault, and one behind them may have one. What they committed is walked to these items,
--- and there is one mark for each P0 element in it that was seen.
-pub record Numbers (image : Image) (depth : ℕ) (items : List Item) (took : List (ℕ × Elem)) (t : Times) : Type 0 where
+-- Of the elements that a path took, these have no fault, and one behind them may have one. What they committed is walked to these items, and each
+-- P0 element in it that was seen has, one for one, the timestamp of its own packet.
+pub record Numbers (image : Image) (s : Sizes) (bytes : List ℕ) (items : List Item) (took : List (ℕ × Elem)) (t : Times) : Type 0 where
   pub front : List (ℕ × Elem)
   pub rest : List (ℕ × Elem)
   pub parts : took ≡ front ++ rest
   pub few : length rest ≤ 1
-  pub walks : WalksAll image depth front items
+  pub walks : WalksAll image s.depth front items
   pub each : length t.done ≡ entries ((walks.resolved).done)
+  pub packets : List (ℕ × Packet)
+  pub ending : Ending
+  pub stream : IsStream s bytes packets ending
+  pub own : HaveOwnStamps s.depth (unplaced front) (stamps_of untold None packets) ((walks.resolved).done) t.done
 
--- so as long as the walk of a path meets no fault, the P0 elements that are numbered are those whose items the path shows, and both end alike
+-- so as long as the walk of a path meets no fault, the P0 elements that are numbered are those whose items the path shows, in their order, each with
+-- the timestamp of its own packet, and both end alike
 abbrev pub TimesNumberPaths : Type 0
 TimesNumberPaths =
     (image : Image) (s : Sizes) → AreSettings s → (bytes : List ℕ) (items : List Item) (last other : End) (took : List (ℕ × Elem)) (t : Times)
     → IsPathTaking image s bytes items last took → shows_walk_fault last ≡ false → IsTimes s bytes t other
-    → (last ≡ other) × Numbers image s.depth items took t
+    → (last ≡ other) × Numbers image s bytes items took t

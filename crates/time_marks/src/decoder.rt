@@ -1,5 +1,5 @@
 //! One stream, from its bytes to the lines of its events and of its P0 elements.
-ghost use Rattle.std.specs.Prelude.{◌≡◌, ◌≤◌, ◌<◌, ◌+◌, ◌^◌, ◌++◌, ◌∷◌, ◌↔◌, ◌==◌, [], ℕ, List, true, false, None, Some, Ok, IfOk, IsErr};
+ghost use Rattle.std.specs.Prelude.{◌≡◌, ◌≤◌, ◌<◌, ◌+◌, ◌^◌, ◌++◌, ◌∷◌, ◌↔◌, ◌==◌, [], ℕ, List, true, false, None, Some, Ok, IfOk, IfSome, IsErr};
 ghost use Rattle.std.specs.Prelude.{IsOk, IsTrue, length, not};
 ghost use Rattle.std.specs.Prelude.{if◌then◌else◌};
 ghost use Rattle.std.specs.List.{concat};
@@ -8,14 +8,17 @@ ghost use Rattle.element_queue.specs.Pending.{losing};
 ghost use Rattle.packet_grammar.specs.Ends.{is_fault};
 ghost use Rattle.packet_grammar.specs.declared.end.End.{End};
 ghost use Rattle.packet_grammar.specs.declared.stream_fault.Fault.{Fault};
+ghost use Rattle.packet_reader.specs.Stands.{TakesPacket};
 ghost use Rattle.path_text.specs.EndLines.{end_line};
 ghost use Rattle.path_text.specs.Writing.{Writes};
+ghost use Rattle.time_marks.specs.Frequent.{IsReady, packet_of};
 ghost use Rattle.time_marks.specs.Timed.{StandsAt};
 ghost use Rattle.time_marks.specs.TimeList.{IsTimes, TimesGains, TimesTallies};
 ghost use Rattle.time_marks.specs.Times.{Times};
 ghost use Rattle.trace_io.specs.Bytes.{ShowsAsBefore};
 ghost use Rattle.trace_io.specs.Causes.{HasCause};
 
+use crate::frequent::{Frequent, take_frequent};
 use crate::timing::Timing;
 use element_queue::{Counts, Ledger};
 use etm_types::{Id, Settings};
@@ -65,7 +68,41 @@ impl TimedDecoder {
 
     /// Takes the next byte, and writes the lines that it adds. Behind a fault of the stream no line comes any more. The error means that
     /// a write failed; then the decoder is broken.
+    ///
+    /// Most packets are atoms or short commits: these go a short way.
+    #[inline(always)]
     pub fn take<K: Sink>(&mut self, id: Id, byte: u8, sink: &mut K) -> Result<(), Failed>
+        requires whole { self.old.broken ≡ false }
+        requires few { self.old.reader.taken < 2 ^ 62 }
+        ensures stands { IsOk result → (bytes : List ℕ) → StandsAt self.old bytes → StandsAt self.new (bytes ++ byte ∷ []) }
+        ensures gains { (bytes : List ℕ) → StandsAt self.old bytes
+            → (lines : List (List ℕ)) × TimesGains self.old.reader.settings id bytes byte lines
+            × Writes (K.state sink.old) (K.state sink.new) result (concat lines) }
+        ensures stopped { (stop : ℕ × Fault) → self.old.timing.line.fault ≡ Some stop
+            → (result ≡ Ok tt) × (sink.new ≡ sink.old) × (self.new ≡ record (self.old) { reader = self.new.reader }) }
+        ensures cause { HasCause (K.state sink.old) (K.state sink.new) result }
+        ensures shows { ShowsAsBefore (K.state sink.old) (K.state sink.new) }
+        ensures broken { IsTrue self.new.broken ↔ IsErr result }
+        ensures taken { self.new.reader.taken ≡ self.old.reader.taken + 1 }
+        ensures settings { self.new.reader.settings ≡ self.old.reader.settings }
+        ensures marks { length self.new.timing.line.queue.marks ≡ entries self.new.timing.line.queue.pending.held }
+        ensures balanced { Balances self.new.timing.line.queue.counts (entries self.new.timing.line.queue.pending.held) }
+        ensures most { length self.new.timing.line.queue.pending.held ≤ self.new.reader.settings.depth }
+    {
+        let Some((at, packet)) = next_frequent(&self.timing, &mut self.reader, byte) else {
+            return self.take_any(id, byte, sink);
+        };
+        match self.timing.take_frequent(id, at, packet, sink) {
+            Ok(()) => Ok(()),
+            Err(failed) => {
+                self.broken = true;
+                Err(failed)
+            }
+        }
+    }
+
+    /// The same, of any byte.
+    fn take_any<K: Sink>(&mut self, id: Id, byte: u8, sink: &mut K) -> Result<(), Failed>
         requires whole { self.old.broken ≡ false }
         requires few { self.old.reader.taken < 2 ^ 62 }
         ensures stands { IsOk result → (bytes : List ℕ) → StandsAt self.old bytes → StandsAt self.new (bytes ++ byte ∷ []) }
@@ -163,6 +200,21 @@ impl TimedDecoder {
             Some((at, fault)) => End::Fault { at, fault },
             None => self.reader.end_without_fault(),
         }
+    }
+}
+
+/// Takes the next byte where it ends a packet that goes the short way, and gives the packet with its offset. Else nothing changes.
+#[inline(always)]
+fn next_frequent(timing: &Timing, reader: &mut PacketReader, byte: u8) -> Option<(u64, Frequent)>
+    requires { reader.old.taken < 2 ^ 62 }
+    ensures none { result ≡ None → reader.new ≡ reader.old }
+    ensures ready { IfSome result (λ found. IsReady timing.now) }
+    ensures takes { IfSome result (λ found. TakesPacket reader.old reader.new (byte ∷ []) found.0 (packet_of found.1)) }
+{
+    if timing.is_ready() {
+        take_frequent(reader, byte)
+    } else {
+        None
     }
 }
 

@@ -22,8 +22,9 @@ pub fn marks_are_those_of_p0_elements()
     ensures { MarksAreOwn }
 {}
 
-/// As long as the walk of a stream's path meets no fault, the P0 elements that have a number are those whose items the path shows, and
-/// both end alike.
+/// As long as the walk of a stream's path meets no fault, the P0 elements that have a number are, one for one and in order, those that were
+/// seen and from which the items of the path are walked. Each has the timestamp behind the packet of its own P0 element, among those of the
+/// stream's packets; an atom may have been flipped since. And both end alike.
 pub fn times_number_what_a_path_shows()
     ensures { TimesNumberPaths }
 {}

@@ -10,17 +10,20 @@
 //!   (`specs/TimeList.antt`).
 //! - [`TimedDecoder`], on which it stands, a `Stream`: it takes a byte a call, and writes the lines that the byte adds.
 //! - the laws: [`times_have_one_text`], of any input; [`marks_are_those_of_p0_elements`], that each P0 element has the mark of its own
-//!   packet; and [`times_number_what_a_path_shows`], that the numbers count what `path` shows.
+//!   packet; and [`times_number_what_a_path_shows`], that what has a number is what `path` shows, with the timestamp of its own packet.
 //!
 //! The definition is `specs/Times.antt`: what the packets of a stream come to, one after the other. Of the code a `MarkedQueue` holds the
-//! P0 elements and their marks, a `Timeline` goes through the elements of a packet, and a `Timing` writes.
+//! P0 elements and their `Marks`, a `Timeline` goes through the elements of a packet, and a `Timing` writes. Packets that are `Frequent` go a
+//! short way.
 //!
 //! All memory is taken by the two `new`.
 #![tactic(auto)]
 
 mod decoder;
+mod frequent;
 mod laws;
 mod marked;
+mod marks;
 mod shown;
 mod stamp;
 mod streams;

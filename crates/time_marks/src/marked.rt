@@ -1,5 +1,5 @@
 //! The P0 elements that are not committed, with their marks.
-ghost use Rattle.std.specs.Prelude.{◌≡◌, ◌≤◌, ◌-◌, ◌++◌, ◌∷◌, [], true, length, take, IfOk, IsOk, IsErr, Err, option_to_list};
+ghost use Rattle.std.specs.Prelude.{◌≡◌, ◌≤◌, ◌++◌, ◌∷◌, [], true, length, IfOk, IsOk, IsErr, Err, option_to_list};
 ghost use Rattle.element_queue.specs.Counting.{Balances, counts_after};
 ghost use Rattle.element_queue.specs.Pending.{losing, taken};
 ghost use Rattle.etm_types.specs.declared.element.Elem.TheVariants as elem;
@@ -7,10 +7,10 @@ ghost use Rattle.etm_types.specs.declared.queue_fault.QueueFault.{QueueFault};
 ghost use Rattle.time_marks.specs.Marked.{IsMarked, IsQuiet, MayCome, Moves, less, nothing_marked, out_first};
 ghost use Rattle.time_marks.specs.Stamps.{Stamp};
 
+use crate::marks::Marks;
 use crate::time_line::Stamp;
 use element_queue::{Committed, Counts, Ledger, PreElem, Queue};
 use etm_types::{Elem, P0, QueueFault};
-use spend_ring::SpendRing;
 use std::alloc::{AllocError, Global};
 use std::marker::Model;
 
@@ -20,7 +20,7 @@ use std::marker::Model;
 #[must_use]
 pub struct MarkedQueue {
     queue: Queue,
-    marks: SpendRing<Stamp>,
+    marks: Marks,
     /// Whether a trace info was taken.
     informed: bool,
 }
@@ -44,7 +44,7 @@ impl MarkedQueue {
         ensures holds { IfOk result IsMarked }
     {
         let queue = Queue::new(alloc, depth)?;
-        match SpendRing::with_capacity(alloc, depth as usize) {
+        match Marks::with_capacity(alloc, depth) {
             Ok(marks) => Ok(MarkedQueue {
                 queue,
                 marks,
@@ -142,7 +142,7 @@ impl MarkedQueue {
         ensures holds { IsMarked self.new }
     {
         self.queue.cancel(n)?;
-        drop_newest(&mut self.marks, n);
+        self.marks.drop_newest(n);
         Ok(())
     }
 
@@ -163,7 +163,7 @@ impl MarkedQueue {
         ensures holds { IsMarked self.new }
     {
         self.queue.discard();
-        drop_all(&mut self.marks);
+        self.marks.clear();
     }
 
     /// What became of the P0 elements.
@@ -184,28 +184,8 @@ impl MarkedQueue {
             mut marks,
             informed: _,
         } = self;
-        drop_all(&mut marks);
+        marks.clear();
         marks.close();
         queue.close()
     }
-}
-
-/// Takes the `n` newest marks out, or all.
-fn drop_newest(marks: &mut SpendRing<Stamp>, n: u32)
-    ensures items { marks.new.items ≡ take (length marks.old.items - n) marks.old.items }
-    ensures capacity { marks.new.capacity ≡ marks.old.capacity }
-{
-    let mut left = marks.len().min(n as usize);
-    while left > 0 {
-        marks.pop_back();
-        left -= 1;
-    }
-}
-
-/// Takes all marks out.
-fn drop_all(marks: &mut SpendRing<Stamp>)
-    ensures items { marks.new.items ≡ [] }
-    ensures capacity { marks.new.capacity ≡ marks.old.capacity }
-{
-    while let Some(_mark) = marks.pop_front() {}
 }

@@ -26,6 +26,7 @@ impl Shown {
     }
 
     /// One more is committed, with this mark. It has a line where it is the first, and where its mark is not that of the one before it.
+    #[inline(always)]
     pub fn next(&mut self, mark: Stamp) -> Option<TimeLine>
         ensures line { result ≡ mark_line self.old mark }
         ensures next { (done : List Stamp) → self.old ≡ shown_of done → self.new ≡ shown_of (done ++ mark ∷ []) }
@@ -46,6 +47,7 @@ impl Shown {
 }
 
 /// Whether a mark is another one than that before it.
+#[inline(always)]
 fn is_new(last: Option<Stamp>, mark: Stamp) -> bool
     ensures { result ≡ is_new last mark }
 {

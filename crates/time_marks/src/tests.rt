@@ -1,5 +1,6 @@
 //! A stream with timestamps, cancels and events, call by call.
 use super::*;
+use crate::marks::Marks;
 use element_queue::Counts;
 use etm_types::{Id, Settings, SettingsTable};
 use std::alloc::Global;
@@ -125,5 +126,36 @@ fn the_times_of_two_units(rt: HostRuntime) -> Result<(), Fail> {
         sink.written(),
         b"11 event 1 6\n10 p0 0 5\n10 p0 1 7\n11 p0 0 6\n10 end\n11 end\n".as_slice()
     );
+    Ok(())
+}
+
+#[test]
+fn marks_come_out_at_both_ends(rt: HostRuntime) -> Result<(), Fail> {
+    let mut marks = Marks::with_capacity(rt.alloc(), 5)?;
+    assert_eq!(rt; marks.push_back(Some(5)), None);
+    assert_eq!(rt; marks.push_back(Some(5)), None);
+    assert_eq!(rt; marks.push_back(None), None);
+    assert_eq!(rt; marks.push_back(Some(6)), None);
+    assert_eq!(rt; marks.push_back(Some(6)), None);
+    assert_eq!(rt; marks.push_back(Some(6)), Some(Some(5)));
+    assert_eq!(rt; marks.len(), 5);
+    marks.drop_newest(4);
+    assert_eq!(rt; marks.len(), 1);
+    assert_eq!(rt; marks.push_back(Some(7)), None);
+    assert_eq!(rt; marks.pop_front(), Some(Some(5)));
+    assert_eq!(rt; marks.pop_front(), Some(Some(7)));
+    assert_eq!(rt; marks.pop_front(), None);
+    assert_eq!(rt; marks.push_back(None), None);
+    marks.clear();
+    marks.close();
+    Ok(())
+}
+
+#[test]
+fn a_mark_that_has_no_room_is_handed_back(rt: HostRuntime) -> Result<(), Fail> {
+    let mut marks = Marks::with_capacity(rt.alloc(), 0)?;
+    assert_eq!(rt; marks.push_back(Some(5)), Some(Some(5)));
+    assert_eq!(rt; marks.len(), 0);
+    marks.close();
     Ok(())
 }

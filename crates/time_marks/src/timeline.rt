@@ -1,7 +1,9 @@
 //! The P0 elements of a stream: those that are held, with their marks, and the lines of those that are committed.
-ghost use Rattle.std.specs.Prelude.{◌≡◌, ◌++◌, ◌∷◌, [], ℕ, List, None, IfOk, IsOk, true, false, All, option_to_list};
+ghost use Rattle.std.specs.Prelude.{◌≡◌, ◌++◌, ◌∷◌, ◌≤◌, [], ℕ, List, None, IfOk, IsOk, true, false, All, option_to_list};
 ghost use Rattle.std.specs.List.{concat};
 ghost use Rattle.etm_types.specs.declared.element.Elem.TheVariants as elem;
+ghost use Rattle.etm_types.specs.Atoms.{atoms_in, most_atoms};
+ghost use Rattle.path_elements.specs.Elements.{atoms};
 ghost use Rattle.path_text.specs.Writing.{Writes};
 ghost use Rattle.time_marks.specs.Marked.{IsInfo, IsMarked, MayCome, less, nothing_marked, out_first};
 ghost use Rattle.time_marks.specs.Stamps.{Stamp};
@@ -14,7 +16,7 @@ ghost use Rattle.trace_io.specs.Causes.{HasCause};
 use crate::marked::MarkedQueue;
 use crate::shown::Shown;
 use crate::time_line::{Stamp, write_time_line};
-use etm_types::{Elem, Id, P0};
+use etm_types::{AtomRun, Elem, Id, P0};
 use packet_grammar::Fault;
 use path_elements::Elems;
 use std::alloc::{AllocError, Global};
@@ -84,6 +86,34 @@ impl Timeline {
         Ok(())
     }
 
+    /// Takes the atoms of a packet, and writes the lines of those that are committed. They have no fault.
+    #[inline(always)]
+    pub fn take_atoms<K: Sink>(
+        &mut self,
+        place: &Place,
+        run: &AtomRun,
+        sink: &mut K,
+    ) -> Result<(), Failed>
+        requires whole { self.old.fault ≡ None }
+        requires informed { self.old.queue.pending.informed ≡ true }
+        requires few { run.now.count ≤ most_atoms }
+        ensures prints { (t : Times) → IsAt self.old t → t.stamp ≡ place.now.stamp
+            → Prints place.now.id t (after_elements self.old.queue.depth place.now.at t (atoms (atoms_in run.now))) (K.state sink.old) (K.state sink.new) result
+            × (IsOk result → IsAt self.new (after_elements self.old.queue.depth place.now.at t (atoms (atoms_in run.now)))) }
+        ensures fault { self.new.fault ≡ None }
+        ensures stays { self.new.queue.pending.informed ≡ true }
+        ensures depth { self.new.queue.depth ≡ self.old.queue.depth }
+        ensures holds { IsMarked self.old.queue → IsMarked self.new.queue }
+        ensures cause { HasCause (K.state sink.old) (K.state sink.new) result }
+        ensures shows { ShowsAsBefore (K.state sink.old) (K.state sink.new) }
+    {
+        for next in 0..u32::from(run.count) {
+            let taken = (run.bits >> next) % 2 == 1;
+            self.push(place, P0::Atom(taken), sink)?;
+        }
+        Ok(())
+    }
+
     /// Takes one element.
     fn take_element<K: Sink>(
         &mut self,
@@ -116,12 +146,14 @@ impl Timeline {
     }
 
     /// Takes a P0 element.
+    #[inline(always)]
     fn push<K: Sink>(&mut self, place: &Place, p0: P0, sink: &mut K) -> Result<(), Failed>
         requires whole { self.old.fault ≡ None }
         requires informed { self.old.queue.pending.informed ≡ true }
         ensures prints { (t : Times) → IsAt self.old t → t.stamp ≡ place.now.stamp
             → Prints place.now.id t (after_element self.old.queue.depth place.now.at t (elem.P0 p0)) (K.state sink.old) (K.state sink.new) result
             × (IsOk result → IsAt self.new (after_element self.old.queue.depth place.now.at t (elem.P0 p0))) }
+        ensures fault { self.new.fault ≡ self.old.fault }
         ensures stays { self.new.queue.pending.informed ≡ true }
         ensures depth { self.new.queue.depth ≡ self.old.queue.depth }
         ensures holds { IsMarked self.new.queue }
@@ -135,7 +167,7 @@ impl Timeline {
     }
 
     /// Takes a commit of the `n` oldest.
-    fn commit<K: Sink>(&mut self, place: &Place, n: u32, sink: &mut K) -> Result<(), Failed>
+    pub fn commit<K: Sink>(&mut self, place: &Place, n: u32, sink: &mut K) -> Result<(), Failed>
         requires whole { self.old.fault ≡ None }
         ensures prints { (t : Times) → IsAt self.old t
             → Prints place.now.id t (after_element self.old.queue.depth place.now.at t (elem.Commit n)) (K.state sink.old) (K.state sink.new) result
@@ -201,6 +233,7 @@ fn commit_one<K: Sink>(
 }
 
 /// A P0 element with this mark is committed. Writes its line, where it has one.
+#[inline(always)]
 fn show<K: Sink>(shown: &mut Shown, id: Id, mark: Stamp, sink: &mut K) -> Result<(), Failed>
     ensures writes { Writes (K.state sink.old) (K.state sink.new) result (concat (time_lines id (option_to_list (mark_line shown.old mark)))) }
     ensures next { (done : List Stamp) → shown.old ≡ shown_of done → shown.new ≡ shown_of (done ++ mark ∷ []) }

@@ -1,5 +1,5 @@
 //! What the packets of a stream come to: the lines of its events and of its P0 elements.
-ghost use Rattle.std.specs.Prelude.{◌≡◌, None, Some, IfOk, IsOk, []};
+ghost use Rattle.std.specs.Prelude.{◌≡◌, ◌↔◌, None, Some, IfOk, IsOk, IsTrue, []};
 ghost use Rattle.std.specs.List.{concat};
 ghost use Rattle.element_queue.specs.Counting.{Balances, counts_after};
 ghost use Rattle.element_queue.specs.Pending.{losing};
@@ -7,6 +7,7 @@ ghost use Rattle.packet_reader.specs.Answered.{fault_after, told};
 ghost use Rattle.path_elements.specs.Elements.{untold};
 ghost use Rattle.path_elements.specs.Held.{CanBeTaken};
 ghost use Rattle.path_text.specs.Writing.{Writes};
+ghost use Rattle.time_marks.specs.Frequent.{IsReady, packet_of};
 ghost use Rattle.time_marks.specs.Marked.{IsMarked, nothing_marked};
 ghost use Rattle.time_marks.specs.Stamps.{HasStamp};
 ghost use Rattle.time_marks.specs.Timed.{HasTimes, IsInformed, Prints, fault_behind};
@@ -15,6 +16,7 @@ ghost use Rattle.time_marks.specs.Times.{Times, after_good, after_packets, event
 ghost use Rattle.trace_io.specs.Bytes.{ShowsAsBefore};
 ghost use Rattle.trace_io.specs.Causes.{HasCause};
 
+use crate::frequent::Frequent;
 use crate::stamp::stamp_after;
 use crate::time_line::{Stamp, TimeLine, write_time_line};
 use crate::timeline::{Place, Timeline};
@@ -75,6 +77,47 @@ impl Timing {
                 Ok(())
             }
             Step::Skipped | Step::More | Step::Stopped => Ok(()),
+        }
+    }
+
+    /// Whether no fault was met, and frequent packets count and may come. What a commit needs for that, all of them need.
+    #[inline(always)]
+    pub fn is_ready(&self) -> bool
+        ensures { IsTrue result ↔ IsReady self.now }
+    {
+        self.line.fault.is_none() && self.maker.commit_of(0).is_some()
+    }
+
+    /// Takes a frequent packet, and writes its lines. It has no timestamp and is no event.
+    #[inline(always)]
+    pub fn take_frequent<K: Sink>(
+        &mut self,
+        id: Id,
+        at: u64,
+        packet: Frequent,
+        sink: &mut K,
+    ) -> Result<(), Failed>
+        requires packet { CanBeTaken (packet_of packet) }
+        requires ready { IsReady self.old }
+        requires informed { IsInformed self.old }
+        ensures prints { (t : Times) → HasTimes self.old t → t.fault ≡ None
+            → Prints id t (after_good self.old.line.queue.depth t (at, packet_of packet)) (K.state sink.old) (K.state sink.new) result
+            × (IsOk result → HasTimes self.new (after_good self.old.line.queue.depth t (at, packet_of packet))
+            × (self.new.line.fault ≡ (after_good self.old.line.queue.depth t (at, packet_of packet)).fault)) }
+        ensures informed { IsOk result → IsInformed self.new }
+        ensures depth { self.new.line.queue.depth ≡ self.old.line.queue.depth }
+        ensures holds { IsMarked self.old.line.queue → IsMarked self.new.line.queue }
+        ensures cause { HasCause (K.state sink.old) (K.state sink.new) result }
+        ensures shows { ShowsAsBefore (K.state sink.old) (K.state sink.new) }
+    {
+        let place = Place {
+            id,
+            at,
+            stamp: self.stamp,
+        };
+        match packet {
+            Frequent::Atoms(run) => self.line.take_atoms(&place, &run, sink),
+            Frequent::Commit(n) => self.line.commit(&place, n, sink),
         }
     }
 

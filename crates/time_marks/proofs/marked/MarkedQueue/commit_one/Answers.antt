@@ -3,7 +3,7 @@ use Rattle.element_queue.specs.Counting.{entries}
 use Rattle.element_queue.specs.Queued.{Queued, things_of}
 use Rattle.element_queue.specs.declared.queue.Committed.{Committed}
 use Rattle.time_marks.specs.Marked.{IsMarked, marked_of}
-use Rattle.time_marks.proofs.Marks.{less_holds}
+use Rattle.time_marks.proofs.Moving.{less_holds}
 use Rattle.time_marks.proofs.marked.MarkedQueue.commit_one.Goals as goal
 
 holds : (c : goal.After-pop_front) → IsMarked (marked_of c.commit_one.new.self c.pop_front.new.self.items c.self.inside.informed)

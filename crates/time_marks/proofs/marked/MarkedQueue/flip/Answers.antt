@@ -2,7 +2,7 @@ use Rattle.std.proofs.Common.{refl, sym, subst, ◌∙◌, ap, ◌≡◌}
 use Rattle.element_queue.specs.Queued.{Queued}
 use Rattle.etm_types.specs.declared.element.Elem.TheVariants as elem
 use Rattle.time_marks.specs.Marked.{IsMarked, marked_of}
-use Rattle.time_marks.proofs.Marks.{either, flip_holds, moves_from, noted_moves}
+use Rattle.time_marks.proofs.Moving.{either, flip_holds, moves_from, noted_moves}
 use Rattle.time_marks.proofs.marked.MarkedQueue.flip.Goals as goal
 
 holds : (c : goal.After-flip) → IsMarked (marked_of c.flip.new.self c.self.inside.marks.items c.self.inside.informed)

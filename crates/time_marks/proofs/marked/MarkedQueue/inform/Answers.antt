@@ -2,7 +2,7 @@ use Rattle.std.proofs.Common.{◌≡◌, Bool, true, false, [], refl, sym, subst
 use Rattle.element_queue.specs.Queued.{IsQueued, Queued}
 use Rattle.etm_types.specs.declared.element.Elem.TheVariants as elem
 use Rattle.time_marks.specs.Marked.{IsMarked, Moves, marked_of}
-use Rattle.time_marks.proofs.Marks.{begun_queue, first_holds, first_moves, informed_queue, later_moves, moves_from}
+use Rattle.time_marks.proofs.Moving.{begun_queue, first_holds, first_moves, informed_queue, later_moves, moves_from}
 use Rattle.time_marks.proofs.marked.MarkedQueue.inform.Goals as goal
 
 -- ---- a later one

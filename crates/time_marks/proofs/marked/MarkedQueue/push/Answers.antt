@@ -3,7 +3,7 @@ use Rattle.std.specs.Prelude.{option_to_list}
 use Rattle.element_queue.specs.Queued.{things_of}
 use Rattle.etm_types.specs.declared.element.Elem.TheVariants as elem
 use Rattle.time_marks.specs.Marked.{IsMarked, Marked, Moves, marked_of}
-use Rattle.time_marks.proofs.Marks.{push_holds, push_moves}
+use Rattle.time_marks.proofs.Moving.{push_holds, push_moves}
 use Rattle.time_marks.proofs.marked.MarkedQueue.push.Goals as goal
 
 informed : (c : goal.After-push_back) → c.self.inside.informed ≡ true

@@ -4,7 +4,7 @@ use Rattle.element_queue.specs.Queued.{Takes}
 use Rattle.etm_types.specs.declared.element.Elem.TheVariants as elem
 use Rattle.stream_decoder.proofs.Waits.{takes_addr, takes_ctx, takes_on}
 use Rattle.time_marks.specs.Marked.{marked_of}
-use Rattle.time_marks.proofs.Marks.{moves_from, noted_moves}
+use Rattle.time_marks.proofs.Moving.{moves_from, noted_moves}
 use Rattle.time_marks.proofs.marked.MarkedQueue.take.Goals as goal
 
 pub returns-in-On-clause-ok : goal.returns-in-On-clause-ok
