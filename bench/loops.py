@@ -1,13 +1,16 @@
 """Captures of a few packets that are repeated, over a loop of few instructions."""
+import random
+
 MEBI = 1 << 20
 
 START = bytes(11) + b"\x80" + b"\x01\x01\x00" + b"\x04" + bytes.fromhex("85 00 08 00 00 00 00 00 00 31")
 E_ATOM = b"\xf7"
-NOP, BRANCH_TO_ITSELF = "1f2003d5", "00000014"
+NOP, BRANCH_TO_ITSELF, BRANCH_BY_REGISTER = "1f2003d5", "00000014", "00021fd6"
 MAYBE_TO_ITSELF, BRANCH_ONE_BACK, BRANCH_TWO_BACK, BRANCH_NINE_BACK = "00000054", "ffffff17", "feffff17", "f7ffff17"
 EXCEPTION = bytes.fromhex("06 1d 90 90")  # IRQ, its preferred return address, and the next address: twice the newest
 MISPREDICT = b"\x30"
 FEW_HELD, MANY_HELD = 8, 4000
+ADDRESS_SEED = 7
 
 
 def number(value):
@@ -84,6 +87,14 @@ def nothing_taken_back(words, depth):
     """Atoms that are committed for want of room, and the last ones by a packet."""
     return Kind(f"{len(words)} instructions an atom, nothing taken back", words, E_ATOM, lambda n: len(words) * n + 3, depth,
                 held=lambda n: min(n, depth))
+
+
+def new_addresses(name):
+    """Atoms over three instructions each, behind each of which the address of the next three comes, in an address packet of three bytes."""
+    rng, places = random.Random(ADDRESS_SEED), 256
+    words = [0x1000 // 4 + 3 * rng.randrange(places) for _ in range(places)]
+    packets = b"".join(E_ATOM + bytes([0x95, at & 0x7F | 0x80, at >> 7]) for at in words)
+    return Kind(name, [NOP, NOP, BRANCH_BY_REGISTER] * places, packets, lambda n: 3 * places * n + 3)
 
 
 def write_capture(path, kind, count):
