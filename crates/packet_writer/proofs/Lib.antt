@@ -6,3 +6,4 @@ pub mod Streams
 pub mod Runs
 pub mod Examples
 pub mod Zeros
+pub mod Longest

@@ -2,6 +2,7 @@
 ghost use Rattle.packet_writer.specs.Fitting.{Fits};
 
 use super::*;
+use atom_formats::atoms_of;
 use etm_types::{AddrForm, CtxBits, FewAtoms, Settings};
 use packet_grammar::Packet;
 
@@ -73,4 +74,33 @@ fn a_packet_is_written_in_its_fewest_bytes(rt: HostRuntime) {
     );
     each_packet_has_its_bytes();
     written_packets_are_read();
+}
+
+#[test]
+fn the_longest_front_is_told(rt: HostRuntime) {
+    let mut last_not = [true; 24];
+    last_not[23] = false;
+    assert_eq!(rt; longest_front(&[true; 24]), (0xd4, 24));
+    assert_eq!(rt; longest_front(&last_not), (0xf4, 24));
+    assert_eq!(rt; longest_front(&[true; 25]), (0xd4, 24));
+    assert_eq!(rt; longest_front(&[true; 3]), (0xff, 3));
+    assert_eq!(rt; longest_front(&[true, true, true, false]), (0xe0, 4));
+    assert_eq!(rt; longest_front(&[false; 5]), (0xd5, 5));
+    assert_eq!(rt; longest_front(&[false, true]), (0xda, 2));
+}
+
+#[test]
+fn the_atoms_of_each_byte_are_told_by_it(rt: HostRuntime) {
+    for byte in 0xc0..=0xffu8 {
+        let mut atoms = [false; 24];
+        let mut count = 0;
+        if let Some(run) = atoms_of(byte) {
+            for (i, atom) in atoms.iter_mut().enumerate() {
+                *atom = run.bits >> i & 1 == 1;
+            }
+            count = usize::from(run.count);
+        }
+        assert!(rt; count >= 1 && count <= atoms.len());
+        assert_eq!(rt; longest_front(&atoms[..count]), (byte, count));
+    }
 }
