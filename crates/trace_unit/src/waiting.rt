@@ -12,9 +12,9 @@ ghost use Rattle.trace_unit.specs.Written.{spelled};
 
 use crate::atoms::{HeldAtoms, MOST_HELD};
 use crate::packets::put;
-use atom_formats::longest_front;
 use etm_types::{FewAtoms, Settings};
 use packet_grammar::Packet;
+use packet_writer::longest_front;
 use std::marker::Model;
 
 /// The atoms that are held; how many elements that were written are still to be cancelled; how many P0 steps that are retired
