@@ -1,6 +1,7 @@
 -- The longest front of some atoms: that of few atoms by a table, and that of format 6 by how many E stand first.
 use Rattle.std.proofs.Common.{◌≡◌, ℕ, zero, suc, ◌+◌, ◌-◌, ◌*◌, ◌<◌, ◌≤◌, List, [], ◌∷◌, ◌++◌, length, take, drop, get_or, min, replicate, Bool, true, false}
-use Rattle.std.proofs.Common.{Option, ◌⊎◌, cond, ◌&&◌, ◌||◌, not, nat_lt, nat_le, slice_index_or, Some, None, position, refl, sym, ap, subst, ◌∙◌, arith, inl, inr}
+use Rattle.std.proofs.Common.{Option, Some, None, ◌⊎◌, inl, inr, cond, ◌&&◌, ◌||◌, not, nat_lt, nat_le, slice_index_or, position}
+use Rattle.std.proofs.Common.{refl, sym, ap, subst, ◌∙◌, arith}
 use mir.Val.{bool_byte}
 use Rattle.std.specs.List.{list_all, position_or_len}
 use Rattle.std.specs.Option.{unwrap_or}
