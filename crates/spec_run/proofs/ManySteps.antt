@@ -175,6 +175,19 @@ count_room image (suc depth) asked count (Some p) (inl is) deep few =
     omega (arith, least, a, b, few)
 count_room image (suc depth) asked count (Some p) (inr none) deep few = let z = none.1 in omega (arith, z, few)
 
+room_within : (depth : ℕ) (held : List RunStep) (n : ℕ) → room_for_steps depth held n ≤ n
+room_within zero held n = omega arith
+room_within (suc depth) held n = min-le_left n (window - length held)
+
+pub count_within : (image : Image) (depth asked count : ℕ) (place : Option Place) → IsStepCount image depth place asked count → count ≤ asked
+count_within image depth asked count None is = omega (arith, is)
+count_within image depth asked count (Some p) (inl is) =
+    let least = is.least in
+    let a = min-le_right is.block.plain (room_for_steps depth p.held asked) in
+    let b = room_within depth p.held asked in
+    omega (arith, least, a, b)
+count_within image depth asked count (Some p) (inr none) = let z = none.1 in omega (arith, z)
+
 space : (depth count : ℕ) (held : List RunStep) → (depth ≡ 0 → length held < window) → (0 < depth → length held + count ≤ window) → HasSpace depth held count
 space zero count held flat deep = flat refl
 space (suc depth) count held flat deep = deep (omega arith)
@@ -227,11 +240,17 @@ moved image kept now asked count is flat few same place =
 
 -- ---- of steps that pass their checks, each is plain
 
+-- a step of a plain word is done
+pub record IsPlainStep (image : Image) (place : Option Place) : Type 0 where
+  pub at : Place
+  pub there : place ≡ Some at
+  pub does : effect_of image place event.Step ≡ effect.Ran (plain_step at.pc at.ctx) at.ctx
+
 abbrev pub ArePlain : Image → ℕ → Option Place → ℕ → Type 0
 ArePlain image depth place zero = ⊤
 ArePlain image depth place (suc n) =
     (check image depth place event.Step ≡ None)
-    × ((s : RunStep) × (ctx : Ctx) × (effect_of image place event.Step ≡ effect.Ran s ctx) × (is_p0 s ≡ false))
+    × IsPlainStep image place
     × ArePlain image depth (place_after image depth place (effect_of image place event.Step)) n
 
 pub led_on : (depth : ℕ) (p : Place) → behind p.pc 1 ≡ (place_stepped depth p).pc
@@ -249,7 +268,7 @@ plain_all image depth p (suc n) lt run pass =
     plain_all image depth (place_stepped depth p) n (subst (λ a. a < 2 ^ 64) on (behind_within p.pc 1))
     (subst (λ a. IsPlainRun image a n) on (rest_plain image p.pc n run)) more in (
       pass.0,
-      (plain_step p.pc p.ctx, p.ctx, does, refl),
+      record { at = p; there = refl; does = does },
       subst (λ e. ArePlain image depth (place_after image depth (Some p) e) n) (sym does) rest,
     )
 
