@@ -2,6 +2,7 @@ pub mod EventsJoined
 pub mod EventsKept
 pub mod Examples
 pub mod Held
+pub mod ManySteps
 pub mod OneEvent
 pub mod PathExamples
 pub mod PathFollows

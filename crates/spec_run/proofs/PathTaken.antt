@@ -154,7 +154,7 @@ p0_grows steps s p =
       | inr none ↦ all ∙ ap (λ l. item.On ∷ (l ++ (begun ++ item_of s ∷ []))) (none_before steps none) ∙ simp none
     ]
 
-plain_grows : (steps : List RunStep) (s : RunStep) → is_p0 s ≡ false → stretch_items (steps ++ s ∷ []) ≡ stretch_items steps
+pub plain_grows : (steps : List RunStep) (s : RunStep) → is_p0 s ≡ false → stretch_items (steps ++ s ∷ []) ≡ stretch_items steps
 plain_grows steps s p = simp (plain_behind steps s p, same_shown steps s p)
 
 pub one_grows : (steps : List RunStep) (s : RunStep) → (items : List Item) × (stretch_items (steps ++ s ∷ []) ≡ stretch_items steps ++ items)

@@ -9,3 +9,4 @@ pub mod Executed
 pub mod RetiredItems
 pub mod Stands
 pub mod Windows
+pub mod ManySteps

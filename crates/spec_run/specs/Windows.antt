@@ -3,8 +3,9 @@ use Rattle.std.specs.Prelude.{◌≡◌, ℕ, zero, suc, ◌<◌, ◌≤◌, fal
 use Rattle.std.specs.Option.{option_map}
 use Rattle.circular_buffer.specs.Buffer.{Buffer}
 use Rattle.etm_types.specs.declared.context.Ctx.{Ctx}
+use Rattle.program_image.specs.Blocks.{behind}
 use Rattle.program_image.specs.declared.image.Image.{Image}
-use Rattle.spec_run.specs.Checks.{Place, check, effect_of, window}
+use Rattle.spec_run.specs.Checks.{Place, check, effect_of, step_at, window}
 use Rattle.spec_run.specs.Kinds.{is_isb}
 use Rattle.spec_run.specs.Runs.{turn_newest}
 use Rattle.spec_run.specs.Stands.{held_at}
@@ -16,6 +17,7 @@ use Rattle.spec_run.specs.declared.event.Event.TheVariants as event
 use Rattle.spec_run.specs.declared.run_fault.RunFault.{RunFault}
 use Rattle.spec_run.specs.declared.standing.Standing.{Standing}
 use Rattle.spec_run.specs.declared.step.RunStep.{RunStep}
+use Rattle.spec_run.specs.declared.step.StepKind.TheVariants.{Plain}
 
 abbrev pub place_of_standing : Standing → List RunStep → Place
 place_of_standing s held = record { held = held; after_isb = s.after_isb; pc = s.pc; ctx = s.ctx }
@@ -54,6 +56,14 @@ place_begun held addr ctx = record { held = held; after_isb = false; pc = addr; 
 abbrev pub place_ran : ℕ → Place → RunStep → Ctx → Place
 place_ran zero p s ctx = record p { after_isb = is_isb s.kind; pc = s.next; ctx = ctx }
 place_ran (suc depth) p s ctx = record p { held = p.held ++ s ∷ []; pc = s.next; ctx = ctx }
+
+-- a plain step, and so many one after the other
+abbrev pub place_stepped : ℕ → Place → Place
+place_stepped depth p = place_ran depth p (step_at p Plain (behind p.pc 1) false) p.ctx
+
+abbrev pub place_stepped_all : ℕ → Place → ℕ → Place
+place_stepped_all depth p zero = p
+place_stepped_all depth p (suc n) = place_stepped depth (place_stepped_all depth p n)
 
 abbrev pub place_contexted : Place → Ctx → Place
 place_contexted p ctx = record p { ctx = ctx }

@@ -1,5 +1,6 @@
 //! The retired path, block by block, from the retired steps.
-ghost use Rattle.std.specs.Prelude.{◌≡◌, ◌<◌, ◌^◌, ◌++◌, ◌∷◌, [], List, true};
+ghost use Rattle.std.specs.Prelude.{◌≡◌, ◌<◌, ◌≤◌, ◌+◌, ◌^◌, ◌++◌, ◌∷◌, [], List, true};
+ghost use Rattle.spec_run.specs.ManySteps.{begun_behind_all, plain_step, plain_steps};
 ghost use Rattle.spec_run.specs.RetiredItems.{stretch_items};
 ghost use Rattle.spec_run.specs.Stands.{Follows, PathStandsAt, begun_behind, items_shown, shown_by};
 
@@ -92,6 +93,25 @@ impl RetiredPath {
         self.first = false;
         self.plain = 0;
         Some(walked)
+    }
+
+    /// Takes so many retired plain steps at once, from an address on, as so many calls of `retire` do. They end no block.
+    pub fn retire_plain(&mut self, addr: u64, n: u32, ctx: Ctx)
+        requires follows { 0 < n → Follows self.old (plain_step addr ctx) }
+        requires few { self.old.plain + n ≤ 2 ^ 62 }
+        ensures stands { (steps : List RunStep) → PathStandsAt self.old steps
+            → PathStandsAt self.new (steps ++ plain_steps addr ctx n) }
+        ensures shown { (steps : List RunStep) → stretch_items (steps ++ plain_steps addr ctx n) ≡ stretch_items steps }
+        ensures begun { self.new ≡ begun_behind_all self.old (plain_steps addr ctx n) }
+    {
+        if n == 0 {
+            return;
+        }
+        if self.plain == 0 {
+            self.start = addr;
+        }
+        self.plain += u64::from(n);
+        self.ctx = ctx;
     }
 
     /// Tracing ended. What was begun is forgotten.

@@ -1,15 +1,17 @@
 //! A run: which events are accepted one after the other, and what they execute.
-ghost use Rattle.std.specs.Prelude.{◌≡◌, ◌≤◌, ◌<◌, ◌++◌, ◌∷◌, [], ℕ, List, None, Some, Err, IfOk, IsErr, IsOk, length, nat_le, slice_get, take};
+ghost use Rattle.std.specs.Prelude.{◌≡◌, ◌≤◌, ◌<◌, ◌+◌, ◌++◌, ◌∷◌, [], ℕ, List, None, Some, Err, IfOk, IsErr, IsOk, length, nat_le};
+ghost use Rattle.std.specs.Prelude.{replicate, slice_get, take};
 ghost use Rattle.std.specs.Option.{option_map};
 ghost use Rattle.etm_types.specs.Settings.{Sizes};
 ghost use Rattle.program_image.specs.Blocks.{class_at};
 ghost use Rattle.program_image.specs.Part.{Part};
 ghost use Rattle.spec_run.specs.Checks.{aim_fault, aligned_fault, check, depth_fault, effect_of, executed, ran_by, room_fault, step_fault, unless, window};
+ghost use Rattle.spec_run.specs.ManySteps.{AllPass, IsStepCount, place_after_all};
 ghost use Rattle.spec_run.specs.RunAfter.{run_after};
 ghost use Rattle.spec_run.specs.Runs.{done_of, other_next, turned};
 ghost use Rattle.spec_run.specs.Steps.{ends_in_cond, isb_behind, newest, p0s};
 ghost use Rattle.spec_run.specs.Windows.{HasRoom, place_after, place_begun, place_cancelled, place_contexted, place_flipped};
-ghost use Rattle.spec_run.specs.Windows.{place_of_standing, place_ran, place_retired, planned, planned_by};
+ghost use Rattle.spec_run.specs.Windows.{place_of_standing, place_ran, place_retired, place_stepped_all, planned, planned_by};
 ghost use Rattle.spec_run.specs.Stands.{StandsAt, held_at, refused_by};
 
 use crate::effect::Effect;
@@ -96,6 +98,31 @@ impl Run {
     {
         let effect = self.plan(image, event)?;
         Ok(self.take(image, &effect))
+    }
+
+    /// Takes so many events `Step` at once, as far as plain words stand from the pc on and there is room for their steps, and
+    /// says how many. While tracing is off it takes none. An ISB is left to `apply`.
+    ///
+    /// It costs the search of a block, and above depth 0 a write for each step.
+    pub fn step_many(&mut self, image: &Image, n: u32) -> u32
+        ensures count { IsStepCount image.now self.old.depth self.old.place n result }
+        ensures stands { (s : Sizes) (events : List Event) → StandsAt image.now s self.old events
+            → StandsAt image.now s self.new (events ++ replicate result Event.Step) }
+        ensures accepted { AllPass image.now self.old.depth self.old.place (replicate result Event.Step) }
+        ensures place { self.new.place
+            ≡ place_after_all image.now self.old.depth self.old.place (replicate result Event.Step) }
+        ensures depth { self.new.depth ≡ self.old.depth }
+    {
+        let Some(pc) = self.pc() else {
+            return 0;
+        };
+        let count = self.plain_steps(image, pc, n);
+        if self.depth == 0 {
+            self.pass_plain(count);
+        } else {
+            self.hold_plain(count);
+        }
+        count
     }
 
     /// Whether an event would be taken, and if not, why. Nothing changes.
@@ -353,6 +380,61 @@ impl Run {
         });
         self.p0 += u32::from(step.kind.is_p0());
         self.held.push_back(step);
+    }
+
+    /// How many of so many events `Step` can be taken at once from the pc on.
+    fn plain_steps(&self, image: &Image, pc: u64, n: u32) -> u32
+        requires { option_map (λ p. p.pc) self.now.place ≡ Some pc }
+        ensures { IsStepCount image.now self.now.depth self.now.place n result }
+    {
+        if pc % INSTRUCTION_BYTES != 0 {
+            return 0;
+        }
+        let room = if self.depth == 0 {
+            n
+        } else {
+            n.min((WINDOW - self.held.len()) as u32)
+        };
+        image.block(pc).plain.min(u64::from(room)) as u32
+    }
+
+    /// At depth 0, so many plain steps are executed.
+    fn pass_plain(&mut self, count: u32)
+        requires flat { self.old.depth ≡ 0 }
+        ensures place { self.new.place ≡ option_map (λ p. place_stepped_all self.old.depth p count) self.old.place }
+        ensures depth { self.new.depth ≡ self.old.depth }
+    {
+        let Some(standing) = self.standing else {
+            return;
+        };
+        if count > 0 {
+            self.standing = Some(Standing {
+                pc: standing
+                    .pc
+                    .wrapping_add(u64::from(count) * INSTRUCTION_BYTES),
+                after_isb: false,
+                ..standing
+            });
+        }
+    }
+
+    /// At another depth, so many plain steps are executed, for which there is room.
+    fn hold_plain(&mut self, count: u32)
+        requires deep { 0 < self.old.depth }
+        requires room { length (held_at self.old.place) + count ≤ window }
+        ensures place { self.new.place ≡ option_map (λ p. place_stepped_all self.old.depth p count) self.old.place }
+        ensures depth { self.new.depth ≡ self.old.depth }
+    {
+        let Some(mut standing) = self.standing else {
+            return;
+        };
+        for _ in 0..count {
+            let next = standing.pc.wrapping_add(INSTRUCTION_BYTES);
+            self.held
+                .push_back(standing.step(StepKind::Plain, next, false));
+            standing.pc = next;
+        }
+        self.standing = Some(standing);
     }
 
     /// The context changes.

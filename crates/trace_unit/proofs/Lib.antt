@@ -62,3 +62,4 @@ pub mod UnitBegins
 pub mod WaitingFront
 pub mod WaitingOut
 pub mod WaitingSpelled
+pub mod ManySteps

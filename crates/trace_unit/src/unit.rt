@@ -1,5 +1,5 @@
 //! A trace unit: the bytes of its trace, event by event.
-ghost use Rattle.std.specs.Prelude.{◌≡◌, ◌↔◌, ◌<◌, ◌≤◌, ◌+◌, ◌++◌, ◌∷◌, [], ℕ, List, length, IfOk, IsErr, IsOk, Ok, Err, Some, None};
+ghost use Rattle.std.specs.Prelude.{◌≡◌, ◌↔◌, ◌<◌, ◌≤◌, ◌+◌, ◌++◌, ◌∷◌, [], ℕ, List, length, replicate, IfOk, IsErr, IsOk, Ok, Err, Some, None};
 ghost use Rattle.element_queue.specs.Counting.{Balances, no_counts};
 ghost use Rattle.packet_grammar.specs.declared.end.End.TheVariants.{Clean};
 ghost use Rattle.path_elements.specs.Path.{IsPath};
@@ -7,6 +7,7 @@ ghost use Rattle.program_image.specs.Part.{IsImage};
 ghost use Rattle.program_image.specs.declared.image.Image.{Image as Parts};
 ghost use Rattle.return_stack.specs.Stack.{most_addresses};
 ghost use Rattle.spec_run.specs.Checks.{check};
+ghost use Rattle.spec_run.specs.ManySteps.{AllPass, IsStepCount};
 ghost use Rattle.spec_run.specs.RetiredItems.{retired_of};
 ghost use Rattle.spec_run.specs.RunAfter.{IsEvent, run_after};
 ghost use Rattle.spec_run.specs.Runs.{Execution};
@@ -104,6 +105,21 @@ impl Unit {
         let done = self.run.take(image, &effect);
         self.follower.follow(&done, &self.run, bytes);
         Ok(())
+    }
+
+    /// Takes so many events `Step` at once, as far as plain words stand from the pc on and there is room for their steps, and
+    /// says how many. The trace says nothing of them: the run alone moves.
+    pub fn step_many(&mut self, image: &Image, n: u32) -> u32
+        ensures count { IsStepCount image.now self.old.run.depth self.old.run.place n result }
+        ensures stands { (events : List Events) → StandsAt image.now self.old events
+            → StandsAt image.now self.new (events ++ replicate result Events.Step) }
+        ensures written { (events : List Events) → StandsAt image.now self.old events
+            → written image.now self.old.settings self.old.stack_depth (events ++ replicate result Events.Step)
+            ≡ written image.now self.old.settings self.old.stack_depth events }
+        ensures accepted { AllPass image.now self.old.run.depth self.old.run.place (replicate result Events.Step) }
+        ensures rest { self.new ≡ record (self.old) { run = self.new.run } }
+    {
+        self.run.step_many(image, n)
     }
 
     /// What became of the P0 steps.
