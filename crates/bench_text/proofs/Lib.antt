@@ -1,3 +1,4 @@
+pub mod PlaceLines
 pub mod Entries
 pub mod Weaves
 pub mod Drafts

@@ -1,26 +1,32 @@
 -- What the fields of a run file's reader, and of its parts, hold.
-use Rattle.std.specs.Prelude.{ℕ, List, All, map}
+use Rattle.std.specs.Prelude.{ℕ, List, All, Option}
+use Rattle.std.specs.Option.{option_map}
 use Rattle.etm_types.specs.Id.{IsId}
 use Rattle.bench_text.specs.BenchText.{Draft}
 use Rattle.bench_text.specs.GivenSettings.{IsGiven}
-use Rattle.bench_text.specs.Parts.{BenchParts, BenchStream}
+use Rattle.bench_text.specs.Parts.{BenchParts}
 use Rattle.bench_text.specs.declared.bench.Bench.TheInside.{Inside as BenchFields}
 use Rattle.bench_text.specs.declared.draft.Draft.TheInside.{Inside as DraftFields}
-use Rattle.bench_text.specs.declared.streams.Stream.{Stream}
-
--- the stream of an entry of a map
-abbrev pub in_entry : ℕ × Stream → BenchStream
-in_entry e = record { id = e.0; settings = e.1.settings; stack = e.1.stack; lines = e.1.lines.items }
-
--- those of all entries, in their order
-abbrev pub streams_in : List (ℕ × Stream) → List BenchStream
-streams_in entries = map in_entry entries
 
 abbrev pub parts_in : BenchFields → BenchParts
-parts_in b = record { streams = streams_in b.streams.entries; weaves = b.weaves.items }
+parts_in b = record { streams = b.streams.streams; weaves = b.weaves.items }
 
-abbrev pub draft_in : DraftFields → Draft
-draft_in d = record { version = d.version; given = d.given; streams = streams_in d.streams.entries; weaves = d.weaves.items }
+-- what the lines of a text said so far
+pub record TextDraft : Type 0 where
+  pub text : List ℕ
+  pub draft : Draft
+
+abbrev pub draft_of : DraftFields → TextDraft
+draft_of d = record {
+  text = d.streams.text;
+  draft = record { version = d.version; given = d.given; streams = d.streams.streams; weaves = d.weaves.items };
+}
+
+abbrev pub draft_in : TextDraft → Draft
+draft_in d = d.draft
+
+abbrev pub drafts_in : Option TextDraft → Option Draft
+drafts_in d = option_map draft_in d
 
 -- what its code keeps of lines that have no fault: the file's settings are those of a trace unit, and the IDs those of sources
 pub record IsDraft (d : Draft) : Type 0 where

@@ -1,4 +1,6 @@
 pub mod Parts
+pub mod Places
+pub mod KeptStreams
 pub mod Kept
 pub mod EventLines
 pub mod GivenSettings

@@ -2,30 +2,29 @@
 ghost use Rattle.std.specs.Prelude.{◌≡◌, ◌≤◌, ◌<◌, ◌+◌, ◌^◌, length, IfOk, IfSome, IsSome, None, slice_get};
 ghost use Rattle.std.specs.Str.Lines.{lines};
 ghost use Rattle.std.specs.Option.{option_and_then, option_map};
+ghost use Rattle.std.specs.Result.{result_map_both};
 ghost use Rattle.bench_text.specs.Answers.{AnswersText};
 ghost use Rattle.bench_text.specs.BenchText.{add_lines, parsed};
-ghost use Rattle.bench_text.specs.Kept.{streams_in};
+ghost use Rattle.bench_text.specs.Kept.{drafts_in};
 ghost use Rattle.bench_text.specs.Parts.{IsBench};
 
 use crate::draft::{Draft, with_line};
 use crate::fault::{BenchFault, BenchWhy, LineFault};
 use crate::line::{BenchLine, Weave};
-use crate::streams::Stream;
+use crate::place::PlacedLines;
+use crate::streams::Streams;
 use etm_types::{Id, Settings};
-use indexmap::IndexMap;
-use line_words::NumberedLines;
 use std::alloc::Global;
 use std::marker::Model;
 
-/// The parts of a run file.
+/// The parts of a run file, over its text. An event line takes 8 bytes beside the text: it is read again where it is asked for.
 #[derive(Drop)]
-pub struct Bench {
-    /// By their IDs, in the order in which they were declared.
-    streams: IndexMap<u8, Stream>,
+pub struct Bench<'a> {
+    streams: Streams<'a>,
     weaves: Vec<Weave>,
 }
 
-impl Model for Bench {
+impl<'a> Model for Bench<'a> {
     ghost use Rattle.bench_text.specs.Parts.{BenchParts, IsBench};
 
     ghost Value = { BenchParts };
@@ -37,16 +36,16 @@ impl Model for Bench {
     ghost invariant = { λ b. IsBench (parts_in b) };
 }
 
-impl Bench {
+impl<'a> Bench<'a> {
     /// Reads the text of a run file. Its events are those that each line says; whether a run takes them, it does not ask.
     ///
-    /// `Bad` has the first line that has a fault, and which.
+    /// `Bad` has the first line that has a fault, and which. A text of 2^32 - 1 bytes or more is want of memory.
     #[tactic(auto, unfolding(crate::specs::BenchText::parsed))]
-    pub fn read(alloc: Global, text: &[u8]) -> Result<Bench, BenchFault>
+    pub fn read(alloc: Global, text: &'a [u8]) -> Result<Bench<'a>, BenchFault>
         ensures value { AnswersText result (parsed text.now) }
         ensures parts { IfOk result IsBench }
     {
-        match draft_of(alloc, text)? {
+        match read_lines(alloc, text)? {
             Some(draft) => Ok(draft.into_bench()),
             None => Err(BenchFault::Bad {
                 line: 0,
@@ -56,9 +55,9 @@ impl Bench {
     }
 
     /// The run file of these parts.
-    pub(crate) fn new(streams: IndexMap<u8, Stream>, weaves: Vec<Weave>) -> Bench
-        requires { IsBench (record { streams = streams_in streams.entries; weaves = weaves.items }) }
-        ensures { result ≡ record { streams = streams_in streams.entries; weaves = weaves.items } }
+    pub(crate) fn new(streams: Streams<'a>, weaves: Vec<Weave>) -> Bench<'a>
+        requires { IsBench (record { streams = streams.streams; weaves = weaves.items }) }
+        ensures { result ≡ record { streams = streams.entry.streams; weaves = weaves.items } }
     {
         Bench { streams, weaves }
     }
@@ -74,16 +73,14 @@ impl Bench {
     pub fn id_at(&self, s: usize) -> Option<Id>
         ensures { result ≡ option_map (λ stream. stream.id) (slice_get self.now.streams s) }
     {
-        let (id, _) = self.streams.get_index(s)?;
-        Id::new(*id)
+        Id::new(self.streams.id_at(s)?)
     }
 
     /// The sizes of a stream's trace unit, by its place in the order of declaration.
     pub fn settings_of(&self, s: usize) -> Option<Settings>
         ensures { result ≡ option_map (λ stream. stream.settings) (slice_get self.now.streams s) }
     {
-        let (_, stream) = self.streams.get_index(s)?;
-        Some(stream.settings)
+        self.streams.settings_at(s)
     }
 
     /// The depth of its return stack.
@@ -91,18 +88,15 @@ impl Bench {
         ensures value { result ≡ option_map (λ stream. stream.stack) (slice_get self.now.streams s) }
         ensures within { IfSome result (λ stack. stack ≤ 15) }
     {
-        let (_, stream) = self.streams.get_index(s)?;
-        Some(stream.stack)
+        self.streams.stack_at(s)
     }
 
-    /// An event line of a stream, by its place among them.
-    pub fn line_at(&self, s: usize, k: usize) -> Option<&BenchLine>
-        ensures value { option_map (λ line. line.now) result
-            ≡ option_and_then (λ stream. slice_get stream.lines k) (slice_get self.now.streams s) }
+    /// An event line of a stream, by its place among them. It is read again from the text, in time of its length.
+    pub fn line_at(&self, s: usize, k: usize) -> Option<BenchLine>
+        ensures value { result ≡ option_and_then (λ stream. slice_get stream.lines k) (slice_get self.now.streams s) }
         ensures within { IsSome result → k + 1 < 2 ^ 64 }
     {
-        let (_, stream) = self.streams.get_index(s)?;
-        stream.lines.get(k)
+        self.streams.line_at(s, k)
     }
 
     /// A weave, by its place among them.
@@ -115,15 +109,20 @@ impl Bench {
 }
 
 /// What the lines of a text say; nothing, where none has words.
-fn draft_of(alloc: Global, text: &[u8]) -> Result<Option<Draft>, BenchFault>
-    ensures { AnswersText result (add_lines 1 None (lines text.now)) }
+fn read_lines<'a>(alloc: Global, text: &'a [u8]) -> Result<Option<Draft<'a>>, BenchFault>
+    ensures { AnswersText (result_map_both drafts_in (λ fault. fault) result) (add_lines 1 None (lines text.now)) }
 {
     let mut draft = None;
-    let mut lines = NumberedLines::new(text);
-    while let Some((number, line)) = lines.next() {
-        draft = match with_line(alloc, draft, number, line) {
+    let mut lines = PlacedLines::new(text).ok_or(BenchFault::Memory)?;
+    while let Some((place, line)) = lines.next() {
+        draft = match with_line(alloc, text, draft, place, line) {
             Ok(next) => next,
-            Err(LineFault::Bad(why)) => return Err(BenchFault::Bad { line: number, why }),
+            Err(LineFault::Bad(why)) => {
+                return Err(BenchFault::Bad {
+                    line: u64::from(place.number),
+                    why,
+                });
+            }
             Err(LineFault::Memory) => return Err(BenchFault::Memory),
         };
     }

@@ -1,23 +1,24 @@
 //! What the lines of a run file say, one line after another.
-ghost use Rattle.std.specs.Prelude.{◌≡◌, Some};
+ghost use Rattle.std.specs.Prelude.{◌≡◌, ◌∷◌, Some, IfOk, IfSome};
 ghost use Rattle.line_words.specs.Line.{words_in};
 ghost use Rattle.bench_text.specs.Answers.{Answers};
 ghost use Rattle.bench_text.specs.Parts.{IsBench};
 ghost use Rattle.bench_text.specs.BenchText.{add_behind, add_event, add_line, add_setting, add_stream, add_weaves, add_words};
-ghost use Rattle.bench_text.specs.BenchText.{before_streams, declaration_of, event_sizes, header, kind_of, no_lines, own_of, parts_of};
+ghost use Rattle.bench_text.specs.BenchText.{before_streams, declaration_of, header, kind_of, no_lines, own_of, parts_of};
+ghost use Rattle.bench_text.specs.Kept.{draft_in, drafts_in};
+ghost use Rattle.bench_text.specs.Places.{words_at};
 
 use crate::bench::Bench;
-use crate::event_line::event_of;
 use crate::fault::{BenchWhy, LineFault};
 use crate::given::Given;
-use crate::line::{BenchLine, Declaration, LineKind, Weave};
+use crate::line::{Declaration, LineKind, Weave};
+use crate::place::Place;
 use crate::setting::Setting;
-use crate::streams::{Stream, declare, has_stream, newest_settings, push_line};
+use crate::streams::Streams;
 use crate::version::Version;
 use crate::weave_line::with_weaves;
 use crate::words::{only_number, only_word};
-use etm_types::{Id, Settings};
-use indexmap::IndexMap;
+use etm_types::Id;
 use line_words::{is_utf8, next_word, two_digits};
 use std::alloc::Global;
 use std::marker::Model;
@@ -30,34 +31,38 @@ const RANGE: LineFault = LineFault::Bad(BenchWhy::Range);
 
 /// What the header and the lines behind it said so far.
 #[derive(Drop)]
-pub struct Draft {
+pub struct Draft<'a> {
     version: Version,
     /// The file's own settings.
     given: Given,
-    streams: IndexMap<u8, Stream>,
+    streams: Streams<'a>,
     weaves: Vec<Weave>,
 }
 
-impl Model for Draft {
-    ghost use Rattle.bench_text.specs.BenchText.{Draft};
+impl<'a> Model for Draft<'a> {
+    ghost use Rattle.bench_text.specs.Kept.{TextDraft};
 
-    ghost Value = { Draft };
+    ghost Value = { TextDraft };
 
-    ghost use Rattle.bench_text.specs.Kept.{IsDraft, draft_in};
+    ghost use Rattle.bench_text.specs.Kept.{IsDraft, draft_of};
 
-    ghost view = { draft_in };
+    ghost view = { draft_of };
 
-    ghost invariant = { λ d. IsDraft (draft_in d) };
+    ghost invariant = { λ d. IsDraft (draft_of d).draft };
 }
 
-/// What the lines say after one line more; none before the header.
-pub fn with_line(
+/// What the lines of a text say after one line more; none before the header.
+pub fn with_line<'a>(
     alloc: Global,
-    draft: Option<Draft>,
-    number: u64,
+    text: &'a [u8],
+    draft: Option<Draft<'a>>,
+    place: Place,
     line: &[u8],
-) -> Result<Option<Draft>, LineFault>
-    ensures { Answers (λ draft. draft) result (add_line number draft line.now) }
+) -> Result<Option<Draft<'a>>, LineFault>
+    requires place { words_at text.now place ≡ words_in line.now }
+    requires text { IfSome draft (λ d. d.text ≡ text.now) }
+    ensures line { Answers drafts_in result (add_line place.number (drafts_in draft.entry) line.now) }
+    ensures text { IfOk result (λ next. IfSome next (λ d. d.text ≡ text.now)) }
 {
     if !is_utf8(line) {
         return Err(SYNTAX);
@@ -68,32 +73,42 @@ pub fn with_line(
     if let [b'#', ..] = word {
         return Ok(draft);
     }
-    let draft = behind(alloc, draft, number, word, rest)?;
+    let draft = behind(alloc, text, draft, place, word, rest)?;
     Ok(Some(draft))
 }
 
 /// What the lines say after one that has words: the first is the header.
-fn behind(
+fn behind<'a>(
     alloc: Global,
-    draft: Option<Draft>,
-    number: u64,
+    text: &'a [u8],
+    draft: Option<Draft<'a>>,
+    place: Place,
     word: &[u8],
     rest: &[u8],
-) -> Result<Draft, LineFault>
-    ensures { Answers (λ draft. draft) result (add_behind number draft word.now (words_in rest.now)) }
+) -> Result<Draft<'a>, LineFault>
+    requires place { words_at text.now place ≡ word.now ∷ words_in rest.now }
+    requires text { IfSome draft (λ d. d.text ≡ text.now) }
+    ensures line { Answers draft_in result (add_behind place.number (drafts_in draft.entry) word.now (words_in rest.now)) }
+    ensures text { IfOk result (λ d. d.text ≡ text.now) }
 {
     match draft {
-        Some(draft) => draft.with_words(alloc, number, word, rest),
-        None => header(alloc, word, rest),
+        Some(draft) => draft.with_words(alloc, place, word, rest),
+        None => header(alloc, text, word, rest),
     }
 }
 
-fn header(alloc: Global, word: &[u8], rest: &[u8]) -> Result<Draft, LineFault>
-    ensures { Answers (λ draft. draft) result (header word.now (words_in rest.now)) }
+fn header<'a>(
+    alloc: Global,
+    text: &'a [u8],
+    word: &[u8],
+    rest: &[u8],
+) -> Result<Draft<'a>, LineFault>
+    ensures line { Answers draft_in result (header word.now (words_in rest.now)) }
+    ensures text { IfOk result (λ d. d.text ≡ text.now) }
 {
     match (word, only_word(rest)) {
-        (b"etm", Some(b"1")) => Ok(Draft::new(alloc, Version::One)),
-        (b"etm", Some(b"2")) => Ok(Draft::new(alloc, Version::Two)),
+        (b"etm", Some(b"1")) => Ok(Draft::new(alloc, text, Version::One)),
+        (b"etm", Some(b"2")) => Ok(Draft::new(alloc, text, Version::Two)),
         _ => Err(LineFault::Bad(BenchWhy::Header)),
     }
 }
@@ -132,15 +147,15 @@ fn own_of(version: Version, words: &[u8]) -> Option<Given>
     }
 }
 
-impl Draft {
+impl<'a> Draft<'a> {
     /// No line behind the header.
-    fn new(alloc: Global, version: Version) -> Draft
-        ensures { result ≡ no_lines version }
+    fn new(alloc: Global, text: &'a [u8], version: Version) -> Draft<'a>
+        ensures { result ≡ record { text = text.now; draft = no_lines version } }
     {
         Draft {
             version,
             given: Given::nothing(),
-            streams: IndexMap::new(alloc),
+            streams: Streams::new(alloc, text),
             weaves: Vec::new(alloc),
         }
     }
@@ -149,30 +164,33 @@ impl Draft {
     fn with_words(
         self,
         alloc: Global,
-        number: u64,
+        place: Place,
         word: &[u8],
         rest: &[u8],
-    ) -> Result<Draft, LineFault>
-        ensures { Answers (λ draft. draft) result (add_words number self word.now (words_in rest.now)) }
+    ) -> Result<Draft<'a>, LineFault>
+        requires { words_at self.text place ≡ word.now ∷ words_in rest.now }
+        ensures line { Answers draft_in result (add_words place.number self.entry.draft word.now (words_in rest.now)) }
+        ensures text { IfOk result (λ d. d.text ≡ self.entry.text) }
     {
         match kind_of(word) {
             LineKind::Setting(setting) => self.with_setting(setting, rest),
             LineKind::Stream => self.with_stream(alloc, rest),
             LineKind::Weaves => self.with_weaves(rest),
-            LineKind::Event => self.with_event(number, word, rest),
+            LineKind::Event => self.with_event(place, word, rest),
         }
     }
 
     /// Whether no stream came yet, and no weave.
     fn before_streams(&self) -> bool
-        ensures { result ≡ before_streams self.now }
+        ensures { result ≡ before_streams self.now.draft }
     {
         self.streams.is_empty() && self.weaves.is_empty()
     }
 
     /// What the lines say after one that gives a setting of the file.
-    fn with_setting(mut self, setting: Setting, words: &[u8]) -> Result<Draft, LineFault>
-        ensures { Answers (λ draft. draft) result (add_setting setting self (words_in words.now)) }
+    fn with_setting(mut self, setting: Setting, words: &[u8]) -> Result<Draft<'a>, LineFault>
+        ensures line { Answers draft_in result (add_setting setting self.entry.draft (words_in words.now)) }
+        ensures text { IfOk result (λ d. d.text ≡ self.entry.text) }
     {
         if !self.before_streams() || self.given.number(setting).is_some() {
             return Err(SYNTAX);
@@ -186,8 +204,9 @@ impl Draft {
     }
 
     /// What the lines say after one that declares a stream.
-    fn with_stream(mut self, alloc: Global, words: &[u8]) -> Result<Draft, LineFault>
-        ensures { Answers (λ draft. draft) result (add_stream self (words_in words.now)) }
+    fn with_stream(mut self, alloc: Global, words: &[u8]) -> Result<Draft<'a>, LineFault>
+        ensures line { Answers draft_in result (add_stream self.entry.draft (words_in words.now)) }
+        ensures text { IfOk result (λ d. d.text ≡ self.entry.text) }
     {
         if !self.weaves.is_empty() {
             return Err(SYNTAX);
@@ -196,51 +215,37 @@ impl Draft {
         if Id::new(new.id).is_none() {
             return Err(LineFault::Bad(BenchWhy::IdRange));
         }
-        if has_stream(&self.streams, new.id) {
+        if self.streams.has(new.id) {
             return Err(LineFault::Bad(BenchWhy::DuplicateId));
         }
         if !new.own.are_allowed(self.version) {
             return Err(RANGE);
         }
         let all = new.own.or(&self.given);
-        let stream = Stream {
-            settings: all.settings(),
-            stack: all.stack(),
-            lines: Vec::new(alloc),
-        };
-        declare(&mut self.streams, new.id, stream).map_err(|_| LineFault::Memory)?;
+        self.streams
+            .declare(alloc, new.id, all.settings(), all.stack())
+            .map_err(|_| LineFault::Memory)?;
         Ok(self)
     }
 
-    /// The settings that an event line goes by, those of the newest stream: behind a weave there are none.
-    fn event_settings(&self) -> Option<Settings>
-        ensures { result ≡ event_sizes self.now }
+    /// What the lines say after an event line of the newest stream: behind a weave there are none.
+    fn with_event(mut self, place: Place, word: &[u8], rest: &[u8]) -> Result<Draft<'a>, LineFault>
+        requires { words_at self.text place ≡ word.now ∷ words_in rest.now }
+        ensures line { Answers draft_in result (add_event place.number self.entry.draft word.now (words_in rest.now)) }
+        ensures text { IfOk result (λ d. d.text ≡ self.entry.text) }
     {
         if self.weaves.is_empty() {
-            newest_settings(&self.streams)
+            self.streams.push_event(place, word, rest)?;
+            Ok(self)
         } else {
-            None
+            Err(SYNTAX)
         }
     }
 
-    /// What the lines say after an event line of the newest stream.
-    fn with_event(mut self, number: u64, word: &[u8], rest: &[u8]) -> Result<Draft, LineFault>
-        ensures { Answers (λ draft. draft) result (add_event number self word.now (words_in rest.now)) }
-    {
-        let settings = self.event_settings().ok_or(SYNTAX)?;
-        let repeated = event_of(&settings, word, rest).map_err(LineFault::Bad)?;
-        let line = BenchLine {
-            line: number,
-            event: repeated.event,
-            times: repeated.times,
-        };
-        push_line(&mut self.streams, line).map_err(|_| LineFault::Memory)?;
-        Ok(self)
-    }
-
     /// What the lines say after a weave line.
-    fn with_weaves(self, words: &[u8]) -> Result<Draft, LineFault>
-        ensures { Answers (λ draft. draft) result (add_weaves self (words_in words.now)) }
+    fn with_weaves(self, words: &[u8]) -> Result<Draft<'a>, LineFault>
+        ensures line { Answers draft_in result (add_weaves self.entry.draft (words_in words.now)) }
+        ensures text { IfOk result (λ d. d.text ≡ self.entry.text) }
     {
         if next_word(words).is_none() {
             return Err(SYNTAX);
@@ -261,9 +266,9 @@ impl Draft {
     }
 
     /// The parts of a run file.
-    pub fn into_bench(self) -> Bench
-        requires { IsBench (parts_of self) }
-        ensures { result ≡ parts_of self }
+    pub fn into_bench(self) -> Bench<'a>
+        requires { IsBench (parts_of self.draft) }
+        ensures { result ≡ parts_of self.entry.draft }
     {
         let Draft {
             streams,

@@ -15,6 +15,7 @@ mod fault;
 mod given;
 mod laws;
 mod line;
+mod place;
 mod setting;
 mod streams;
 mod version;

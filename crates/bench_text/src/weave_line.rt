@@ -6,14 +6,12 @@ ghost use Rattle.line_words.specs.Line.{words_in};
 ghost use Rattle.bench_text.specs.Answers.{Answers};
 ghost use Rattle.bench_text.specs.BenchText.{weave, weave_of, weaves_of};
 ghost use Rattle.bench_text.specs.EventLines.{need};
-ghost use Rattle.bench_text.specs.Kept.{streams_in};
 ghost use Rattle.bench_text.specs.OneWeave.{one_weave};
 
 use crate::fault::{BenchWhy, LineFault};
 use crate::line::Weave;
-use crate::streams::{Stream, has_stream};
+use crate::streams::Streams;
 use etm_types::Id;
-use indexmap::IndexMap;
 use line_words::{decimal, next_word, two_digits};
 
 /// The most bytes of one weave.
@@ -21,13 +19,13 @@ const MOST_COUNT: u64 = 1 << 20;
 
 /// The weaves with those of a line behind them. Of all words of the line the IDs are tested first, then the counts.
 pub fn with_weaves(
-    streams: &IndexMap<u8, Stream>,
+    streams: &Streams,
     mut weaves: Vec<Weave>,
     words: &[u8],
 ) -> Result<Vec<Weave>, LineFault>
-    requires { All (λ s. IsId s.id) (streams_in streams.now.entries) }
+    requires { All (λ s. IsId s.id) streams.now.streams }
     ensures { Answers (λ v. v.items) result
-        (need (weaves_of (words_in words.now)) (weave (streams_in streams.now.entries) weaves.items)) }
+        (need (weaves_of (words_in words.now)) (weave streams.now.streams weaves.items)) }
 {
     let mut declared = true;
     let mut within = true;
@@ -51,12 +49,12 @@ pub fn with_weaves(
 }
 
 /// The weave of a word.
-fn one_weave(streams: &IndexMap<u8, Stream>, word: &[u8]) -> Result<Weave, BenchWhy>
-    requires { All (λ s. IsId s.id) (streams_in streams.now.entries) }
-    ensures { result ≡ one_weave (streams_in streams.now.entries) word.now }
+fn one_weave(streams: &Streams, word: &[u8]) -> Result<Weave, BenchWhy>
+    requires { All (λ s. IsId s.id) streams.now.streams }
+    ensures { result ≡ one_weave streams.now.streams word.now }
 {
     let (id, count) = weave_of(word).ok_or(BenchWhy::Syntax)?;
-    if !has_stream(streams, id) {
+    if !streams.has(id) {
         return Err(BenchWhy::IdRange);
     }
     if count == 0 || count > MOST_COUNT {

@@ -27,8 +27,12 @@ pub enum Unread {
     Memory,
 }
 
-/// Reads a run file: all that the input has left, at most 64 MiB.
-pub fn read_bench<J: Source>(alloc: Global, input: &mut J) -> Result<Bench, Unread>
+/// Reads a run file: all that the input has left, at most 64 MiB. Its text is put into `text`, which it borrows.
+pub fn read_bench<'a, J: Source>(
+    alloc: Global,
+    input: &mut J,
+    text: &'a mut Vec<u8>,
+) -> Result<Bench<'a>, Unread>
     ensures ok { IfOk result (TakesBench (J.state input.old) (J.state input.new)) }
     ensures parts { IfOk result IsBench }
     ensures bad { (line : ℕ) (why : BenchWhy) → result ≡ Err (Unread.Bad line why)
@@ -39,7 +43,7 @@ pub fn read_bench<J: Source>(alloc: Global, input: &mut J) -> Result<Bench, Unre
     ensures shows { ShowsAsBefore (J.state input.old) (J.state input.new) }
     ensures later { (J.state input.old).faults ≤ (J.state input.new).faults }
 {
-    let text = match read_all(alloc, input, MOST_TEXT) {
+    *text = match read_all(alloc, input, MOST_TEXT) {
         Ok(text) => text,
         Err(ReadAllFault::Failed) => return Err(Unread::ReadFault),
         Err(ReadAllFault::TooLong) => {
@@ -50,7 +54,7 @@ pub fn read_bench<J: Source>(alloc: Global, input: &mut J) -> Result<Bench, Unre
         }
         Err(ReadAllFault::Memory) => return Err(Unread::Memory),
     };
-    match Bench::read(alloc, &text) {
+    match Bench::read(alloc, text) {
         Ok(bench) => Ok(bench),
         Err(BenchFault::Bad { line, why }) => Err(Unread::Bad { line, why }),
         Err(BenchFault::Memory) => Err(Unread::Memory),

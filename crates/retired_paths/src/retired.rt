@@ -42,7 +42,7 @@ fn stream_refusal(run: &mut Run, image: &Image, bench: &Bench, s: usize) -> Opti
 {
     let mut k = 0;
     while let Some(line) = bench.line_at(s, k) {
-        if let Err(fault) = run_line(run, image, line) {
+        if let Err(fault) = run_line(run, image, &line) {
             return Some((line.line, fault));
         }
         k += 1;
@@ -86,7 +86,7 @@ fn print_stream<K: Sink>(
     };
     let mut k = 0;
     while let Some(line) = bench.line_at(s, k) {
-        retiring.print_line(image, id, line, out)?;
+        retiring.print_line(image, id, &line, out)?;
         k += 1;
     }
     Ok(())
@@ -129,7 +129,8 @@ pub fn retire_input<J: Source, K: Sink>(
     ensures cause { HasCause (K.state out.old) (K.state out.new) result }
     ensures shows { ShowsAsBefore (K.state out.old) (K.state out.new) }
 {
-    let bench = match read_bench(alloc, input) {
+    let mut text = Vec::new(alloc);
+    let bench = match read_bench(alloc, input, &mut text) {
         Ok(bench) => bench,
         Err(Unread::Bad { line, why }) => return refuse(line, why, out),
         Err(Unread::ReadFault) => return Ok(Status::ReadFault),

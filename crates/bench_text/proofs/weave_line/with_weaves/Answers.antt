@@ -1,13 +1,12 @@
 use Rattle.std.proofs.Common.{◌≡◌, ◌∙◌, ◌∷◌, ◌++◌, [], List, ap, rules, sym}
 use Rattle.line_words.specs.Line.{words_in}
-use Rattle.bench_text.specs.Kept.{streams_in}
 use Rattle.bench_text.specs.declared.line.Weave.{Weave}
 use Rattle.bench_text.proofs.Weaves.{ok_on, weave_on}
 use Rattle.bench_text.proofs.weave_line.with_weaves.Goals as goal
 
 pub loop-word-preserved-in_ok-map_err-in-Ok : goal.loop-word-preserved-in_ok-map_err-in-Ok
 loop-word-preserved-in_ok-map_err-in-Ok c =
-    let streams = streams_in c.args.streams.now.entries in
+    let streams = c.args.streams.now.streams in
     let rest = words_in c.in-Some.after.now in
     let pushed : c.push.new.self.items ≡ c.loop-word.weaves.items ++ c.in-Ok.weave ∷ [] = search rules in
     c.loop-word.invariant ∙ ap (weave_on streams c.loop-word.declared c.loop-word.within c.loop-word.weaves.items) c.in-Some.ensures.words

@@ -13,7 +13,7 @@ print_line-requires g c =
     let there = c.requires.1 in
     let can = c.requires.2 in
     let k = c.loop-line.k in
-    let line = c.in-Some-line_at.line.now in
+    let line = c.in-Some-line_at.line in
     let found = sym (c.in-Some-line_at.ensures.value ∙ looked_up c.args.bench.now.streams c.args.s k stream there) in (
       stream.settings,
       events_of (take k stream.lines),
@@ -26,7 +26,7 @@ returns-in_err-print_line g c stream there can =
     let image = c.args.image.now in
     let k = c.loop-line.k in
     let was = c.args.retiring.now in
-    let line = c.in-Some-line_at.line.now in
+    let line = c.in-Some-line_at.line in
     let id = c.in-Some.id in
     let found = sym (c.in-Some-line_at.ensures.value ∙ looked_up c.args.bench.now.streams c.args.s k stream there) in
     let so_far = c.loop-line.invariant stream there can in
@@ -38,8 +38,8 @@ returns-in_err-print_line g c stream there can =
 
 pub loop-line-smaller : goal.loop-line-smaller
 loop-line-smaller g c =
-    let found = some_line (slice_get c.args.bench.now.streams c.args.s) c.loop-line.k c.in-Some-line_at.line.now c.in-Some-line_at.ensures.value in
-    let lt = slice_get_within _ c.loop-line.k c.in-Some-line_at.line.now found in
+    let found = some_line (slice_get c.args.bench.now.streams c.args.s) c.loop-line.k c.in-Some-line_at.line c.in-Some-line_at.ensures.value in
+    let lt = slice_get_within _ c.loop-line.k c.in-Some-line_at.line found in
     omega (arith, lt)
 
 pub loop-line-preserved : goal.loop-line-preserved
@@ -47,7 +47,7 @@ loop-line-preserved g c = λ stream there can.
     let image = c.args.image.now in
     let k = c.loop-line.k in
     let was = c.args.retiring.now in
-    let line = c.in-Some-line_at.line.now in
+    let line = c.in-Some-line_at.line in
     let id = c.in-Some.id in
     let found = sym (c.in-Some-line_at.ensures.value ∙ looked_up c.args.bench.now.streams c.args.s k stream there) in
     let so_far = c.loop-line.invariant stream there can in

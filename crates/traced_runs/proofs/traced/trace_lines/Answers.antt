@@ -11,13 +11,13 @@ use Rattle.traced_runs.proofs.traced.trace_lines.Goals as goal
 
 pub trace_line-requires : goal.trace_line-requires
 trace_line-requires c =
-    line_is c.args.bench.now c.loop-line.unit.settings c.args.s c.loop-line.k c.in-Some.line.now c.requires.parts
+    line_is c.args.bench.now c.loop-line.unit.settings c.args.s c.loop-line.k c.in-Some.line c.requires.parts
     (λ stream there. c.loop-line.invariant.settings.0 ∙ c.requires.settings stream there) c.in-Some.ensures.value
 
 pub loop-line-smaller : goal.loop-line-smaller
 loop-line-smaller c =
-    let found = some_line (slice_get c.args.bench.now.streams c.args.s) c.loop-line.k c.in-Some.line.now c.in-Some.ensures.value in
-    let lt = slice_get_within _ c.loop-line.k c.in-Some.line.now found in
+    let found = some_line (slice_get c.args.bench.now.streams c.args.s) c.loop-line.k c.in-Some.line c.in-Some.ensures.value in
+    let lt = slice_get_within _ c.loop-line.k c.in-Some.line found in
     omega (arith, lt)
 
 pub loop-line-preserved : goal.loop-line-preserved
@@ -28,7 +28,7 @@ loop-line-preserved c = record {
   );
   so_far = λ stream there t.
       let k = c.loop-line.k in
-      let line = c.in-Some.line.now in
+      let line = c.in-Some.line in
       let found = sym (c.in-Some.ensures.value ∙ looked_up c.args.bench.now.streams c.args.s k stream there) in
       subst (IsTracing c.args.image.now c.trace_line.new.unit c.trace_line.new.bytes.items) (sym (events_next stream.lines k line found))
       (c.in-Ok.ensures.traces (events_of (take k stream.lines)) (c.loop-line.invariant.so_far stream there t) refl);
@@ -39,7 +39,7 @@ returns-in-Err-Run-clause-refused c stream there t line fault is =
     let image = c.args.image.now in
     let settings = stream.settings in
     let k = c.loop-line.k in
-    let at = c.in-Some.line.now in
+    let at = c.in-Some.line in
     let same : c.loop-line.unit.settings ≡ settings = c.loop-line.invariant.settings.0 ∙ c.requires.settings stream there in
     let found = sym (c.in-Some.ensures.value ∙ looked_up c.args.bench.now.streams c.args.s k stream there) in
     let refuses = c.in-Err-Run.ensures.refused (events_of (take k stream.lines)) (c.loop-line.invariant.so_far stream there t) c.in-Err-Run.fault

@@ -3,7 +3,6 @@ use Rattle.std.specs.Prelude.{All, List}
 use Rattle.etm_types.specs.Id.{IsId}
 use Rattle.bench_text.specs.BenchText.{stream_of}
 use Rattle.bench_text.specs.GivenSettings.{IsGiven, are_allowed, given_or}
-use Rattle.bench_text.specs.Kept.{streams_in}
 use Rattle.bench_text.specs.Parts.{BenchStream}
 use Rattle.bench_text.proofs.Drafts.{declared_ids}
 use Rattle.bench_text.proofs.Settled.{own_settled}
@@ -21,9 +20,9 @@ stack-requires c =
 
 pub invariant_of-self : goal.invariant_of-self
 invariant_of-self c =
-    let old = streams_in c.self.inside.streams.entries in
+    let old = c.self.inside.streams.streams in
     let stream = stream_of c.in_ok-new.new.id (given_or c.in_ok-new.new.own c.self.inside.given) in
-    let new : streams_in c.declare.new.streams.entries ≡ old ++ stream ∷ [] = search rules in
+    let new : c.declare.new.self.streams ≡ old ++ stream ∷ [] = search rules in
     let id : IsId c.in_ok-new.new.id = search rules in
     record {
       given = c.self.invariant.given;

@@ -1,0 +1,29 @@
+-- What the fields of the streams of a run file hold.
+use Rattle.std.specs.Prelude.{ℕ, List, All, map}
+use Rattle.bench_text.specs.Parts.{BenchStream}
+use Rattle.bench_text.specs.Places.{IsRead, line_of}
+use Rattle.bench_text.specs.declared.streams.Stream.{Stream}
+use Rattle.bench_text.specs.declared.streams.Streams.TheInside.{Inside as StreamsFields}
+
+-- streams of a text
+pub record TextStreams : Type 0 where
+  pub text : List ℕ
+  pub streams : List BenchStream
+
+-- the stream of an entry of a map
+abbrev pub in_entry : List ℕ → ℕ × Stream → BenchStream
+in_entry text e = record { id = e.0; settings = e.1.settings; stack = e.1.stack; lines = map (line_of text e.1.settings) e.1.places.items }
+
+-- those of all entries, in their order
+abbrev pub streams_in : List ℕ → List (ℕ × Stream) → List BenchStream
+streams_in text entries = map (in_entry text) entries
+
+abbrev pub streams_of : StreamsFields → TextStreams
+streams_of s = record { text = s.text.now; streams = streams_in s.text.now s.by_id.entries }
+
+abbrev pub IsReadEntry : List ℕ → ℕ × Stream → Type 0
+IsReadEntry text e = All (IsRead text e.1.settings) e.1.places.items
+
+-- each line whose place is kept is an event line of its stream
+abbrev pub AreRead : List ℕ → List (ℕ × Stream) → Type 0
+AreRead text entries = All (IsReadEntry text) entries
