@@ -5,7 +5,7 @@ use Rattle.std.specs.Int.Digits.{digits_of}
 use Rattle.std.proofs.lemmas.List.{length-append, length-take-le, length-drop, take-append-drop, take-take, take_at, take_more_set}
 use Rattle.std.proofs.Math.Seq.{drop-append_seam}
 use Rattle.path_text.specs.Lines.{digit, hex, last_four_hex, line_start, address_line}
-use Rattle.path_text.proofs.DigitLemmas.{before_last}
+use Rattle.path_text.proofs.DigitLemmas.{before_last, few_digits}
 use Rattle.path_text.proofs.HexLemmas.{hex_four, at_least_four_hex}
 
 -- the bytes of the line: its start, and then the digits, where they end at `end`
@@ -92,6 +92,17 @@ line_made id new end bytes front place within =
 pub whole_length : (id address : ℕ) (bytes : List ℕ) → bytes ≡ address_line id address → length bytes ≡ length (hex address) + 4
 whole_length id address bytes is =
     omega (arith, ap length is, length-append (line_start id) (hex address ++ (10 ∷ [])), length-append (hex address) (10 ∷ []))
+
+-- a line of at least eight bytes has an address of at least four digits
+pub long_address : (id address : ℕ) → 8 ≤ length (address_line id address) → 4096 ≤ address
+long_address id address long =
+    let few : address < 4096 → ⊥ = λ below. omega (
+      arith,
+      long,
+      whole_length id address (address_line id address) refl,
+      few_digits 16 3 address (omega arith) (omega arith) (omega arith),
+    ) in
+    omega (arith, few)
 
 pub whole_changed : (id old new end : ℕ) (bytes : List ℕ) → 4096 ≤ old → 4096 ≤ new → old / 65536 ≡ new / 65536 → length bytes ≡ end + 1
     → bytes ≡ address_line id old → take (end - 4) bytes ++ (last_four_hex new ++ drop end bytes) ≡ address_line id new

@@ -2,11 +2,13 @@
 //!
 //! The addresses of a block go up by 4, and a loop comes back to the same block, so that most often no digit but the last four
 //! changes from a line to the next. The bytes of the line are kept, and then only these four are put.
-ghost use Rattle.std.specs.Prelude.{◌≡◌, ◌+◌, ◌≤◌, ◌<◌, ◌/◌, ◌%◌, ◌^◌, ◌↔◌, IsTrue, length};
+ghost use Rattle.std.specs.Prelude.{◌≡◌, ◌+◌, ◌-◌, ◌*◌, ◌≤◌, ◌<◌, ◌/◌, ◌%◌, ◌^◌, ◌↔◌, IsTrue, length};
 ghost use Rattle.path_text.specs.Lines.{hex};
+ghost use Rattle.path_text.specs.Near.{AreNear, DifferInLastFour};
 ghost use Rattle.path_text.specs.Writing.{Writes};
 
 use crate::digits::{digit, hex_count, put_hex, put_last_four_hex};
+use a64_branches::INSTRUCTION_BYTES;
 use etm_types::Id;
 use std::marker::Model;
 use trace_io::{Failed, Sink, write_all};
@@ -94,13 +96,30 @@ impl AddressLine {
         self.address
     }
 
+    /// How many bytes it has: 5 to 20.
+    #[inline(always)]
+    pub fn len(&self) -> usize
+        ensures value { result ≡ length (address_line self.now.id self.now.address) }
+        ensures short { result ≤ 20 }
+    {
+        self.bytes().len()
+    }
+
     /// The bytes of the line.
     #[inline(always)]
-    pub(crate) fn bytes(&self) -> &[u8]
+    pub fn bytes(&self) -> &[u8]
         ensures line { result.now ≡ address_line self.now.id self.now.address }
         ensures short { length result.now ≤ 20 }
     {
         &self.bytes[..self.len]
+    }
+
+    /// Whether the lines of so many instructions from an address on differ from it in no digit but the last four.
+    #[inline(always)]
+    pub fn has_near(&self, start: u64, count: u64) -> bool
+        ensures { IsTrue result → AreNear self.now.address start count }
+    {
+        differs_in_last_four(self.address, start) && count <= near_lines(start)
     }
 
     /// Writes the line by one call.
@@ -115,7 +134,22 @@ impl AddressLine {
 /// Whether two numbers have at least four hex digits, and the same ones but for the last four.
 #[inline(always)]
 fn differs_in_last_four(a: u64, b: u64) -> bool
-    ensures { IsTrue result ↔ ((4096 ≤ a) × (4096 ≤ b) × (a / 65536 ≡ b / 65536)) }
+    ensures { IsTrue result ↔ DifferInLastFour a b }
 {
     a / 65536 == b / 65536 && a >= 4096 && b >= 4096
+}
+
+/// The lines of how many instructions from an address on differ in no digit but the last four.
+#[inline(always)]
+pub(crate) fn near_lines(address: u64) -> u64
+    ensures some { 0 < result }
+    ensures few { result ≤ 16384 }
+    ensures near { (1 < result) → (4096 ≤ address) × (address % 65536 + 4 * (result - 1) < 65536) }
+    ensures most { (4096 ≤ address) → 65536 ≤ address % 65536 + 4 * result }
+{
+    if address < 4096 {
+        1
+    } else {
+        (65535 - address % 65536) / INSTRUCTION_BYTES + 1
+    }
 }

@@ -27,5 +27,6 @@ pub use line::Line;
 pub use packet_grammar::End;
 pub use packet_line::{PacketLine, write_packet_line};
 pub use path_lines::{
-    add_exception_name, write_gap, write_instructions, write_stop, write_walked, write_walked_on,
+    add_exception_name, write_gap, write_instructions, write_near_lines, write_stop, write_walked,
+    write_walked_on,
 };

@@ -4,9 +4,10 @@ ghost use Rattle.etm_types.specs.Walked.{exception, items_of};
 ghost use Rattle.path_text.specs.Lines.{HasRoom, AddsAtMost, line_of, hex, address_line};
 ghost use Rattle.path_text.specs.PathLines.{whole_context_text, exception_names, name_among, exception_text, context_line};
 ghost use Rattle.path_text.specs.PathLines.{instruction_lines, lines_of, shown_after_all, on_line, block_items, run_lines, run_shown};
+ghost use Rattle.path_text.specs.Near.{AreNear, IsNearLine};
 ghost use Rattle.path_text.specs.Writing.{Writes};
 
-use crate::address_line::AddressLine;
+use crate::address_line::{AddressLine, near_lines};
 use crate::digits::put_last_four_hex;
 use crate::line::Line;
 use a64_branches::INSTRUCTION_BYTES;
@@ -85,21 +86,6 @@ pub fn write_instructions<K: Sink>(
     Ok(())
 }
 
-/// The lines of how many instructions from an address on differ in no digit but the last four.
-#[inline(always)]
-fn near_lines(address: u64) -> u64
-    ensures some { 0 < result }
-    ensures few { result ≤ 16384 }
-    ensures near { (1 < result) → (4096 ≤ address) × (address % 65536 + 4 * (result - 1) < 65536) }
-    ensures most { (4096 ≤ address) → 65536 ≤ address % 65536 + 4 * result }
-{
-    if address < 4096 {
-        1
-    } else {
-        (65535 - address % 65536) / INSTRUCTION_BYTES + 1
-    }
-}
-
 /// Writes the lines of instructions of which only the last four digits differ, from that of the line's address on.
 #[inline(always)]
 fn write_near<K: Sink>(line: &AddressLine, count: u64, sink: &mut K) -> Result<(), Failed>
@@ -107,35 +93,21 @@ fn write_near<K: Sink>(line: &AddressLine, count: u64, sink: &mut K) -> Result<(
     requires near { (1 < count) → (4096 ≤ line.now.address) × (line.now.address % 65536 + 4 * (count - 1) < 65536) }
     ensures { Writes (K.state sink.old) (K.state sink.new) result (instruction_lines line.now.id line.now.address count) }
 {
-    let len = line.bytes().len();
-    if len == 8 {
-        write_lines_of::<8, K>(line, count, sink)
-    } else if len == 9 {
-        write_lines_of::<9, K>(line, count, sink)
-    } else if len == 10 {
-        write_lines_of::<10, K>(line, count, sink)
-    } else if len == 11 {
-        write_lines_of::<11, K>(line, count, sink)
-    } else if len == 12 {
-        write_lines_of::<12, K>(line, count, sink)
-    } else if len == 13 {
-        write_lines_of::<13, K>(line, count, sink)
-    } else if len == 14 {
-        write_lines_of::<14, K>(line, count, sink)
-    } else if len == 15 {
-        write_lines_of::<15, K>(line, count, sink)
-    } else if len == 16 {
-        write_lines_of::<16, K>(line, count, sink)
-    } else if len == 17 {
-        write_lines_of::<17, K>(line, count, sink)
-    } else if len == 18 {
-        write_lines_of::<18, K>(line, count, sink)
-    } else if len == 19 {
-        write_lines_of::<19, K>(line, count, sink)
-    } else if len == 20 {
-        write_lines_of::<20, K>(line, count, sink)
-    } else {
-        line.write(sink)
+    match line.len() {
+        8 => write_lines_of::<8, K>(line, count, sink),
+        9 => write_lines_of::<9, K>(line, count, sink),
+        10 => write_lines_of::<10, K>(line, count, sink),
+        11 => write_lines_of::<11, K>(line, count, sink),
+        12 => write_lines_of::<12, K>(line, count, sink),
+        13 => write_lines_of::<13, K>(line, count, sink),
+        14 => write_lines_of::<14, K>(line, count, sink),
+        15 => write_lines_of::<15, K>(line, count, sink),
+        16 => write_lines_of::<16, K>(line, count, sink),
+        17 => write_lines_of::<17, K>(line, count, sink),
+        18 => write_lines_of::<18, K>(line, count, sink),
+        19 => write_lines_of::<19, K>(line, count, sink),
+        20 => write_lines_of::<20, K>(line, count, sink),
+        _ => line.write(sink),
     }
 }
 
@@ -147,28 +119,48 @@ fn write_bytes<K: Sink>(bytes: &[u8], sink: &mut K) -> Result<(), Failed>
     write_all(sink, bytes)
 }
 
-/// The same of lines of `L` bytes. Since their number is known where this is compiled, a line is copied by a store or two, and not by a call.
+/// The same of lines of `L` bytes.
 #[inline(always)]
 fn write_lines_of<const L: usize, K: Sink>(
     first: &AddressLine,
     count: u64,
     sink: &mut K,
 ) -> Result<(), Failed>
-    requires some { 0 < count }
     requires near { (1 < count) → (4096 ≤ first.now.address) × (first.now.address % 65536 + 4 * (count - 1) < 65536) }
-    requires short { L ≤ 20 }
+    requires sizes { (8 ≤ L) × (L ≤ 20) }
     requires len { L ≡ length (address_line first.now.id first.now.address) }
     ensures { Writes (K.state sink.old) (K.state sink.new) result (instruction_lines first.now.id first.now.address count) }
 {
     let mut bytes = [0; L];
     bytes.copy_from_slice(first.bytes());
-    let mut address = first.address();
-    for _done in 1..count {
-        write_bytes(&bytes, sink)?;
-        address += INSTRUCTION_BYTES;
-        put_last_four_hex(address, &mut bytes, L - 1);
+    write_near_lines(first, first.address(), count, &mut bytes, sink)
+}
+
+/// Writes the lines of so many instructions from an address on, which differ from a line in no digit but the last four. `bytes` are a
+/// line of that kind, here and behind.
+///
+/// Since their number is known where this is compiled, a line is copied by a store or two, and not by a call.
+#[inline(always)]
+pub fn write_near_lines<const L: usize, K: Sink>(
+    line: &AddressLine,
+    start: u64,
+    count: u64,
+    bytes: &mut [u8; L],
+    sink: &mut K,
+) -> Result<(), Failed>
+    requires near { AreNear line.now.address start count }
+    requires line { IsNearLine line.now bytes.old }
+    requires short { L ≤ 20 }
+    ensures lines { Writes (K.state sink.old) (K.state sink.new) result (instruction_lines line.now.id start count) }
+    ensures line { IsNearLine line.now bytes.new }
+{
+    let mut address = start;
+    for _done in 0..count {
+        put_last_four_hex(address, bytes, L - 1);
+        write_bytes(bytes, sink)?;
+        address = address.wrapping_add(INSTRUCTION_BYTES);
     }
-    write_bytes(&bytes, sink)
+    Ok(())
 }
 
 /// Writes the lines of the instructions of a walk, after that of their context.

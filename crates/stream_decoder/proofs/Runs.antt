@@ -1,5 +1,6 @@
 -- Atoms of a run are walked one after the other.
-use Rattle.std.proofs.Common.{◌≡◌, ℕ, suc, ◌+◌, ◌^◌, ◌≤◌, ◌<◌, Bool, List, [], ◌∷◌, ◌++◌, length, drop, get_or, slice_get, Option, Some, None, refl, sym, ap, subst, ◌∙◌, arith, append-nil, append_assoc}
+use Rattle.std.proofs.Common.{◌≡◌, ℕ, suc, ◌+◌, ◌-◌, ◌^◌, ◌≤◌, ◌<◌, Bool, List, [], ◌∷◌, ◌++◌, length, take, drop, get_or, slice_get, take_all, ◌∙◌}
+use Rattle.std.proofs.Common.{Option, Some, None, refl, sym, ap, subst, arith, append-nil, append_assoc}
 use Rattle.element_queue.specs.Counting.{AreCounts, Balances, add}
 use Rattle.element_queue.specs.declared.ledger.Counts.{Counts}
 use Rattle.etm_types.specs.Pre.{nothing_told}
@@ -28,6 +29,7 @@ use Rattle.etm_types.specs.declared.item.Item.{Item}
 use Rattle.stream_decoder.proofs.Atoms.{fewer_by_atom, goes_by_atom, holds_by_atom}
 use Rattle.stream_decoder.proofs.Waits.{next_at}
 use Rattle.stream_decoder.proofs.Yielding.{goes_on}
+use Rattle.stream_decoder.specs.StretchLines.{stretch_lines}
 use Rattle.stream_decoder.specs.Decoding.{Decoding, IsDecoding, decoding_of}
 use Rattle.stream_decoder.specs.Left.{Left}
 use Rattle.stream_decoder.specs.Waiting.{Commits, IsWaiting, Waiting, committed_by, counts_passed, passed}
@@ -180,7 +182,8 @@ module _ (image : Image) (r : Standing) (t : Told) (f : Option (ℕ × Fault)) (
       let last : Decoding = here (record l { elements = elements }) None c' s' in
       let same : next.ctx ≡ s.ctx = shows.kept in
       let goes = subst (λ ctx. Goes image (here l' None (counts_passed 1 c) next) (items_in ctx (x ∷ run)) last) same behind.0 in (
-        goes_on image (here l addr c s) (here l' None (counts_passed 1 c) next) last (items_of (walked_in s.ctx stretch)) (items_in s.ctx (x ∷ run)) step.0 goes,
+        goes_on image (here l addr c s) (here l' None (counts_passed 1 c) next) last (items_of (walked_in s.ctx stretch)) (items_in s.ctx (x ∷ run))
+            step.0 goes,
         omega (arith, step.1, behind.1),
         behind.2,
       )
@@ -249,6 +252,8 @@ items_more ctx (x ∷ run) stretch =
     append_assoc (items_of (walked_in ctx x)) (items_in ctx run) (items_of (walked_in ctx stretch))
     ∙ ap (λ (items : List Item). items_of (walked_in ctx x) ++ items) (items_more ctx run stretch)
 
+-- ---- the stretches one by one
+
 -- the stretch at a place, and those behind it
 pub items_at : (ctx : Ctx) (all run : List Stretch) (n : ℕ) (d : Stretch) (w : Walked) → all ≡ run → n < length all
     → w ≡ walked_in ctx (get_or all n d) → items_in ctx (drop n run) ≡ items_of w ++ items_in ctx (drop (n + 1) run)
@@ -258,9 +263,9 @@ items_at ctx all run n d w same within is =
 
 -- ---- the lines of a run whose context was printed
 
-stretch_lines : (id : ℕ) (ctx : Ctx) (stretch : Stretch)
+lines_of_stretch : (id : ℕ) (ctx : Ctx) (stretch : Stretch)
     → lines_of id (Some ctx) (items_of (walked_in ctx stretch)) ≡ instruction_lines id stretch.start stretch.count
-stretch_lines id ctx stretch =
+lines_of_stretch id ctx stretch =
     ap (lines_of id (Some ctx)) (append-nil (instructions ctx stretch.start stretch.count stretch.took))
     ∙ lines_of-instructions id stretch.start ctx stretch.count stretch.took
 
@@ -272,7 +277,7 @@ stretch_shown ctx stretch =
 first_lines : (id : ℕ) (ctx : Ctx) (stretch : Stretch) (rest : List Item)
     → instruction_lines id stretch.start stretch.count ++ lines_of id (Some ctx) rest ≡ lines_of id (Some ctx) (items_of (walked_in ctx stretch) ++ rest)
 first_lines id ctx stretch rest =
-    ap (λ (t : List ℕ). t ++ lines_of id (Some ctx) rest) (sym (stretch_lines id ctx stretch))
+    ap (λ (t : List ℕ). t ++ lines_of id (Some ctx) rest) (sym (lines_of_stretch id ctx stretch))
     ∙ ap (λ (s : Option Ctx). lines_of id (Some ctx) (items_of (walked_in ctx stretch)) ++ lines_of id s rest) (sym (stretch_shown ctx stretch))
     ∙ sym (lines_of-append id (Some ctx) (items_of (walked_in ctx stretch)) rest)
 
@@ -282,24 +287,39 @@ run_shown ctx (stretch ∷ run) =
     shown_after_all-append (Some ctx) (items_of (walked_in ctx stretch)) (items_in ctx run)
     ∙ ap (λ (s : Option Ctx). shown_after_all s (items_in ctx run)) (stretch_shown ctx stretch) ∙ run_shown ctx run
 
--- the lines of the stretch at a place, and of those behind it
-pub lines_at : (id : ℕ) (ctx : Ctx) (all run : List Stretch) (n : ℕ) (d : Stretch) → all ≡ run → n < length all
-    → instruction_lines id (get_or all n d).start (get_or all n d).count ++ lines_of id (Some ctx) (items_in ctx (drop (n + 1) run))
-    ≡ lines_of id (Some ctx) (items_in ctx (drop n run))
-lines_at id ctx all run n d same within =
-    first_lines id ctx (get_or all n d) (items_in ctx (drop (n + 1) run))
-    ∙ ap (lines_of id (Some ctx)) (sym (items_at ctx all run n d (walked_in ctx (get_or all n d)) same within refl))
+pub lines_alone : (id : ℕ) (ctx : Ctx) (run : List Stretch) → stretch_lines id run ≡ lines_of id (Some ctx) (items_in ctx run)
+lines_alone id ctx [] = refl
+lines_alone id ctx (stretch ∷ run) =
+    ap (λ (t : List ℕ). instruction_lines id stretch.start stretch.count ++ t) (lines_alone id ctx run)
+    ∙ first_lines id ctx stretch (items_in ctx run)
 
--- the lines of one stretch more are written
-pub wrote_stretch : (a b c : IoState) (id : ℕ) (text : List ℕ) (all run : List Stretch) (n : ℕ) (d : Stretch) → all ≡ run → n < length all
-    → Wrote a b text → ((ctx : Ctx) → text ++ lines_of id (Some ctx) (items_in ctx (drop n run)) ≡ lines_of id (Some ctx) (items_in ctx run))
-    → Wrote b c (instruction_lines id (get_or all n d).start (get_or all n d).count)
-    → (more : List ℕ) × Wrote a c more
-    × ((ctx : Ctx) → more ++ lines_of id (Some ctx) (items_in ctx (drop (n + 1) run)) ≡ lines_of id (Some ctx) (items_in ctx run))
-wrote_stretch a b c id text all run n d same within wrote rest line =
-    let lines = instruction_lines id (get_or all n d).start (get_or all n d).count in (
-      text ++ lines,
-      wrote_more a b c text lines wrote line,
-      λ ctx. append_assoc text lines (lines_of id (Some ctx) (items_in ctx (drop (n + 1) run)))
-          ∙ ap (λ (t : List ℕ). text ++ t) (lines_at id ctx all run n d same within) ∙ rest ctx,
-    )
+pub joined_lines : (id : ℕ) (first more : List Stretch) → stretch_lines id (first ++ more) ≡ stretch_lines id first ++ stretch_lines id more
+joined_lines id [] more = refl
+joined_lines id (stretch ∷ first) more =
+    ap (λ (t : List ℕ). instruction_lines id stretch.start stretch.count ++ t) (joined_lines id first more)
+    ∙ sym (append_assoc (instruction_lines id stretch.start stretch.count) (stretch_lines id first) (stretch_lines id more))
+
+-- the lines of one stretch more
+pub more_lines : (id : ℕ) (first : List Stretch) (stretch : Stretch)
+    → stretch_lines id first ++ instruction_lines id stretch.start stretch.count ≡ stretch_lines id (first ++ stretch ∷ [])
+more_lines id first stretch =
+    ap (λ (t : List ℕ). stretch_lines id first ++ t) (sym (append-nil (instruction_lines id stretch.start stretch.count)))
+    ∙ sym (joined_lines id first (stretch ∷ []))
+
+-- the first of some stretches, and those behind it
+pub first_and_rest : (all : List Stretch) (d : Stretch) → 1 ≤ length all → get_or all 0 d ∷ take (length all - 1) (drop 1 all) ≡ all
+first_and_rest [] d some = absurd (omega (arith, some))
+first_and_rest (stretch ∷ rest) d some =
+    let fewer : suc (length rest) - 1 ≡ length rest = omega arith in
+    ap (λ (l : List Stretch). stretch ∷ l) (ap (λ n. take n rest) fewer ∙ take_all (length rest) rest (omega arith))
+
+-- one of them is taken behind others
+pub taken_behind : (first left all : List Stretch) (d : Stretch) → first ++ left ≡ all → 1 ≤ length left
+    → (first ++ get_or left 0 d ∷ []) ++ take (length left - 1) (drop 1 left) ≡ all
+taken_behind first left all d is some =
+    append_assoc first (get_or left 0 d ∷ []) (take (length left - 1) (drop 1 left))
+    ∙ ap (λ (l : List Stretch). first ++ l) (first_and_rest left d some) ∙ is
+
+pub none_left : (all : List Stretch) → length all < 1 → all ≡ []
+none_left [] few = refl
+none_left (stretch ∷ rest) few = absurd (omega (arith, few))

@@ -1,5 +1,6 @@
 pub mod Decoding
 pub mod Left
 pub mod Stands
+pub mod StretchLines
 pub mod Waiting
 pub mod Yields

@@ -10,13 +10,16 @@ ghost use Rattle.packet_grammar.specs.Ends.{is_fault};
 ghost use Rattle.packet_grammar.specs.declared.end.End.{End};
 ghost use Rattle.path_elements.specs.Path.{IsPath, IsPathTaking, unplaced};
 ghost use Rattle.path_text.specs.EndLines.{end_line};
+ghost use Rattle.path_text.specs.Lines.{address_line};
 ghost use Rattle.path_text.specs.PathLines.{lines_of, shown_after_all};
 ghost use Rattle.path_text.specs.Writing.{Writes};
 ghost use Rattle.path_walker.specs.Walk.{items_in};
+ghost use Rattle.path_walker.specs.declared.stretch.Stretch.{Stretch as Shown};
 ghost use Rattle.program_image.specs.Blocks.{HasGap};
 ghost use Rattle.program_image.specs.declared.image.Image.{Image};
 ghost use Rattle.stream_decoder.specs.Decoding.{AtRest, IsDecoding};
 ghost use Rattle.stream_decoder.specs.Yields.{Goes, Prints, items_of_found, left};
+ghost use Rattle.stream_decoder.specs.StretchLines.{stretch_lines};
 ghost use Rattle.stream_decoder.specs.Stands.{Grows, StandsAt, shows_walk_fault};
 ghost use Rattle.trace_io.specs.Bytes.{ShowsAsBefore};
 ghost use Rattle.trace_io.specs.Causes.{HasCause};
@@ -26,8 +29,8 @@ use crate::found::{Found, write_found};
 use element_queue::{Counts, Ledger};
 use etm_types::{Ctx, Id, Settings};
 use packet_grammar::End;
-use path_text::{AddressLine, write_end, write_instructions, write_walked_on};
-use path_walker::Stretches;
+use path_text::{AddressLine, write_end, write_instructions, write_near_lines, write_walked_on};
+use path_walker::{Stretch, Stretches};
 use program_image::Image;
 use std::alloc::{AllocError, Global};
 use std::marker::Model;
@@ -274,7 +277,7 @@ fn write_some<K: Sink>(
 }
 
 /// Writes what goes the short way: what is due, and what the next elements show, as long as these are atoms before which nothing
-/// but an address was given. Where each is committed as it is made, those of a packet are walked first, and then written.
+/// but an address was given, and at most 24. They are walked first, and then written.
 #[inline(always)]
 fn write_atoms<K: Sink>(
     decoding: &mut Decoding,
@@ -298,37 +301,9 @@ fn write_atoms<K: Sink>(
 {
     decoding.next_run(image, run);
     if run.is_empty() {
-        return write_each_atom(decoding, shown, line, image, sink);
+        return Ok(());
     }
     write_run(line, run, &decoding.context(), shown, sink)
-}
-
-/// The same, one atom after the other.
-#[inline(always)]
-fn write_each_atom<K: Sink>(
-    decoding: &mut Decoding,
-    shown: &mut Option<Ctx>,
-    line: &mut AddressLine,
-    image: &Image,
-    sink: &mut K,
-) -> Result<(), Failed>
-    requires holds { IsDecoding decoding.old }
-    ensures prints { (items : List Item) × Goes image.now decoding.old items decoding.new
-        × Writes (K.state sink.old) (K.state sink.new) result (lines_of line.old.id shown.old items)
-        × IfOk result (λ done. shown.new ≡ shown_after_all shown.old items) }
-    ensures fewer { left decoding.new ≤ left decoding.old }
-    ensures stopped { AtRest decoding.old → (result ≡ Ok tt) × (decoding.new ≡ decoding.old) × (shown.new ≡ shown.old) × (sink.new ≡ sink.old) }
-    ensures cause { HasCause (K.state sink.old) (K.state sink.new) result }
-    ensures shows { ShowsAsBefore (K.state sink.old) (K.state sink.new) }
-    ensures reader { decoding.new.reader ≡ decoding.old.reader }
-    ensures id { line.new.id ≡ line.old.id }
-    ensures holds { IsDecoding decoding.new }
-{
-    while let Some(stretch) = decoding.next_atom(image) {
-        let walked = stretch.in_context(decoding.context());
-        write_walked_on(line, &walked, shown, sink)?;
-    }
-    Ok(())
 }
 
 /// Writes the lines of a run of atoms in a context. Mostly the context is the one that was printed last.
@@ -362,7 +337,8 @@ fn is_shown(shown: &Option<Ctx>, ctx: &Ctx) -> bool
     }
 }
 
-/// Writes the lines of a run of atoms in whatever context was printed last.
+/// Writes the lines of a run of atoms in whatever context was printed last. Most of them differ from the line before in no digit but
+/// the last four: those are written in a loop that knows how long they are.
 #[inline(always)]
 fn write_lines_alone<K: Sink>(
     line: &mut AddressLine,
@@ -372,10 +348,69 @@ fn write_lines_alone<K: Sink>(
     ensures id { line.new.id ≡ line.old.id }
     ensures lines { (ctx : Ctx) → Writes (K.state sink.old) (K.state sink.new) result (lines_of line.old.id (Some ctx) (items_in ctx run.now)) }
 {
-    for stretch in run.all() {
+    let mut left = run.all();
+    loop {
+        left = write_near(line, left, sink)?;
+        let [stretch, behind @ ..] = left else {
+            return Ok(());
+        };
         write_instructions(line, stretch.start, stretch.count, sink)?;
+        left = behind;
     }
-    Ok(())
+}
+
+/// Writes the lines of the first stretches, as long as they differ from a line in no digit but the last four, and gives the stretches
+/// behind them.
+#[inline(always)]
+fn write_near<'a, K: Sink>(
+    line: &AddressLine,
+    stretches: &'a [Stretch],
+    sink: &mut K,
+) -> Result<&'a [Stretch], Failed>
+    ensures { (first : List Shown) × (left : List Shown) × (first ++ left ≡ stretches.now)
+        × Writes (K.state sink.old) (K.state sink.new) result (stretch_lines line.now.id first) × IfOk result (λ rest. rest.now ≡ left) }
+{
+    match line.len() {
+        8 => write_near_of::<8, K>(line, stretches, sink),
+        9 => write_near_of::<9, K>(line, stretches, sink),
+        10 => write_near_of::<10, K>(line, stretches, sink),
+        11 => write_near_of::<11, K>(line, stretches, sink),
+        12 => write_near_of::<12, K>(line, stretches, sink),
+        13 => write_near_of::<13, K>(line, stretches, sink),
+        14 => write_near_of::<14, K>(line, stretches, sink),
+        15 => write_near_of::<15, K>(line, stretches, sink),
+        16 => write_near_of::<16, K>(line, stretches, sink),
+        17 => write_near_of::<17, K>(line, stretches, sink),
+        18 => write_near_of::<18, K>(line, stretches, sink),
+        19 => write_near_of::<19, K>(line, stretches, sink),
+        20 => write_near_of::<20, K>(line, stretches, sink),
+        _ => Ok(stretches),
+    }
+}
+
+/// The same, where the line has `L` bytes.
+#[inline(always)]
+fn write_near_of<'a, const L: usize, K: Sink>(
+    line: &AddressLine,
+    stretches: &'a [Stretch],
+    sink: &mut K,
+) -> Result<&'a [Stretch], Failed>
+    requires sizes { (8 ≤ L) × (L ≤ 20) }
+    requires len { L ≡ length (address_line line.now.id line.now.address) }
+    ensures { (first : List Shown) × (left : List Shown) × (first ++ left ≡ stretches.now)
+        × Writes (K.state sink.old) (K.state sink.new) result (stretch_lines line.now.id first) × IfOk result (λ rest. rest.now ≡ left) }
+{
+    let mut bytes = [0; L];
+    bytes.copy_from_slice(line.bytes());
+    let mut left = stretches;
+    while let [stretch, behind @ ..] = left {
+        if !line.has_near(stretch.start, stretch.count) {
+            return Ok(left);
+        }
+        write_near_lines(line, stretch.start, stretch.count, &mut bytes, sink)?;
+        left = behind;
+    }
+    Ok(left)
 }
 
 /// Writes the lines of a run of atoms in a context, and before them that of the context, unless it was printed last.

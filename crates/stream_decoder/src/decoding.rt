@@ -308,11 +308,12 @@ impl Decoding {
     ///
     /// Most elements are such, and what they show is small.
     #[inline(always)]
-    pub fn next_atom(&mut self, image: &Image) -> Option<Stretch>
+    fn next_atom(&mut self, image: &Image) -> Option<Stretch>
         ensures goes { IfSome result (λ stretch. Goes image.now self.old (items_of (walked_in self.new.walk.ctx stretch)) self.new) }
         ensures fewer { IfSome result (λ stretch. left self.new < left self.old) }
         ensures none { result ≡ None → self.new ≡ self.old }
         ensures stopped { AtRest self.old → result ≡ None }
+        ensures context { self.new.walk.ctx ≡ self.old.walk.ctx }
         ensures reader { self.new.reader ≡ self.old.reader }
         ensures holds { IsDecoding self.new }
     {
@@ -329,6 +330,7 @@ impl Decoding {
         ensures fewer { IfSome result (λ stretch. left self.new < left self.old) }
         ensures none { result ≡ None → self.new ≡ self.old }
         ensures stopped { AtRest self.old → result ≡ None }
+        ensures context { self.new.walk.ctx ≡ self.old.walk.ctx }
         ensures reader { self.new.reader ≡ self.old.reader }
         ensures holds { IsDecoding self.new }
     {
@@ -346,6 +348,7 @@ impl Decoding {
         ensures fewer { IfSome result (λ stretch. left self.new < left self.old) }
         ensures none { result ≡ None → self.new ≡ self.old }
         ensures stopped { AtRest self.old → result ≡ None }
+        ensures context { self.new.walk.ctx ≡ self.old.walk.ctx }
         ensures reader { self.new.reader ≡ self.old.reader }
         ensures holds { IsDecoding self.new }
     {
@@ -359,9 +362,9 @@ impl Decoding {
         Some(stretch)
     }
 
-    /// Walks the next atoms, where nothing but an address was given before them, and each is committed as it is made: those of a packet in
-    /// one loop. Where there is none, and where the first is not walked, nothing changes: [`next_atom`](Decoding::next_atom) goes on from
-    /// there.
+    /// Walks what is due, and then the next elements, as long as these are atoms before which nothing but an address was given: at most 24.
+    /// Where each is committed as it is made, those of a packet are walked in one loop. Where there is none, and where the first is not
+    /// walked, nothing changes: [`next`](Decoding::next) goes on from there.
     #[inline(always)]
     pub fn next_run(&mut self, image: &Image, run: &mut Stretches)
         ensures goes { Goes image.now self.old (items_in self.new.walk.ctx run.new) self.new }
@@ -372,8 +375,29 @@ impl Decoding {
         ensures holds { IsDecoding self.new }
     {
         run.clear();
-        if let Some(given) = self.waiting.passing() {
-            self.walk_passing(image, given, run);
+        match self.waiting.passing() {
+            Some(given) => self.walk_passing(image, given, run),
+            None => self.walk_each(image, run),
+        }
+    }
+
+    /// The same, one atom after the other.
+    #[inline(always)]
+    fn walk_each(&mut self, image: &Image, run: &mut Stretches)
+        requires none { run.old ≡ [] }
+        requires holds { IsDecoding self.old }
+        ensures goes { Goes image.now self.old (items_in self.new.walk.ctx run.new) self.new }
+        ensures fewer { left self.new ≤ left self.old }
+        ensures none { run.new ≡ [] → self.new ≡ self.old }
+        ensures stopped { AtRest self.old → run.new ≡ [] }
+        ensures reader { self.new.reader ≡ self.old.reader }
+        ensures holds { IsDecoding self.new }
+    {
+        while run.has_room() {
+            let Some(stretch) = self.next_atom(image) else {
+                return;
+            };
+            run.push(stretch);
         }
     }
 

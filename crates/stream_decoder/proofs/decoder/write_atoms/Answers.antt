@@ -1,9 +1,11 @@
-use Rattle.std.proofs.Common.{◌≡◌, arith, sym, subst, ◌∙◌}
+use Rattle.std.proofs.Common.{◌≡◌, List, [], refl, arith, sym, subst, ◌∙◌}
 use Rattle.std.specs.Prelude.{IfOk}
 use Rattle.etm_types.specs.declared.context.Ctx.{Ctx}
 use Rattle.path_text.specs.PathLines.{lines_of, shown_after_all}
 use Rattle.path_text.specs.Writing.{Writes}
 use Rattle.path_walker.specs.Walk.{items_in}
+use Rattle.path_walker.specs.declared.stretch.Stretch.{Stretch}
+use Rattle.path_text.proofs.Wrote.{writes_all, wrote_nothing}
 use Rattle.stream_decoder.specs.Decoding.{AtRest, Decoding}
 use Rattle.stream_decoder.specs.Yields.{Goes}
 use Rattle.stream_decoder.proofs.decoder.write_atoms.Goals as goal
@@ -12,20 +14,17 @@ use Rattle.stream_decoder.proofs.decoder.write_atoms.Goals as goal
 
 pub returns-then-is_empty-clause-prints : goal.returns-then-is_empty-clause-prints
 returns-then-is_empty-clause-prints g c =
-    let same = c.next_run.ensures.none (c.is_empty.ensures.0 c.if-is_empty.true) in let on = c.write_each_atom.ensures.prints in (
-      on.0,
-      subst (λ (d : Decoding). Goes c.args.image.now d on.0 c.write_each_atom.new.decoding) same on.1,
-      on.2,
-      on.3,
+    let state = g.K.Sink.state in let none = c.is_empty.ensures.0 c.if-is_empty.true in let now = state c.args.sink.now in (
+      [],
+      subst (λ (run : List Stretch). Goes c.args.image.now c.args.decoding.now (items_in c.next_run.new.self.walk.ctx run) c.next_run.new.self) none
+          c.next_run.ensures.goes,
+      writes_all now now tt [] (wrote_nothing now),
+      refl,
     )
-
-pub returns-then-is_empty-clause-fewer : goal.returns-then-is_empty-clause-fewer
-returns-then-is_empty-clause-fewer g c = let less = c.write_each_atom.ensures.fewer in omega (arith, less, c.next_run.ensures.fewer)
 
 pub returns-then-is_empty-clause-stopped : goal.returns-then-is_empty-clause-stopped
 returns-then-is_empty-clause-stopped g c done =
-    let same = c.next_run.ensures.none (c.is_empty.ensures.0 c.if-is_empty.true) in
-    let all = c.write_each_atom.ensures.stopped (subst AtRest (sym same) done) in (all.0, all.1 ∙ same, all.2, all.3)
+    let same = c.next_run.ensures.none (c.is_empty.ensures.0 c.if-is_empty.true) in (refl, same, refl, refl)
 
 -- ---- some were walked, and are written
 

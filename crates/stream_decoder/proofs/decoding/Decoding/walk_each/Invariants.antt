@@ -1,0 +1,19 @@
+use Rattle.std.proofs.Common.{◌≡◌, ◌-◌, ◌≤◌, [], length}
+use Rattle.path_walker.specs.Walk.{items_in}
+use Rattle.stream_decoder.specs.Decoding.{AtRest, IsDecoding}
+use Rattle.stream_decoder.specs.Yields.{Goes, left}
+use Rattle.stream_decoder.proofs.decoding.Decoding.walk_each.Given as goal
+
+abbrev pub decreases-loop-self : goal.decreases-loop-self
+decreases-loop-self l = 24 - length l.run
+
+abbrev pub invariant-loop-self : goal.invariant-loop-self
+invariant-loop-self l =
+    record {
+      goes : Goes l.image l.fn.self (items_in l.self.walk.ctx l.run) l.self;
+      fewer : left l.self ≤ left l.fn.self;
+      none : l.run ≡ [] → l.self ≡ l.fn.self;
+      stopped : AtRest l.fn.self → l.run ≡ [];
+      reader : l.self.reader ≡ l.fn.self.reader;
+      holds : IsDecoding l.self;
+    }
