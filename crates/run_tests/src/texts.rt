@@ -49,10 +49,10 @@ fn a_run_file_has_its_parts(rt: HostRuntime) -> Result<(), Fail> {
         event: Event::Step,
         times: 3,
     };
-    assert_eq!(rt; bench.line_at(0, 0).copied(), Some(on));
-    assert_eq!(rt; bench.line_at(0, 1).copied(), Some(step));
-    assert_eq!(rt; bench.line_at(0, 2).copied(), None);
-    assert_eq!(rt; bench.line_at(1, 0).copied(), None);
+    assert_eq!(rt; bench.line_at(0, 0), Some(on));
+    assert_eq!(rt; bench.line_at(0, 1), Some(step));
+    assert_eq!(rt; bench.line_at(0, 2), None);
+    assert_eq!(rt; bench.line_at(1, 0), None);
     assert_eq!(rt; weave_of(&bench, 0), Some((0x6f, 1_048_576)));
     assert_eq!(rt; weave_of(&bench, 1), Some((1, 2)));
     assert_eq!(rt; weave_of(&bench, 2), None);
@@ -106,7 +106,7 @@ fn each_event_line_is_read(rt: HostRuntime) -> Result<(), Fail> {
         exception,
     ];
     for (k, event) in events.into_iter().enumerate() {
-        let line = bench.line_at(0, k).copied();
+        let line = bench.line_at(0, k);
         assert_eq!(rt; line.map(|line: BenchLine| line.event), Some(event));
     }
     Ok(())

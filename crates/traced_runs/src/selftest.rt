@@ -72,8 +72,8 @@ fn image_in(alloc: Global, text: &[u8]) -> Result<Image, Untested>
     }
 }
 
-/// The run file of a text.
-fn bench_in(alloc: Global, text: &[u8]) -> Result<Bench, Untested>
+/// The run file of a text, which is read into `copy`.
+fn bench_in<'a>(alloc: Global, text: &[u8], copy: &'a mut Vec<u8>) -> Result<Bench<'a>, Untested>
     ensures good { IfOk result (λ bench. (parsed text.now ≡ Ok bench) × (length text.now ≤ most_text)) }
     ensures parts { IfOk result IsBench }
     ensures bad { (line : ℕ) (why : BenchWhy) → result ≡ Err (Untested.Bench line why) → (image : Parts) → bench_of image text.now ≡ Err (line, why) }
@@ -82,7 +82,7 @@ fn bench_in(alloc: Global, text: &[u8]) -> Result<Bench, Untested>
     let Ok(mut source) = source_of(alloc, text, PIECE) else {
         return Err(Untested::Memory);
     };
-    match read_bench(alloc, &mut source) {
+    match read_bench(alloc, &mut source, copy) {
         Ok(bench) => Ok(bench),
         Err(Unread::Bad { line, why }) => Err(Untested::Bench { line, why }),
         Err(Unread::ReadFault) => unreachable!(),
@@ -185,7 +185,8 @@ fn tested(
     ensures long { result ≡ Err Untested.TooLong → IsTooLong number }
 {
     let image = image_in(alloc, texts.image())?;
-    let bench = bench_in(alloc, texts.bench())?;
+    let mut copy = Vec::new(alloc);
+    let bench = bench_in(alloc, texts.bench(), &mut copy)?;
     let frames = frames_of(alloc, &image, &bench)?;
     if frames.written().len() > MOST_INPUT {
         return Err(Untested::TooLong);

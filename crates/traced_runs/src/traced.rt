@@ -84,7 +84,7 @@ fn trace_lines(
 {
     let mut k = 0;
     while let Some(line) = bench.line_at(s, k) {
-        match trace_line(unit, image, line, bytes) {
+        match trace_line(unit, image, &line, bytes) {
             Ok(()) => k += 1,
             Err(UnitFault::Run(fault)) => {
                 return Err(Untraced::Refused {
@@ -267,7 +267,8 @@ pub fn trace_input<J: Source, K: Sink>(
     ensures cause { HasCause (K.state out.old) (K.state out.new) result }
     ensures shows { ShowsAsBefore (K.state out.old) (K.state out.new) }
 {
-    let bench = match read_bench(alloc, input) {
+    let mut text = Vec::new(alloc);
+    let bench = match read_bench(alloc, input, &mut text) {
         Ok(bench) => bench,
         Err(Unread::Bad { line, why }) => return refuse(line, why, out),
         Err(Unread::ReadFault) => return Ok(Status::ReadFault),
