@@ -1,4 +1,5 @@
 pub mod Refused
 pub mod RetiredEvents
+pub mod RetiredMany
 pub mod RetiredSteps
 pub mod RetiredStreams

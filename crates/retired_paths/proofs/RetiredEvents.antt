@@ -385,11 +385,6 @@ lines_on image s id t t' events all more others was now grows =
     ap (λ c. lines_of id t.shown more ++ lines_of id c others) (shown_on image s id t t' events all more was now grows)
     ∙ sym (lines_of-append id t.shown more others)
 
-pub printed_nothing : (image : Image) (s : Sizes) (id : ℕ) (t : Retiring) (events : List Event) (a : IoState) → IsRetiring image s t events
-    → Wrote a a [] → Printed image s id t events t events a a
-printed_nothing image s id t events a is nothing =
-    record { more = []; grows = sym (append-nil (retired_items image s events)); wrote = nothing; stands = is }
-
 pub printed_more : (image : Image) (s : Sizes) (id : ℕ) (t t' t'' : Retiring) (events all others : List Event) (a b c : IoState) (u : Unit {0})
     → IsRetiring image s t events → Printed image s id t events t' all a b → PrintsRetired image s id t' all t'' others b c (Ok u)
     → Printed image s id t events t'' others a c

@@ -101,6 +101,11 @@ pub record PrintsRetired (image : Image) (s : Sizes) (id : ℕ) (t : Retiring) (
   pub printed : Writes old new result (lines_of id t.shown more)
   pub stands : IsOk result → IsRetiring image s t' all
 
+-- The events went on, and added nothing to the retired path.
+pub record AddsNothing (image : Image) (s : Sizes) (t : Retiring) (events : List Event) (t' : Retiring) (all : List Event) : Type 0 where
+  pub stands : IsRetiring image s t' all
+  pub same : retired_items image s all ≡ retired_items image s events
+
 -- ---- the events of lines
 
 -- the event of a line is refused, behind so many of its own

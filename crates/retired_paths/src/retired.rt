@@ -6,7 +6,6 @@ ghost use Rattle.etm_types.specs.Settings.{Sizes};
 ghost use Rattle.path_text.specs.Writing.{Writes};
 ghost use Rattle.program_image.specs.Blocks.{HasGap};
 ghost use Rattle.spec_run.specs.Stands.{StandsAt};
-ghost use Rattle.spec_run.specs.declared.event.Event.{Event};
 ghost use Rattle.retired_paths.specs.Retired.{RetiresSo, retired_text, stream_text};
 ghost use Rattle.retired_paths.specs.Retiring.{CanGoOn, RefusesLine, events_with, bad_line};
 ghost use Rattle.trace_io.specs.Bytes.{ShowsAsBefore, TakesAtMost};
@@ -18,7 +17,7 @@ use answer_lines::Status;
 use bench_text::{Bench, BenchLine, BenchWhy};
 use etm_types::Settings;
 use program_image::Image;
-use spec_run::{Run, RunFault};
+use spec_run::{Event, Run, RunFault};
 use std::alloc::Global;
 use trace_io::{Failed, Sink, Source};
 
@@ -29,10 +28,23 @@ fn run_line(run: &mut Run, image: &Image, line: &BenchLine) -> Result<(), RunFau
     ensures refused { (s : Sizes) (events : List Event) → StandsAt image.now s run.old events
         → (fault : RunFault) → result ≡ Err fault → RefusesLine image.now s events line.now fault }
 {
-    for _ in 0..line.times {
+    let done = run_plain(run, image, line);
+    for _ in done..line.times {
         run.apply(image, &line.event)?;
     }
     Ok(())
+}
+
+/// Runs the plain steps at the front of a line's events at once, and says how many there are.
+fn run_plain(run: &mut Run, image: &Image, line: &BenchLine) -> u32
+    ensures stands { (s : Sizes) (events : List Event) → StandsAt image.now s run.old events
+        → StandsAt image.now s run.new (events_with events result line.now.event) }
+    ensures few { result ≤ line.now.times }
+{
+    match line.event {
+        Event::Step => run.step_many(image, line.times),
+        _ => 0,
+    }
 }
 
 /// The first line of a stream whose event is refused, and why.

@@ -1,5 +1,5 @@
 //! The retired path of a stream, printed while its events run.
-ghost use Rattle.std.specs.Prelude.{◌≡◌, ◌<◌, ◌^◌, ◌++◌, ◌∷◌, [], ℕ, List, IsOk, length, take};
+ghost use Rattle.std.specs.Prelude.{◌≡◌, ◌<◌, ◌≤◌, ◌^◌, ◌++◌, ◌∷◌, [], ℕ, List, IsOk, length, take};
 ghost use Rattle.etm_types.specs.Settings.{Sizes};
 ghost use Rattle.etm_types.specs.declared.context.Ctx.{Ctx};
 ghost use Rattle.path_text.specs.PathLines.{lines_of, shown_after_all};
@@ -8,7 +8,7 @@ ghost use Rattle.program_image.specs.Part.{Part};
 ghost use Rattle.spec_run.specs.RetiredItems.{items_behind};
 ghost use Rattle.spec_run.specs.Stands.{Follows, PathStandsAt, held_at};
 ghost use Rattle.spec_run.specs.declared.step.RunStep.{RunStep};
-ghost use Rattle.retired_paths.specs.Retiring.{CanGoOn, CanRetire, CanShow, IsRetiring, PrintsRetired, StandsDone};
+ghost use Rattle.retired_paths.specs.Retiring.{AddsNothing, CanGoOn, CanRetire, CanShow, IsRetiring, PrintsRetired, StandsDone};
 ghost use Rattle.retired_paths.specs.Retiring.{asked, events_with, items_done};
 
 use bench_text::BenchLine;
@@ -67,10 +67,45 @@ impl Retiring {
             → PrintsRetired image.now s id self.old events self.new (events_with events line.now.times line.now.event)
             (K.state out.old) (K.state out.new) result }
     {
-        for _ in 0..line.times {
+        let done = self.pass_plain(image, line);
+        for _ in done..line.times {
             self.print_event(image, id, &line.event, out)?;
         }
         Ok(())
+    }
+
+    /// Runs the plain steps at the front of a line's events at once, and says how many there are. They print nothing.
+    fn pass_plain(&mut self, image: &Image, line: &BenchLine) -> u32
+        requires { (s : Sizes) × (events : List Event)
+            × CanGoOn image.now s self.old events (events_with events line.now.times line.now.event) }
+        ensures nothing { (s : Sizes) (events : List Event)
+            → CanGoOn image.now s self.old events (events_with events line.now.times line.now.event)
+            → AddsNothing image.now s self.old events self.new (events_with events result line.now.event) }
+        ensures few { result ≤ line.now.times }
+    {
+        match line.event {
+            Event::Step => self.step_many(image, line.times),
+            _ => 0,
+        }
+    }
+
+    /// Runs so many events `Step`, which are accepted, as far as they can be taken at once, and says how many.
+    fn step_many(&mut self, image: &Image, n: u32) -> u32
+        requires { (s : Sizes) × (events : List Event)
+            × CanGoOn image.now s self.old events (events_with events n Event.Step) }
+        ensures nothing { (s : Sizes) (events : List Event)
+            → CanGoOn image.now s self.old events (events_with events n Event.Step)
+            → AddsNothing image.now s self.old events self.new (events_with events result Event.Step) }
+        ensures few { result ≤ n }
+    {
+        let (Some(pc), Some(ctx)) = (self.run.pc(), self.run.ctx()) else {
+            return 0;
+        };
+        let count = self.run.step_many(image, n);
+        if self.depth == 0 {
+            self.path.retire_plain(pc, count, ctx);
+        }
+        count
     }
 
     /// Runs an event, which is accepted, and prints what it retires.
