@@ -12,9 +12,9 @@ use Rattle.std.proofs.lemmas.Bool.Decides.{nat_tests}
 use Rattle.std.proofs.lemmas.List.Elements.{All-append, All-cons, All-head, All-nil, All-tail}
 use Rattle.etm_types.specs.Settings.{Sizes}
 use Rattle.line_words.specs.Line.{words_in}
-use Rattle.bench_text.specs.BenchText.{Draft, add_any, add_behind, add_event, add_kind, add_line, add_lines, add_setting, add_stream, add_weaves, before_streams}
-use Rattle.bench_text.specs.BenchText.{begun, declaration_of, declare, event_sizes, finished, is_empty, is_source, kind_of, newest, no_lines, parsed, parts_of, stream_of}
-use Rattle.bench_text.specs.BenchText.{then_lines, version_in, weave, weaves_of, where_allowed, with_line}
+use Rattle.bench_text.specs.BenchText.{Draft, add_any, add_behind, add_event, add_kind, add_line, add_lines, add_setting, add_stream, add_weaves}
+use Rattle.bench_text.specs.BenchText.{before_streams, begun, declaration_of, declare, event_sizes, finished, is_empty, is_source, kind_of, newest}
+use Rattle.bench_text.specs.BenchText.{no_lines, parsed, parts_of, stream_of, then_lines, version_in, weave, weaves_of, where_allowed, with_line}
 use Rattle.bench_text.specs.EventLines.{event_of, need, only_number}
 use Rattle.bench_text.specs.GivenSettings.{IsGiven, are_allowed, given_or, is_allowed, number_given}
 use Rattle.bench_text.specs.Parts.{AreApart, BenchParts, BenchStream, IsBench, IsBenchLine, IsBenchStream, IsWeave, has_stream}

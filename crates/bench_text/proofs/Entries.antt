@@ -1,5 +1,6 @@
 -- The entries of a map as streams.
-use Rattle.std.proofs.Common.{◌≡◌, ◌∷◌, ◌++◌, ◌∙◌, ◌+◌, ◌||◌, ℕ, zero, suc, Bool, true, false, cond, List, [], length, slice_get, Option, Some, None, arith, refl, sym, ◌-◌, ◌≤◌, subst, map, Vec, Global}
+use Rattle.std.proofs.Common.{◌≡◌, ◌∷◌, ◌++◌, ◌∙◌, ◌+◌, ◌||◌, ◌==◌, ℕ, zero, suc, Bool, true, false, cond, List, [], length, slice_get, Option, Some, None}
+use Rattle.std.proofs.Common.{arith, refl, sym, ◌-◌, ◌≤◌, subst, map, Vec, Global}
 use Rattle.std.proofs.Common.{if◌then◌else◌, ap, get_or, is_some, nat_eq, nat_lt}
 use Rattle.std.proofs.lemmas.Bool.Decides.{nat_tests}
 use Rattle.std.proofs.lemmas.List.{map-append}
@@ -8,11 +9,12 @@ use Rattle.indexmap.specs.IndexMap.{insert_entry, set_value_at}
 use Rattle.std.specs.Map.{lookup, values_of}
 use Rattle.std.specs.Prelude.{All, IfSome}
 use Rattle.std.proofs.lemmas.Option.{slice_get-map, slice_get_read}
-use Rattle.std.proofs.lemmas.Bool.{ltb-true}
+use Rattle.std.proofs.lemmas.Bool.{eqb-true, ltb-true}
 use Rattle.std.specs.Option.{option_and_then, option_map}
+use Rattle.etm_types.specs.Id.{IsId}
 use Rattle.etm_types.specs.Settings.{Sizes}
 use Rattle.bench_text.specs.BenchText.{newest, with_line}
-use Rattle.bench_text.specs.KeptStreams.{AreRead, IsReadEntry, in_entry, streams_in}
+use Rattle.bench_text.specs.KeptStreams.{AreKept, IsKept, in_entry, streams_in}
 use Rattle.bench_text.specs.Places.{IsRead, line_of}
 use Rattle.bench_text.specs.Parts.{BenchStream, IsBenchStream, has_stream}
 use Rattle.bench_text.specs.declared.line.BenchLine.{BenchLine}
@@ -51,12 +53,13 @@ pub declared_streams : (text : List ℕ) (id : ℕ) (v : Stream) (es : List (ℕ
 declared_streams text id v es none = ap (streams_in text) (declared text id v es none) ∙ map-append (in_entry text) es ((id, v) ∷ [])
 
 -- a stream without lines has none that was not read
-pub declared_read : (text : List ℕ) (id : ℕ) (v : Stream) (es : List (ℕ × Stream)) → has_stream id (streams_in text es) ≡ false
-    → v.places.items ≡ [] → AreRead text es → AreRead text (insert_entry nat_eq es id v)
-declared_read text id v es none empty h =
-    let own : IsReadEntry text (id, v) = subst (λ (ps : List Place). All (IsRead text v.settings) ps) (sym empty) (All-nil (IsRead text v.settings)) in
-    subst (AreRead text) (sym (declared text id v es none))
-    (All-append (IsReadEntry text) es ((id, v) ∷ []) h (All-cons (IsReadEntry text) (id, v) [] own (All-nil (IsReadEntry text))))
+pub declared_kept : (text : List ℕ) (id : ℕ) (v : Stream) (es : List (ℕ × Stream)) → IsId id → has_stream id (streams_in text es) ≡ false
+    → v.places.items ≡ [] → AreKept text es → AreKept text (insert_entry nat_eq es id v)
+declared_kept text id v es source none empty h =
+    let lines = subst (λ (ps : List Place). All (IsRead text v.settings) ps) (sym empty) (All-nil (IsRead text v.settings)) in
+    let own : IsKept text (id, v) = record { id = source; lines = lines } in
+    subst (AreKept text) (sym (declared text id v es none))
+    (All-append (IsKept text) es ((id, v) ∷ []) h (All-cons (IsKept text) (id, v) [] own (All-nil (IsKept text))))
 
 pub pushed : (text : List ℕ) (es : List (ℕ × Stream)) (i : ℕ) (v : Stream) (w : Vec Place Global) (p : Place) → i + 1 ≡ length es
     → slice_get (values_of es) i ≡ Some v → w.items ≡ v.places.items ++ p ∷ []
@@ -71,38 +74,53 @@ pushed text (e ∷ []) zero v w p last at h =
     same_stream : v ≡ e.1 → streams_in text ((e.0, record v { places = w }) ∷ []) ≡ with_line (line_of text v.settings p) (streams_in text (e ∷ []))
     same_stream same =
         ap (λ (lines : List BenchLine). record { id = e.0; settings = v.settings; stack = v.stack; lines = lines } ∷ []) lines
-        ∙ ap (λ (u : Stream). record (in_entry text (e.0, u)) { lines = map (line_of text u.settings) u.places.items ++ line_of text v.settings p ∷ [] } ∷ []) same
+        ∙ ap (λ (u : Stream).
+        record (in_entry text (e.0, u)) { lines = map (line_of text u.settings) u.places.items ++ line_of text v.settings p ∷ [] } ∷ []) same
 pushed text (e ∷ []) (suc i) v w p last at h = absurd (omega arith)
 pushed text (e ∷ f ∷ es) zero v w p last at h = absurd (omega arith)
 pushed text (e ∷ f ∷ es) (suc i) v w p last at h =
     ap (λ (rest : List BenchStream). in_entry text e ∷ rest) (pushed text (f ∷ es) i v w p (omega arith) at h)
 
 -- other places of a stream that are read
-pub read_set : (text : List ℕ) (es : List (ℕ × Stream)) (i : ℕ) (v : Stream) → All (IsRead text v.settings) v.places.items → AreRead text es
-    → AreRead text (set_value_at es i v)
-read_set text [] i v own h = h
-read_set text (e ∷ es) zero v own h = All-cons (IsReadEntry text) (e.0, v) es own (All-tail (IsReadEntry text) e es h)
-read_set text (e ∷ es) (suc i) v own h =
-    All-cons (IsReadEntry text) e _ (All-head (IsReadEntry text) e es h) (read_set text es i v own (All-tail (IsReadEntry text) e es h))
+pub kept_set : (text : List ℕ) (es : List (ℕ × Stream)) (i : ℕ) (v : Stream) → All (IsRead text v.settings) v.places.items → AreKept text es
+    → AreKept text (set_value_at es i v)
+kept_set text [] i v own h = h
+kept_set text (e ∷ es) zero v own h =
+    let id = (All-head (IsKept text) e es h).id in
+    All-cons (IsKept text) (e.0, v) es (record { id = id; lines = own }) (All-tail (IsKept text) e es h)
+kept_set text (e ∷ es) (suc i) v own h =
+    All-cons (IsKept text) e _ (All-head (IsKept text) e es h) (kept_set text es i v own (All-tail (IsKept text) e es h))
 
-pub read_at : (text : List ℕ) (es : List (ℕ × Stream)) (i : ℕ) (v : Stream) → slice_get (values_of es) i ≡ Some v → AreRead text es
+pub read_at : (text : List ℕ) (es : List (ℕ × Stream)) (i : ℕ) (v : Stream) → slice_get (values_of es) i ≡ Some v → AreKept text es
     → All (IsRead text v.settings) v.places.items
 read_at text [] i v at h = absurd cc
 read_at text (e ∷ es) zero v at h =
-    let same : e.1 ≡ v = cc in subst (λ (u : Stream). All (IsRead text u.settings) u.places.items) same (All-head (IsReadEntry text) e es h)
-read_at text (e ∷ es) (suc i) v at h = read_at text es i v at (All-tail (IsReadEntry text) e es h)
+    let same : e.1 ≡ v = cc in subst (λ (u : Stream). All (IsRead text u.settings) u.places.items) same (All-head (IsKept text) e es h).lines
+read_at text (e ∷ es) (suc i) v at h = read_at text es i v at (All-tail (IsKept text) e es h)
 
-pub read_entry : (text : List ℕ) (es : List (ℕ × Stream)) (i : ℕ) (e : ℕ × Stream) → Some e ≡ slice_get es i → AreRead text es → IsReadEntry text e
-read_entry text [] i e at h = absurd cc
-read_entry text (f ∷ es) zero e at h = let same : f ≡ e = cc in subst (IsReadEntry text) same (All-head (IsReadEntry text) f es h)
-read_entry text (f ∷ es) (suc i) e at h = read_entry text es i e at (All-tail (IsReadEntry text) f es h)
+pub kept_entry : (text : List ℕ) (es : List (ℕ × Stream)) (i : ℕ) (e : ℕ × Stream) → Some e ≡ slice_get es i → AreKept text es → IsKept text e
+kept_entry text [] i e at h = absurd cc
+kept_entry text (f ∷ es) zero e at h = let same : f ≡ e = cc in subst (IsKept text) same (All-head (IsKept text) f es h)
+kept_entry text (f ∷ es) (suc i) e at h = kept_entry text es i e at (All-tail (IsKept text) f es h)
+
+-- only sources have streams
+pub source_of : (text : List ℕ) (id : ℕ) (es : List (ℕ × Stream)) → AreKept text es → has_stream id (streams_in text es) ≡ true → IsId id
+source_of text id [] h has = absurd cc
+source_of text id (e ∷ es) h has =
+    by (e.0 == id) refl has (All-head (IsKept text) e es h).id (source_of text id es (All-tail (IsKept text) e es h))
+  where
+    by : (b : Bool) → (e.0 == id) ≡ b → (b || has_stream id (streams_in text es)) ≡ true → IsId e.0
+        → (has_stream id (streams_in text es) ≡ true → IsId id) → IsId id
+    by true same has own more = subst IsId (eqb-true e.0 id same) own
+    by false same has own more = more has
 
 pub read_place : (text : List ℕ) (s : Sizes) (ps : List Place) (k : ℕ) (p : Place) → Some p ≡ slice_get ps k → All (IsRead text s) ps → IsRead text s p
 read_place text s [] k p at h = absurd cc
 read_place text s (q ∷ ps) zero p at h = let same : q ≡ p = cc in subst (IsRead text s) same (All-head (IsRead text s) q ps h)
 read_place text s (q ∷ ps) (suc k) p at h = read_place text s ps k p at (All-tail (IsRead text s) q ps h)
 
-pub place_at : (items view : List Place) (k : ℕ) (p : Place) → view ≡ items → true ≡ nat_lt k (length view) → p ≡ get_or view k p → Some p ≡ slice_get items k
+pub place_at : (items view : List Place) (k : ℕ) (p : Place) → view ≡ items → true ≡ nat_lt k (length view) → p ≡ get_or view k p
+    → Some p ≡ slice_get items k
 place_at items view k p same within is =
     sym (slice_get_read view (length view) k p refl (ltb-true k (length view) (sym within)) is) ∙ ap (λ (l : List Place). slice_get l k) same
 
@@ -158,15 +176,15 @@ module _ (text : List ℕ) (es : List (ℕ × Stream)) (i : ℕ) (v : Stream) (w
   own_sizes : v.settings ≡ s
   own_sizes = let e : Some v.settings ≡ Some s = last_sizes text es i v last at ∙ sizes in cc
 
-  pub push_read : IsRead text s p → AreRead text es → AreRead text (set_value_at es i (record v { places = w }))
-  push_read new h =
+  pub push_kept : IsRead text s p → AreKept text es → AreKept text (set_value_at es i (record v { places = w }))
+  push_kept new h =
       let own : IsRead text v.settings p = subst (λ (u : Sizes). IsRead text u p) (sym own_sizes) new in
       let before = read_at text es i v at h in
       let all : All (IsRead text v.settings) w.items =
       subst (All (IsRead text v.settings)) (sym items)
       (All-append (IsRead text v.settings) v.places.items (p ∷ []) before
       (All-cons (IsRead text v.settings) p [] own (All-nil (IsRead text v.settings)))) in
-      read_set text es i (record v { places = w }) all h
+      kept_set text es i (record v { places = w }) all h
 
   pub push_streams : streams_in text (set_value_at es i (record v { places = w })) ≡ with_line (line_of text s p) (streams_in text es)
   push_streams = pushed text es i v w p last at items ∙ ap (λ (u : Sizes). with_line (line_of text u p) (streams_in text es)) own_sizes

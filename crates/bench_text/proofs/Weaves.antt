@@ -1,13 +1,10 @@
 -- The words of a weave line, one after another.
-use Rattle.std.proofs.Common.{◌≡◌, ◌∷◌, ◌++◌, ◌∙◌, ◌&&◌, ◌||◌, ◌==◌, ℕ, Bool, true, false, List, [], Option, Some, None, Result, Ok, Err, refl, ap, sym}
-use Rattle.std.proofs.Common.{subst, if◌then◌else◌, not}
-use Rattle.std.specs.Prelude.{All, nat_le}
+use Rattle.std.proofs.Common.{◌≡◌, ◌∷◌, ◌++◌, ◌∙◌, ◌&&◌, ℕ, Bool, true, false, List, [], Option, Some, None, Result, Ok, Err, refl, ap, sym}
+use Rattle.std.proofs.Common.{if◌then◌else◌, not}
+use Rattle.std.specs.Prelude.{nat_le}
 use Rattle.std.specs.List.{list_all}
 use Rattle.std.specs.Option.{option_map}
-use Rattle.std.proofs.lemmas.Bool.{eqb-true}
 use Rattle.std.proofs.lemmas.List.{append_assoc}
-use Rattle.std.proofs.lemmas.List.Elements.{All-head, All-tail}
-use Rattle.etm_types.specs.Id.{IsId}
 use Rattle.bench_text.specs.BenchText.{weave_of, weaves_of}
 use Rattle.bench_text.specs.EventLines.{need}
 use Rattle.bench_text.specs.OneWeave.{checked, one_weave}
@@ -15,17 +12,6 @@ use Rattle.bench_text.specs.Parts.{BenchStream, has_stream}
 use Rattle.bench_text.specs.declared.fault.BenchWhy.{BenchWhy}
 use Rattle.bench_text.specs.declared.fault.BenchWhy.TheVariants.{Syntax, IdRange, Range}
 use Rattle.bench_text.specs.declared.line.Weave.{Weave}
-
--- the ID of a stream is one of a source
-pub id_of_stream : (id : ℕ) (streams : List BenchStream) → All (λ s. IsId s.id) streams → has_stream id streams ≡ true → IsId id
-id_of_stream id [] h has = absurd cc
-id_of_stream id (s ∷ streams) h has =
-    by (s.id == id) refl has (All-head (λ (s : BenchStream). IsId s.id) s streams h)
-    (id_of_stream id streams (All-tail (λ (s : BenchStream). IsId s.id) s streams h))
-  where
-    by : (b : Bool) → (s.id == id) ≡ b → (b || has_stream id streams) ≡ true → IsId s.id → (has_stream id streams ≡ true → IsId id) → IsId id
-    by true e has own more = subst IsId (eqb-true s.id id e) own
-    by false e has own more = more has
 
 -- what the words that are left give, where those before them gave these weaves, or one of them was not declared or not within its range
 abbrev pub weave_on : List BenchStream → Bool → Bool → List Weave → List (List ℕ) → Result (List Weave) BenchWhy

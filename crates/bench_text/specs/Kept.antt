@@ -1,9 +1,7 @@
 -- What the fields of a run file's reader, and of its parts, hold.
-use Rattle.std.specs.Prelude.{ℕ, List, All, Option}
+use Rattle.std.specs.Prelude.{ℕ, List, Option}
 use Rattle.std.specs.Option.{option_map}
-use Rattle.etm_types.specs.Id.{IsId}
 use Rattle.bench_text.specs.BenchText.{Draft}
-use Rattle.bench_text.specs.GivenSettings.{IsGiven}
 use Rattle.bench_text.specs.Parts.{BenchParts}
 use Rattle.bench_text.specs.declared.bench.Bench.TheInside.{Inside as BenchFields}
 use Rattle.bench_text.specs.declared.draft.Draft.TheInside.{Inside as DraftFields}
@@ -27,8 +25,3 @@ draft_in d = d.draft
 
 abbrev pub drafts_in : Option TextDraft → Option Draft
 drafts_in d = option_map draft_in d
-
--- what its code keeps of lines that have no fault: the file's settings are those of a trace unit, and the IDs those of sources
-pub record IsDraft (d : Draft) : Type 0 where
-  pub given : IsGiven d.given
-  pub ids : All (λ s. IsId s.id) d.streams

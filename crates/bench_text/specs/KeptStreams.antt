@@ -1,5 +1,6 @@
 -- What the fields of the streams of a run file hold.
 use Rattle.std.specs.Prelude.{ℕ, List, All, map}
+use Rattle.etm_types.specs.Id.{IsId}
 use Rattle.bench_text.specs.Parts.{BenchStream}
 use Rattle.bench_text.specs.Places.{IsRead, line_of}
 use Rattle.bench_text.specs.declared.streams.Stream.{Stream}
@@ -21,9 +22,10 @@ streams_in text entries = map (in_entry text) entries
 abbrev pub streams_of : StreamsFields → TextStreams
 streams_of s = record { text = s.text.now; streams = streams_in s.text.now s.by_id.entries }
 
-abbrev pub IsReadEntry : List ℕ → ℕ × Stream → Type 0
-IsReadEntry text e = All (IsRead text e.1.settings) e.1.places.items
+-- a stream has the ID of a source, and each line whose place is kept is an event line
+pub record IsKept (text : List ℕ) (e : ℕ × Stream) : Type 0 where
+  pub id : IsId e.0
+  pub lines : All (IsRead text e.1.settings) e.1.places.items
 
--- each line whose place is kept is an event line of its stream
-abbrev pub AreRead : List ℕ → List (ℕ × Stream) → Type 0
-AreRead text entries = All (IsReadEntry text) entries
+abbrev pub AreKept : List ℕ → List (ℕ × Stream) → Type 0
+AreKept text entries = All (IsKept text) entries

@@ -8,7 +8,7 @@ ghost use Rattle.bench_text.specs.BenchText.{add_lines, parsed};
 ghost use Rattle.bench_text.specs.Kept.{drafts_in};
 ghost use Rattle.bench_text.specs.Parts.{IsBench};
 
-use crate::draft::{Draft, with_line};
+use crate::draft::{Draft, take_line};
 use crate::fault::{BenchFault, BenchWhy, LineFault};
 use crate::line::{BenchLine, Weave};
 use crate::place::PlacedLines;
@@ -115,8 +115,8 @@ fn read_lines<'a>(alloc: Global, text: &'a [u8]) -> Result<Option<Draft<'a>>, Be
     let mut draft = None;
     let mut lines = PlacedLines::new(text).ok_or(BenchFault::Memory)?;
     while let Some((place, line)) = lines.next() {
-        draft = match with_line(alloc, text, draft, place, line) {
-            Ok(next) => next,
+        match take_line(alloc, text, &mut draft, place, line) {
+            Ok(()) => {}
             Err(LineFault::Bad(why)) => {
                 return Err(BenchFault::Bad {
                     line: u64::from(place.number),
@@ -124,7 +124,7 @@ fn read_lines<'a>(alloc: Global, text: &'a [u8]) -> Result<Option<Draft<'a>>, Be
                 });
             }
             Err(LineFault::Memory) => return Err(BenchFault::Memory),
-        };
+        }
     }
     Ok(draft)
 }

@@ -1,10 +1,11 @@
 //! What the lines of a run file say, one line after another.
-ghost use Rattle.std.specs.Prelude.{◌≡◌, ◌∷◌, Some, IfOk, IfSome};
+ghost use Rattle.std.specs.Prelude.{◌≡◌, ◌∷◌, Ok, Some, IfOk, IfSome};
 ghost use Rattle.line_words.specs.Line.{words_in};
 ghost use Rattle.bench_text.specs.Answers.{Answers};
 ghost use Rattle.bench_text.specs.Parts.{IsBench};
 ghost use Rattle.bench_text.specs.BenchText.{add_behind, add_event, add_line, add_setting, add_stream, add_weaves, add_words};
 ghost use Rattle.bench_text.specs.BenchText.{before_streams, declaration_of, header, kind_of, no_lines, own_of, parts_of};
+ghost use Rattle.bench_text.specs.EventLines.{then_ok};
 ghost use Rattle.bench_text.specs.Kept.{draft_in, drafts_in};
 ghost use Rattle.bench_text.specs.Places.{words_at};
 
@@ -16,7 +17,7 @@ use crate::place::Place;
 use crate::setting::Setting;
 use crate::streams::Streams;
 use crate::version::Version;
-use crate::weave_line::with_weaves;
+use crate::weave_line::push_weaves;
 use crate::words::{only_number, only_word};
 use etm_types::Id;
 use line_words::{is_utf8, next_word, two_digits};
@@ -44,56 +45,61 @@ impl<'a> Model for Draft<'a> {
 
     ghost Value = { TextDraft };
 
-    ghost use Rattle.bench_text.specs.Kept.{IsDraft, draft_of};
+    ghost use Rattle.bench_text.specs.Kept.{draft_of};
 
     ghost view = { draft_of };
 
-    ghost invariant = { λ d. IsDraft (draft_of d).draft };
+    ghost use Rattle.bench_text.specs.GivenSettings.{IsGiven};
+
+    ghost invariant = { λ d. IsGiven d.given };
 }
 
-/// What the lines of a text say after one line more; none before the header.
-pub fn with_line<'a>(
+/// Takes one line more of a text; nothing was said before the header.
+pub fn take_line<'a>(
     alloc: Global,
     text: &'a [u8],
-    draft: Option<Draft<'a>>,
+    draft: &mut Option<Draft<'a>>,
     place: Place,
     line: &[u8],
-) -> Result<Option<Draft<'a>>, LineFault>
+) -> Result<(), LineFault>
     requires place { words_at text.now place ≡ words_in line.now }
-    requires text { IfSome draft (λ d. d.text ≡ text.now) }
-    ensures line { Answers drafts_in result (add_line place.number (drafts_in draft.entry) line.now) }
-    ensures text { IfOk result (λ next. IfSome next (λ d. d.text ≡ text.now)) }
+    requires text { IfSome draft.old (λ d. d.text ≡ text.now) }
+    ensures line { Answers (λ _. drafts_in draft.new) result (add_line place.number (drafts_in draft.old) line.now) }
+    ensures text { IfSome draft.new (λ d. d.text ≡ text.now) }
 {
     if !is_utf8(line) {
         return Err(SYNTAX);
     }
     let Some((word, rest)) = next_word(line) else {
-        return Ok(draft);
+        return Ok(());
     };
     if let [b'#', ..] = word {
-        return Ok(draft);
+        return Ok(());
     }
-    let draft = behind(alloc, text, draft, place, word, rest)?;
-    Ok(Some(draft))
+    take_behind(alloc, text, draft, place, word, rest)
 }
 
-/// What the lines say after one that has words: the first is the header.
-fn behind<'a>(
+/// Takes a line that has words: the first is the header.
+fn take_behind<'a>(
     alloc: Global,
     text: &'a [u8],
-    draft: Option<Draft<'a>>,
+    draft: &mut Option<Draft<'a>>,
     place: Place,
     word: &[u8],
     rest: &[u8],
-) -> Result<Draft<'a>, LineFault>
+) -> Result<(), LineFault>
     requires place { words_at text.now place ≡ word.now ∷ words_in rest.now }
-    requires text { IfSome draft (λ d. d.text ≡ text.now) }
-    ensures line { Answers draft_in result (add_behind place.number (drafts_in draft.entry) word.now (words_in rest.now)) }
-    ensures text { IfOk result (λ d. d.text ≡ text.now) }
+    requires text { IfSome draft.old (λ d. d.text ≡ text.now) }
+    ensures line { Answers (λ _. drafts_in draft.new) result
+        (then_ok (add_behind place.number (drafts_in draft.old) word.now (words_in rest.now)) (λ d. Ok (Some d))) }
+    ensures text { IfSome draft.new (λ d. d.text ≡ text.now) }
 {
     match draft {
-        Some(draft) => draft.with_words(alloc, place, word, rest),
-        None => header(alloc, text, word, rest),
+        Some(draft) => draft.take_words(alloc, place, word, rest),
+        None => {
+            *draft = Some(header(alloc, text, word, rest)?);
+            Ok(())
+        }
     }
 }
 
@@ -160,23 +166,23 @@ impl<'a> Draft<'a> {
         }
     }
 
-    /// What the lines say after one more, by its words.
-    fn with_words(
-        self,
+    /// Takes a line behind the header, by its words.
+    fn take_words(
+        &mut self,
         alloc: Global,
         place: Place,
         word: &[u8],
         rest: &[u8],
-    ) -> Result<Draft<'a>, LineFault>
-        requires { words_at self.text place ≡ word.now ∷ words_in rest.now }
-        ensures line { Answers draft_in result (add_words place.number self.entry.draft word.now (words_in rest.now)) }
-        ensures text { IfOk result (λ d. d.text ≡ self.entry.text) }
+    ) -> Result<(), LineFault>
+        requires { words_at self.old.text place ≡ word.now ∷ words_in rest.now }
+        ensures line { Answers (λ _. self.new.draft) result (add_words place.number self.old.draft word.now (words_in rest.now)) }
+        ensures text { self.new.text ≡ self.old.text }
     {
         match kind_of(word) {
-            LineKind::Setting(setting) => self.with_setting(setting, rest),
-            LineKind::Stream => self.with_stream(alloc, rest),
-            LineKind::Weaves => self.with_weaves(rest),
-            LineKind::Event => self.with_event(place, word, rest),
+            LineKind::Setting(setting) => self.take_setting(setting, rest),
+            LineKind::Stream => self.take_stream(alloc, rest),
+            LineKind::Weaves => self.take_weaves(rest),
+            LineKind::Event => self.take_event(place, word, rest),
         }
     }
 
@@ -187,10 +193,10 @@ impl<'a> Draft<'a> {
         self.streams.is_empty() && self.weaves.is_empty()
     }
 
-    /// What the lines say after one that gives a setting of the file.
-    fn with_setting(mut self, setting: Setting, words: &[u8]) -> Result<Draft<'a>, LineFault>
-        ensures line { Answers draft_in result (add_setting setting self.entry.draft (words_in words.now)) }
-        ensures text { IfOk result (λ d. d.text ≡ self.entry.text) }
+    /// Takes a line that gives a setting of the file.
+    fn take_setting(&mut self, setting: Setting, words: &[u8]) -> Result<(), LineFault>
+        ensures line { Answers (λ _. self.new.draft) result (add_setting setting self.old.draft (words_in words.now)) }
+        ensures text { self.new.text ≡ self.old.text }
     {
         if !self.before_streams() || self.given.number(setting).is_some() {
             return Err(SYNTAX);
@@ -200,13 +206,13 @@ impl<'a> Draft<'a> {
             return Err(RANGE);
         }
         self.given = self.given.with(setting, number);
-        Ok(self)
+        Ok(())
     }
 
-    /// What the lines say after one that declares a stream.
-    fn with_stream(mut self, alloc: Global, words: &[u8]) -> Result<Draft<'a>, LineFault>
-        ensures line { Answers draft_in result (add_stream self.entry.draft (words_in words.now)) }
-        ensures text { IfOk result (λ d. d.text ≡ self.entry.text) }
+    /// Takes a line that declares a stream.
+    fn take_stream(&mut self, alloc: Global, words: &[u8]) -> Result<(), LineFault>
+        ensures line { Answers (λ _. self.new.draft) result (add_stream self.old.draft (words_in words.now)) }
+        ensures text { self.new.text ≡ self.old.text }
     {
         if !self.weaves.is_empty() {
             return Err(SYNTAX);
@@ -225,44 +231,33 @@ impl<'a> Draft<'a> {
         self.streams
             .declare(alloc, new.id, all.settings(), all.stack())
             .map_err(|_| LineFault::Memory)?;
-        Ok(self)
+        Ok(())
     }
 
-    /// What the lines say after an event line of the newest stream: behind a weave there are none.
-    fn with_event(mut self, place: Place, word: &[u8], rest: &[u8]) -> Result<Draft<'a>, LineFault>
-        requires { words_at self.text place ≡ word.now ∷ words_in rest.now }
-        ensures line { Answers draft_in result (add_event place.number self.entry.draft word.now (words_in rest.now)) }
-        ensures text { IfOk result (λ d. d.text ≡ self.entry.text) }
+    /// Takes an event line of the newest stream: behind a weave there are none.
+    fn take_event(&mut self, place: Place, word: &[u8], rest: &[u8]) -> Result<(), LineFault>
+        requires { words_at self.old.text place ≡ word.now ∷ words_in rest.now }
+        ensures line { Answers (λ _. self.new.draft) result (add_event place.number self.old.draft word.now (words_in rest.now)) }
+        ensures text { self.new.text ≡ self.old.text }
     {
         if self.weaves.is_empty() {
             self.streams.push_event(place, word, rest)?;
-            Ok(self)
+            Ok(())
         } else {
             Err(SYNTAX)
         }
     }
 
-    /// What the lines say after a weave line.
-    fn with_weaves(self, words: &[u8]) -> Result<Draft<'a>, LineFault>
-        ensures line { Answers draft_in result (add_weaves self.entry.draft (words_in words.now)) }
-        ensures text { IfOk result (λ d. d.text ≡ self.entry.text) }
+    /// Takes a weave line.
+    fn take_weaves(&mut self, words: &[u8]) -> Result<(), LineFault>
+        ensures line { Answers (λ _. self.new.draft) result (add_weaves self.old.draft (words_in words.now)) }
+        ensures text { self.new.text ≡ self.old.text }
     {
         if next_word(words).is_none() {
             return Err(SYNTAX);
         }
-        let Draft {
-            version,
-            given,
-            streams,
-            weaves,
-        } = self;
-        let weaves = with_weaves(&streams, weaves, words)?;
-        Ok(Draft {
-            version,
-            given,
-            streams,
-            weaves,
-        })
+        push_weaves(&self.streams, &mut self.weaves, words)?;
+        Ok(())
     }
 
     /// The parts of a run file.

@@ -56,18 +56,18 @@ fn bare_of(word: &[u8]) -> Option<Event>
     }
 }
 
-/// The event of a word that has others behind it.
+/// The event of a word that has others behind it. Those that come often are tested first.
 fn described_of(settings: &Settings, word: &[u8], words: &[u8]) -> Result<Event, BenchWhy>
     ensures { result ≡ described_of settings.now word.now (words_in words.now) }
 {
     match word {
-        b"on" => on(settings, words),
-        b"to" => to(words),
-        b"eret" => eret(settings, words),
-        b"exc" => exception_of(settings, words),
-        b"context" => context(settings, words),
         b"retire" => retire(words),
+        b"to" => to(words),
         b"cancel" => cancel(words),
+        b"exc" => exception_of(settings, words),
+        b"eret" => eret(settings, words),
+        b"on" => on(settings, words),
+        b"context" => context(settings, words),
         _ => Err(BenchWhy::Syntax),
     }
 }

@@ -1,7 +1,8 @@
 //! The streams of a run file, in the order in which they were declared. Of an event line only its place in the text is kept: who wants
 //! it reads it again.
-ghost use Rattle.std.specs.Prelude.{◌≡◌, ◌+◌, ◌^◌, ◌<◌, ◌++◌, ◌∷◌, [], false, length, IsSome, Ok, OnOk, Some, slice_get};
+ghost use Rattle.std.specs.Prelude.{◌≡◌, ◌+◌, ◌^◌, ◌<◌, ◌++◌, ◌∷◌, [], false, length, true, IsSome, Ok, OnOk, Some, slice_get};
 ghost use Rattle.std.specs.Option.{option_and_then, option_map};
+ghost use Rattle.etm_types.specs.Id.{IsId};
 ghost use Rattle.etm_types.specs.Settings.{Sizes};
 ghost use Rattle.line_words.specs.Line.{words_in};
 ghost use Rattle.bench_text.specs.Answers.{Answers};
@@ -45,9 +46,9 @@ impl<'a> Model for Streams<'a> {
 
     ghost view = { streams_of };
 
-    ghost use Rattle.bench_text.specs.KeptStreams.{AreRead};
+    ghost use Rattle.bench_text.specs.KeptStreams.{AreKept};
 
-    ghost invariant = { λ s. AreRead s.text.now s.by_id.entries };
+    ghost invariant = { λ s. AreKept s.text.now s.by_id.entries };
 }
 
 impl<'a> Streams<'a> {
@@ -75,9 +76,10 @@ impl<'a> Streams<'a> {
         self.by_id.is_empty()
     }
 
-    /// Whether the ID has a stream.
+    /// Whether the ID has a stream. Only IDs of sources have.
     pub fn has(&self, id: u8) -> bool
-        ensures { result ≡ has_stream id self.now.streams }
+        ensures value { result ≡ has_stream id self.now.streams }
+        ensures source { result ≡ true → IsId id }
     {
         self.by_id.contains_key(&id)
     }
@@ -124,7 +126,8 @@ impl<'a> Streams<'a> {
         settings: Settings,
         stack: usize,
     ) -> Result<(), AllocError>
-        requires { has_stream id self.old.streams ≡ false }
+        requires source { IsId id }
+        requires new { has_stream id self.old.streams ≡ false }
         ensures streams { OnOk result (self.new.streams
             ≡ self.old.streams ++ record { id = id; settings = settings; stack = stack; lines = [] } ∷ []) }
         ensures text { self.new.text ≡ self.old.text }

@@ -1,7 +1,6 @@
 //! The words of a weave line.
-ghost use Rattle.std.specs.Prelude.{◌≡◌, All};
+ghost use Rattle.std.specs.Prelude.{◌≡◌};
 ghost use Rattle.std.specs.Option.{option_map};
-ghost use Rattle.etm_types.specs.Id.{IsId};
 ghost use Rattle.line_words.specs.Line.{words_in};
 ghost use Rattle.bench_text.specs.Answers.{Answers};
 ghost use Rattle.bench_text.specs.BenchText.{weave, weave_of, weaves_of};
@@ -17,15 +16,14 @@ use line_words::{decimal, next_word, two_digits};
 /// The most bytes of one weave.
 const MOST_COUNT: u64 = 1 << 20;
 
-/// The weaves with those of a line behind them. Of all words of the line the IDs are tested first, then the counts.
-pub fn with_weaves(
+/// Puts the weaves of a line behind the others. Of all words of the line the IDs are tested first, then the counts.
+pub fn push_weaves(
     streams: &Streams,
-    mut weaves: Vec<Weave>,
+    weaves: &mut Vec<Weave>,
     words: &[u8],
-) -> Result<Vec<Weave>, LineFault>
-    requires { All (λ s. IsId s.id) streams.now.streams }
-    ensures { Answers (λ v. v.items) result
-        (need (weaves_of (words_in words.now)) (weave streams.now.streams weaves.items)) }
+) -> Result<(), LineFault>
+    ensures { Answers (λ _. weaves.new.items) result
+        (need (weaves_of (words_in words.now)) (weave streams.now.streams weaves.old.items)) }
 {
     let mut declared = true;
     let mut within = true;
@@ -45,12 +43,11 @@ pub fn with_weaves(
     if !within {
         return Err(LineFault::Bad(BenchWhy::Range));
     }
-    Ok(weaves)
+    Ok(())
 }
 
 /// The weave of a word.
 fn one_weave(streams: &Streams, word: &[u8]) -> Result<Weave, BenchWhy>
-    requires { All (λ s. IsId s.id) streams.now.streams }
     ensures { result ≡ one_weave streams.now.streams word.now }
 {
     let (id, count) = weave_of(word).ok_or(BenchWhy::Syntax)?;

@@ -2,7 +2,7 @@ use Rattle.std.proofs.Common.{◌≡◌, ◌∙◌, Some, ap, slice_get}
 use Rattle.std.specs.Option.{option_and_then}
 use Rattle.bench_text.specs.KeptStreams.{TextStreams}
 use Rattle.bench_text.specs.Parts.{BenchStream}
-use Rattle.bench_text.proofs.Entries.{kept_line, place_at, read_entry, read_place}
+use Rattle.bench_text.proofs.Entries.{kept_entry, kept_line, place_at, read_place}
 use Rattle.bench_text.proofs.streams.Streams.line_at.Goals as goal
 
 pub line_of-requires : goal.line_of-requires
@@ -10,8 +10,8 @@ line_of-requires c =
     let text = c.self.inside.text.now in
     let at : Some c.in_ok-place.place.now ≡ slice_get c.in_ok-stream.stream.now.places.items c.args.k =
     place_at _ _ c.args.k _ c.deref.ensures.value c.in_ok-place.ensures.lookup.0 c.in_ok-place.ensures.lookup.1 in
-    let entry = read_entry text c.self.inside.by_id.entries c.args.s _ c.in_ok-stream.ensures.entry c.self.invariant in
-    read_place text c.in_ok-stream.stream.now.settings c.in_ok-stream.stream.now.places.items c.args.k _ at entry
+    let entry = kept_entry text c.self.inside.by_id.entries c.args.s _ c.in_ok-stream.ensures.entry c.self.invariant in
+    read_place text c.in_ok-stream.stream.now.settings c.in_ok-stream.stream.now.places.items c.args.k _ at entry.lines
 
 pub returns-clause-value : goal.returns-clause-value
 returns-clause-value c =

@@ -3,11 +3,11 @@ use Rattle.line_words.specs.Line.{words_in}
 use Rattle.bench_text.specs.BenchText.{weave, weaves_of}
 use Rattle.bench_text.specs.EventLines.{need}
 use Rattle.bench_text.proofs.Weaves.{weave_on}
-use Rattle.bench_text.proofs.weave_line.with_weaves.Given as goal
+use Rattle.bench_text.proofs.weave_line.push_weaves.Given as goal
 
 abbrev pub invariant-loop-word : goal.invariant-loop-word
 invariant-loop-word l =
-    need (weaves_of (words_in l.words)) (weave l.streams.streams l.initial.weaves.items)
+    need (weaves_of (words_in l.words)) (weave l.streams.streams l.fn.weaves.items)
     ≡ weave_on l.streams.streams l.declared l.within l.weaves.items (words_in l.rest)
 
 abbrev pub decreases-loop-word : goal.decreases-loop-word

@@ -2,7 +2,7 @@ use Rattle.std.proofs.Common.{◌≡◌, ◌∙◌, ◌∷◌, ◌++◌, [], Lis
 use Rattle.line_words.specs.Line.{words_in}
 use Rattle.bench_text.specs.declared.line.Weave.{Weave}
 use Rattle.bench_text.proofs.Weaves.{ok_on, weave_on}
-use Rattle.bench_text.proofs.weave_line.with_weaves.Goals as goal
+use Rattle.bench_text.proofs.weave_line.push_weaves.Goals as goal
 
 pub loop-word-preserved-in_ok-map_err-in-Ok : goal.loop-word-preserved-in_ok-map_err-in-Ok
 loop-word-preserved-in_ok-map_err-in-Ok c =

@@ -3,14 +3,14 @@ use Rattle.std.proofs.lemmas.Result.{err_from_is_err_and}
 use Rattle.std.specs.Prelude.{⊤}
 use Rattle.line_words.specs.Line.{words_in}
 use Rattle.bench_text.specs.Answers.{Answers}
-use Rattle.bench_text.specs.BenchText.{add_event, is_empty}
+use Rattle.bench_text.specs.BenchText.{Draft, add_event, is_empty}
 use Rattle.bench_text.specs.EventLines.{then_ok}
-use Rattle.bench_text.specs.Kept.{TextDraft, draft_in, draft_of}
+use Rattle.bench_text.specs.Kept.{TextDraft, draft_of}
 use Rattle.bench_text.specs.Parts.{BenchStream}
 use Rattle.bench_text.specs.declared.fault.BenchWhy.{BenchWhy}
 use Rattle.bench_text.specs.declared.fault.LineFault.{LineFault}
-use Rattle.bench_text.proofs.Drafts.{event_draft, event_ids, refused_draft}
-use Rattle.bench_text.proofs.draft.Draft.with_event.Goals as goal
+use Rattle.bench_text.proofs.Drafts.{event_draft, refused_draft}
+use Rattle.bench_text.proofs.draft.Draft.take_event.Goals as goal
 
 pub returns-in_err-push_event-clause-line : goal.returns-in_err-push_event-clause-line
 returns-in_err-push_event-clause-line c =
@@ -18,25 +18,18 @@ returns-in_err-push_event-clause-line c =
     let word = c.args.word.now in
     let words = words_in c.args.rest.now in
     let d = (draft_of c.self.inside).draft in
+    let new : Draft = record d { streams = c.push_event.new.self.streams } in
     let fault = c.in_err-push_event.field-0.0 in
     let none : is_empty d.weaves ≡ true = search rules in
     let p = err_from_is_err_and c.from_residual.result c.from_residual.ensures.1 in
     let result : c.from_residual.result ≡ Err fault = let e = p.1 in let f = p.2 in cc in
-    subst (λ (v : TextDraft). Answers draft_in c.from_residual.result (add_event number v.draft word words)) c.self.view_is
-    (subst (λ (r : Result TextDraft LineFault). Answers draft_in r (add_event number d word words)) (sym result)
-    (subst (Answers draft_in (Err fault)) (sym (event_draft number d word words none))
-    (refused_draft (λ (u : ⊤). c.push_event.new.self.streams) fault _ _ c.in_err-push_event.ensures.streams)))
+    subst (λ (v : TextDraft). Answers (λ (u : ⊤). new) c.from_residual.result (add_event number v.draft word words)) c.self.view_is
+    (subst (λ (r : Result ⊤ LineFault). Answers (λ (u : ⊤). new) r (add_event number d word words)) (sym result)
+    (subst (Answers (λ (u : ⊤). new) (Err fault)) (sym (event_draft number d word words none))
+    (refused_draft (λ (u : ⊤). c.push_event.new.self.streams) (λ (u : ⊤). new) fault _ _ c.in_err-push_event.ensures.streams)))
 
-pub invariant_of-self : goal.invariant_of-self
-invariant_of-self c =
-    record {
-      given = c.self.invariant.given;
-      ids = event_ids c.args.place.number c.self.inside.streams.streams c.push_event.new.self.streams c.args.word.now (words_in c.args.rest.now) _
-          c.in_ok-push_event.ensures.streams c.self.invariant.ids;
-    }
-
-pub returns-then-is_empty-clause-line : goal.returns-then-is_empty-clause-line
-returns-then-is_empty-clause-line c =
+pub returns-in_ok-push_event-clause-line : goal.returns-in_ok-push_event-clause-line
+returns-in_ok-push_event-clause-line c =
     let number = c.args.place.number in
     let word = c.args.word.now in
     let words = words_in c.args.rest.now in
