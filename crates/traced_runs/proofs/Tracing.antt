@@ -69,6 +69,17 @@ one_traced image unit unit' bytes bytes' events e t stands settings most (more, 
       ∙ sym (same_written image unit.settings unit'.settings unit.stack_depth unit'.stack_depth (events ++ e ∷ []) settings most);
 }
 
+-- events of which the trace says nothing
+pub more_traced : (image : Image) (unit unit' : Kept) (bytes : List ℕ) (events more : List Event) → IsTracing image unit bytes events
+    → StandsAt image unit' (events ++ more) → unit'.settings ≡ unit.settings → unit'.stack_depth ≡ unit.stack_depth
+    → written image unit.settings unit.stack_depth (events ++ more) ≡ written image unit.settings unit.stack_depth events
+    → IsTracing image unit' bytes (events ++ more)
+more_traced image unit unit' bytes events more t stands settings most same = record {
+  stands = stands;
+  wrote = t.wrote ∙ sym same
+      ∙ sym (same_written image unit.settings unit'.settings unit.stack_depth unit'.stack_depth (events ++ more) settings most);
+}
+
 pub line_refused : (image : Image) (unit : Kept) (s : Sizes) (events : List Event) (line : BenchLine) (k : ℕ) (fault : RunFault) → k < line.times
     → StandsAt image unit (events_with events k line.event) → unit.settings ≡ s → check image unit.run.depth unit.run.place line.event ≡ Some fault
     → RefusesLine image s events line fault

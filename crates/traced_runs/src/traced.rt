@@ -9,7 +9,6 @@ ghost use Rattle.formatter_frames.specs.Framed.{framed};
 ghost use Rattle.formatter_frames.specs.Sizes.{frame_bytes};
 ghost use Rattle.path_text.specs.Writing.{Writes};
 ghost use Rattle.spec_run.specs.RunAfter.{IsEvent};
-ghost use Rattle.spec_run.specs.declared.event.Event.{Event};
 ghost use Rattle.spec_run.specs.declared.run_fault.RunFault.{RunFault as Refusal};
 ghost use Rattle.retired_paths.specs.Retiring.{RefusesLine, events_with};
 ghost use Rattle.traced_runs.specs.Traced.{TracesSo, WritesTraces, kept_frames, traces, with_syncs};
@@ -25,7 +24,7 @@ use bench_text::{Bench, BenchLine, BenchWhy};
 use formatter_frames::FRAME_BYTES;
 use program_image::Image;
 use retired_paths::{Unread, read_bench, refuse};
-use spec_run::RunFault;
+use spec_run::{Event, RunFault};
 use std::alloc::{AllocError, Global};
 use sync_frames::write_synced;
 use trace_io::{Failed, MemSink, Sink, Source, write_all};
@@ -56,10 +55,24 @@ fn trace_line(
         → (fault : Refusal) → result ≡ Err (UnitFault.Run fault) → RefusesLine image.now unit.old.settings events line.now fault }
     ensures settings { (unit.new.settings ≡ unit.old.settings) × (unit.new.stack_depth ≡ unit.old.stack_depth) }
 {
-    for _ in 0..line.times {
+    let done = trace_plain(unit, image, line);
+    for _ in done..line.times {
         unit.accept(image, &line.event, bytes)?;
     }
     Ok(())
+}
+
+/// Traces the plain steps at the front of a line's events at once, and says how many there are. The trace says nothing of them.
+fn trace_plain(unit: &mut Unit, image: &Image, line: &BenchLine) -> u32
+    ensures traces { (bytes : List ℕ) (events : List Event) → IsTracing image.now unit.old bytes events
+        → IsTracing image.now unit.new bytes (events_with events result line.now.event) }
+    ensures few { result ≤ line.now.times }
+    ensures settings { (unit.new.settings ≡ unit.old.settings) × (unit.new.stack_depth ≡ unit.old.stack_depth) }
+{
+    match line.event {
+        Event::Step => unit.step_many(image, line.times),
+        _ => 0,
+    }
 }
 
 /// Traces the events of a stream.

@@ -1,4 +1,4 @@
-use Rattle.std.proofs.Common.{◌≡◌, Err, ap, append-nil, arith, refl, subst, sym, ◌∙◌}
+use Rattle.std.proofs.Common.{◌≡◌, Err, ap, arith, refl, subst, sym, ◌∙◌}
 use Rattle.std.proofs.lemmas.Result.{err_from_is_err_and}
 use Rattle.etm_types.specs.Settings.{Sizes}
 use Rattle.spec_run.specs.RunAfter.{IsEvent}
@@ -11,8 +11,9 @@ use Rattle.traced_runs.proofs.traced.trace_line.Goals as goal
 
 pub loop-init : goal.loop-init
 loop-init c = record {
-  settings = (refl, refl);
-  so_far = λ events t. subst (IsTracing c.args.image.now c.args.unit.now c.args.bytes.now.items) (sym (append-nil events)) t;
+  settings = c.trace_plain-done.ensures.settings;
+  so_far = λ events t. c.trace_plain-done.ensures.traces c.args.bytes.now.items events t;
+  within = c.trace_plain-done.ensures.few;
 }
 
 pub accept-requires : goal.accept-requires
@@ -29,6 +30,7 @@ loop-preserved c = record {
       (one_traced c.args.image.now c.loop.unit c.accept.new.self c.loop.bytes.items c.accept.new.bytes.items front line.event here
       (c.in_ok-accept.ensures.stands front here.stands refl) c.in_ok-accept.ensures.settings.0 c.in_ok-accept.ensures.settings.1
       (c.in_ok-accept.ensures.written front here.stands refl));
+  within = omega arith;
 }
 
 pub returns-in_err-accept-clause-refused : goal.returns-in_err-accept-clause-refused
@@ -43,5 +45,5 @@ returns-in_err-accept-clause-refused c events t fault is =
 pub returns-clause-traces : goal.returns-clause-traces
 returns-clause-traces c events t ok =
     let line = c.args.line.now in
-    let all : c.loop.counter ≡ line.times = omega arith in
+    let all : c.loop.counter ≡ line.times = omega (arith, c.loop.invariant.within) in
     subst (λ n. IsTracing c.args.image.now c.loop.unit c.loop.bytes.items (events_with events n line.event)) all (c.loop.invariant.so_far events t)
