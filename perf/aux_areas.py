@@ -5,6 +5,8 @@ from typing import NamedTuple
 from perf_data import AuxFlag
 
 FRAME, BARRIER = 16, b"\xff\xff\xff\x7f" * 4
+FILLING = 8  # the size of an AUXTRACE record is a multiple of it
+FRAMES, RAW = 0, 1  # forms of trace
 
 
 class Aux(NamedTuple):
@@ -23,39 +25,48 @@ class Piece(NamedTuple):
 
 
 class Area:
-    """The AUX area of a CPU or a thread: its bytes at their offsets, and the AUX records over it."""
+    """The AUX area of a CPU or a thread: its bytes at their offsets, and the AUX records over it. `cpu` is None where it is a thread's."""
 
-    def __init__(self, name):
-        self.name, self.held, self.told = name, [], []
+    def __init__(self, name, cpu):
+        self.name, self.cpu, self.held, self.told = name, cpu, [], []
 
     def pieces(self, notes):
         """What trace units wrote without a stop, by offset."""
         self.held.sort(key=lambda held: held[0])
         if not self.told:
-            yield from (Piece(data, False, None) for _, data in self.held)
+            yield from (Piece(data, False, self.cpu) for _, data in self.held)
             return
-        end = None
+        end, last, data = self.held[0][0], None, self.held[-1]
         for begin, size, aux in sorted(((*self._begin_of(aux), aux) for aux in self.told), key=lambda told: told[:2]):
-            for flag in (AuxFlag.TRUNCATED, AuxFlag.PARTIAL, AuxFlag.COLLISION):
-                if aux.flags & flag:
-                    notes.say(f"{self.name}, AUX record at {begin:x}: trace was lost: {flag.name.lower()}")
-            if end is not None and begin < end:
+            self._tell_flags(aux, begin, notes)
+            if last is not None and begin < last:
                 notes.say(f"{self.name}, AUX record at {begin:x}: it overlaps the one before; left out")
                 continue
             self._tell_hole(end, begin, notes)
-            end = begin + size
-            data = self._cut(begin, size)
-            if len(data) < size:
-                notes.say(f"{self.name}, AUX record at {begin:x}: {size - len(data)} of its {size} bytes are not in the file")
-            is_raw = bool(aux.flags & AuxFlag.RAW)
-            yield from (Piece(part, is_raw, aux.cpu) for part in ([data] if is_raw else self._stretches(data, begin, notes)))
-        self._tell_hole(end, self.held[-1][0] + len(self.held[-1][1]) // 16 * 16, notes)
+            end = last = begin + size
+            yield from self._pieces_at(begin, size, aux, notes)
+        self._tell_hole(end, data[0] + len(data[1]), notes, FILLING)
 
-    def _tell_hole(self, end, begin, notes):
-        """What stands between two AUX records, or before the first."""
-        end = self.held[0][0] if end is None else end
-        if begin > end:
+    def _tell_flags(self, aux, begin, notes):
+        for flag in (AuxFlag.TRUNCATED, AuxFlag.PARTIAL, AuxFlag.COLLISION):
+            if aux.flags & flag:
+                notes.say(f"{self.name}, AUX record at {begin:x}: trace was lost: {flag.name.lower()}")
+
+    def _tell_hole(self, end, begin, notes, least=1):
+        """What stands between two AUX records, before the first, or behind the last."""
+        if begin - end >= least:
             notes.say(f"{self.name}: {begin - end} bytes at {end:x} are in no AUX record, or were lost")
+
+    def _pieces_at(self, begin, size, aux, notes):
+        """Those of an AUX record."""
+        form, data = (aux.flags & AuxFlag.FORM) // AuxFlag.RAW, self._cut(begin, size)
+        if len(data) < size:
+            notes.say(f"{self.name}, AUX record at {begin:x}: {size - len(data)} of its {size} bytes are not in the file")
+        if form not in (FRAMES, RAW):
+            notes.say(f"{self.name}, AUX record at {begin:x}: its form {form} is not known; left out")
+            return
+        for part in self._stretches(data, begin, notes) if form == FRAMES else [data]:
+            yield Piece(part, form == RAW, self.cpu if aux.cpu is None else aux.cpu)
 
     def _place_of(self, at):
         """Which of the AUXTRACE records has an offset: the last one that begins there or before."""

@@ -58,7 +58,8 @@ class AuxFlag(enum.IntFlag):
     OVERWRITE = 2
     PARTIAL = 4
     COLLISION = 8
-    RAW = 0x100
+    FORM = 0xFF00
+    RAW = 0x100  # of the forms; else it is frames
 
 
 class Sample(enum.IntFlag):
@@ -189,7 +190,10 @@ def read(name):
             raise Refused("it is of the other byte order, or of the first version of the format")
         if front[:8] != MAGIC or len(front) < PIPED_HEADER:
             raise Refused("it is no perf.data")
-        return front + file.read()
+        if not file.seekable():
+            return front + file.read()
+        file.seek(0)
+        return file.read()
 
 
 class Recording:
@@ -216,12 +220,10 @@ class Recording:
             raise Refused(f"its header tells of attributes of {entry} bytes")
         for attribute in range(0, len(section(data, attributes_at, attributes)) // entry):
             self._add_attribute(data, attributes_at + attribute * entry, entry - 16)
-        end, bits = at + size, numbers("Q", data, 72)[0]
-        for feature in range(64):
-            if bits >> feature & 1 and end < len(data):
-                if feature == BUILD_IDS:
-                    self._read_build_ids(section(data, *numbers("2Q", data, end)))
-                end += 16
+        bits, = numbers("Q", data, 72)
+        if bits >> BUILD_IDS & 1 and at + size < len(data):
+            before = (bits & (1 << BUILD_IDS) - 1).bit_count()
+            self._try_build_ids(data, at + size + 16 * before)
         if at + size > len(data):
             self.left_out.append(f"the file is cut: {at + size - len(data)} bytes of its records are not there")
         return data[at:at + size]
@@ -229,6 +231,13 @@ class Recording:
     def _add_attribute(self, data, at, size):
         ids = section(data, *numbers("2Q", data, at + size))
         self.attributes.append(attribute_of(data[at:at + size], ids))
+
+    def _try_build_ids(self, data, at):
+        """Those of the feature whose place stands at an offset."""
+        try:
+            self._read_build_ids(section(data, *numbers("2Q", data, at)))
+        except Refused as why:
+            self.left_out.append(f"its build IDs: {why}")
 
     def _read_build_ids(self, data):
         for record in self._walked(data):

@@ -61,7 +61,9 @@ class Processes:
                     self.notes.say(f"process {pid}: it began another program; the maps of the one before are left out")
 
     def _fork(self, pid, parent):
-        self.maps[pid] = list(self.maps.get(parent, ()))
+        if self.maps.get(pid):
+            self.notes.say(f"process {pid}: its number was given to another process; the maps of the first are left out")
+        self.maps[pid] = [one._replace(pid=pid) for one in self.maps.get(parent, ())]
         self.copied += len(self.maps[pid])
         if self.copied > MOST_MAPS:
             raise Refused(f"its processes have more than {MOST_MAPS} maps")
@@ -93,6 +95,8 @@ class Processes:
 
     def all_of(self, chosen):
         """The maps of the chosen process, or of all, sorted and apart: where two have an address, the first has it."""
+        if chosen is not None and not self.maps.get(chosen):
+            self.notes.say(f"process {chosen} has no map of code")
         found = []
         for pid in sorted(self.maps) if chosen is None else [chosen]:
             for new in self.maps.get(pid, ()):
@@ -100,6 +104,6 @@ class Processes:
                 for old in found[low:high]:
                     if not old.is_same(new):
                         self.notes.say(f"process {pid}: {new.name} at {max(old.start, new.start):x}, where process {old.pid} has {old.name}: "
-                                       f"left out; take one of them by --pid")
+                                       "left out; take one of them by --pid")
                 found[low:high] = sorted(found[low:high] + list(left_of(found[low:high], new)))
         return found

@@ -33,6 +33,7 @@ class Fault(NamedTuple):
     said: str
     commands: int = 1
     words: tuple = ()
+    first: str = ""  # in the first command
 
 
 class Files:
@@ -104,17 +105,13 @@ def of_trace(files):
     yield Fault("a record without trace", more.file(), 0, "cpu 3, thread -1: an AUX record of 64 bytes at 0, and no trace of it")
     lost = files.whole(data=BARRIER + FRAMES + BARRIER + FRAMES + BARRIER)
     yield Fault("a barrier packet", lost.file(), 0, f"cpu 0: the sink lost trace before {len(FRAMES) + 16:x}", 2)
+    yield Fault("trace of a form to come", files.whole(flags=0x200).file(), 1, "cpu 0, AUX record at 0: its form 2 is not known; left out", 0)
     yield Fault("no trace", files.mapped().file(), 1, "it has no trace", 0)
     yield Fault("no trace unit", files.traced(Written(BY_CPU)).file(), 3, ".* is refused: it does not tell of its trace units", 0)
 
 
 def of_maps(files):
-    """Faults of maps and of the image."""
-    for name in ("[vdso]", "//anon", "/fifo", "/gone", "/", "relative"):
-        yield Fault(f"a map of {name}", files.traced(files.mapped(name=name)).file(), 1, f"process 1000: {re.escape(name)} at 400000: left out: .*")
-    for name in ("/../secret", "/link", "/gone/../../secret"):
-        yield Fault(f"a map of {name}", files.traced(files.mapped(name=name)).file(), 1, f".* {name} at 400000: left out: outside of .*")
-    yield Fault("no code", files.traced(files.begun()).file(), 1, "no code of what was traced was found")
+    """Maps that are replaced, inherited, or not of a process."""
     again = files.mapped(files.mapped(), "/other")
     yield Fault("a map that is replaced", files.traced(again).file(), 0, "process 1000: /other replaced /program at 400000; .* the wrong code")
     earlier = files.mapped(files.mapped(time=2), "/other", time=1)
@@ -129,6 +126,9 @@ def of_maps(files):
     child = files.mapped()
     child.add(Kind.FORK, struct.pack("<4IQ", OTHER, PROCESS, OTHER, PROCESS, 0))
     yield Fault("a child's maps", files.traced(child).file(), 0, "cpu 0: .*", 1, ("--pid", "1001"))
+    child.add(Kind.FORK, struct.pack("<4IQ", OTHER, 7, OTHER, 7, 0))
+    yield Fault("a number that is given again", files.traced(child).file(), 0, "process 1001: its number was given to another process; .* left out")
+    yield Fault("a process without maps", files.whole().file(), 1, "process 7 has no map of code", 1, ("--pid", "7"))
     kernel = files.mapped()
     kernel.add(Kind.MMAP, struct.pack("<iIQQQ", -1, 0, 0xFFFF800008000000, 0x1000, 0) + b"[kernel.kallsyms]_text\0", 1)
     yield Fault("code of the kernel", files.traced(kernel).file(), 0, "code of the kernel is left out, .*")
@@ -137,6 +137,15 @@ def of_maps(files):
     yield Fault("a map of the older kind", files.traced(older).file(), 0, "cpu 0: .*")
     older.add(Kind.MMAP, struct.pack("<IIQQQ", PROCESS, PROCESS, HERE, 0x1000, 0) + b"/other\0", Misc.USER | Misc.DATA)
     yield Fault("a map of data", files.traced(older).file(), 1, "process 1000: /other replaced /program at 400000; .*")
+
+
+def of_images(files):
+    """Maps of which an image has nothing, or not all."""
+    for name in ("[vdso]", "//anon", "/fifo", "/gone", "/", "relative"):
+        yield Fault(f"a map of {name}", files.traced(files.mapped(name=name)).file(), 1, f"process 1000: {re.escape(name)} at 400000: left out: .*")
+    for name in ("/../secret", "/link", "/gone/../../secret"):
+        yield Fault(f"a map of {name}", files.traced(files.mapped(name=name)).file(), 1, f".* {name} at 400000: left out: outside of .*")
+    yield Fault("no code", files.traced(files.begun()).file(), 1, "no code of what was traced was found")
     wide = files.mapped()
     wide.map(PROCESS, (1 << 64) - 16, 32, 0, "/program")
     yield Fault("a map behind the last address", files.traced(wide).file(), 0, "process 1000: /program at fffffffffffffff0: 32 bytes can't .*")
@@ -158,9 +167,19 @@ def of_build_ids(files):
     differs = f"process 1000: /program at 400000: left out: its build ID is {BUILD_ID[::-1].hex()}, and that of .* {BUILD_ID.hex()}"
     yield Fault("a build ID that differs", files.traced(files.mapped(build_id=BUILD_ID[::-1])).file(), 1, differs)
     yield Fault("a build ID that differs, told at the end", files.whole().file(features=[(2, told)]), 1, differs)
+    data = files.whole().file(features=[(2, told)])
+    yield Fault("build IDs that are cut", data[:-8 - len(told)], 0, "its build IDs: .*")
     yield Fault("the right build ID", files.traced(files.mapped(build_id=BUILD_ID)).file(), 0, "cpu 0: .*")
     none = files.traced(files.mapped(name="/other", build_id=BUILD_ID)).file()
     yield Fault("a file without a build ID", none, 1, "process 1000: /other .* is none")
+
+
+def ids_told(files, name, ids, settings):
+    """A newer kernel tells the IDs of two units when the trace begins."""
+    newer = files.traced(files.mapped(files.begun([unit(0, 0x8000007F), unit(1, 0x8000007F, depth=0)])))
+    for cpu, told in enumerate(ids):
+        newer.add(Kind.AUX_OUTPUT_HW_ID, struct.pack("<Q", told), tail=(0, 0, 0, cpu))
+    return Fault(name, newer.file(), 0, f"cpu 1: stream {ids[1] & 0xFF:02x}, depth 0, .*", first=settings)
 
 
 def of_units(files):
@@ -173,10 +192,9 @@ def of_units(files):
     yield Fault("two CPUs of one ID", of(unit(), unit(1)), 3, ".* is refused: CPUs 0 and 1 have the one stream 10", 0)
     for fault, said in ((unit(depth=16385), "TRCIDR8 is 16385"), (unit(vmid=3), "VMIDSIZE is 3"), (unit(cid=2), "CIDSIZE is 2")):
         yield Fault(said, of(fault), 3, f".* is refused: cpu 0: {said}", 0)
-    newer = files.traced(files.mapped(files.begun([unit(0, 0x80000010), unit(1, 0x80000012, depth=0)])))
-    for cpu, told in ((0, 0x2A), (1, 0x2B)):
-        newer.add(Kind.AUX_OUTPUT_HW_ID, struct.pack("<Q", told), tail=(0, 0, 0, cpu))
-    yield Fault("IDs that are told later", newer.file(), 0, "cpu 1: stream 2b, depth 0, .*")
+    yield ids_told(files, "IDs that are told later", (0x2A, 0x2B), "2a:16:1:4,2b:0:1:4")
+    yield ids_told(files, "one ID in two sinks", (1 << 56 | 0x52A, 1 << 56 | 0x62A), "--settings 2a:16:1:4 ")
+    yield Fault("one ID in one sink", ids_told(files, "", (1 << 56 | 0x52A,) * 2, "").data, 3, ".* is refused: CPUs 0 and 1 have the one stream 2a", 0)
     info = files.whole().file()
     for name, old, new, said in (
             ("ETMv3", struct.pack("<Q", ETMV4), b"\x30" * 8, "the trace unit of CPU 0 is ETMv3, and not ETMv4"),
@@ -207,7 +225,7 @@ def of_files(files):
 
 
 def faults(files):
-    for kind in (of_trace, of_maps, of_build_ids, of_units, of_files):
+    for kind in (of_trace, of_maps, of_images, of_build_ids, of_units, of_files):
         yield from kind(files)
 
 
@@ -246,6 +264,8 @@ def fault_of(of, files, fault, room):
         return f"it does not say {fault.said}, but {said.lines}"
     if len(said.commands) != fault.commands:
         return f"{len(said.commands)} commands, not {fault.commands}"
+    if fault.first and fault.first not in said.commands[0]:
+        return f"{fault.first} is not in {said.commands[0]}"
     return None
 
 
