@@ -34,7 +34,8 @@ class Area:
         """What trace units wrote without a stop, by offset."""
         self.held.sort(key=lambda held: held[0])
         if not self.told:
-            yield from (Piece(data, False, self.cpu) for _, data in self.held)
+            for begin, data in self.held:
+                yield from (Piece(part, False, self.cpu) for part in self._stretches(data, begin, notes))
             return
         end, last, data = self.held[0][0], None, self.held[-1]
         for begin, size, aux in sorted(((*self._begin_of(aux), aux) for aux in self.told), key=lambda told: told[:2]):

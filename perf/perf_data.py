@@ -82,10 +82,10 @@ class Refused(Exception):
 
 
 class Attribute(NamedTuple):
-    """What perf asked of an event: which fields the tails of its records have, and its IDs."""
+    """What perf asked of an event: whether its records have tails, and how far before the end of a record each field of them begins."""
     sample_type: int
     has_tails: bool
-    ids: frozenset
+    places: dict
 
 
 class Tail(NamedTuple):
@@ -192,7 +192,7 @@ def read(name):
             raise Refused("it is no perf.data")
         if not file.seekable():
             return front + file.read()
-        file.seek(0)
+        file.seek(-len(front), os.SEEK_CUR)
         return file.read()
 
 
@@ -201,7 +201,7 @@ class Recording:
 
     def __init__(self, data):
         data = memoryview(data)
-        self.attributes, self.build_ids, self.left_out = [], {}, []
+        self.attribute, self.attributes, self.build_ids, self.left_out = None, {}, {}, []
         size, = numbers("Q", data, 8)
         if size == PIPED_HEADER:
             self.data = data[PIPED_HEADER:]
@@ -219,7 +219,8 @@ class Recording:
         if entry <= 16:
             raise Refused(f"its header tells of attributes of {entry} bytes")
         for attribute in range(0, len(section(data, attributes_at, attributes)) // entry):
-            self._add_attribute(data, attributes_at + attribute * entry, entry - 16)
+            one = data[attributes_at + attribute * entry:][:entry]
+            self._add_attribute(one[:-16], section(data, *numbers("2Q", one, entry - 16)))
         bits, = numbers("Q", data, 72)
         if bits >> BUILD_IDS & 1 and at + size < len(data):
             before = (bits & (1 << BUILD_IDS) - 1).bit_count()
@@ -228,9 +229,13 @@ class Recording:
             self.left_out.append(f"the file is cut: {at + size - len(data)} bytes of its records are not there")
         return data[at:at + size]
 
-    def _add_attribute(self, data, at, size):
-        ids = section(data, *numbers("2Q", data, at + size))
-        self.attributes.append(attribute_of(data[at:at + size], ids))
+    def _add_attribute(self, data, ids):
+        """One with the IDs of its events."""
+        sample_type, flags = numbers("Q8xQ", data, 24)
+        fields = [field for field in reversed(TAIL_FIELDS) if sample_type & field]
+        attribute = Attribute(sample_type, bool(flags & SAMPLE_ID_ALL), {field: 8 * place for place, field in enumerate(fields, 1)})
+        self.attribute = self.attribute or attribute
+        self.attributes.update((id, attribute) for id, in struct.iter_unpack("<Q", ids[:len(ids) // 8 * 8]))
 
     def _try_build_ids(self, data, at):
         """Those of the feature whose place stands at an offset."""
@@ -259,7 +264,7 @@ class Recording:
                     packed.append(record.body[16:16 + record.numbers("Q", 8)[0]])
                 case Kind.HEADER_ATTR:
                     size = max(record.numbers("I", 12)[0], 64)
-                    self.attributes.append(attribute_of(record.body[8:8 + size], record.body[8 + size:]))
+                    self._add_attribute(record.body[8:8 + size], record.body[8 + size:])
                 case Kind.HEADER_BUILD_ID:
                     self._take_build_id(record)
                 case Kind.HEADER_FEATURE if record.numbers("Q", 8)[0] == BUILD_IDS:
@@ -299,7 +304,7 @@ class Recording:
 
     def _attribute_of(self, record):
         """The attribute that a record belongs to, as perf finds it: by the ID in its tail, or the first one."""
-        first = self.attributes[0]
+        first = self.attribute
         if first.sample_type & Sample.IDENTIFIER:
             place = 1
         elif first.sample_type & Sample.ID:
@@ -307,27 +312,20 @@ class Recording:
         else:
             return first
         found = int.from_bytes(record.body[-8 * place:][:8], "little")
-        return next((one for one in self.attributes if found in one.ids), first)
+        return self.attributes.get(found, first)
 
     def tail(self, record):
         """What stands at the end of a kernel's record."""
-        attribute = self._attribute_of(record) if self.attributes else None
-        if attribute is None or not attribute.has_tails:
+        attribute = self.attribute and self._attribute_of(record)
+        if not attribute or not attribute.has_tails:
             return Tail()
-        fields = [field for field in TAIL_FIELDS if attribute.sample_type & field]
-        places = {field: len(record.body) - 8 * (len(fields) - place) for place, field in enumerate(fields)}
-        if fields and min(places.values()) < 8:
+        end = len(record.body)
+        if max(attribute.places.values(), default=0) > end - 8:
             raise Refused("a record is shorter than its tail")
 
         def told(field, form, behind=0):
-            return record.numbers(form, places[field] + behind)[0] if field in places else None
+            return record.numbers(form, end - attribute.places[field] + behind)[0] if field in attribute.places else None
         return Tail(told(Sample.TID, "i", 4), told(Sample.TIME, "Q"), told(Sample.CPU, "i"))
-
-
-def attribute_of(data, ids):
-    sample_type, = numbers("Q", data, 24)
-    flags, = numbers("Q", data, 40)
-    return Attribute(sample_type, bool(flags & SAMPLE_ID_ALL), frozenset(id for id, in struct.iter_unpack("<Q", ids[:len(ids) // 8 * 8])))
 
 
 def unpacked(packed):
