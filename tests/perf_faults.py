@@ -207,6 +207,16 @@ def of_units(files):
         yield Fault(name, info.replace(old, new), 3, f".* is refused: {said}", 0)
 
 
+def compressed(files, kind, is_last=0):
+    """A file whose maps are in a zstd stream, of one block as it stands."""
+    out = files.mapped()
+    maps, _ = out.records.pop()
+    stream = b"\x28\xb5\x2f\xfd\0\x58" + (len(maps) << 3 | is_last).to_bytes(3, "little") + maps
+    body = struct.pack("<Q", len(stream)) + stream + bytes(-len(stream) % 8) if kind == Kind.COMPRESSED2 else stream
+    out.records.append((struct.pack("<IHH", kind, 0, 8 + len(body)) + body, b""))
+    return files.traced(out).file()
+
+
 def of_files(files):
     """Faults of the file as a whole."""
     whole = files.whole()
@@ -219,6 +229,9 @@ def of_files(files):
     yield Fault("a file that perf did not end", data[:48] + bytes(8) + data[56:72] + bytes(32) + data[104:len(data) - 40], 0, "perf did not end the file, .*")
     yield Fault("a piped file that is cut in trace", piped[:-100], 0, "the last .* bytes of trace, which are cut", 1)
     yield Fault("a record without a size", piped[:22] + b"\0\0" + piped[24:], 3, ".* is refused: a record has a size of 0 bytes", 0)
+    yield Fault("what is compressed", compressed(files, Kind.COMPRESSED), 0, "cpu 0: .*")
+    yield Fault("what is compressed, and ended", compressed(files, Kind.COMPRESSED, is_last=1), 0, "cpu 0: .*")
+    yield Fault("what is compressed, in the newer record", compressed(files, Kind.COMPRESSED2), 0, "cpu 0: .*")
     broken = files.mapped()
     broken.records.append((struct.pack("<IHH", Kind.COMPRESSED, 0, 24) + bytes(16), b""))
     yield Fault("what is compressed and broken", files.traced(broken).file(), 0, "what is compressed has a fault: .*")
