@@ -1,6 +1,6 @@
 -- The tables of the numbers below 100 and of the bytes, two digits each.
 use Rattle.std.proofs.Common.{◌≡◌, inl, inr, ℕ, zero, suc, ◌+◌, ◌*◌, ◌/◌, ◌%◌, ◌<◌}
-use Rattle.std.proofs.Common.{Bool, true, false, List, [], ◌∷◌, ◌++◌, take, drop, slice_index_or, codes, refl, ap, ◌∙◌, arith}
+use Rattle.std.proofs.Common.{Bool, true, false, List, [], ◌∷◌, ◌++◌, slice_index_or, codes, refl, ap, ◌∙◌, arith}
 use Rattle.std.specs.Prelude.{◌==◌, if◌then◌else◌}
 use Rattle.std.proofs.lemmas.Bool.{eqb-true, false≢true}
 use Rattle.std.proofs.Math.Nat.{eq-or-lt_of_le}
@@ -35,26 +35,19 @@ pair_at n below =
     let is = both _ _ (passes has_pair 100 n refl below) in
     ap (λ d. d ∷ slice_index_or pairs (2 * n + 1) 0 ∷ []) (eqb-true _ _ is.0) ∙ ap (λ d. digit (n / 10) ∷ d ∷ []) (eqb-true _ _ is.1)
 
-abbrev pub hex_pairs : List ℕ
+abbrev hex_pairs : List ℕ
 hex_pairs =
     codes "000102030405060708090a0b0c0d0e0f101112131415161718191a1b1c1d1e1f202122232425262728292a2b2c2d2e2f303132333435363738393a3b3c3d3e3f"
     ++ codes "404142434445464748494a4b4c4d4e4f505152535455565758595a5b5c5d5e5f606162636465666768696a6b6c6d6e6f707172737475767778797a7b7c7d7e7f"
     ++ codes "808182838485868788898a8b8c8d8e8f909192939495969798999a9b9c9d9e9fa0a1a2a3a4a5a6a7a8a9aaabacadaeafb0b1b2b3b4b5b6b7b8b9babbbcbdbebf"
     ++ codes "c0c1c2c3c4c5c6c7c8c9cacbcccdcecfd0d1d2d3d4d5d6d7d8d9dadbdcdddedfe0e1e2e3e4e5e6e7e8e9eaebecedeeeff0f1f2f3f4f5f6f7f8f9fafbfcfdfeff"
 
--- whether a list begins with two numbers
-abbrev begins_with : List ℕ → ℕ → ℕ → Bool
-begins_with (a ∷ b ∷ rest) x y = if a == x then b == y else false
-begins_with _ x y = false
-
-first_two : (text : List ℕ) (x y : ℕ) → begins_with text x y ≡ true → take 2 text ≡ x ∷ y ∷ []
-first_two [] x y is = absurd (false≢true is)
-first_two (a ∷ []) x y is = absurd (false≢true is)
-first_two (a ∷ b ∷ rest) x y is =
-    let same = both _ _ is in ap (λ d. d ∷ b ∷ []) (eqb-true _ _ same.0) ∙ ap (λ d. x ∷ d ∷ []) (eqb-true _ _ same.1)
-
 abbrev has_hex_pair : ℕ → Bool
-has_hex_pair n = begins_with (drop (2 * n) hex_pairs) (digit (n / 16)) (digit (n % 16))
+has_hex_pair n =
+    if slice_index_or hex_pairs (2 * n) 0 == digit (n / 16) then slice_index_or hex_pairs (2 * n + 1) 0 == digit (n % 16) else false
 
-pub hex_pair_at : (n : ℕ) → n < 256 → take 2 (drop (2 * n) hex_pairs) ≡ digit (n / 16) ∷ digit (n % 16) ∷ []
-hex_pair_at n below = first_two (drop (2 * n) hex_pairs) (digit (n / 16)) (digit (n % 16)) (passes has_hex_pair 256 n refl below)
+pub hex_pair_at : (n : ℕ) → n < 256
+    → slice_index_or hex_pairs (2 * n) 0 ∷ slice_index_or hex_pairs (2 * n + 1) 0 ∷ [] ≡ digit (n / 16) ∷ digit (n % 16) ∷ []
+hex_pair_at n below =
+    let is = both _ _ (passes has_hex_pair 256 n refl below) in
+    ap (λ d. d ∷ slice_index_or hex_pairs (2 * n + 1) 0 ∷ []) (eqb-true _ _ is.0) ∙ ap (λ d. digit (n / 16) ∷ d ∷ []) (eqb-true _ _ is.1)

@@ -160,13 +160,13 @@ pub fn put_decimal(n: u64, text: &mut [u8], end: usize)
     put_short(rest as u8, text, at);
 }
 
-/// The two hex digits of a byte. They stay together, so that they are moved as one.
+/// The two hex digits of a byte.
 #[inline(always)]
-fn hex_pair(n: u8) -> &'static [u8]
-    ensures { result.now ≡ digit (n / 16) ∷ digit (n % 16) ∷ [] }
+fn hex_pair(n: u8) -> [u8; 2]
+    ensures { result ≡ digit (n / 16) ∷ digit (n % 16) ∷ [] }
 {
     let at = 2 * n as usize;
-    &HEX_PAIRS[at..at + 2]
+    [HEX_PAIRS[at], HEX_PAIRS[at + 1]]
 }
 
 /// Puts the two hex digits of a byte.
@@ -175,7 +175,9 @@ fn put_byte(n: u8, text: &mut [u8], at: usize)
     requires { at + 2 ≤ length text.old }
     ensures { text.new ≡ take at text.old ++ (digit (n / 16) ∷ digit (n % 16) ∷ drop (at + 2) text.old) }
 {
-    text[at..at + 2].copy_from_slice(hex_pair(n));
+    let [tens, ones] = hex_pair(n);
+    text[at] = tens;
+    text[at + 1] = ones;
 }
 
 /// Puts the hex digits of a number below 256 where they end at `end`.
