@@ -117,7 +117,7 @@ impl AddressLine {
     /// Whether the lines of so many instructions from an address on differ from it in no digit but the last four.
     #[inline(always)]
     pub fn has_near(&self, start: u64, count: u64) -> bool
-        ensures { IsTrue result → AreNear self.now.address start count }
+        ensures { IsTrue result ↔ AreNear self.now.address start count }
     {
         differs_in_last_four(self.address, start) && count <= near_lines(start)
     }
