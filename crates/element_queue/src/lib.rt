@@ -12,6 +12,7 @@
 mod laws;
 mod ledger;
 mod queue;
+mod slot;
 mod uncommitted;
 
 pub use laws::{

@@ -12,6 +12,7 @@ ghost use Rattle.element_queue.specs.Queued.{IsQueued, Refuses, Takes, committed
 ghost use Rattle.element_queue.specs.declared.queue.AtomEntry.{AtomEntry};
 
 use crate::ledger::{Counts, Ledger};
+use crate::slot::Slot;
 use crate::uncommitted::Uncommitted;
 use etm_types::{Ctx, Entry, P0, Pre, QueueFault};
 use spend_ring::SpendRing;
@@ -56,7 +57,7 @@ pub struct AtomEntry {
 #[must_use]
 pub struct Queue {
     unseen: u32,
-    ring: SpendRing<Uncommitted>,
+    ring: SpendRing<Slot>,
     pre: Pre,
     depth: u32,
     ledger: Ledger,
@@ -127,7 +128,8 @@ impl Queue {
         let full = self.held() == self.depth;
         let entry = Uncommitted::new(Entry { pre: self.pre, p0 }, &mut self.ledger);
         self.pre = Pre::nothing_told();
-        if let Some(oldest) = self.ring.push_back(entry) {
+        if let Some(slot) = self.ring.push_back(entry.into_slot()) {
+            let oldest = Uncommitted::from_slot(slot);
             return Some(Committed::Seen(oldest.commit(&mut self.ledger)));
         }
         if full {
@@ -195,10 +197,10 @@ impl Queue {
             return None;
         }
         match self.ring.get(0) {
-            Some(oldest) => atom_entry(oldest.entry()),
-            None => atom_entry(&Entry {
-                pre: self.pre,
-                p0: P0::Atom(taken),
+            Some(oldest) => oldest.atom(),
+            None => Some(AtomEntry {
+                addr: self.passing()?,
+                taken,
             }),
         }
     }
@@ -213,8 +215,7 @@ impl Queue {
         if self.unseen > 0 {
             return None;
         }
-        let oldest = self.ring.get(0)?;
-        atom_entry(oldest.entry())
+        self.ring.get(0)?.atom()
     }
 
     /// Whether one more may be held, so that it commits nothing.
@@ -252,7 +253,10 @@ impl Queue {
         }
         match self.ring.pop_front() {
             None => None,
-            Some(oldest) => Some(Committed::Seen(oldest.commit(&mut self.ledger))),
+            Some(slot) => {
+                let oldest = Uncommitted::from_slot(slot);
+                Some(Committed::Seen(oldest.commit(&mut self.ledger)))
+            }
         }
     }
 
@@ -271,7 +275,7 @@ impl Queue {
         let seen = (n as usize).min(self.ring.len());
         for _ in 0..seen {
             if let Some(newest) = self.ring.pop_back() {
-                self.pre = newest.cancel(&mut self.ledger);
+                self.pre = Uncommitted::from_slot(newest).cancel(&mut self.ledger);
             }
         }
         let unseen = n - seen as u32;
@@ -338,7 +342,7 @@ impl Queue {
         ensures counted { AreCounts self.old.counts }
     {
         while let Some(oldest) = self.ring.pop_front() {
-            oldest.lose(&mut self.ledger);
+            Uncommitted::from_slot(oldest).lose(&mut self.ledger);
         }
         self.unseen = 0;
         self.pre = Pre::trace_missing();
@@ -383,7 +387,7 @@ impl Queue {
 }
 
 /// Whether the newest is an atom.
-fn newest_is_atom(ring: &SpendRing<Uncommitted>) -> bool
+fn newest_is_atom(ring: &SpendRing<Slot>) -> bool
     ensures { IsTrue result ↔ IsSome (flip_newest (map Seen ring.now.items)) }
 {
     let seen = ring.len();
@@ -392,27 +396,6 @@ fn newest_is_atom(ring: &SpendRing<Uncommitted>) -> bool
     }
     match ring.get(seen - 1) {
         None => false,
-        Some(newest) => matches!(newest.entry().p0, P0::Atom(_)),
-    }
-}
-
-/// An entry as an atom before which nothing but an address was given, where it is one.
-#[inline(always)]
-fn atom_entry(entry: &Entry) -> Option<AtomEntry>
-    ensures value { IfSome result (λ atom. entry.now ≡ entry_of atom) }
-    ensures some { (atom : AtomEntry) → entry.now ≡ entry_of atom → IsSome result }
-{
-    match *entry {
-        Entry {
-            pre: Pre {
-                flush: false,
-                on: false,
-                lost: false,
-                ctx: None,
-                addr,
-            },
-            p0: P0::Atom(taken),
-        } => Some(AtomEntry { addr, taken }),
-        _ => None,
+        Some(newest) => newest.is_atom(),
     }
 }

@@ -3,6 +3,7 @@ ghost use Rattle.std.specs.Prelude.{◌≡◌, not, Bool};
 ghost use Rattle.etm_types.specs.declared.element.P0.TheVariants.{Atom};
 
 use crate::ledger::Ledger;
+use crate::slot::Slot;
 use etm_types::{Entry, P0, Pre};
 use std::marker::Model;
 
@@ -61,6 +62,23 @@ impl Uncommitted {
     {
         let Uncommitted { entry: _ } = self;
         ledger.count_lost();
+    }
+
+    /// It goes on as a [`Slot`].
+    #[inline(always)]
+    pub(crate) fn into_slot(self) -> Slot
+        ensures { result ≡ self }
+    {
+        let Uncommitted { entry } = self;
+        Slot::of(&entry)
+    }
+
+    /// It was kept as a [`Slot`].
+    #[inline(always)]
+    pub(crate) fn from_slot(slot: Slot) -> Uncommitted
+        ensures { result ≡ slot }
+    {
+        Uncommitted { entry: slot.take() }
     }
 
     /// The P0 element, with what was given before it.

@@ -7,7 +7,7 @@ pub returns-in-Some-clause-queued : goal.returns-in-Some-clause-queued
 returns-in-Some-clause-queued c =
     let i = c.self.invariant in
     let before = c.self.inside.ring.items in
-    let pushed = length-append before (c.new-entry.result ∷ []) in
+    let pushed = length-append before (c.into_slot.result ∷ []) in
     let order = ap length c.in-Some.ensures.order in
     let made = made_one _ _ (length before) (length before + 1) c.new-entry.ensures.made refl i.3 in
     queued _ _ _ _ _ (omega (arith, order)) (committed_one _ _ _ _ c.commit.ensures.committed (omega (arith, order)) made)
@@ -16,7 +16,7 @@ pub returns-then-full-clause-queued : goal.returns-then-full-clause-queued
 returns-then-full-clause-queued c =
     let i = c.self.invariant in
     let q = c.self.inside in
-    let pushed = length-append q.ring.items (c.new-entry.result ∷ []) in
+    let pushed = length-append q.ring.items (c.into_slot.result ∷ []) in
     let order = ap length c.in_default.ensures.order in
     let held = ap (λ v. length v.held) c.self.view_is in
     let count = length-things q.unseen q.ring.items in
@@ -26,7 +26,7 @@ pub returns-clause-queued : goal.returns-clause-queued
 returns-clause-queued c =
     let i = c.self.invariant in
     let q = c.self.inside in
-    let pushed = length-append q.ring.items (c.new-entry.result ∷ []) in
+    let pushed = length-append q.ring.items (c.into_slot.result ∷ []) in
     let order = ap length c.in_default.ensures.order in
     let held = ap (λ v. length v.held) c.self.view_is in
     let count = length-things q.unseen q.ring.items in
