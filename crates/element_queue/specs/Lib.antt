@@ -1,5 +1,5 @@
 pub mod Counting
+pub mod Packed
 pub mod Pending
 pub mod Queued
 pub mod Resolved
-pub mod Slots

@@ -36,6 +36,14 @@ impl Uncommitted {
         Uncommitted { entry }
     }
 
+    /// One that the queue kept.
+    #[inline(always)]
+    pub(crate) fn from_slot(slot: Slot) -> Uncommitted
+        ensures { result ≡ slot }
+    {
+        Uncommitted { entry: slot.take() }
+    }
+
     /// It was executed.
     pub fn commit(self, ledger: &mut Ledger) -> Entry
         ensures entry { result ≡ self }
@@ -62,23 +70,6 @@ impl Uncommitted {
     {
         let Uncommitted { entry: _ } = self;
         ledger.count_lost();
-    }
-
-    /// It goes on as a [`Slot`].
-    #[inline(always)]
-    pub(crate) fn into_slot(self) -> Slot
-        ensures { result ≡ self }
-    {
-        let Uncommitted { entry } = self;
-        Slot::of(&entry)
-    }
-
-    /// It was kept as a [`Slot`].
-    #[inline(always)]
-    pub(crate) fn from_slot(slot: Slot) -> Uncommitted
-        ensures { result ≡ slot }
-    {
-        Uncommitted { entry: slot.take() }
     }
 
     /// The P0 element, with what was given before it.

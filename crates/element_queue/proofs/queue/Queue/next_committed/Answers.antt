@@ -8,6 +8,7 @@ use Rattle.etm_types.specs.declared.element.Thing.{Thing}
 use Rattle.etm_types.specs.declared.element.Thing.TheVariants.{Seen}
 use Rattle.element_queue.specs.declared.ledger.Counts.{Counts}
 use Rattle.element_queue.specs.declared.queue.AtomEntry.{AtomEntry}
+use Rattle.element_queue.specs.Packed.{pre_of_packed, unpacked}
 use Rattle.element_queue.specs.Queued.{Queued, committed_by, entry_of}
 use Rattle.element_queue.proofs.Held.{entry_is, if_some, length-things, none_left, none_there, things, which}
 use Rattle.element_queue.proofs.queue.Queue.next_committed.Goals as goal
@@ -27,12 +28,12 @@ returns-in-Some-clause-value c =
     let q = c.self.inside in
     let none : q.unseen ≡ 0 = omega (arith, c.if-self-gt0.false) in
     let full : length q.ring.items ≡ q.depth = omega arith in
-    let new : Thing = Seen (record { pre = q.pre; p0 = Atom c.args.taken }) in
+    let new : Thing = Seen (record { pre = pre_of_packed q.next; p0 = Atom c.args.taken }) in
     let leaves = oldest_leaves q.unseen q.depth q.ring.items c.in-Some.oldest.now new none full (sym c.in-Some.ensures.value) in
     if_some c.atom.result _ _
     (λ (atom : AtomEntry) is.
     subst (λ (v : Queued). committed_by v (Atom c.args.taken) ≡ Seen (entry_of atom) ∷ []) c.self.view_is
-    (leaves ∙ ap (λ (e : Entry). Seen e ∷ []) is))
+    (leaves ∙ ap (λ (e : Entry). Seen e ∷ []) (sym c.packed.ensures ∙ is)))
     c.atom.ensures.value
 
 pub returns-in-Some-clause-some : goal.returns-in-Some-clause-some
@@ -40,13 +41,13 @@ returns-in-Some-clause-some c =
     let q = c.self.inside in
     let none : q.unseen ≡ 0 = omega (arith, c.if-self-gt0.false) in
     let full : length q.ring.items ≡ q.depth = omega arith in
-    let new : Thing = Seen (record { pre = q.pre; p0 = Atom c.args.taken }) in
+    let new : Thing = Seen (record { pre = pre_of_packed q.next; p0 = Atom c.args.taken }) in
     let oldest = oldest_leaves q.unseen q.depth q.ring.items c.in-Some.oldest.now new none full (sym c.in-Some.ensures.value) in
     let leaves = subst (λ (v : Queued). committed_by v (Atom c.args.taken) ≡ Seen c.in-Some.oldest.now ∷ []) c.self.view_is oldest in
-    let as_left : (atom : AtomEntry) → c.in-Some.oldest.now ≡ entry_of atom → committed_by c.args.self.now (Atom c.args.taken) ≡ Seen (entry_of atom) ∷ [] =
-    (λ atom is. leaves ∙ ap (λ (e : Entry). Seen e ∷ []) is) in (
+    let as_left : (atom : AtomEntry) → unpacked c.packed.result.now ≡ entry_of atom → committed_by c.args.self.now (Atom c.args.taken) ≡ Seen (entry_of atom) ∷ [] =
+    (λ atom is. leaves ∙ ap (λ (e : Entry). Seen e ∷ []) (sym c.packed.ensures ∙ is)) in (
       λ some. let told = which c.atom.result _ c.atom.ensures.value some in (told.0, as_left told.0 told.1),
-      λ told. c.atom.ensures.some told.0 (entry_is _ _ (committed_by c.args.self.now (Atom c.args.taken)) leaves told.1),
+      λ told. c.atom.ensures.some told.0 (c.packed.ensures ∙ entry_is _ _ (committed_by c.args.self.now (Atom c.args.taken)) leaves told.1),
     )
 
 -- at depth 0 the new one is committed
@@ -64,7 +65,7 @@ returns-in_ok-passing-in-None-clause-some c =
     let none : q.unseen ≡ 0 = omega (arith, c.if-self-gt0.false) in
     let empty = none_left q.ring.items c.in-None.ensures.in_range.1 in
     let p0 = Atom c.args.taken in
-    let new = subst (λ v. CommitsNew v p0) c.self.view_is (new_leaves q.unseen q.depth q.ring.items q.pre q.ledger p0 none (omega arith) empty) in
+    let new = subst (λ v. CommitsNew v p0) c.self.view_is (new_leaves q.unseen q.depth q.ring.items (pre_of_packed q.next) q.ledger p0 none (omega arith) empty) in
     let given = ap (λ pre. Seen (record { pre = pre; p0 = p0 }) ∷ []) c.in_ok-passing-in-None.ensures.value.1 in
     (λ _. (record { addr = c.in_ok-passing-in-None.field-0; taken = c.args.taken }, new.1 ∙ given), λ _. refl)
 
@@ -74,7 +75,7 @@ returns-in_err-passing-in-None-clause-some c =
     let none : q.unseen ≡ 0 = omega (arith, c.if-self-gt0.false) in
     let empty = none_left q.ring.items c.in-None.ensures.in_range.1 in
     let p0 = Atom c.args.taken in
-    let new = subst (λ v. CommitsNew v p0) c.self.view_is (new_leaves q.unseen q.depth q.ring.items q.pre q.ledger p0 none (omega arith) empty) in (
+    let new = subst (λ v. CommitsNew v p0) c.self.view_is (new_leaves q.unseen q.depth q.ring.items (pre_of_packed q.next) q.ledger p0 none (omega arith) empty) in (
       λ some. absurd (none_there _ c.from_residual.ensures some),
       λ told.
           let same = entry_is _ _ (committed_by c.args.self.now p0) new.1 told.1 in
