@@ -26,8 +26,8 @@ for so many MINUTES at most. Of each it is checked that the program
   begin with 0 and grow, and each has another time than the one before.
 
 Before them captures are run that hold as much as may be held: of all 111 IDs, each at the greatest depth by a list of settings, and as many
-atoms of each as its queue has room for, or one more. `path` reads them in 104 MiB of memory and 112 MiB of addresses; in 96 MiB of addresses
-memory is refused, and nothing is printed. So does `times`, which has room for a timestamp beside each atom, in 104 MiB and 140 MiB, and in 124 MiB not.
+atoms of each as its queue has room for, or one more. `path` reads them in 62 MiB of memory and 70 MiB of addresses; in 54 MiB of addresses
+memory is refused, and nothing is printed. So does `times`, which has room for a timestamp beside each atom, in 62 MiB and 98 MiB, and in 82 MiB not.
 
 Prints how many were run, how often each status came, and the most memory and time, and the most memory of the queues that are full.
 Where one is answered otherwise it ends with 1 and standard error says which and how, and so it does where a status that may come never did.
@@ -725,7 +725,7 @@ IDS = range(1, 0x70)
 
 # what a command takes, in KiB: its memory, the addresses in which it ends well, and those in which it does not
 Takes = collections.namedtuple("Takes", "memory addresses few")
-FULL = {"path": Takes(104 << 10, 112 << 10, 96 << 10), "times": Takes(104 << 10, 140 << 10, 124 << 10)}
+FULL = {"path": Takes(62 << 10, 70 << 10, 54 << 10), "times": Takes(62 << 10, 98 << 10, 82 << 10)}
 
 
 def full_stream(more):

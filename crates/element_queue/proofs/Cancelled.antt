@@ -13,7 +13,7 @@ use Rattle.etm_types.specs.declared.element.Thing.{Thing}
 use Rattle.etm_types.specs.declared.element.Thing.TheVariants.{Seen, Unseen}
 use Rattle.element_queue.specs.declared.ledger.Counts.{Counts}
 use Rattle.element_queue.specs.Counting.{counts_after}
-use Rattle.element_queue.specs.Queued.{Takes}
+use Rattle.element_queue.specs.Queued.{Takes, given_since}
 use Rattle.element_queue.specs.Pending.{cancelling, pre_of, taken}
 use Rattle.element_queue.proofs.Held.{length-things, things}
 
@@ -21,11 +21,6 @@ use Rattle.element_queue.proofs.Held.{length-things, things}
 abbrev pub pre_since : Pre → List Thing → Pre
 pre_since pre [] = pre
 pre_since pre (thing ∷ things) = pre_of (thing ∷ things)
-
--- so too of entries
-abbrev pub seen_since : Pre → List Entry → Pre
-seen_since pre [] = pre
-seen_since pre (entry ∷ entries) = entry.pre
 
 pub newest : (kept gone : List Thing) (n : ℕ) → length gone ≡ n → drop (length (kept ++ gone) - n) (kept ++ gone) ≡ gone
 newest kept gone n e = drop_at kept gone _ (omega (arith, length-append kept gone))
@@ -61,11 +56,17 @@ parts unseen less (suc more) seen kept gone count e none =
     ∙ append_assoc (replicate less Unseen) (replicate (suc more) Unseen) (map Seen gone)
     ∙ ap (λ l. l ++ things (suc more) gone) (sym (append-nil (replicate less Unseen)) ∙ ap (things less) (sym nothing))
 
+pub given_behind_kept : (pre : Pre) (seen kept gone : List Entry) (n : ℕ) → kept ++ gone ≡ seen → n + length gone ≡ length seen
+    → given_since pre (drop n seen) ≡ given_since pre gone
+given_behind_kept pre seen kept gone n e count =
+    ap (λ l. given_since pre (drop n l)) (sym e)
+    ∙ ap (given_since pre) (drop_at kept gone n (omega (arith, length-append kept gone, ap length e, count)))
+
 pub missing_behind : (pre : Pre) (more : ℕ) (gone : List Entry) → 0 < more → pre_since pre (things more gone) ≡ trace_missing
 missing_behind pre zero gone h = absurd (omega arith)
 missing_behind pre (suc more) gone h = refl
 
-pub given_behind : (pre : Pre) (more : ℕ) (gone : List Entry) → more ≡ 0 → pre_since pre (things more gone) ≡ seen_since pre gone
+pub given_behind : (pre : Pre) (more : ℕ) (gone : List Entry) → more ≡ 0 → pre_since pre (things more gone) ≡ given_since pre gone
 given_behind pre zero [] e = refl
 given_behind pre zero (entry ∷ gone) e = refl
 given_behind pre (suc more) gone e = absurd cc

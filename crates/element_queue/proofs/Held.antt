@@ -54,6 +54,10 @@ pub which : {X : Type 0} (r : Option X) (P : X → Type 0) → IfSome r P → Is
 which None P told some = absurd cc
 which (Some x) P told some = (x, told)
 
+pub none_there : {X : Type 0} (r : Option X) → r ≡ None → IsSome r → ⊥
+none_there None is some = absurd cc
+none_there (Some x) is some = absurd cc
+
 pub entry_is : (x y : Entry) (held : List Thing) → held ≡ Seen x ∷ [] → held ≡ Seen y ∷ [] → x ≡ y
 entry_is x y held one other = cc
 

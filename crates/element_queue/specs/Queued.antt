@@ -58,6 +58,11 @@ noted pre pre_elem.On = record pre { on = true; addr = None }
 noted pre (pre_elem.Ctx ctx) = record pre { ctx = Some ctx }
 noted pre (pre_elem.Addr addr) = record pre { addr = Some addr }
 
+-- what was given before the oldest of the newest entries, or else since the newest
+abbrev pub given_since : Pre → List Entry → Pre
+given_since pre [] = pre
+given_since pre (entry ∷ entries) = entry.pre
+
 -- what one P0 element more commits
 abbrev pub committed_by : Queued → P0 → List Thing
 committed_by q p0 = let all = q.held ++ Seen (record { pre = q.pre; p0 = p0 }) ∷ [] in take (length all - q.depth) all

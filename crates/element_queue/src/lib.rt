@@ -2,7 +2,8 @@
 //!
 //! A [`Queue`] holds them up to the maximum speculation depth, with what came before each, and gives out
 //! the oldest as they are committed. Each one is an [`Uncommitted`]: it ends as committed, cancelled or lost, and a
-//! [`Ledger`] counts which. Code without `unsafe` can't forget it, and only `spend_ring` has any.
+//! [`Ledger`] counts which. Code without `unsafe` can't forget it, and only `spend_ring` has any. `slot` and `packed` have
+//! the form in which a queue keeps it, 32 bytes.
 //!
 //! The layer above uses the contracts of [`Queue`]: each call is one case of the rules in
 //! `specs/Pending.antt`. What the rules make of a list of elements is in `specs/Resolved.antt`, and the
@@ -11,7 +12,9 @@
 
 mod laws;
 mod ledger;
+mod packed;
 mod queue;
+mod slot;
 mod uncommitted;
 
 pub use laws::{

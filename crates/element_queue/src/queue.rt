@@ -7,13 +7,16 @@ ghost use Rattle.etm_types.specs.declared.element.P0.TheVariants.{Atom};
 ghost use Rattle.etm_types.specs.declared.element.Thing.TheVariants.{Seen, Unseen};
 ghost use Rattle.etm_types.specs.declared.queue_fault.QueueFault.{QueueFault};
 ghost use Rattle.element_queue.specs.Counting.{AreCounts, Balances, counts_after, no_counts};
+ghost use Rattle.element_queue.specs.Packed.{pre_of_packed};
 ghost use Rattle.element_queue.specs.Pending.{cancelling, committing, flip_newest, losing, nothing_gone};
-ghost use Rattle.element_queue.specs.Queued.{IsQueued, Refuses, Takes, committed_by, entry_of, noted, passed, things_of};
+ghost use Rattle.element_queue.specs.Queued.{IsQueued, Refuses, Takes, committed_by, entry_of, given_since, noted, passed, things_of};
 ghost use Rattle.element_queue.specs.declared.queue.AtomEntry.{AtomEntry};
 
 use crate::ledger::{Counts, Ledger};
+use crate::packed::Packed;
+use crate::slot::Slot;
 use crate::uncommitted::Uncommitted;
-use etm_types::{Ctx, Entry, P0, Pre, QueueFault};
+use etm_types::{Ctx, Entry, P0, QueueFault};
 use spend_ring::SpendRing;
 use std::alloc::{AllocError, Global};
 use std::marker::Model;
@@ -56,8 +59,9 @@ pub struct AtomEntry {
 #[must_use]
 pub struct Queue {
     unseen: u32,
-    ring: SpendRing<Uncommitted>,
-    pre: Pre,
+    ring: SpendRing<Slot>,
+    /// What was given since the newest. Which element comes next is not known yet.
+    next: Packed,
     depth: u32,
     ledger: Ledger,
 }
@@ -66,11 +70,12 @@ impl Model for Queue {
     ghost use Rattle.std.specs.Prelude.{◌≡◌, ◌≤◌, ◌<◌, ◌+◌, ◌^◌, ◌++◌, length, map, replicate};
     ghost use Rattle.etm_types.specs.declared.element.Thing.TheVariants.{Seen, Unseen};
     ghost use Rattle.element_queue.specs.Counting.{Balances};
+    ghost use Rattle.element_queue.specs.Packed.{pre_of_packed};
     ghost use Rattle.element_queue.specs.Queued.{Queued};
 
     ghost Value = { Queued };
 
-    ghost view = { λ q. record { held = replicate q.unseen Unseen ++ map Seen q.ring.items; pre = q.pre; depth = q.depth; counts = q.ledger } };
+    ghost view = { λ q. record { held = replicate q.unseen Unseen ++ map Seen q.ring.items; pre = pre_of_packed q.next; depth = q.depth; counts = q.ledger } };
 
     ghost invariant = { λ q. (q.ring.capacity ≡ q.depth) × (q.unseen + length q.ring.items ≤ q.depth) × (q.depth < 2 ^ 32)
         × Balances q.ledger (length q.ring.items) };
@@ -87,7 +92,7 @@ impl Queue {
         Ok(Queue {
             unseen: 0,
             ring,
-            pre: Pre::trace_missing(),
+            next: Packed::trace_missing(),
             depth,
             ledger: Ledger::new(),
         })
@@ -99,18 +104,7 @@ impl Queue {
         ensures queued { IsQueued self.new }
         ensures counted { AreCounts self.old.counts }
     {
-        match elem {
-            PreElem::Info => self.pre.flush = true,
-            PreElem::On => {
-                self.pre = Pre {
-                    on: true,
-                    addr: None,
-                    ..self.pre
-                }
-            }
-            PreElem::Ctx(ctx) => self.pre.ctx = Some(ctx),
-            PreElem::Addr(addr) => self.pre.addr = Some(addr),
-        }
+        self.next.note(elem);
     }
 
     /// One more P0 element. Where more than the depth would be held, the oldest is committed.
@@ -125,9 +119,10 @@ impl Queue {
             return Some(Committed::Seen(self.pass(p0)));
         }
         let full = self.held() == self.depth;
-        let entry = Uncommitted::new(Entry { pre: self.pre, p0 }, &mut self.ledger);
-        self.pre = Pre::nothing_told();
-        if let Some(oldest) = self.ring.push_back(entry) {
+        let newest = Slot::new(self.next.with(p0), &mut self.ledger);
+        self.next = Packed::nothing_told();
+        if let Some(slot) = self.ring.push_back(newest) {
+            let oldest = Uncommitted::from_slot(slot);
             return Some(Committed::Seen(oldest.commit(&mut self.ledger)));
         }
         if full {
@@ -145,9 +140,9 @@ impl Queue {
         ensures queued { IsQueued self.new }
         ensures counted { AreCounts self.old.counts }
     {
-        let entry = Uncommitted::new(Entry { pre: self.pre, p0 }, &mut self.ledger);
-        self.pre = Pre::nothing_told();
-        entry.commit(&mut self.ledger)
+        let newest = Slot::new(self.next.with(p0), &mut self.ledger);
+        self.next = Packed::nothing_told();
+        Uncommitted::from_slot(newest).commit(&mut self.ledger)
     }
 
     /// The address that was given before the next P0 element, where one was, if each is committed as it is made and nothing else
@@ -160,16 +155,7 @@ impl Queue {
         if self.depth > 0 {
             return None;
         }
-        match self.pre {
-            Pre {
-                flush: false,
-                on: false,
-                lost: false,
-                ctx: None,
-                addr,
-            } => Some(addr),
-            _ => None,
-        }
+        self.next.only_addr()
     }
 
     /// So many P0 elements more, where each is committed as it is made.
@@ -180,7 +166,7 @@ impl Queue {
         ensures queued { IsQueued self.new }
         ensures counted { AreCounts self.new.counts }
     {
-        self.pre = Pre::nothing_told();
+        self.next = Packed::nothing_told();
         self.ledger.count_passed(n);
     }
 
@@ -195,10 +181,10 @@ impl Queue {
             return None;
         }
         match self.ring.get(0) {
-            Some(oldest) => atom_entry(oldest.entry()),
-            None => atom_entry(&Entry {
-                pre: self.pre,
-                p0: P0::Atom(taken),
+            Some(oldest) => oldest.packed().atom(),
+            None => Some(AtomEntry {
+                addr: self.passing()?,
+                taken,
             }),
         }
     }
@@ -213,8 +199,7 @@ impl Queue {
         if self.unseen > 0 {
             return None;
         }
-        let oldest = self.ring.get(0)?;
-        atom_entry(oldest.entry())
+        self.ring.get(0)?.packed().atom()
     }
 
     /// Whether one more may be held, so that it commits nothing.
@@ -252,7 +237,10 @@ impl Queue {
         }
         match self.ring.pop_front() {
             None => None,
-            Some(oldest) => Some(Committed::Seen(oldest.commit(&mut self.ledger))),
+            Some(slot) => {
+                let oldest = Uncommitted::from_slot(slot);
+                Some(Committed::Seen(oldest.commit(&mut self.ledger)))
+            }
         }
     }
 
@@ -269,15 +257,16 @@ impl Queue {
             return Err(QueueFault::CancelOverrun { asked: n, held });
         }
         let seen = (n as usize).min(self.ring.len());
+        self.next = given_before(&self.ring, self.ring.len() - seen, self.next);
         for _ in 0..seen {
             if let Some(newest) = self.ring.pop_back() {
-                self.pre = newest.cancel(&mut self.ledger);
+                Uncommitted::from_slot(newest).cancel(&mut self.ledger);
             }
         }
         let unseen = n - seen as u32;
         if unseen > 0 {
             self.unseen -= unseen;
-            self.pre = Pre::trace_missing();
+            self.next = Packed::trace_missing();
         }
         Ok(())
     }
@@ -292,11 +281,7 @@ impl Queue {
         ensures counted { AreCounts self.old.counts }
     {
         if self.ring.len() == 0 && self.unseen > 0 {
-            self.pre = Pre {
-                addr: None,
-                lost: true,
-                ..self.pre
-            };
+            self.next.lose();
             return Ok(());
         }
         if !newest_is_atom(&self.ring) {
@@ -305,7 +290,7 @@ impl Queue {
         if let Some(newest) = self.ring.get_mut(self.ring.len() - 1) {
             newest.flip();
         }
-        self.pre.addr = None;
+        self.next.forget_addr();
         Ok(())
     }
 
@@ -338,10 +323,10 @@ impl Queue {
         ensures counted { AreCounts self.old.counts }
     {
         while let Some(oldest) = self.ring.pop_front() {
-            oldest.lose(&mut self.ledger);
+            Uncommitted::from_slot(oldest).lose(&mut self.ledger);
         }
         self.unseen = 0;
-        self.pre = Pre::trace_missing();
+        self.next = Packed::trace_missing();
     }
 
     /// How many are held, those that were not seen too.
@@ -373,7 +358,7 @@ impl Queue {
         let Queue {
             unseen: _,
             ring,
-            pre: _,
+            next: _,
             depth: _,
             ledger,
         } = queue;
@@ -383,7 +368,7 @@ impl Queue {
 }
 
 /// Whether the newest is an atom.
-fn newest_is_atom(ring: &SpendRing<Uncommitted>) -> bool
+fn newest_is_atom(ring: &SpendRing<Slot>) -> bool
     ensures { IsTrue result ↔ IsSome (flip_newest (map Seen ring.now.items)) }
 {
     let seen = ring.len();
@@ -392,27 +377,17 @@ fn newest_is_atom(ring: &SpendRing<Uncommitted>) -> bool
     }
     match ring.get(seen - 1) {
         None => false,
-        Some(newest) => matches!(newest.entry().p0, P0::Atom(_)),
+        Some(newest) => newest.packed().is_atom(),
     }
 }
 
-/// An entry as an atom before which nothing but an address was given, where it is one.
+/// What was given before the one at `index`, or since the newest, `next`, where none is there.
 #[inline(always)]
-fn atom_entry(entry: &Entry) -> Option<AtomEntry>
-    ensures value { IfSome result (λ atom. entry.now ≡ entry_of atom) }
-    ensures some { (atom : AtomEntry) → entry.now ≡ entry_of atom → IsSome result }
+fn given_before(ring: &SpendRing<Slot>, index: usize, next: Packed) -> Packed
+    ensures { pre_of_packed result ≡ given_since (pre_of_packed next) (drop index ring.now.items) }
 {
-    match *entry {
-        Entry {
-            pre: Pre {
-                flush: false,
-                on: false,
-                lost: false,
-                ctx: None,
-                addr,
-            },
-            p0: P0::Atom(taken),
-        } => Some(AtomEntry { addr, taken }),
-        _ => None,
+    match ring.get(index) {
+        Some(slot) => *slot.packed(),
+        None => next,
     }
 }

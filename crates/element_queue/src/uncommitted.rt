@@ -3,6 +3,7 @@ ghost use Rattle.std.specs.Prelude.{◌≡◌, not, Bool};
 ghost use Rattle.etm_types.specs.declared.element.P0.TheVariants.{Atom};
 
 use crate::ledger::Ledger;
+use crate::slot::Slot;
 use etm_types::{Entry, P0, Pre};
 use std::marker::Model;
 
@@ -33,6 +34,14 @@ impl Uncommitted {
     {
         ledger.count_made();
         Uncommitted { entry }
+    }
+
+    /// One that the queue kept.
+    #[inline(always)]
+    pub(crate) fn from_slot(slot: Slot) -> Uncommitted
+        ensures { result ≡ slot }
+    {
+        Uncommitted { entry: slot.take() }
     }
 
     /// It was executed.

@@ -3,20 +3,16 @@ use Rattle.std.specs.Prelude.{IsSome}
 use Rattle.element_queue.proofs.Flipped.{atom_flips, atom_of}
 use Rattle.element_queue.proofs.queue.newest_is_atom.Goals as goal
 
-pub returns-in-Atom : goal.returns-in-Atom
-returns-in-Atom c =
+pub returns-in-Some : goal.returns-in-Some
+returns-in-Some c =
     let seen = c.args.ring.now.items in
     let newest = c.in-Some.newest.now in
-    let p0 = ap (λ e. e.p0) (sym c.entry.ensures) ∙ c.in-Atom.is in
-    let flips = atom_flips 0 seen (c.len-seen.result - 1) newest c.in-Atom.field-0 (sym c.in-Some.ensures.value) (omega arith) p0 in
-    (λ _. subst IsSome (sym flips) refl, λ _. refl)
-
-pub returns-in_default : goal.returns-in_default
-returns-in_default c =
-    let seen = c.args.ring.now.items in
-    let newest = c.in-Some.newest.now in (
-      λ h. absurd cc,
+    let at = sym c.in-Some.ensures.value in
+    let p0 = ap (λ e. e.p0) c.packed.ensures in (
+      λ h.
+          let atom = c.is_atom.ensures.0 h in
+          subst IsSome (sym (atom_flips 0 seen (c.len-seen.result - 1) newest atom.0 at (omega arith) (sym p0 ∙ atom.1))) refl,
       λ some.
-          let atom = atom_of seen (c.len-seen.result - 1) newest (sym c.in-Some.ensures.value) (omega arith) some in
-          absurd (c.in_default.not-Atom atom.0 (ap (λ e. e.p0) c.entry.ensures ∙ atom.1)),
+          let atom = atom_of seen (c.len-seen.result - 1) newest at (omega arith) some in
+          c.is_atom.ensures.1 (atom.0, p0 ∙ atom.1),
     )

@@ -1,8 +1,9 @@
 use Rattle.std.proofs.Common.{◌≡◌, ◌-◌, [], length, subst, arith, ap, sym, ◌∙◌, length-append}
 use Rattle.std.proofs.lemmas.List.{nil_from_length}
+use Rattle.element_queue.specs.Packed.{pre_of_packed}
 use Rattle.element_queue.specs.Queued.{IsQueued}
 use Rattle.element_queue.proofs.Balanced.{same_counts}
-use Rattle.element_queue.proofs.Cancelled.{given_behind, missing_behind, parts, takes_cancel}
+use Rattle.element_queue.proofs.Cancelled.{given_behind, given_behind_kept, missing_behind, parts, takes_cancel}
 use Rattle.element_queue.proofs.Held.{entries-things, length-things, queued}
 use Rattle.element_queue.proofs.queue.Queue.cancel.Goals as goal
 
@@ -28,6 +29,7 @@ returns-else-unseen-gt0-clause-queued c =
 pub returns-then-unseen-gt0-clause-ok : goal.returns-then-unseen-gt0-clause-ok
 returns-then-unseen-gt0-clause-ok c ok =
     let was = c.self.inside in
+    let pre = pre_of_packed was.next in
     let now = c.loop.self-inside in
     let gone = c.loop.invariant.0 in
     let kept = c.loop.invariant.1 in
@@ -40,25 +42,27 @@ returns-then-unseen-gt0-clause-ok c ok =
     let none : now.ring.items ≡ [] = nil_from_length _ (omega (arith, size, joined)) in
     let went = entries-things more gone in
     rw (← c.self.view_is)
-    (takes_cancel was.unseen less more was.depth now.depth c.args.n was.ring.items now.ring.items gone was.pre _ was.ledger now.ledger
+    (takes_cancel was.unseen less more was.depth now.depth c.args.n was.ring.items now.ring.items gone pre _ was.ledger now.ledger
     (parts was.unseen less more was.ring.items now.ring.items gone (omega (arith, size, joined)) kept.split (λ h. none))
     (omega (arith, size, joined))
     kept.depth
-    (c.trace_missing-self-inside.ensures ∙ sym (missing_behind was.pre more gone c.if-unseen-gt0.true))
+    (c.trace_missing-self-inside.ensures ∙ sym (missing_behind pre more gone c.if-unseen-gt0.true))
     (same_counts _ _ (omega arith) (omega arith) (omega (arith, went)) (omega arith)))
 
 pub returns-else-unseen-gt0-clause-ok : goal.returns-else-unseen-gt0-clause-ok
 returns-else-unseen-gt0-clause-ok c ok =
     let was = c.self.inside in
+    let pre = pre_of_packed was.next in
     let now = c.loop.self-inside in
     let gone = c.loop.invariant.0 in
     let kept = c.loop.invariant.1 in
     let more = c.args.n - c.min-seen.result in
     let went = entries-things more gone in
     rw (← c.self.view_is)
-    (takes_cancel was.unseen now.unseen more was.depth now.depth c.args.n was.ring.items now.ring.items gone was.pre now.pre was.ledger now.ledger
+    (takes_cancel was.unseen now.unseen more was.depth now.depth c.args.n was.ring.items now.ring.items gone pre (pre_of_packed now.next) was.ledger now.ledger
     (parts was.unseen now.unseen more was.ring.items now.ring.items gone (omega arith) kept.split (λ h. absurd (omega arith)))
     (omega arith)
     kept.depth
-    (kept.pre ∙ sym (given_behind was.pre more gone (omega arith)))
+    (ap pre_of_packed kept.next ∙ c.given_before-self-inside.ensures ∙ given_behind_kept pre was.ring.items now.ring.items gone _ kept.split (omega arith)
+    ∙ sym (given_behind pre more gone (omega arith)))
     (same_counts _ _ (omega arith) (omega arith) (omega (arith, went)) (omega arith)))

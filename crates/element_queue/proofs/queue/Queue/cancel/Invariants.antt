@@ -1,6 +1,5 @@
 use Rattle.std.proofs.Common.{◌≡◌, ◌+◌, ◌%◌, ◌^◌, List, ◌++◌, length}
 use Rattle.etm_types.specs.declared.element.Entry.{Entry}
-use Rattle.element_queue.proofs.Cancelled.{seen_since}
 use Rattle.element_queue.proofs.queue.Queue.cancel.Given as goal
 
 abbrev pub invariant-loop : goal.invariant-loop
@@ -15,5 +14,5 @@ invariant-loop l =
       lost : q.ledger.lost ≡ was.ledger.lost;
       split : q.ring.items ++ gone ≡ was.ring.items;
       count : length gone ≡ l.counter;
-      pre : q.pre ≡ seen_since was.pre gone;
+      next : q.next ≡ was.next;
     }

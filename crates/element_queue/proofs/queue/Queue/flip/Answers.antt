@@ -3,6 +3,7 @@ use Rattle.std.proofs.lemmas.List.{length-set, nil_from_length}
 use Rattle.std.specs.Prelude.{slice_set}
 use Rattle.etm_types.specs.declared.queue_fault.QueueFault.TheVariants.{NoAtomToFlip}
 use Rattle.element_queue.specs.Counting.{Balances}
+use Rattle.element_queue.specs.Packed.{pre_of_packed}
 use Rattle.element_queue.specs.Pending.{flip_newest, flips}
 use Rattle.element_queue.specs.Queued.{IsQueued, pending_of}
 use Rattle.element_queue.proofs.Balanced.{same_counts}
@@ -16,8 +17,8 @@ returns-then-self-gt0-clause-ok c ok =
     let q = c.self.inside in
     let none : q.ring.items ≡ [] = nil_from_length _ (omega arith) in
     rw (← c.self.view_is)
-    (takes_flip (things q.unseen q.ring.items) (things q.unseen q.ring.items) q.pre _ q.depth q.ledger (unseen_flips _ _ c.if-self-gt0.true none)
-    (unseen_behind _ _ q.pre c.if-self-gt0.true none) (same_counts _ _ (omega arith) (omega arith) (omega arith) (omega arith)))
+    (takes_flip (things q.unseen q.ring.items) (things q.unseen q.ring.items) (pre_of_packed q.next) _ q.depth q.ledger (unseen_flips _ _ c.if-self-gt0.true none)
+    (unseen_behind _ _ (pre_of_packed q.next) c.if-self-gt0.true none ∙ sym c.lose.ensures) (same_counts _ _ (omega arith) (omega arith) (omega arith) (omega arith)))
 
 pub returns-then-self-gt0-clause-queued : goal.returns-then-self-gt0-clause-queued
 returns-then-self-gt0-clause-queued c = let i = c.self.invariant in queued _ _ _ _ _ i.1 i.3
@@ -54,8 +55,8 @@ returns-clause-ok c ok = elim c.match-get_mut.branch [
       let flips = atom_flips q.unseen q.ring.items n newest atom.0 at (omega arith) atom.1 in
       let written = ap (λ e. Some (things q.unseen (slice_set q.ring.items n e))) (sym (w.flip.ensures atom.0 atom.1)) in
       rw (w.self-inside-is, ← c.self.view_is)
-      (takes_flip (things q.unseen q.ring.items) _ q.pre _ q.depth q.ledger (flips ∙ written)
-      (seen_behind q.unseen q.ring.items n newest q.pre at (omega arith)) (same_counts _ _ (omega arith) (omega arith) (omega arith) (omega arith)))
+      (takes_flip (things q.unseen q.ring.items) _ (pre_of_packed q.next) _ q.depth q.ledger (flips ∙ written)
+      (seen_behind q.unseen q.ring.items n newest (pre_of_packed q.next) at (omega arith) ∙ sym (c.forget_addr.ensures ∙ ap (λ s. record (pre_of_packed s.next) { addr = None }) w.self-inside-is)) (same_counts _ _ (omega arith) (omega arith) (omega arith) (omega arith)))
   | in_default w ↦
       let some = some_seen c.self.inside.ring.items (c.if-not-newest_is_atom.ensures.0 refl) in
       absurd (let e = w.in_default.ensures.in_range.1 (omega arith) in cc)
