@@ -20,10 +20,11 @@ use Rattle.path_text.specs.PathLines.{lines_of, shown_after_all}
 use Rattle.path_text.specs.Writing.{Writes}
 use Rattle.program_image.specs.declared.image.Image.{Image}
 use Rattle.stream_decoder.proofs.Coming.{path_of}
+use Rattle.stream_decoder.proofs.Fronts.{quiet_fault, quiet_prints, quiet_reader, quiet_stopped}
 use Rattle.stream_decoder.proofs.Growing.{Small, path_on, stands_on, stands_stopped}
 use Rattle.stream_decoder.specs.Decoding.{Decoding}
 use Rattle.stream_decoder.specs.Stands.{Came, GrowsAlong, GrowsBy, RunsAlong}
-use Rattle.stream_decoder.specs.Yields.{Begun, BegunBy, BegunFront, OpensBehind, Prints}
+use Rattle.stream_decoder.specs.Yields.{Begun, BegunBy, BegunFront, GoesQuietly, OpensBehind, Prints}
 use Rattle.trace_io.specs.State.{IoState}
 use Rattle.trace_io.specs.declared.traits.Failed.{Failed}
 
@@ -66,9 +67,16 @@ reader_alone : (f : Option (ℕ × Fault)) (d m : Decoding) (byte : ℕ) (begun 
 reader_alone None d m byte begun met opens = absurd (met refl)
 reader_alone (Some stop) d m byte begun met opens = opens
 
-pub still_stopped : (d m : Decoding) (text : List ℕ) → d.fault ≢ None → BegunBy d text m → m ≡ record d { reader = m.reader }
-still_stopped d m text met (inl (byte, is, begun)) = reader_alone d.fault d m byte begun met begun.2
-still_stopped d m text met (inr packet) = absurd (met packet.0)
+still_begun : (d m : Decoding) (text : List ℕ) → d.fault ≢ None → BegunBy d text m → m ≡ record d { reader = m.reader }
+still_begun d m text met (inl (byte, is, begun)) = reader_alone d.fault d m byte begun met begun.2
+still_begun d m text met (inr packet) = absurd (met packet.0)
+
+still_quiet : (d m d' : Decoding) → d.fault ≢ None → m ≡ record d { reader = m.reader } → GoesQuietly m d' → d' ≡ record d { reader = d'.reader }
+still_quiet d m d' met same (inl now) = subst (λ (x : Decoding). x ≡ record d { reader = x.reader }) (sym now) same
+still_quiet d m d' met same (inr (none, goes)) = absurd (met (sym (ap (λ (x : Decoding). x.fault) same) ∙ none))
+
+pub still_stopped : (d d' : Decoding) (bytes behind : List ℕ) → d.fault ≢ None → BegunFront d d' bytes behind → d' ≡ record d { reader = d'.reader }
+still_stopped d d' bytes behind met is = still_quiet d is.begun d' met (still_begun d is.begun is.text met is.begins) is.quiet
 
 pub still_met : (d m : Decoding) → m ≡ record d { reader = m.reader } → d.fault ≢ None → m.fault ≢ None
 still_met d m same met none = met (sym (ap (λ (x : Decoding). x.fault) same) ∙ none)
@@ -143,8 +151,17 @@ module _ (image : Image) (id : ℕ) (d : Decoding) (shown : Option Ctx) (a : IoS
           );
         }
 
-    module _ (d1 m : Decoding) (shown1 : Option Ctx) (b : IoState) (rest behind : List ℕ) (was : Along image id d shown a d1 shown1 b run rest)
-        (front : BegunFront d1 m rest behind) where
+    module _ (d1 n : Decoding) (shown1 : Option Ctx) (b : IoState) (rest behind : List ℕ) (was : Along image id d shown a d1 shown1 b run rest)
+        (front : BegunFront d1 n rest behind) where
+      abbrev m : Decoding
+      m = front.begun
+
+      same_reader : n.reader ≡ m.reader
+      same_reader = quiet_reader image m n front.quiet
+
+      same_fault : m.fault ≡ n.fault
+      same_fault = sym (quiet_fault image m n front.quiet)
+
       here : AreSettings ((d1.reader).settings)
       here = subst AreSettings (sym was.settings) are
 
@@ -161,16 +178,18 @@ module _ (image : Image) (id : ℕ) (d : Decoding) (shown : Option Ctx) (a : IoS
       taken = omega (arith, was.taken, front.taken, length-append was.front front.text)
 
       -- the next bytes met no fault, and all that they left to do was done
-      pub along_on : m.fault ≡ None → (d2 : Decoding) (shown2 : Option Ctx) (c : IoState) → d2.reader ≡ m.reader
-          → Prints image id m shown1 d2 shown2 b c (Ok tt) → Along image id d shown a d2 shown2 c run behind
-      along_on none d2 shown2 c same prints =
+      pub along_on : n.fault ≡ None → (d2 : Decoding) (shown2 : Option Ctx) (c : IoState) → d2.reader ≡ n.reader
+          → Prints image id n shown1 d2 shown2 b c (Ok tt) → Along image id d shown a d2 shown2 c run behind
+      along_on whole d2 shown2 c unread printing =
+          let none = same_fault ∙ whole in let same = unread ∙ same_reader in
+          let prints = quiet_prints image m n id shown1 d2 shown2 b c (Ok tt) front.quiet printing in
           let ends = prints.ends refl in let others = prints.items in
           record {
             front = took;
             parts = parts;
             more = was.more ++ others;
             came = λ bytes items is.
-                let now = stands_on image (bytes ++ was.front) front.text small (items ++ was.more) d1 m here front.settings front.begun
+                let now = stands_on image (bytes ++ was.front) front.text small (items ++ was.more) d1 m here front.settings front.begins
                 (was.came bytes items is) none others d2 ends.0 in
                 subst (λ (l : List ℕ). Came image d2 l (items ++ (was.more ++ others))) (append_assoc bytes was.front front.text)
                 (subst (Came image d2 ((bytes ++ was.front) ++ front.text)) (append_assoc items was.more others) now);
@@ -185,26 +204,29 @@ module _ (image : Image) (id : ℕ) (d : Decoding) (shown : Option Ctx) (a : IoS
           }
 
       -- a fault was met with them, or before
-      pub along_stopped : (stop : ℕ × Fault) → m.fault ≡ Some stop → Along image id d shown a m shown1 b run behind
+      pub along_stopped : (stop : ℕ × Fault) → n.fault ≡ Some stop → Along image id d shown a n shown1 b run behind
       along_stopped stop met =
           record {
             front = took;
             parts = parts;
             more = was.more;
             came = λ bytes items is.
-                subst (λ (l : List ℕ). Came image m l (items ++ was.more)) (append_assoc bytes was.front front.text)
-                (stands_stopped image (bytes ++ was.front) front.text small (items ++ was.more) d1 m here front.settings front.begun
-                (was.came bytes items is) stop met);
+                let now = stands_stopped image (bytes ++ was.front) front.text small (items ++ was.more) d1 m here front.settings front.begins
+                (was.came bytes items is) stop (same_fault ∙ met) in
+                subst (λ (x : Decoding). Came image x (bytes ++ took) (items ++ was.more)) (sym (quiet_stopped image m n stop met front.quiet))
+                (subst (λ (l : List ℕ). Came image m l (items ++ was.more)) (append_assoc bytes was.front front.text) now);
             context = was.context;
             wrote = was.wrote;
-            settings = front.settings ∙ was.settings;
-            taken = taken;
+            settings = ap (λ (r : Standing). r.settings) same_reader ∙ front.settings ∙ was.settings;
+            taken = ap (λ (r : Standing). r.taken) same_reader ∙ taken;
           }
 
       -- their lines could not be written
-      pub along_fails : m.fault ≡ None → (d2 : Decoding) (shown2 : Option Ctx) (c : IoState) (e f : Failed) → d2.reader ≡ m.reader
-          → Prints image id m shown1 d2 shown2 b c (Err e) → RunsAlong image id d shown run d2 shown2 a c (Err f)
-      along_fails none d2 shown2 c e f same prints =
+      pub along_fails : n.fault ≡ None → (d2 : Decoding) (shown2 : Option Ctx) (c : IoState) (e f : Failed) → d2.reader ≡ n.reader
+          → Prints image id n shown1 d2 shown2 b c (Err e) → RunsAlong image id d shown run d2 shown2 a c (Err f)
+      along_fails whole d2 shown2 c e f unread printing =
+          let none = same_fault ∙ whole in let same = unread ∙ same_reader in
+          let prints = quiet_prints image m n id shown1 d2 shown2 b c (Err e) front.quiet printing in
           let others = prints.items in
           let lines = lines_of id (shown_after_all shown was.more) others in
           let writes = subst (λ (s : Option Ctx). Writes {T = Unit {0}} {E = Failed} b c (Err e) (lines_of id s others)) was.context prints.writes in
@@ -216,7 +238,7 @@ module _ (image : Image) (id : ℕ) (d : Decoding) (shown : Option Ctx) (a : IoS
             taken = ap (λ (r : Standing). r.taken) same ∙ taken;
             grows = λ bytes items is context.
                 let before = path_of image bytes [] items d d are refl is in
-                let after = path_on image (bytes ++ was.front) front.text small (items ++ was.more) d1 m here front.settings front.begun
+                let after = path_on image (bytes ++ was.front) front.text small (items ++ was.more) d1 m here front.settings front.begins
                 (was.came bytes items is) none others prints.outcome prints.took prints.yields in
                 let all : IsPath image ((d.reader).settings) (bytes ++ took) (items ++ (was.more ++ others)) after.0 =
                 subst (λ (s : Sizes). IsPath image s (bytes ++ took) (items ++ (was.more ++ others)) after.0) was.settings

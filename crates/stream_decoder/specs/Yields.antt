@@ -82,15 +82,6 @@ BegunPacket d text d' = (at : ℕ) × (packet : Packet) × reader.TakesPacket d.
 abbrev pub BegunBy : Decoding → List ℕ → Decoding → Type 0
 BegunBy d text d' = ((byte : ℕ) × (text ≡ byte ∷ []) × Begun d byte d') ⊎ ((d.fault ≡ None) × BegunPacket d text d')
 
--- bytes at the front of others are taken, and the others stand behind them
-pub record BegunFront (d d' : Decoding) (bytes behind : List ℕ) : Type 0 where
-  pub text : List ℕ
-  pub parts : bytes ≡ text ++ behind
-  pub some : 0 < length text
-  pub begun : BegunBy d text d'
-  pub settings : (d'.reader).settings ≡ (d.reader).settings
-  pub taken : (d'.reader).taken ≡ (d.reader).taken + length text
-
 -- ---- one thing or one element more
 
 abbrev pub LeavesBy : Decoding → List Elem → Pending → List Thing → Type 0
@@ -191,3 +182,20 @@ pub record Prints (image : Image) (id : ℕ) (d : Decoding) (shown : Option Ctx)
   pub yields : Yields image d items outcome took
   pub writes : Writes old new result (lines_of id shown items)
   pub ends : IsOk result → Ends image d items d' × (shown' ≡ shown_after_all shown items)
+
+-- ---- what bytes in front of others begin
+
+-- where no fault was met, some of what is left to do may be done, as long as it shows nothing
+abbrev pub GoesQuietly : Decoding → Decoding → Type 0
+GoesQuietly d d' = (d' ≡ d) ⊎ ((d.fault ≡ None) × ((image : Image) → Goes image d [] d'))
+
+-- Bytes at the front of others are taken, and the others stand behind them. What they begin is left to do, but for what shows nothing.
+pub record BegunFront (d d' : Decoding) (bytes behind : List ℕ) : Type 0 where
+  pub text : List ℕ
+  pub parts : bytes ≡ text ++ behind
+  pub some : 0 < length text
+  pub begun : Decoding
+  pub begins : BegunBy d text begun
+  pub settings : (begun.reader).settings ≡ (d.reader).settings
+  pub taken : (begun.reader).taken ≡ (d.reader).taken + length text
+  pub quiet : GoesQuietly begun d'

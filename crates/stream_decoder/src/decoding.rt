@@ -120,7 +120,7 @@ impl Decoding {
     }
 
     /// Takes the packet at the front of the bytes that come next, where it is an address or a short commit that is all there, and no fault
-    /// was met. It gives the bytes behind it. The elements of the packet are left to do. Else nothing changes.
+    /// was met. It gives the bytes behind it. What its elements show is left to do. Else nothing changes.
     #[inline(always)]
     fn begin_packet<'a>(&mut self, bytes: &'a [u8]) -> Option<&'a [u8]>
         requires few { self.old.reader.taken + length bytes.now ≤ 2 ^ 62 }
@@ -134,10 +134,12 @@ impl Decoding {
         }
         if let Some((at, address, behind)) = self.reader.take_address(bytes) {
             self.open_address(at, &address);
+            self.take_address();
             return Some(behind);
         }
         let (at, n, behind) = self.reader.take_commit(bytes)?;
         self.open_commit(at, n);
+        self.take_commit();
         Some(behind)
     }
 

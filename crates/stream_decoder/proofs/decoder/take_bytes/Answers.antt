@@ -1,7 +1,7 @@
 use Rattle.std.proofs.Common.{◌∙◌, refl, arith, ap}
 use Rattle.std.proofs.lemmas.Result.{err_from_is_err_and}
 use Rattle.stream_decoder.proofs.Along.{along_all, along_fails, along_first, along_on, along_stopped, along_taken, behind_shorter, still_met, still_stopped, stopped_more}
-use Rattle.stream_decoder.proofs.Fronts.{small_bytes}
+use Rattle.stream_decoder.proofs.Fronts.{quiet_reader, small_bytes}
 use Rattle.stream_decoder.proofs.Growing.{by_fault, not_none}
 use Rattle.stream_decoder.proofs.decoder.take_bytes.Goals as goal
 
@@ -51,8 +51,8 @@ loop-behind-preserved g c =
           c.requires.holds.reads.settings l.decoding m l.shown (state l.sink) l.rest.now c.in-Some.behind.now i.along c.in-Some.ensures.begun stop met));
       stopped = λ met.
           let before = i.stopped met in
-          let now = still_stopped l.decoding m c.in-Some.ensures.begun.text (still_met c.args.decoding.now l.decoding before.0 met)
-          c.in-Some.ensures.begun.begun in
+          let now = still_stopped l.decoding m l.rest.now c.in-Some.behind.now (still_met c.args.decoding.now l.decoding before.0 met)
+          c.in-Some.ensures.begun in
           let still = w.stopped (c.begin_front.ensures.holds.stopped (still_met l.decoding m now (still_met c.args.decoding.now l.decoding before.0 met))) in (
             stopped_more c.args.decoding.now l.decoding m c.write_rest.new.decoding before.0 now still.1,
             still.2 ∙ before.1,
@@ -81,12 +81,14 @@ pub returns-in_err-write_rest-clause-stopped : goal.returns-in_err-write_rest-cl
 returns-in_err-write_rest-clause-stopped g c met =
     let l = c.loop-behind in let m = c.begin_front.new.self in
     let here = still_met c.args.decoding.now l.decoding (l.invariant.stopped met).0 met in
-    let now = still_stopped l.decoding m c.in-Some.ensures.begun.text here c.in-Some.ensures.begun.begun in
+    let now = still_stopped l.decoding m l.rest.now c.in-Some.behind.now here c.in-Some.ensures.begun in
     absurd (let still = c.in_err-write_rest.ensures.stopped (c.begin_front.ensures.holds.stopped (still_met l.decoding m now here)) in let e = still.0 in cc)
 
 pub returns-in_err-write_rest-clause-settings : goal.returns-in_err-write_rest-clause-settings
 returns-in_err-write_rest-clause-settings g c =
-    ap (λ r. r.settings) c.in_err-write_rest.ensures.reader ∙ c.in-Some.ensures.begun.settings ∙ c.loop-behind.invariant.along.settings
+    let begun = c.in-Some.ensures.begun in
+    ap (λ r. r.settings) (c.in_err-write_rest.ensures.reader ∙ quiet_reader c.args.image.now begun.begun c.begin_front.new.self begun.quiet)
+    ∙ begun.settings ∙ c.loop-behind.invariant.along.settings
 
 -- ---- all of them
 

@@ -15,7 +15,9 @@ returns-clause-begun c =
       text = c.in_ok-byte.byte.now ∷ [];
       parts = c.in_ok-byte.ensures.cases.0;
       some = omega arith;
-      begun = inl (c.in_ok-byte.byte.now, refl, c.begin.ensures.begun);
+      begun = c.begin.new.self;
+      begins = inl (c.in_ok-byte.byte.now, refl, c.begin.ensures.begun);
       settings = c.begin.ensures.settings;
       taken = c.begin.ensures.taken;
+      quiet = inl refl;
     })
