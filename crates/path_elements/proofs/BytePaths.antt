@@ -1,5 +1,7 @@
 -- The bytes of a stream have one path, which grows with them.
-use Rattle.std.proofs.Common.{◌≡◌, ℕ, List, [], ◌++◌, Option, Some, None, Ok, Err, refl, sym, ap, subst, ◌∙◌, append-nil}
+use Rattle.std.proofs.Common.{◌≡◌, ℕ, ◌<◌, List, [], ◌∷◌, ◌++◌, Option, Some, None, Ok, Err, refl, sym, ap, subst, ◌∙◌, inl, inr, append-nil}
+use Rattle.std.specs.Prelude.{All}
+use Rattle.element_queue.specs.Pending.{Pending}
 use Rattle.element_queue.specs.Resolved.{at_first}
 use Rattle.etm_types.specs.Settings.{Sizes, AreSettings}
 use Rattle.etm_types.specs.declared.element.Elem.{Elem}
@@ -13,7 +15,7 @@ use Rattle.packet_grammar.specs.declared.stream_fault.Fault.{Fault}
 use Rattle.packet_grammar.proofs.Longer.{begins_alike, fault_ends_both}
 use Rattle.packet_grammar.proofs.Streams.{each_is_a_stream, one_stream}
 use Rattle.path_elements.specs.Elements.{Gained, all_elements, untold}
-use Rattle.path_elements.specs.Path.{end_behind, IsPathOfElements, IsPathOfPackets}
+use Rattle.path_elements.specs.Path.{end_behind, IsPathOfElements, IsPathOfPackets, IsPathTaking}
 use Rattle.path_elements.specs.PathLaws.{BeginsWith, FaultIsLast, FaultStays, OnePath, PathGrows, SomePath}
 use Rattle.path_elements.specs.Running.{Outcome, Runs}
 use Rattle.path_elements.proofs.Grows.{none_behind}
@@ -22,7 +24,7 @@ use Rattle.path_elements.proofs.Joined.{elements_begin}
 use Rattle.path_elements.proofs.OnePath.{one_path_of_elements, path_to_runs}
 use Rattle.path_elements.proofs.Paths.{last_of, runs_to_path, some_path_of_elements}
 use Rattle.path_elements.proofs.Runs.{runs_more, runs_one, runs_rest}
-use Rattle.path_walker.specs.State.{first_state}
+use Rattle.path_walker.specs.State.{State, first_state}
 use Rattle.program_image.specs.Blocks.{HasGap}
 use Rattle.program_image.specs.Part.{IsImage}
 use Rattle.program_image.specs.declared.image.Image.{Image}
@@ -62,6 +64,19 @@ module _ (image : Image) (depth : ℕ) where
       let more = runs_more image depth at_first first_state es later items stop took r in
       let same = runs_one image depth at_first first_state (es ++ later) others items b (Err stop) also took s more in
       (([], same.items ∙ sym (append-nil items)), ([], same.took ∙ sym (append-nil took)))
+
+-- ---- the front of a run
+
+module _ (image : Image) (depth : ℕ) where
+  -- the first elements of a run have one
+  runs_front : (p : Pending) (w : State) (es later : List (ℕ × Elem)) (items : List Item) (outcome : Outcome) (took : List (ℕ × Elem))
+      → Runs image depth p w (es ++ later) items outcome took
+      → (first : List Item) × (front : Outcome) × (also : List (ℕ × Elem)) × Runs image depth p w es first front also
+  runs_front p w [] later items outcome took r = ([], Ok (p, w), [], (refl, refl, refl))
+  runs_front p w (e ∷ es) later items outcome took (inl r) = (items, outcome, took, inl r)
+  runs_front p w (e ∷ es) later items outcome took (inr r) =
+      let f = runs_front (r.2).0 (r.2).1 es later r.1 outcome r.3 r.5 in
+      (r.0 ++ f.0, f.1, e ∷ f.2, inr (r.0, f.0, r.2, f.2, r.4, f.3, refl, refl))
 
 -- ---- more bytes
 
@@ -153,3 +168,19 @@ fault_stays image s are bytes more items at f took small (packets, ending, strea
       longer.is,
       ends_so image s are bytes more packets longer.packets ending longer.ending stream longer.is items at f took path,
     )
+
+-- the front of bytes that have a path has one
+pub front_path : (image : Image) (s : Sizes) → AreSettings s → (bytes more : List ℕ) (items : List Item) (last : End) (took : List (ℕ × Elem))
+    → All (λ b. b < 256) bytes → IsPathTaking image s (bytes ++ more) items last took
+    → (first : List Item) × (end : End) × (also : List (ℕ × Elem)) × IsPathTaking image s bytes first end also
+front_path image s are bytes more items last took small (packets', ending', stream', path') =
+    let here = each_is_a_stream s are bytes small in
+    let gained = all_elements untold here.packets in
+    let gained' = all_elements untold packets' in
+    let run = path_to_runs image s.depth gained'.elements (end_behind gained'.awaited ending') items last took path' in
+    let longer = elements_more image s are bytes more here.packets packets' here.ending ending' here.is stream' in
+    let front = runs_front image s.depth at_first first_state gained.elements longer.0 items run.0 took
+    (subst (λ es. Runs image s.depth at_first first_state es items run.0 took) longer.1 run.1) in
+    let ending = end_behind gained.awaited here.ending in
+    let path = runs_to_path image s.depth gained.elements ending front.0 front.1 front.2 front.3 in
+    (front.0, last_of ending front.1, front.2, (here.packets, here.ending, here.is, path))

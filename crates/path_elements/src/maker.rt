@@ -116,6 +116,24 @@ impl ElemMaker {
         }
     }
 
+    /// Takes an address packet without a context, where it counts and no exception awaits its address, and gives its element. Else it
+    /// answers `None`, nothing changes, and [`take`](ElemMaker::take) takes it.
+    #[inline(always)]
+    pub fn take_plain_address(&mut self, form: &AddrForm, ctx: &Option<CtxBits>) -> Option<Elems>
+        requires { HasEntry form.now }
+        ensures some { IfSome result (λ elems. (is_misplaced self.old (packet.Addr form.now ctx.now) ≡ false)
+            × (elems ≡ elements_of self.old (packet.Addr form.now ctx.now)) × (self.new ≡ told_after self.old (packet.Addr form.now ctx.now))) }
+        ensures none { result ≡ None → self.new ≡ self.old }
+        ensures counts { IsSome result ↔ ((self.old.informed ≡ true) × (self.old.awaiting ≡ None) × (ctx.now ≡ None)) }
+        ensures within { IfSome result (λ elems. AreElems elems) }
+    {
+        if !self.informed || self.awaiting.is_some() || ctx.is_some() {
+            return None;
+        }
+        let (_, values) = self.take_address(form);
+        Some(Elems::one(Kind::Addr, values))
+    }
+
     /// Takes a packet of any kind. It is long; most packets are atoms, and [`ElemMaker::take`] answers
     /// those without it.
     #[inline(never)]

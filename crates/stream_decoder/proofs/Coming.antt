@@ -1,4 +1,4 @@
--- From the bytes at which a decoding stands to those and one more.
+-- From the bytes at which a decoding stands to those and some more: one, or those of a whole packet.
 use Rattle.std.proofs.Common.{◌≡◌, ℕ, ◌+◌, ◌%◌, ◌^◌, ◌<◌, Bool, true, false, List, [], ◌∷◌, ◌++◌}
 use Rattle.std.proofs.Common.{Option, Some, None, Result, Ok, Err, refl, sym, ap, subst, ◌∙◌, inl, inr, append-nil}
 use Rattle.std.proofs.Common.{arith}
@@ -20,9 +20,8 @@ use Rattle.packet_grammar.specs.declared.packet.Packet.{Packet}
 use Rattle.packet_grammar.specs.declared.fault.PacketFault.{PacketFault}
 use Rattle.packet_grammar.specs.declared.stream_fault.Fault.{Fault}
 use Rattle.packet_grammar.specs.declared.stream_fault.Fault.TheVariants as stream
-use Rattle.packet_reader.proofs.Adds.{Told, gains_more}
+use Rattle.packet_reader.proofs.Adds.{Told}
 use Rattle.packet_reader.specs.Answered.{fault_after, fault_of, told}
-use Rattle.packet_reader.specs.Stands.{Gains}
 use Rattle.packet_reader.specs.Stands as reader
 use Rattle.packet_reader.specs.declared.step.Step.{Step}
 use Rattle.packet_reader.specs.declared.step.Step.TheVariants.{Skipped, More, Whole, Bad, Stopped}
@@ -54,6 +53,11 @@ met_fault stop = Some stop
 
 same_stop : (a b : ℕ × Fault) → met_fault a ≡ met_fault b → a ≡ b
 same_stop a b e = cc
+
+-- What is told of the packets of some bytes, and of those with others behind them: an answer to these says what is added.
+abbrev pub Adds : Sizes → List ℕ → List ℕ → Step → Type 0
+Adds s bytes text step =
+    (packets : List (ℕ × Packet)) → Told s bytes packets None → Told s (bytes ++ text) (packets ++ told step) (fault_after None step)
 
 -- ---- one packet more
 
@@ -139,13 +143,13 @@ record Opened (image : Image) (s : Sizes) (bytes : List ℕ) (items : List Item)
   due : m.due ≡ []
   runs : Runs image (depth_of m) at_first first_state took items (Ok (m.pending, m.walk)) took
 
-module _ (image : Image) (bytes : List ℕ) (byte : ℕ) (items : List Item) (d m : Decoding) (are : AreSettings ((d.reader).settings))
+module _ (image : Image) (bytes text : List ℕ) (items : List Item) (d m : Decoding) (are : AreSettings ((d.reader).settings))
     (settings : (m.reader).settings ≡ (d.reader).settings) (came : Came image d bytes items) where
   s : Sizes
   s = (d.reader).settings
 
   abbrev more : List ℕ
-  more = bytes ++ byte ∷ []
+  more = bytes ++ text
 
   abbrev took : List (ℕ × Elem)
   took = came.took
@@ -163,10 +167,10 @@ module _ (image : Image) (bytes : List ℕ) (byte : ℕ) (items : List Item) (d 
   -- ---- no fault is met with the byte
 
   -- a byte that ends no packet
-  opened_by_none : (step : Step) → told step ≡ [] → fault_after None step ≡ None → Clean → Gains ((d.reader).settings) bytes byte step
+  opened_by_none : (step : Step) → told step ≡ [] → fault_after None step ≡ None → Clean → Adds ((d.reader).settings) bytes text step
       → m ≡ record d { reader = m.reader } → Opened image ((d.reader).settings) more items took m
   opened_by_none step none ends c gain same =
-      let is = gains_more ((d.reader).settings) are bytes byte c.0 None step (so_told c) gain in
+      let is = gain c.0 (so_told c) in
       let so : Told ((d.reader).settings) more (c.0 ++ told step) None =
       subst (λ (l : Option (ℕ × PacketFault)). Told ((d.reader).settings) more (c.0 ++ told step) l) ends is in
       let packets : c.0 ++ told step ≡ c.0 = ap (λ (l : List (ℕ × Packet)). c.0 ++ l) none ∙ append-nil c.0 in
@@ -182,7 +186,7 @@ module _ (image : Image) (bytes : List ℕ) (byte : ℕ) (items : List Item) (d 
       subst (λ (x : Decoding). Opened image ((d.reader).settings) more items took x) (sym same) kept
 
   -- a packet that may come where it does
-  opened_by_packet : (at : ℕ) (packet : Packet) → is_misplaced d.told packet ≡ false → Clean → Gains ((d.reader).settings) bytes byte (Whole at packet)
+  opened_by_packet : (at : ℕ) (packet : Packet) → is_misplaced d.told packet ≡ false → Clean → Adds ((d.reader).settings) bytes text (Whole at packet)
       → m ≡ record d { reader = m.reader; told = told_after d.told packet; at = at; todo = elements_of d.told packet }
       → Opened image ((d.reader).settings) more items took m
   opened_by_packet at packet placed_well c gain same =
@@ -190,7 +194,7 @@ module _ (image : Image) (bytes : List ℕ) (byte : ℕ) (items : List Item) (d 
       (record d { reader = m.reader; told = told_after d.told packet; at = at; todo = elements_of d.told packet }) =
       record {
         packets = c.0 ++ (at, packet) ∷ [];
-        so = gains_more ((d.reader).settings) are bytes byte c.0 None (Whole at packet) (so_told c) gain;
+        so = gain c.0 (so_told c);
         gained = one_more c.0 took d.told at packet c.4 ∙ ap (either c.0 took d.told at packet c.4) placed_well;
         due = (came.done).due;
         runs = subst (λ (k : Sizes). Runs image k.depth at_first first_state took items (Ok (d.pending, d.walk)) took) (sym settings) c.5;
@@ -200,7 +204,7 @@ module _ (image : Image) (bytes : List ℕ) (byte : ℕ) (items : List Item) (d 
   not_met : (stop : ℕ × Fault) (x : Decoding) → m ≡ x → x.fault ≡ Some stop → m.fault ≡ None → ⊥
   not_met stop x same some none = let e : Some stop ≡ None = sym some ∙ ap (λ (y : Decoding). y.fault) (sym same) ∙ none in cc
 
-  opened_by : (step : Step) → Clean → Gains ((d.reader).settings) bytes byte step → Opens d step m → m.fault ≡ None
+  opened_by : (step : Step) → Clean → Adds ((d.reader).settings) bytes text step → Opens d step m → m.fault ≡ None
       → Opened image ((d.reader).settings) more items took m
   opened_by (Whole at packet) c gain (inl opens) none =
       absurd (not_met (at, stream.AddressAwaited) (record d { reader = m.reader; fault = Some (at, stream.AddressAwaited) }) opens.1 refl none)
@@ -238,16 +242,16 @@ module _ (image : Image) (bytes : List ℕ) (byte : ℕ) (items : List Item) (d 
   ends_with at f clean e = absurd cc
   ends_with at f (cut n) e = absurd cc
 
-  stopped_by_bytes : (at : ℕ) (f : PacketFault) → Clean → Gains ((d.reader).settings) bytes byte (Bad at f) → StoppedAt (at, stream.Packet f)
+  stopped_by_bytes : (at : ℕ) (f : PacketFault) → Clean → Adds ((d.reader).settings) bytes text (Bad at f) → StoppedAt (at, stream.Packet f)
   stopped_by_bytes at f c gain =
-      let is = gains_more ((d.reader).settings) are bytes byte c.0 None (Bad at f) (so_told c) gain in
+      let is = gain c.0 (so_told c) in
       let path = path_so (c.0 ++ []) is.ending None is.stream (ap (all_elements untold) (append-nil c.0) ∙ c.4) c in
       subst (λ (l : End). IsPathTaking image ((d.reader).settings) more items l took) (ends_with at f is.ending is.fault) path
 
-  stopped_by_place : (at : ℕ) (packet : Packet) → is_misplaced d.told packet ≡ true → Clean → Gains ((d.reader).settings) bytes byte (Whole at packet)
+  stopped_by_place : (at : ℕ) (packet : Packet) → is_misplaced d.told packet ≡ true → Clean → Adds ((d.reader).settings) bytes text (Whole at packet)
       → StoppedAt (at, stream.AddressAwaited)
   stopped_by_place at packet misplaced c gain =
-      let is = gains_more ((d.reader).settings) are bytes byte c.0 None (Whole at packet) (so_told c) gain in
+      let is = gain c.0 (so_told c) in
       path_so (c.0 ++ (at, packet) ∷ []) is.ending (Some at) is.stream
       (one_more c.0 took d.told at packet c.4 ∙ ap (either c.0 took d.told at packet c.4) misplaced) c
 
@@ -257,7 +261,7 @@ module _ (image : Image) (bytes : List ℕ) (byte : ℕ) (items : List Item) (d 
       let e : Some met ≡ Some stop = sym some ∙ ap (λ (y : Decoding). y.fault) (sym same) ∙ is in
       subst StoppedAt (same_stop met stop e) so
 
-  stopped_by : (step : Step) (stop : ℕ × Fault) → d.fault ≡ None → Clean → Gains ((d.reader).settings) bytes byte step → Opens d step m
+  stopped_by : (step : Step) (stop : ℕ × Fault) → d.fault ≡ None → Clean → Adds ((d.reader).settings) bytes text step → Opens d step m
       → m.fault ≡ Some stop → StoppedAt stop
   stopped_by (Whole at packet) stop none c gain (inl opens) is =
       let met : ℕ × Fault = (at, stream.AddressAwaited) in
@@ -320,13 +324,13 @@ module _ (image : Image) (bytes : List ℕ) (byte : ℕ) (items : List Item) (d 
   kept None is Stopped opens = kept_by (record d { reader = m.reader }) opens refl refl refl
 
   module _ (small : All (λ b. b < 256) more) (reads : reader.StandsAt m.reader more) where
-    stopped_so : (met : Option (ℕ × Fault)) (step : Step) (stop : ℕ × Fault) → d.fault ≡ met → Gains ((d.reader).settings) bytes byte step
+    stopped_so : (met : Option (ℕ × Fault)) (step : Step) (stop : ℕ × Fault) → d.fault ≡ met → Adds ((d.reader).settings) bytes text step
         → OpensBehind met d step m → m.fault ≡ Some stop → StoppedAt stop
     stopped_so (Some before) step stop is gain opens met =
         let e : Some before ≡ Some stop = sym is ∙ sym (ap (λ (y : Decoding). y.fault) opens) ∙ met in
         let there = subst (λ (f : Option (ℕ × Fault)). ComesTo f image d bytes items took) is came.comes in
         subst StoppedAt (same_stop before stop e)
-        (fault_stays image ((d.reader).settings) are bytes (byte ∷ []) items before.0 before.1 took small there)
+        (fault_stays image ((d.reader).settings) are bytes text items before.0 before.1 took small there)
     stopped_so None step stop is gain opens met = stopped_by step stop is (free is) gain opens met
 
     -- a fault that is not of the walk was met, or the same as before
@@ -335,7 +339,7 @@ module _ (image : Image) (bytes : List ℕ) (byte : ℕ) (items : List Item) (d 
     counts_so (Some before) step is opens free_of = ap is_walk_fault (sym (ap (λ (y : Decoding). y.fault) opens)) ∙ free_of
     counts_so None step is opens free_of = ap is_walk_fault is
 
-    pub came_stopped : (step : Step) (stop : ℕ × Fault) → Gains ((d.reader).settings) bytes byte step → OpensBehind d.fault d step m
+    pub came_stopped : (step : Step) (stop : ℕ × Fault) → Adds ((d.reader).settings) bytes text step → OpensBehind d.fault d step m
         → m.fault ≡ Some stop → Came image m more items
     came_stopped step stop gain opens met =
         let k = kept d.fault refl step opens in
@@ -357,7 +361,7 @@ module _ (image : Image) (bytes : List ℕ) (byte : ℕ) (items : List Item) (d 
 
     -- ---- what is left to do after the byte is done
 
-    module _ (step : Step) (gain : Gains ((d.reader).settings) bytes byte step) (opens : OpensBehind d.fault d step m) (none : m.fault ≡ None) where
+    module _ (step : Step) (gain : Adds ((d.reader).settings) bytes text step) (opens : OpensBehind d.fault d step m) (none : m.fault ≡ None) where
       opened_so : (met : Option (ℕ × Fault)) → d.fault ≡ met → OpensBehind met d step m → Opened image ((d.reader).settings) more items took m
       opened_so (Some stop) is so = absurd (not_met stop (record d { reader = m.reader }) so is none)
       opened_so None is so = opened_by step (free is) gain so none

@@ -12,5 +12,7 @@ pub mod Printing
 pub mod Quiet
 pub mod Standing
 pub mod Growing
+pub mod Fronts
+pub mod Along
 pub mod Examples
 pub mod Runs

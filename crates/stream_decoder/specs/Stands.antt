@@ -1,5 +1,5 @@
 -- At which bytes a decoder stands, and by which items a byte more makes the path grow.
-use Rattle.std.specs.Prelude.{◌≡◌, ℕ, ◌<◌, Bool, false, All, List, [], ◌∷◌, ◌++◌, Option, Some, None, Ok}
+use Rattle.std.specs.Prelude.{◌≡◌, ℕ, ◌+◌, ◌<◌, Bool, false, All, List, [], ◌∷◌, ◌++◌, length, Option, Some, None, Result, Ok, IsOk}
 use Rattle.element_queue.specs.Counting.{no_counts, tally}
 use Rattle.element_queue.specs.Resolved.{at_first}
 use Rattle.etm_types.specs.Settings.{Sizes}
@@ -17,11 +17,14 @@ use Rattle.packet_reader.specs.Stands as reader
 use Rattle.path_elements.specs.Elements.{all_elements, untold}
 use Rattle.path_elements.specs.Path.{IsPath, IsPathTaking, unplaced}
 use Rattle.path_elements.specs.Running.{Runs}
-use Rattle.path_text.specs.PathLines.{shown_after_all}
+use Rattle.path_text.specs.PathLines.{lines_of, shown_after_all}
+use Rattle.path_text.specs.Writing.{Writes}
 use Rattle.path_walker.specs.State.{first_state}
 use Rattle.program_image.specs.declared.image.Image.{Image}
 use Rattle.stream_decoder.specs.Decoding.{AtRest, Decoder, Decoding, depth_of}
 use Rattle.stream_decoder.specs.Yields.{is_walk_fault}
+use Rattle.trace_io.specs.State.{IoState}
+use Rattle.trace_io.specs.declared.traits.Failed.{Failed}
 
 -- The path of the bytes has these items so far, and took these elements: they lead to this place, or the path ends with the fault
 -- that was met.
@@ -66,3 +69,37 @@ pub record Grows (image : Image) (s : Sizes) (bytes : List ℕ) (byte : ℕ) (sh
   pub was : IsPath image s bytes items last
   pub is : IsPath image s (bytes ++ byte ∷ []) (items ++ more) next
   pub context : shown ≡ shown_after_all None items
+
+-- with these bytes more, one after the other, the path has these items more, behind those that were shown
+abbrev pub GrowsBy : Image → Sizes → List ℕ → List ℕ → Option Ctx → List Item → Type 0
+GrowsBy image s bytes [] shown more = more ≡ []
+GrowsBy image s bytes (byte ∷ run) shown more =
+    (first : List Item) × (rest : List Item) × Grows image s bytes byte shown first
+    × GrowsBy image s (bytes ++ byte ∷ []) run (shown_after_all shown first) rest × (more ≡ first ++ rest)
+
+-- Bytes were taken behind others, and the lines of the items by which the path grows with them were written. Where a write failed,
+-- some of the bytes were taken, and a front of their lines is written.
+pub record GrowsAlong (image : Image) (s : Sizes) (id : ℕ) (bytes run : List ℕ) (shown : Option Ctx) (old new : IoState)
+    (result : Result (Unit {0}) Failed) : Type 0 where
+  pub took : List ℕ
+  pub others : List ℕ
+  pub parts : run ≡ took ++ others
+  pub more : List Item
+  pub grows : GrowsBy image s bytes took shown more
+  pub writes : Writes old new result (lines_of id shown more)
+  pub all : IsOk result → others ≡ []
+
+-- The same of what is kept between bytes, at whatever bytes it stands: also where it stands behind those that were taken, and which
+-- context was printed last.
+pub record RunsAlong (image : Image) (id : ℕ) (d : Decoding) (shown : Option Ctx) (run : List ℕ) (d' : Decoding) (shown' : Option Ctx)
+    (old new : IoState) (result : Result (Unit {0}) Failed) : Type 0 where
+  pub took : List ℕ
+  pub others : List ℕ
+  pub parts : run ≡ took ++ others
+  pub more : List Item
+  pub taken : (d'.reader).taken ≡ (d.reader).taken + length took
+  pub grows : (bytes : List ℕ) (items : List Item) → Came image d bytes items → shown ≡ shown_after_all None items
+      → GrowsBy image ((d.reader).settings) bytes took shown more
+  pub writes : Writes old new result (lines_of id shown more)
+  pub all : IsOk result → (others ≡ []) × (shown' ≡ shown_after_all shown more)
+      × ((bytes : List ℕ) (items : List Item) → Came image d bytes items → Came image d' (bytes ++ run) (items ++ more))

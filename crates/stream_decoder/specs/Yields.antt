@@ -1,5 +1,5 @@
 -- What is left to do shows, and where it leads.
-use Rattle.std.specs.Prelude.{◌≡◌, ◌⊎◌, ℕ, ◌+◌, ◌*◌, Bool, true, false, List, [], ◌∷◌, ◌++◌, length, Option, Some, None, Result, Ok, Err, IsOk, option_to_list}
+use Rattle.std.specs.Prelude.{◌≡◌, ◌⊎◌, ℕ, ◌+◌, ◌*◌, ◌<◌, Bool, true, false, List, [], ◌∷◌, ◌++◌, length, Option, Some, None, Result, Ok, Err, IsOk, option_to_list}
 use Rattle.element_queue.specs.Counting.{counts_after, made_by, tally}
 use Rattle.element_queue.specs.Pending.{Gone, Pending, taken}
 use Rattle.element_queue.specs.declared.ledger.Counts.{Counts}
@@ -73,6 +73,14 @@ OpensBehind (Some f) d step d' = d' ≡ record d { reader = d'.reader }
 -- a byte is taken
 abbrev pub Begun : Decoding → ℕ → Decoding → Type 0
 Begun d byte d' = (step : Step) × Reads d.reader d'.reader byte step × OpensBehind d.fault d step d'
+
+-- the bytes of a whole packet are taken
+abbrev pub BegunPacket : Decoding → List ℕ → Decoding → Type 0
+BegunPacket d text d' = (at : ℕ) × (packet : Packet) × reader.TakesPacket d.reader d'.reader text at packet × OpensPacket d at packet d'
+
+-- bytes are taken: one, or where no fault was met those of a whole packet
+abbrev pub BegunBy : Decoding → List ℕ → Decoding → Type 0
+BegunBy d text d' = ((byte : ℕ) × (text ≡ byte ∷ []) × Begun d byte d') ⊎ ((d.fault ≡ None) × BegunPacket d text d')
 
 -- ---- one thing or one element more
 
@@ -174,3 +182,20 @@ pub record Prints (image : Image) (id : ℕ) (d : Decoding) (shown : Option Ctx)
   pub yields : Yields image d items outcome took
   pub writes : Writes old new result (lines_of id shown items)
   pub ends : IsOk result → Ends image d items d' × (shown' ≡ shown_after_all shown items)
+
+-- ---- what bytes in front of others begin
+
+-- where no fault was met, some of what is left to do may be done, as long as it shows nothing
+abbrev pub GoesQuietly : Decoding → Decoding → Type 0
+GoesQuietly d d' = (d' ≡ d) ⊎ ((d.fault ≡ None) × ((image : Image) → Goes image d [] d'))
+
+-- Bytes at the front of others are taken, and the others stand behind them. What they begin is left to do, but for what shows nothing.
+pub record BegunFront (d d' : Decoding) (bytes behind : List ℕ) : Type 0 where
+  pub text : List ℕ
+  pub parts : bytes ≡ text ++ behind
+  pub some : 0 < length text
+  pub begun : Decoding
+  pub begins : BegunBy d text begun
+  pub settings : (begun.reader).settings ≡ (d.reader).settings
+  pub taken : (begun.reader).taken ≡ (d.reader).taken + length text
+  pub quiet : GoesQuietly begun d'

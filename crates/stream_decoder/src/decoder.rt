@@ -20,7 +20,7 @@ ghost use Rattle.program_image.specs.declared.image.Image.{Image};
 ghost use Rattle.stream_decoder.specs.Decoding.{AtRest, IsDecoding};
 ghost use Rattle.stream_decoder.specs.Yields.{Goes, Prints, items_of_found, left};
 ghost use Rattle.stream_decoder.specs.StretchLines.{stretch_lines};
-ghost use Rattle.stream_decoder.specs.Stands.{Grows, StandsAt, shows_walk_fault};
+ghost use Rattle.stream_decoder.specs.Stands.{Grows, GrowsAlong, RunsAlong, StandsAt, shows_walk_fault};
 ghost use Rattle.trace_io.specs.Bytes.{ShowsAsBefore};
 ghost use Rattle.trace_io.specs.Causes.{HasCause};
 
@@ -126,6 +126,49 @@ impl StreamDecoder {
         }
     }
 
+    /// Takes the next bytes, and writes the lines by which the path grows, as [`take`](StreamDecoder::take) does of each. The error means
+    /// that a write failed; then nothing more is taken, and the decoder is broken.
+    ///
+    /// It is for speed: a packet that stands whole in the run, as most addresses and commits do, is read at once.
+    pub fn take_run<K: Sink>(
+        &mut self,
+        image: &Image,
+        id: Id,
+        run: &[u8],
+        sink: &mut K,
+    ) -> Result<(), Failed>
+        requires whole { self.old.broken ≡ false }
+        requires few { self.old.decoding.reader.taken + length run.now ≤ 2 ^ 62 }
+        ensures stands { IsOk result → (bytes : List ℕ) → StandsAt image.now self.old bytes → StandsAt image.now self.new (bytes ++ run.now) }
+        ensures grows { (bytes : List ℕ) → StandsAt image.now self.old bytes
+            → GrowsAlong image.now self.old.decoding.reader.settings id bytes run.now self.old.shown (K.state sink.old) (K.state sink.new) result }
+        ensures stopped { self.old.decoding.fault ≢ None
+            → (result ≡ Ok tt) × (sink.new ≡ sink.old)
+            × (self.new ≡ record (self.old) { decoding = record (self.old.decoding) { reader = self.new.decoding.reader } }) }
+        ensures cause { HasCause (K.state sink.old) (K.state sink.new) result }
+        ensures shows { ShowsAsBefore (K.state sink.old) (K.state sink.new) }
+        ensures broken { IsTrue self.new.broken ↔ IsErr result }
+        ensures taken { IsOk result → self.new.decoding.reader.taken ≡ self.old.decoding.reader.taken + length run.now }
+        ensures between { (self.old.decoding.reader.taken ≤ self.new.decoding.reader.taken)
+            × (self.new.decoding.reader.taken ≤ self.old.decoding.reader.taken + length run.now) }
+        ensures settings { self.new.decoding.reader.settings ≡ self.old.decoding.reader.settings }
+        ensures balanced { Balances self.new.decoding.counts (entries (self.new.decoding.due ++ self.new.decoding.pending.held)) }
+        ensures most { length (self.new.decoding.due ++ self.new.decoding.pending.held) ≤ self.new.decoding.reader.settings.depth }
+    {
+        turn_to(&mut self.line, id);
+        let result = take_bytes(
+            &mut self.decoding,
+            &mut self.shown,
+            &mut self.line,
+            &mut self.run,
+            image,
+            run,
+            sink,
+        );
+        self.broken = result.is_err();
+        result
+    }
+
     /// Whether a write failed. Then it takes no more bytes, and is abandoned.
     pub fn broken(&self) -> bool
         ensures { result ≡ self.now.broken }
@@ -209,6 +252,34 @@ fn turn_to(line: &mut AddressLine, id: Id)
     if line.id() != id {
         *line = AddressLine::new(id);
     }
+}
+
+/// Takes the next bytes, and writes what they show, as long as no write fails.
+fn take_bytes<K: Sink>(
+    decoding: &mut Decoding,
+    shown: &mut Option<Ctx>,
+    line: &mut AddressLine,
+    atoms: &mut Stretches,
+    image: &Image,
+    run: &[u8],
+    sink: &mut K,
+) -> Result<(), Failed>
+    requires holds { IsDecoding decoding.old }
+    requires rest { AtRest decoding.old }
+    requires few { decoding.old.reader.taken + length run.now ≤ 2 ^ 62 }
+    ensures runs { RunsAlong image.now line.old.id decoding.old shown.old run.now decoding.new shown.new (K.state sink.old) (K.state sink.new) result }
+    ensures stopped { decoding.old.fault ≢ None
+        → (result ≡ Ok tt) × (decoding.new ≡ record (decoding.old) { reader = decoding.new.reader }) × (shown.new ≡ shown.old) × (sink.new ≡ sink.old) }
+    ensures rest { IsOk result → AtRest decoding.new }
+    ensures settings { decoding.new.reader.settings ≡ decoding.old.reader.settings }
+    ensures holds { IsDecoding decoding.new }
+{
+    let mut rest = run;
+    while let Some(behind) = decoding.begin_front(rest) {
+        rest = behind;
+        write_rest(decoding, shown, line, atoms, image, sink)?;
+    }
+    Ok(())
 }
 
 /// Writes what all that is left to do shows. Many bytes leave nothing to do.

@@ -19,15 +19,16 @@ ghost use Rattle.path_walker.specs.Walk.{ToldIsAligned, items_in, walked_in};
 ghost use Rattle.program_image.specs.declared.image.Image.{Image};
 ghost use Rattle.stream_decoder.specs.Decoding.{AtRest, Begins, IsDecoding};
 ghost use Rattle.stream_decoder.specs.Stands.{end_at};
-ghost use Rattle.stream_decoder.specs.Yields.{Begun, Ends, Goes, Leaves, OpensPacket, Refuses, Stops, WalksAtoms, items_of_found, items_found, left};
+ghost use Rattle.stream_decoder.specs.Yields.{Begun, BegunFront, Ends, Goes, Leaves, OpensPacket, Refuses, Stops, WalksAtoms, items_of_found, items_found, left};
 
 use crate::found::Found;
 use crate::todo::Todo;
 use crate::waiting::Waiting;
 use element_queue::{Counts, Ledger};
 use etm_types::{AtomRun, Ctx, QueueFault, Settings, Thing};
+use packet_grammar::headers::ATOMS;
 use packet_grammar::{End, Fault, Packet};
-use packet_reader::{PacketReader, Step};
+use packet_reader::{Address, PacketReader, Step};
 use path_elements::{Awaited, ElemMaker};
 use path_walker::{Stretch, Stretches, Walker};
 use program_image::Image;
@@ -97,6 +98,51 @@ impl Decoding {
         }
     }
 
+    /// Takes what stands at the front of the bytes that come next, and gives the bytes behind it: a packet, where it is one of atoms, or an
+    /// address or a short commit that is all there; else a byte. Nothing means that there is no byte.
+    #[inline(always)]
+    pub fn begin_front<'a>(&mut self, bytes: &'a [u8]) -> Option<&'a [u8]>
+        requires few { self.old.reader.taken + length bytes.now ≤ 2 ^ 62 }
+        requires rest { AtRest self.old }
+        requires holds { IsDecoding self.old }
+        ensures begun { IfSome result (λ behind. BegunFront self.old self.new bytes.now behind.now) }
+        ensures none { result ≡ None → (bytes.now ≡ []) × (self.new ≡ self.old) }
+        ensures holds { IsDecoding self.new }
+    {
+        let (byte, later) = bytes.split_first()?;
+        if *byte < ATOMS {
+            if let Some(behind) = self.begin_packet(bytes) {
+                return Some(behind);
+            }
+        }
+        self.begin(*byte);
+        Some(later)
+    }
+
+    /// Takes the packet at the front of the bytes that come next, where it is an address or a short commit that is all there, and no fault
+    /// was met. It gives the bytes behind it. What its elements show is left to do. Else nothing changes.
+    #[inline(always)]
+    fn begin_packet<'a>(&mut self, bytes: &'a [u8]) -> Option<&'a [u8]>
+        requires few { self.old.reader.taken + length bytes.now ≤ 2 ^ 62 }
+        requires rest { AtRest self.old }
+        ensures begun { IfSome result (λ behind. BegunFront self.old self.new bytes.now behind.now) }
+        ensures none { result ≡ None → self.new ≡ self.old }
+        ensures holds { IsDecoding self.new }
+    {
+        if self.fault.is_some() {
+            return None;
+        }
+        if let Some((at, address, behind)) = self.reader.take_address(bytes) {
+            self.open_address(at, &address);
+            self.take_address();
+            return Some(behind);
+        }
+        let (at, n, behind) = self.reader.take_commit(bytes)?;
+        self.open_commit(at, n);
+        self.take_commit();
+        Some(behind)
+    }
+
     /// Takes the next byte. One that ends a short commit packet goes a short way too.
     #[inline(always)]
     fn begin_commit(&mut self, byte: u8)
@@ -163,6 +209,23 @@ impl Decoding {
         match self.maker.commit_of(n) {
             Some(elems) => self.todo = Todo::of(at, elems),
             None => self.open(at, &Packet::Commit(n)),
+        }
+    }
+
+    /// Leaves the elements of an address packet to do.
+    #[inline(always)]
+    fn open_address(&mut self, at: u64, address: &Address)
+        requires packet { CanBeTaken (Packet.Addr address.now.form address.now.ctx) }
+        requires rest { AtRest self.old }
+        requires whole { self.old.fault ≡ None }
+        ensures opens { OpensPacket self.old at (Packet.Addr address.now.form address.now.ctx) self.new }
+        ensures reader { self.new.reader ≡ self.old.reader }
+        ensures holds { IsDecoding self.new }
+    {
+        let Address { form, ctx } = *address;
+        match self.maker.take_plain_address(&form, &ctx) {
+            Some(elems) => self.todo = Todo::of(at, elems),
+            None => self.open(at, &Packet::Addr { form, ctx }),
         }
     }
 

@@ -1,23 +1,27 @@
 -- The path of a stream among others.
-use Rattle.std.proofs.Common.{◌≡◌, ◌≤◌, ℕ, Bool, true, false, List, [], ◌∷◌, ◌++◌, length, Result, Ok, Err, refl, sym, ap, subst, ◌∙◌, inl, inr, arith, append-nil, length-append}
+use Rattle.std.proofs.Common.{◌≡◌, ◌≤◌, ℕ, Bool, true, false, List, [], ◌∷◌, ◌++◌, length, Option, Result, Ok, Err, refl, sym, ap, subst, ◌∙◌, inl, inr, arith, append-nil, length-append}
 use Rattle.std.proofs.lemmas.Bool.Decides.{eqb_tells}
 use Rattle.std.specs.Prelude.{IfOk, not, ◌==◌, if◌then◌else◌}
 use Rattle.element_queue.specs.Counting.{entries, no_counts}
+use Rattle.etm_types.specs.Settings.{Sizes}
+use Rattle.etm_types.specs.declared.context.Ctx.{Ctx}
 use Rattle.etm_types.specs.declared.element.Thing.{Thing}
 use Rattle.etm_types.specs.declared.element.Thing.TheVariants.{Gap, Seen, Stop, Unseen}
 use Rattle.etm_types.specs.declared.item.Item.{Item}
 use Rattle.packet_grammar.specs.Ends.{is_fault}
 use Rattle.packet_grammar.specs.declared.end.End.{End}
 use Rattle.path_elements.specs.Path.{IsPath}
+use Rattle.path_text.proofs.LineLists.{line_list-append, list_joined}
 use Rattle.path_text.specs.EndLines.{end_line}
+use Rattle.path_text.specs.PathLines.{line_list, shown_after_all}
 use Rattle.path_text.specs.Writing.{Writes}
 use Rattle.program_image.specs.declared.image.Image.{Image}
 use Rattle.stream_decoder.proofs.Standing.{ends_so}
 use Rattle.stream_decoder.specs.Decoding.{Decoder}
-use Rattle.stream_decoder.specs.Stands.{StandsAt, end_at}
+use Rattle.stream_decoder.specs.Stands.{GrowsAlong, GrowsBy, StandsAt, end_at}
 use Rattle.stream_demux.specs.Paths.{paths}
-use Rattle.stream_demux.specs.Streams.{HoldsToDepth}
-use Rattle.stream_demux.specs.Texts.{Printed, StreamEnds, lines_under, text_of}
+use Rattle.stream_demux.specs.Streams.{HoldsToDepth, RunAdds}
+use Rattle.stream_demux.specs.Texts.{Printed, StreamBody, StreamEnds, lines_under, text_of}
 use Rattle.trace_io.specs.State.{IoState}
 use Rattle.trace_io.specs.declared.traits.Failed.{Failed}
 
@@ -82,3 +86,30 @@ seen_within (Seen entry ∷ things) = omega (arith, seen_within things)
 seen_within (Unseen ∷ things) = omega (arith, seen_within things)
 seen_within (Gap ∷ things) = omega (arith, seen_within things)
 seen_within (Stop ∷ things) = omega (arith, seen_within things)
+
+-- ---- a run of bytes
+
+-- the lines of what each of some bytes adds
+pub path_body : (image : Image) (s : Sizes) (id : ℕ) (bytes run : List ℕ) (shown : Option Ctx) (more : List Item) → GrowsBy image s bytes run shown more
+    → StreamBody (paths image s) id bytes run (line_list id shown more)
+path_body image s id bytes [] shown more none = ap (line_list id shown) none
+path_body image s id bytes (byte ∷ run) shown more (first, rest, grows, later, parts) = (
+  line_list id shown first,
+  line_list id (shown_after_all shown first) rest,
+  (shown, first, grows, refl),
+  path_body image s id (bytes ++ byte ∷ []) run (shown_after_all shown first) rest later,
+  ap (line_list id shown) parts ∙ line_list-append id shown first rest,
+)
+
+pub path_adds : (image : Image) (s : Sizes) (id : ℕ) (bytes run : List ℕ) (shown : Option Ctx) (a b : IoState) (result : Result (Unit {0}) Failed)
+    → GrowsAlong image s id bytes run shown a b result → RunAdds (paths image s) id bytes run a b result
+path_adds image s id bytes run shown a b result is =
+    record {
+      took = is.took;
+      others = is.others;
+      parts = is.parts;
+      lines = line_list id shown is.more;
+      body = path_body image s id bytes is.took shown is.more is.grows;
+      writes = subst (Writes a b result) (sym (list_joined id shown is.more)) is.writes;
+      all = is.all;
+    }

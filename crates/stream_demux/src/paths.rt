@@ -51,6 +51,16 @@ impl Stream for StreamDecoder {
         StreamDecoder::take(self, image, id, byte, sink)
     }
 
+    fn take_run<K: Sink>(
+        &mut self,
+        image: &Image,
+        id: Id,
+        run: &[u8],
+        sink: &mut K,
+    ) -> Result<(), Failed> {
+        StreamDecoder::take_run(self, image, id, run, sink)
+    }
+
     fn ledger(&self) -> Counts {
         StreamDecoder::ledger(self)
     }

@@ -9,7 +9,7 @@ use Rattle.path_text.specs.Writing.{Writes}
 use Rattle.stream_decoder.specs.Decoding.{Decoder, Decoding}
 use Rattle.stream_decoder.specs.Stands.{Came}
 use Rattle.stream_decoder.specs.Yields.{Begun}
-use Rattle.stream_decoder.proofs.Growing.{by_fault, grows_on, grows_stopped, not_none, stands_on, stands_stopped}
+use Rattle.stream_decoder.proofs.Growing.{byte_on, byte_stopped, by_fault, grows_on, grows_stopped, not_none}
 use Rattle.trace_io.specs.declared.traits.Failed.{Failed}
 use Rattle.stream_decoder.proofs.decoder.StreamDecoder.take.Goals as goal
 
@@ -29,12 +29,12 @@ returns-in-Ok-clause-stands g c ok bytes stands =
     record {
       whole = whole;
       items = stands.items ++ p.items;
-      came = stands_on image bytes c.args.byte c.ranges.byte.fits stands.items d m are settings begun stands.came none p.items d' ends.0;
+      came = byte_on image bytes c.args.byte c.ranges.byte.fits stands.items d m are settings begun stands.came none p.items d' ends.0;
       shown = ends.1 ∙ ap (λ (s : Option Ctx). shown_after_all s p.items) (shown ∙ stands.shown) ∙ sym (shown_after_all-append None stands.items p.items);
     })
     (λ stop met.
     let stopped = c.in-Ok.ensures.stopped (c.begin.ensures.holds.stopped (not_none m.fault stop met)) in
-    let now = stands_stopped image bytes c.args.byte c.ranges.byte.fits stands.items d m are settings begun stands.came stop met in
+    let now = byte_stopped image bytes c.args.byte c.ranges.byte.fits stands.items d m are settings begun stands.came stop met in
     record {
       whole = whole;
       items = stands.items;
