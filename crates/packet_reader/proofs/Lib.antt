@@ -13,4 +13,5 @@ pub mod Told
 pub mod Asked
 pub mod Endings
 mod Fronts
-mod Commits
+mod NumberEnds
+mod TakenCorrections

@@ -3,19 +3,21 @@
 ghost use Rattle.std.specs.Prelude.{◌≡◌, ◌≤◌, ◌<◌, ◌+◌, ◌-◌, ◌^◌, ◌++◌, ◌∷◌, [], ◌↔◌, length, drop, List, ℕ, IsTrue, IsSome, IfSome, None, All};
 ghost use Rattle.etm_types.specs.Settings.{AreSettings};
 ghost use Rattle.packet_grammar.specs.Ranges.{IsPacket};
+ghost use Rattle.packet_reader.specs.Corrections.{Corrects, EndsCorrection, packet_of};
 ghost use Rattle.packet_reader.specs.States.{FitsAfter, HeadsBy, behind_commit};
 ghost use Rattle.packet_reader.specs.Stands.{FitsPhase, Moved, Moves, settled, zeros_in, zeros_of_sync};
 
 use crate::advance::advance;
+use crate::correction::CorrectionPacket;
 use crate::fields::CONTINUES;
 use crate::front::{Address, address_at, commit_at};
-use crate::headers::{header, run_of};
+use crate::headers::{correction_of, header, run_of};
 use crate::phase::Phase;
 use crate::state::{Progress, Purpose, State};
 use crate::step::Step;
 use crate::sync::{LENGTH_OF_SYNC, ends_sync};
 use etm_types::{AtomRun, Settings};
-use packet_grammar::headers::ATOMS;
+use packet_grammar::headers::{ATOMS, LAST_CANCEL_FORMAT_3, MISPREDICT};
 use packet_grammar::{End, Packet, PacketFault};
 use std::marker::Model;
 
@@ -180,6 +182,22 @@ impl PacketReader {
         Some((at, u32::from(byte)))
     }
 
+    /// Takes the next byte where a cancel or mispredict packet ends with it, a Cancel Format 1 packet only where its number has
+    /// one byte, and answers the packet's offset and what it corrects. Every other byte is left to [`take`](PacketReader::take),
+    /// and nothing changes.
+    #[inline(always)]
+    pub fn take_correction(&mut self, byte: u8) -> Option<(u64, CorrectionPacket)>
+        requires { self.old.taken < 2 ^ 62 }
+        ensures some { IsSome result ↔ EndsCorrection self.old.phase byte }
+        ensures none { result ≡ None → self.new ≡ self.old }
+        ensures takes { IfSome result (λ c. TakesPacket self.old self.new (byte ∷ []) c.0 (packet_of c.1)) }
+    {
+        let correction = ended_correction(&self.phase, byte)?;
+        let (at, after) = (self.start, self.taken + 1);
+        (self.phase, self.start, self.taken) = (Phase::Between, after, after);
+        Some((at, correction))
+    }
+
     /// How many bytes were taken.
     pub fn taken(&self) -> u64
         ensures value { result ≡ self.now.taken }
@@ -238,6 +256,31 @@ fn is_behind_commit(phase: &Phase) -> bool
             },
         }
     )
+}
+
+/// What a byte corrects, where a cancel or mispredict packet ends with it.
+#[inline(always)]
+fn ended_correction(phase: &Phase, byte: u8) -> Option<CorrectionPacket>
+    ensures some { IsSome result ↔ EndsCorrection phase.now byte }
+    ensures ends { IfSome result (λ c. Corrects phase.now byte c) }
+{
+    match phase {
+        Phase::Between if byte >= MISPREDICT && byte <= LAST_CANCEL_FORMAT_3 => {
+            Some(correction_of(byte))
+        }
+        Phase::Within {
+            state: State::Number {
+                purpose: Purpose::Cancel { flip },
+                left: 4,
+                groups: 0,
+                value: 0,
+            },
+        } if byte < CONTINUES => Some(CorrectionPacket::Cancel1 {
+            n: u32::from(byte),
+            flip: *flip,
+        }),
+        _ => None,
+    }
 }
 
 /// What a byte makes of a reader, which with it has taken so many. Most bytes are atom packets, which leave
