@@ -11,6 +11,7 @@ ghost use Rattle.packet_grammar.specs.Parsed.{Ending, IsStream};
 ghost use Rattle.packet_grammar.specs.declared.packet.Packet.{Packet};
 ghost use Rattle.packet_grammar.specs.declared.stream_fault.Fault.{Fault};
 ghost use Rattle.packet_reader.specs.Answered.{fault_of};
+ghost use Rattle.packet_reader.specs.Corrections.{packet_of};
 ghost use Rattle.packet_reader.specs.Stands as stands;
 ghost use Rattle.path_elements.specs.Held.{CanBeTaken};
 ghost use Rattle.path_walker.specs.Things.{IsAlignedThing, Walks};
@@ -27,7 +28,7 @@ use crate::waiting::Waiting;
 use element_queue::{Counts, Ledger};
 use etm_types::{AtomRun, Ctx, QueueFault, Settings, Thing};
 use packet_grammar::{End, Fault, Packet};
-use packet_reader::{PacketReader, Step};
+use packet_reader::{CorrectionPacket, PacketReader, Step};
 use path_elements::{Awaited, ElemMaker};
 use path_walker::{Stretch, Stretches, Walker};
 use program_image::Image;
@@ -78,7 +79,7 @@ impl Decoding {
     /// Takes the next byte. The elements of the packet that it ends are left to do. Behind a fault nothing is
     /// taken but the byte.
     ///
-    /// Most packets are atoms or short commits: these go the short way.
+    /// Most packets are atoms, short commits, cancels or mispredicts: these go the short way.
     #[inline(always)]
     pub fn begin(&mut self, byte: u8)
         requires few { self.old.reader.taken < 2 ^ 62 }
@@ -110,6 +111,23 @@ impl Decoding {
     {
         match self.reader.take_commit_end(byte) {
             Some((at, n)) => self.open_commit(at, n),
+            None => self.begin_correction(byte),
+        }
+    }
+
+    /// Takes the next byte. One that ends a cancel or mispredict packet goes a short way too.
+    #[inline(always)]
+    fn begin_correction(&mut self, byte: u8)
+        requires few { self.old.reader.taken < 2 ^ 62 }
+        requires rest { AtRest self.old }
+        requires whole { self.old.fault ≡ None }
+        ensures begun { Begun self.old byte self.new }
+        ensures taken { self.new.reader.taken ≡ self.old.reader.taken + 1 }
+        ensures settings { self.new.reader.settings ≡ self.old.reader.settings }
+        ensures holds { IsDecoding self.new }
+    {
+        match self.reader.take_correction(byte) {
+            Some((at, correction)) => self.open_correction(at, correction),
             None => self.begin_any(byte),
         }
     }
@@ -166,6 +184,22 @@ impl Decoding {
         }
     }
 
+    /// Leaves the elements of a cancel or mispredict packet to do, or sets its fault where it may not come.
+    #[inline(always)]
+    fn open_correction(&mut self, at: u64, correction: CorrectionPacket)
+        requires packet { CanBeTaken (packet_of correction) }
+        requires rest { AtRest self.old }
+        requires whole { self.old.fault ≡ None }
+        ensures opens { OpensPacket self.old at (packet_of correction) self.new }
+        ensures reader { self.new.reader ≡ self.old.reader }
+        ensures holds { IsDecoding self.new }
+    {
+        match self.maker.correction_of(&correction.packet()) {
+            Some(elems) => self.todo = Todo::of(at, elems),
+            None => self.open(at, &correction.packet()),
+        }
+    }
+
     /// Leaves the elements of a packet to do, or sets its fault where it may not come.
     #[inline(never)]
     fn open(&mut self, at: u64, packet: &Packet)
@@ -200,7 +234,7 @@ impl Decoding {
     }
 
     /// Takes the next elements that show nothing by themselves: atoms for which there is room, and then a commit, or an
-    /// address. What a commit commits is due. Says whether there was one.
+    /// address, or a cancel and a mispredict. What a commit commits is due. Says whether there was one.
     #[inline(always)]
     pub fn take_quiet(&mut self) -> bool
         ensures goes { (image : Image) → Goes image self.old [] self.new }
@@ -211,7 +245,7 @@ impl Decoding {
         ensures holds { IsDecoding self.new }
     {
         let held = self.hold_atoms();
-        self.take_commit_or_address() || held
+        self.take_behind_atoms() || held
     }
 
     /// Takes the next elements as long as they are atoms for which there is room. Says whether there was one.
@@ -231,9 +265,10 @@ impl Decoding {
         some
     }
 
-    /// Takes the next element where it is a commit or an address that shows nothing by itself. Else nothing changes.
+    /// Takes the next element where it is a commit or an address that shows nothing by itself, or the next ones where they are
+    /// cancels and mispredicts. Else nothing changes.
     #[inline(always)]
-    fn take_commit_or_address(&mut self) -> bool
+    fn take_behind_atoms(&mut self) -> bool
         ensures goes { IsTrue result → (image : Image) → Goes image self.old [] self.new }
         ensures fewer { IsTrue result → left self.new < left self.old }
         ensures unchanged { result ≡ false → self.new ≡ self.old }
@@ -241,7 +276,24 @@ impl Decoding {
         ensures reader { self.new.reader ≡ self.old.reader }
         ensures holds { IsDecoding self.new }
     {
-        self.take_commit() || self.take_address()
+        self.take_commit() || self.take_address() || self.take_corrections()
+    }
+
+    /// Takes the next elements as long as they are cancels and mispredicts, and nothing is due. Says whether there was one.
+    #[inline(always)]
+    fn take_corrections(&mut self) -> bool
+        ensures goes { (image : Image) → Goes image self.old [] self.new }
+        ensures fewer { IsTrue result → left self.new < left self.old }
+        ensures unchanged { result ≡ false → self.new ≡ self.old }
+        ensures stopped { AtRest self.old → result ≡ false }
+        ensures reader { self.new.reader ≡ self.old.reader }
+        ensures holds { IsDecoding self.new }
+    {
+        let mut some = false;
+        while self.take_correction() {
+            some = true;
+        }
+        some
     }
 
     /// Takes the next element where it is an atom for which there is room. Else nothing changes.
@@ -276,6 +328,25 @@ impl Decoding {
     {
         match self.todo.first_commit() {
             Some(n) if self.waiting.take_commit(n) => {
+                self.todo.advance();
+                true
+            }
+            _ => false,
+        }
+    }
+
+    /// Takes the next element where it is a cancel or a mispredict that has no fault, and nothing is due. Else nothing changes.
+    #[inline(always)]
+    fn take_correction(&mut self) -> bool
+        ensures goes { IsTrue result → (image : Image) → Goes image self.old [] self.new }
+        ensures fewer { IsTrue result → left self.new < left self.old }
+        ensures unchanged { result ≡ false → self.new ≡ self.old }
+        ensures stopped { AtRest self.old → result ≡ false }
+        ensures reader { self.new.reader ≡ self.old.reader }
+        ensures holds { IsDecoding self.new }
+    {
+        match self.todo.first_correction() {
+            Some(correction) if self.waiting.take_correction(correction) => {
                 self.todo.advance();
                 true
             }
