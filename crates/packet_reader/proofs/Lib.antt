@@ -14,4 +14,3 @@ pub mod Asked
 pub mod Endings
 mod Fronts
 mod NumberEnds
-mod TakenCorrections

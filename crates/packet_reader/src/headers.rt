@@ -49,9 +49,7 @@ fn first_headers(h: u8) -> Progress
         0x08..=0x0b => reserved(h),
         0x0c..=0x1f => refused(RefusedKind::CycleCount, h),
         0x20..=0x2c => refused(RefusedKind::DataSync, h),
-        COMMIT => number(Purpose::Commit),
-        CANCEL_FORMAT_1 => number(Purpose::Cancel { flip: false }),
-        CANCEL_FORMAT_1_MISPREDICT => number(Purpose::Cancel { flip: true }),
+        COMMIT..=CANCEL_FORMAT_1_MISPREDICT => number(purpose_of(h)),
         MISPREDICT..=LAST_CANCEL_FORMAT_3 => whole(correction_of(h).packet()),
         _ => unreachable!(),
     }
@@ -260,6 +258,20 @@ pub fn correction_of(h: u8) -> CorrectionPacket
         MISPREDICT..=LAST_MISPREDICT => CorrectionPacket::Mispredict(few_atoms(h)),
         CANCEL_FORMAT_2..=LAST_CANCEL_FORMAT_2 => CorrectionPacket::Cancel2(few_atoms(h)),
         CANCEL_FORMAT_3..=LAST_CANCEL_FORMAT_3 => cancel_3(h),
+        _ => unreachable!(),
+    }
+}
+
+/// What the number behind the header of a commit packet or a Cancel Format 1 packet is for.
+#[inline(always)]
+pub fn purpose_of(h: u8) -> Purpose
+    requires { (0x2d ≤ h) × (h ≤ 0x2f) }
+    ensures { HeadsBy h (Progress.Next (State.Number result 4 0 0)) }
+{
+    match h {
+        COMMIT => Purpose::Commit,
+        CANCEL_FORMAT_1 => Purpose::Cancel { flip: false },
+        CANCEL_FORMAT_1_MISPREDICT => Purpose::Cancel { flip: true },
         _ => unreachable!(),
     }
 }

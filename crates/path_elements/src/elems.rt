@@ -182,10 +182,8 @@ impl Rest {
     fn get(self, values: &Values, i: usize) -> Option<Elem>
         ensures { result ≡ slice_get (rest_in self values.now) i }
     {
-        match self.kind(i) {
-            Some(kind) => Some(values.elem(kind)),
-            None => None,
-        }
+        let kind = self.kind(i)?;
+        Some(values.elem(kind))
     }
 
     /// The kind of the element at `i`, counted from 0.

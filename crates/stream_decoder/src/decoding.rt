@@ -11,7 +11,6 @@ ghost use Rattle.packet_grammar.specs.Parsed.{Ending, IsStream};
 ghost use Rattle.packet_grammar.specs.declared.packet.Packet.{Packet};
 ghost use Rattle.packet_grammar.specs.declared.stream_fault.Fault.{Fault};
 ghost use Rattle.packet_reader.specs.Answered.{fault_of};
-ghost use Rattle.packet_reader.specs.Corrections.{packet_of};
 ghost use Rattle.packet_reader.specs.Stands as stands;
 ghost use Rattle.path_elements.specs.Held.{CanBeTaken};
 ghost use Rattle.path_walker.specs.Things.{IsAlignedThing, Walks};
@@ -28,7 +27,7 @@ use crate::waiting::Waiting;
 use element_queue::{Counts, Ledger};
 use etm_types::{AtomRun, Ctx, QueueFault, Settings, Thing};
 use packet_grammar::{End, Fault, Packet};
-use packet_reader::{CorrectionPacket, PacketReader, Step};
+use packet_reader::{PacketReader, Step};
 use path_elements::{Awaited, ElemMaker};
 use path_walker::{Stretch, Stretches, Walker};
 use program_image::Image;
@@ -115,8 +114,8 @@ impl Decoding {
         }
     }
 
-    /// Takes the next byte. One that ends a cancel or mispredict packet goes a short way too.
-    #[inline(always)]
+    /// Takes the next byte. A mispredict packet, and a cancel packet of one byte, go a short way too.
+    #[inline(never)]
     fn begin_correction(&mut self, byte: u8)
         requires few { self.old.reader.taken < 2 ^ 62 }
         requires rest { AtRest self.old }
@@ -127,9 +126,43 @@ impl Decoding {
         ensures holds { IsDecoding self.new }
     {
         match self.reader.take_correction(byte) {
-            Some((at, correction)) => self.open_correction(at, correction),
-            None => self.begin_any(byte),
+            Some((at, correction)) => self.open_correction(at, correction.packet()),
+            None => self.begin_cancel(byte),
         }
+    }
+
+    /// Takes the next byte. One that ends a short cancel packet goes a short way too.
+    #[inline(always)]
+    fn begin_cancel(&mut self, byte: u8)
+        requires few { self.old.reader.taken < 2 ^ 62 }
+        requires rest { AtRest self.old }
+        requires whole { self.old.fault ≡ None }
+        ensures begun { Begun self.old byte self.new }
+        ensures taken { self.new.reader.taken ≡ self.old.reader.taken + 1 }
+        ensures settings { self.new.reader.settings ≡ self.old.reader.settings }
+        ensures holds { IsDecoding self.new }
+    {
+        match self.reader.take_cancel_end(byte) {
+            Some((at, n, flip)) => self.open_correction(at, Packet::Cancel { n, flip }),
+            None => self.begin_number(byte),
+        }
+    }
+
+    /// Takes the next byte. The header of a commit or cancel packet, behind which a number comes, goes a short way too.
+    #[inline(always)]
+    fn begin_number(&mut self, byte: u8)
+        requires few { self.old.reader.taken < 2 ^ 62 }
+        requires rest { AtRest self.old }
+        requires whole { self.old.fault ≡ None }
+        ensures begun { Begun self.old byte self.new }
+        ensures taken { self.new.reader.taken ≡ self.old.reader.taken + 1 }
+        ensures settings { self.new.reader.settings ≡ self.old.reader.settings }
+        ensures holds { IsDecoding self.new }
+    {
+        if self.reader.take_number_header(byte) {
+            return;
+        }
+        self.begin_any(byte);
     }
 
     /// Takes the next byte, whatever it is.
@@ -186,17 +219,17 @@ impl Decoding {
 
     /// Leaves the elements of a cancel or mispredict packet to do, or sets its fault where it may not come.
     #[inline(always)]
-    fn open_correction(&mut self, at: u64, correction: CorrectionPacket)
-        requires packet { CanBeTaken (packet_of correction) }
+    fn open_correction(&mut self, at: u64, packet: Packet)
+        requires packet { CanBeTaken packet }
         requires rest { AtRest self.old }
         requires whole { self.old.fault ≡ None }
-        ensures opens { OpensPacket self.old at (packet_of correction) self.new }
+        ensures opens { OpensPacket self.old at packet self.new }
         ensures reader { self.new.reader ≡ self.old.reader }
         ensures holds { IsDecoding self.new }
     {
-        match self.maker.correction_of(&correction.packet()) {
+        match self.maker.correction_of(&packet) {
             Some(elems) => self.todo = Todo::of(at, elems),
-            None => self.open(at, &correction.packet()),
+            None => self.open(at, &packet),
         }
     }
 

@@ -1,4 +1,4 @@
-use Rattle.std.proofs.Common.{true, false, Ok, Err, refl, sym, ap, subst, ◌∙◌, arith}
+use Rattle.std.proofs.Common.{Ok, Err, refl, sym, ap, subst, ◌∙◌, arith}
 use Rattle.packet_grammar.specs.declared.packet.Packet.{Packet}
 use Rattle.packet_reader.specs.declared.state.Progress.{Progress}
 use Rattle.packet_reader.specs.declared.state.Progress.TheVariants.{Done}
@@ -7,7 +7,7 @@ use Rattle.packet_grammar.specs.declared.packet.Packet.TheVariants.{On}
 use Rattle.packet_grammar.specs.declared.fault.RefusedKind.TheVariants.{CycleCount, TimeCycle, DataSync, MProfile}
 use Rattle.packet_grammar.specs.declared.fault.PacketFault.TheVariants.{Refused, Reserved}
 use Rattle.packet_grammar.specs.Headers.{refused_headers}
-use Rattle.packet_grammar.proofs.Table.{alone, headers, whole, extension, trace_info, time_stamp, exception, commit, cancel}
+use Rattle.packet_grammar.proofs.Table.{alone, headers, whole, extension, trace_info, time_stamp, exception}
 use Rattle.packet_reader.proofs.Rows.{says, refuses}
 use Rattle.packet_reader.proofs.Headed.{by_row}
 use Rattle.packet_reader.proofs.headers.first_headers.Goals as goal
@@ -89,26 +89,8 @@ returns-in-32-to-44-clause-row c =
     (refuses c.args.h 0x20 0x2c (Refused DataSync c.args.h) refl refl refl (omega arith) (omega arith))
     (c.refused-in-32-to-44.ensures)
 
-pub returns-in-45-clause-row : goal.returns-in-45-clause-row
-unfolding headers refused_headers
-returns-in-45-clause-row c =
-    by_row c.args.h _ (commit)
-    (says c.args.h 0x2d 0x2d (commit) refl refl (omega arith) (omega arith))
-    (c.number.ensures)
-
-pub returns-in-46-clause-row : goal.returns-in-46-clause-row
-unfolding headers refused_headers
-returns-in-46-clause-row c =
-    by_row c.args.h _ (cancel false)
-    (says c.args.h 0x2e 0x2e (cancel false) refl refl (omega arith) (omega arith))
-    (c.number-in-46.ensures)
-
-pub returns-in-47-clause-row : goal.returns-in-47-clause-row
-unfolding headers refused_headers
-returns-in-47-clause-row c =
-    by_row c.args.h _ (cancel true)
-    (says c.args.h 0x2f 0x2f (cancel true) refl refl (omega arith) (omega arith))
-    (c.number-in-47.ensures)
+pub returns-in-45-to-47-clause-row : goal.returns-in-45-to-47-clause-row
+returns-in-45-to-47-clause-row c = subst (λ (p : Progress). HeadsBy c.args.h p) (sym c.number.ensures) c.purpose_of.ensures
 
 pub returns-in-48-to-63-clause-row : goal.returns-in-48-to-63-clause-row
 returns-in-48-to-63-clause-row c =

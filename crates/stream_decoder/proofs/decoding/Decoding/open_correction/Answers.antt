@@ -9,7 +9,7 @@ invariant_of-self c =
     let i = c.self.inside in
     let some = c.in-Some.ensures.some in (
       inv.0,
-      holds_opened i.reader i.reader i.maker i.todo i.waiting i.walker i.fault inv.1 (inv.1).reads refl c.args.at c.packet.result
+      holds_opened i.reader i.reader i.maker i.todo i.waiting i.walker i.fault inv.1 (inv.1).reads refl c.args.at c.args.packet
           c.in-Some.elems i.maker c.of-self-inside.result
           (subst AtRest (sym c.self.view_is) c.requires.rest) (ap (λ (d : Decoding). d.fault) c.self.view_is ∙ c.requires.whole) some.1 (sym some.2)
           c.of-self-inside.ensures
