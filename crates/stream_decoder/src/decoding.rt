@@ -114,7 +114,8 @@ impl Decoding {
         }
     }
 
-    /// Takes the next byte. A mispredict packet, and a cancel packet of one byte, go a short way too.
+    /// Takes the next byte. A mispredict packet, and a cancel packet of one byte, go a short way too. It is long, and most bytes are
+    /// taken without it.
     #[inline(never)]
     fn begin_correction(&mut self, byte: u8)
         requires few { self.old.reader.taken < 2 ^ 62 }
