@@ -13,4 +13,4 @@ pub mod Told
 pub mod Asked
 pub mod Endings
 mod Fronts
-mod Commits
+mod NumberEnds

@@ -1,5 +1,6 @@
 pub mod Trees
 pub mod States
+pub mod Corrections
 pub mod Fronts
 pub mod Stands
 pub mod Answered

@@ -3,6 +3,7 @@
 ghost use Rattle.std.specs.Prelude.{◌≡◌, ◌<◌, ◌≤◌};
 ghost use Rattle.packet_reader.specs.States.{HeadsBy, IsRun, FitsAfter};
 
+use crate::correction::CorrectionPacket;
 use crate::fields::{field, lowest};
 use crate::state::{Long, Progress, Purpose, State};
 use atom_formats::atoms_of;
@@ -48,12 +49,8 @@ fn first_headers(h: u8) -> Progress
         0x08..=0x0b => reserved(h),
         0x0c..=0x1f => refused(RefusedKind::CycleCount, h),
         0x20..=0x2c => refused(RefusedKind::DataSync, h),
-        COMMIT => number(Purpose::Commit),
-        CANCEL_FORMAT_1 => number(Purpose::Cancel { flip: false }),
-        CANCEL_FORMAT_1_MISPREDICT => number(Purpose::Cancel { flip: true }),
-        MISPREDICT..=LAST_MISPREDICT => whole(Packet::Mispredict(few_atoms(h))),
-        CANCEL_FORMAT_2..=LAST_CANCEL_FORMAT_2 => whole(Packet::Cancel2(few_atoms(h))),
-        CANCEL_FORMAT_3..=LAST_CANCEL_FORMAT_3 => whole(cancel_3(h)),
+        COMMIT..=CANCEL_FORMAT_1_MISPREDICT => number(purpose_of(h)),
+        MISPREDICT..=LAST_CANCEL_FORMAT_3 => whole(correction_of(h).packet()),
         _ => unreachable!(),
     }
 }
@@ -132,6 +129,7 @@ fn last_headers(h: u8) -> Progress
 ghost use Rattle.std.specs.Prelude.{Ok, Err, None, ◌==◌, ◌+◌, ◌-◌};
 ghost use Rattle.packet_grammar.specs.Headers.{few_atoms};
 ghost use Rattle.packet_grammar.specs.Fields.{field, lowest};
+ghost use Rattle.packet_reader.specs.Corrections.{packet_of};
 
 /// The header is all.
 fn whole(packet: Packet) -> Progress
@@ -198,10 +196,10 @@ fn few_atoms(h: u8) -> FewAtoms
 }
 
 /// Cancel Format 3 packet: bit 0 (A) is an atom E, and bits 2 and 1 (CC) are the number of elements less 2.
-fn cancel_3(h: u8) -> Packet
-    ensures { result ≡ Packet.Cancel3 (lowest 1 h == 1) (field 2 1 h + 2) }
+fn cancel_3(h: u8) -> CorrectionPacket
+    ensures { result ≡ CorrectionPacket.Cancel3 (lowest 1 h == 1) (field 2 1 h + 2) }
 {
-    Packet::Cancel3 {
+    CorrectionPacket::Cancel3 {
         e: lowest(1, h) == 1,
         n: field(2, 1, h) + 2,
     }
@@ -247,5 +245,33 @@ pub fn run_of(h: u8) -> AtomRun
     match atoms_of(h) {
         Some(run) => run,
         None => unreachable!(),
+    }
+}
+
+/// The Mispredict packet, or the Cancel packet of format 2 or 3, which its header alone holds.
+#[inline(always)]
+pub fn correction_of(h: u8) -> CorrectionPacket
+    requires { (0x30 ≤ h) × (h ≤ 0x3f) }
+    ensures { HeadsBy h (Progress.Done (Ok (packet_of result))) }
+{
+    match h {
+        MISPREDICT..=LAST_MISPREDICT => CorrectionPacket::Mispredict(few_atoms(h)),
+        CANCEL_FORMAT_2..=LAST_CANCEL_FORMAT_2 => CorrectionPacket::Cancel2(few_atoms(h)),
+        CANCEL_FORMAT_3..=LAST_CANCEL_FORMAT_3 => cancel_3(h),
+        _ => unreachable!(),
+    }
+}
+
+/// What the number behind the header of a commit packet or a Cancel Format 1 packet is for.
+#[inline(always)]
+pub fn purpose_of(h: u8) -> Purpose
+    requires { (0x2d ≤ h) × (h ≤ 0x2f) }
+    ensures { HeadsBy h (Progress.Next (State.Number result 4 0 0)) }
+{
+    match h {
+        COMMIT => Purpose::Commit,
+        CANCEL_FORMAT_1 => Purpose::Cancel { flip: false },
+        CANCEL_FORMAT_1_MISPREDICT => Purpose::Cancel { flip: true },
+        _ => unreachable!(),
     }
 }

@@ -1,10 +1,10 @@
 //! The elements of one packet.
-ghost use Rattle.std.specs.Prelude.{◌≡◌, ◌≤◌, ◌+◌, ◌∷◌, ◌++◌, ◌↔◌, [], ℕ, Bool, length, replicate, slice_get, All, IfSome, IsSome, Some};
+ghost use Rattle.std.specs.Prelude.{◌≡◌, ◌≤◌, ◌+◌, ◌∷◌, ◌++◌, ◌↔◌, [], ℕ, Bool, length, replicate, slice_get, All, IfSome, IsSome, None, Some};
 ghost use Rattle.etm_types.specs.declared.element.Elem.TheVariants as elem;
 ghost use Rattle.etm_types.specs.declared.element.P0.TheVariants.{Atom};
 ghost use Rattle.etm_types.specs.Atoms.{atoms_in, most_atoms};
 ghost use Rattle.path_elements.specs.Elements.{atoms};
-ghost use Rattle.path_elements.specs.Held.{IsElem, elem_of, numbered, rest_in};
+ghost use Rattle.path_elements.specs.Held.{IsElem, elem_of, elem_of_correction, numbered, rest_in};
 ghost use Rattle.path_elements.specs.declared.elems.Values.{Values};
 
 use etm_types::{AtomRun, Ctx, Elem, FewAtoms, P0};
@@ -62,6 +62,15 @@ pub(crate) struct Values {
     /// An address, or the preferred return address of the exception.
     pub addr: u64,
     pub ctx: Ctx,
+}
+
+/// An element that corrects what was speculated.
+#[derive(Clone, Copy, Debug, PartialEq, Eq)]
+pub enum Correction {
+    /// So many P0 elements, the newest ones, are taken back.
+    Cancel(u32),
+    /// The newest atom was mispredicted.
+    Flip,
 }
 
 impl Model for Elems {
@@ -128,6 +137,23 @@ impl Elems {
         }
     }
 
+    /// The cancel or mispredict at `i`, counted from 0, where one stands there.
+    #[inline(always)]
+    pub fn correction(&self, i: usize) -> Option<Correction>
+        ensures value { IfSome result (λ c. slice_get self.now i ≡ Some (elem_of_correction c)) }
+        ensures some { IsSome result ↔ ((c : Correction) × (slice_get self.now i ≡ Some (elem_of_correction c))) }
+    {
+        let count = usize::from(self.atoms.count);
+        if i < count {
+            return None;
+        }
+        match self.rest.kind(i - count)? {
+            Kind::Cancel => Some(Correction::Cancel(self.values.number)),
+            Kind::Flip => Some(Correction::Flip),
+            _ => None,
+        }
+    }
+
     /// The element at `i`, counted from 0.
     pub fn get(&self, i: usize) -> Option<Elem>
         ensures value { result ≡ slice_get self.now i }
@@ -156,13 +182,23 @@ impl Rest {
     fn get(self, values: &Values, i: usize) -> Option<Elem>
         ensures { result ≡ slice_get (rest_in self values.now) i }
     {
+        let kind = self.kind(i)?;
+        Some(values.elem(kind))
+    }
+
+    /// The kind of the element at `i`, counted from 0.
+    #[inline(always)]
+    fn kind(self, i: usize) -> Option<Kind>
+        ensures some { IfSome result (λ kind. (values : Values) → slice_get (rest_in self values) i ≡ Some (elem_of values kind)) }
+        ensures none { result ≡ None → (values : Values) → slice_get (rest_in self values) i ≡ None }
+    {
         match self {
-            Rest::One(only) if i == 0 => Some(values.elem(only)),
-            Rest::Two(first, _) if i == 0 => Some(values.elem(first)),
-            Rest::Two(_, second) if i == 1 => Some(values.elem(second)),
-            Rest::Three(first, _, _) if i == 0 => Some(values.elem(first)),
-            Rest::Three(_, second, _) if i == 1 => Some(values.elem(second)),
-            Rest::Three(_, _, third) if i == 2 => Some(values.elem(third)),
+            Rest::One(only) if i == 0 => Some(only),
+            Rest::Two(first, _) if i == 0 => Some(first),
+            Rest::Two(_, second) if i == 1 => Some(second),
+            Rest::Three(first, _, _) if i == 0 => Some(first),
+            Rest::Three(_, second, _) if i == 1 => Some(second),
+            Rest::Three(_, _, third) if i == 2 => Some(third),
             _ => None,
         }
     }

@@ -1,7 +1,7 @@
 //! From packets to elements, one packet after the other.
 ghost use Rattle.std.specs.Prelude.{◌≡◌, ◌≤◌, ◌<◌, ◌∷◌, ◌++◌, ◌↔◌, [], false, true, Some, None, IfOk, IfSome, IsSome, OnErr, if◌then◌else◌};
 ghost use Rattle.path_elements.specs.Elements.{untold, elements_of, told_after, is_misplaced, may_follow_exception, tells, with_address};
-ghost use Rattle.path_elements.specs.Held.{AreElems, CanBeTaken, CanStand, IsTold, elem_of, numbered};
+ghost use Rattle.path_elements.specs.Held.{AreElems, CanBeTaken, CanStand, IsCorrection, IsTold, elem_of, numbered};
 ghost use Rattle.etm_types.specs.Atoms.{most_atoms};
 ghost use Rattle.etm_types.specs.declared.element.Elem.TheVariants as elem;
 
@@ -132,6 +132,33 @@ impl ElemMaker {
         }
         let (_, values) = self.take_address(form);
         Some(Elems::one(Kind::Addr, values))
+    }
+
+    /// The elements of a cancel or mispredict packet, where it counts and may come: taking it changes nothing. Else, and of every other
+    /// packet, it answers `None`, and [`take`](ElemMaker::take) takes it.
+    #[inline(always)]
+    pub fn correction_of(&self, packet: &Packet) -> Option<Elems>
+        requires { CanBeTaken packet.now }
+        ensures some { IfSome result (λ elems. (is_misplaced self.now packet.now ≡ false)
+            × (elems ≡ elements_of self.now packet.now) × (told_after self.now packet.now ≡ self.now)) }
+        ensures counts { IsSome result ↔ ((self.now.informed ≡ true) × (self.now.awaiting ≡ None) × IsCorrection packet.now) }
+        ensures within { IfSome result (λ elems. AreElems elems) }
+    {
+        if !self.informed || self.awaiting.is_some() {
+            return None;
+        }
+        match *packet {
+            Packet::Cancel { n, flip: false } => {
+                Some(Elems::one(Kind::Cancel, Values::number(n)))
+            }
+            Packet::Cancel { n, flip: true } => {
+                Some(Elems::two(Kind::Cancel, Kind::Flip, Values::number(n)))
+            }
+            Packet::Mispredict(ref few) => Some(Elems::flipped(few)),
+            Packet::Cancel2(ref few) => Some(Elems::cancelled(few, 1)),
+            Packet::Cancel3 { e, n } => Some(Elems::cancelled(&one_if(e), u32::from(n))),
+            _ => None,
+        }
     }
 
     /// Takes a packet of any kind. It is long; most packets are atoms, and [`ElemMaker::take`] answers

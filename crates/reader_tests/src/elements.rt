@@ -235,3 +235,18 @@ fn atoms_come_first_and_the_oldest_of_them(rt: HostRuntime) -> Result<(), Fail> 
         &[TAKEN, Elem::Cancel(2), Elem::Flip],
     )
 }
+
+#[test]
+fn what_a_cancel_corrects_is_told_behind_its_atoms(rt: HostRuntime) -> Result<(), Fail> {
+    let mut maker = ElemMaker::new();
+    let cancel = Packet::Cancel3 { e: true, n: 2 };
+    assert!(rt; maker.correction_of(&cancel).is_none());
+    gives(&rt, &mut maker, &info(None), &[NO_SPEC])?;
+    assert!(rt; maker.correction_of(&Packet::Commit(1)).is_none());
+    let elems = maker.correction_of(&cancel).ok_or("it counts")?;
+    assert_eq!(rt; elems.correction(0), None);
+    assert_eq!(rt; elems.correction(1), Some(Correction::Cancel(2)));
+    assert_eq!(rt; elems.correction(2), Some(Correction::Flip));
+    assert_eq!(rt; elems.correction(3), None);
+    Ok(())
+}

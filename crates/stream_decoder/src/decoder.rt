@@ -338,6 +338,9 @@ fn write_some<K: Sink>(
             return Ok(());
         }
         if decoding.take_quiet() {
+            if decoding.is_at_rest() {
+                return Ok(());
+            }
             continue;
         }
         let Some(found) = decoding.next(image) else {

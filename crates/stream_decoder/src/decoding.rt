@@ -79,7 +79,7 @@ impl Decoding {
     /// Takes the next byte. The elements of the packet that it ends are left to do. Behind a fault nothing is
     /// taken but the byte.
     ///
-    /// Most packets are atoms or short commits: these go the short way.
+    /// Most packets are atoms, short commits, cancels or mispredicts: these go the short way.
     #[inline(always)]
     pub fn begin(&mut self, byte: u8)
         requires few { self.old.reader.taken < 2 ^ 62 }
@@ -156,8 +156,60 @@ impl Decoding {
     {
         match self.reader.take_commit_end(byte) {
             Some((at, n)) => self.open_commit(at, n),
-            None => self.begin_any(byte),
+            None => self.begin_correction(byte),
         }
+    }
+
+    /// Takes the next byte. A mispredict packet, and a cancel packet of one byte, go a short way too. It is long, and most bytes are
+    /// taken without it.
+    #[inline(never)]
+    fn begin_correction(&mut self, byte: u8)
+        requires few { self.old.reader.taken < 2 ^ 62 }
+        requires rest { AtRest self.old }
+        requires whole { self.old.fault ≡ None }
+        ensures begun { Begun self.old byte self.new }
+        ensures taken { self.new.reader.taken ≡ self.old.reader.taken + 1 }
+        ensures settings { self.new.reader.settings ≡ self.old.reader.settings }
+        ensures holds { IsDecoding self.new }
+    {
+        match self.reader.take_correction(byte) {
+            Some((at, correction)) => self.open_correction(at, correction.packet()),
+            None => self.begin_cancel(byte),
+        }
+    }
+
+    /// Takes the next byte. One that ends a short cancel packet goes a short way too.
+    #[inline(always)]
+    fn begin_cancel(&mut self, byte: u8)
+        requires few { self.old.reader.taken < 2 ^ 62 }
+        requires rest { AtRest self.old }
+        requires whole { self.old.fault ≡ None }
+        ensures begun { Begun self.old byte self.new }
+        ensures taken { self.new.reader.taken ≡ self.old.reader.taken + 1 }
+        ensures settings { self.new.reader.settings ≡ self.old.reader.settings }
+        ensures holds { IsDecoding self.new }
+    {
+        match self.reader.take_cancel_end(byte) {
+            Some((at, n, flip)) => self.open_correction(at, Packet::Cancel { n, flip }),
+            None => self.begin_number(byte),
+        }
+    }
+
+    /// Takes the next byte. The header of a commit or cancel packet, behind which a number comes, goes a short way too.
+    #[inline(always)]
+    fn begin_number(&mut self, byte: u8)
+        requires few { self.old.reader.taken < 2 ^ 62 }
+        requires rest { AtRest self.old }
+        requires whole { self.old.fault ≡ None }
+        ensures begun { Begun self.old byte self.new }
+        ensures taken { self.new.reader.taken ≡ self.old.reader.taken + 1 }
+        ensures settings { self.new.reader.settings ≡ self.old.reader.settings }
+        ensures holds { IsDecoding self.new }
+    {
+        if self.reader.take_number_header(byte) {
+            return;
+        }
+        self.begin_any(byte);
     }
 
     /// Takes the next byte, whatever it is.
@@ -229,6 +281,22 @@ impl Decoding {
         }
     }
 
+    /// Leaves the elements of a cancel or mispredict packet to do, or sets its fault where it may not come.
+    #[inline(always)]
+    fn open_correction(&mut self, at: u64, packet: Packet)
+        requires packet { CanBeTaken packet }
+        requires rest { AtRest self.old }
+        requires whole { self.old.fault ≡ None }
+        ensures opens { OpensPacket self.old at packet self.new }
+        ensures reader { self.new.reader ≡ self.old.reader }
+        ensures holds { IsDecoding self.new }
+    {
+        match self.maker.correction_of(&packet) {
+            Some(elems) => self.todo = Todo::of(at, elems),
+            None => self.open(at, &packet),
+        }
+    }
+
     /// Leaves the elements of a packet to do, or sets its fault where it may not come.
     #[inline(never)]
     fn open(&mut self, at: u64, packet: &Packet)
@@ -263,7 +331,7 @@ impl Decoding {
     }
 
     /// Takes the next elements that show nothing by themselves: atoms for which there is room, and then a commit, or an
-    /// address. What a commit commits is due. Says whether there was one.
+    /// address, or a cancel and a mispredict. What a commit commits is due. Says whether there was one.
     #[inline(always)]
     pub fn take_quiet(&mut self) -> bool
         ensures goes { (image : Image) → Goes image self.old [] self.new }
@@ -274,7 +342,7 @@ impl Decoding {
         ensures holds { IsDecoding self.new }
     {
         let held = self.hold_atoms();
-        self.take_commit_or_address() || held
+        self.take_behind_atoms() || held
     }
 
     /// Takes the next elements as long as they are atoms for which there is room. Says whether there was one.
@@ -294,9 +362,10 @@ impl Decoding {
         some
     }
 
-    /// Takes the next element where it is a commit or an address that shows nothing by itself. Else nothing changes.
+    /// Takes the next element where it is a commit or an address that shows nothing by itself, or the next ones where they are
+    /// cancels and mispredicts. Else nothing changes.
     #[inline(always)]
-    fn take_commit_or_address(&mut self) -> bool
+    fn take_behind_atoms(&mut self) -> bool
         ensures goes { IsTrue result → (image : Image) → Goes image self.old [] self.new }
         ensures fewer { IsTrue result → left self.new < left self.old }
         ensures unchanged { result ≡ false → self.new ≡ self.old }
@@ -304,7 +373,24 @@ impl Decoding {
         ensures reader { self.new.reader ≡ self.old.reader }
         ensures holds { IsDecoding self.new }
     {
-        self.take_commit() || self.take_address()
+        self.take_commit() || self.take_address() || self.take_corrections()
+    }
+
+    /// Takes the next elements as long as they are cancels and mispredicts, and nothing is due. Says whether there was one.
+    #[inline(always)]
+    fn take_corrections(&mut self) -> bool
+        ensures goes { (image : Image) → Goes image self.old [] self.new }
+        ensures fewer { IsTrue result → left self.new < left self.old }
+        ensures unchanged { result ≡ false → self.new ≡ self.old }
+        ensures stopped { AtRest self.old → result ≡ false }
+        ensures reader { self.new.reader ≡ self.old.reader }
+        ensures holds { IsDecoding self.new }
+    {
+        let mut some = false;
+        while self.take_correction() {
+            some = true;
+        }
+        some
     }
 
     /// Takes the next element where it is an atom for which there is room. Else nothing changes.
@@ -339,6 +425,25 @@ impl Decoding {
     {
         match self.todo.first_commit() {
             Some(n) if self.waiting.take_commit(n) => {
+                self.todo.advance();
+                true
+            }
+            _ => false,
+        }
+    }
+
+    /// Takes the next element where it is a cancel or a mispredict that has no fault, and nothing is due. Else nothing changes.
+    #[inline(always)]
+    fn take_correction(&mut self) -> bool
+        ensures goes { IsTrue result → (image : Image) → Goes image self.old [] self.new }
+        ensures fewer { IsTrue result → left self.new < left self.old }
+        ensures unchanged { result ≡ false → self.new ≡ self.old }
+        ensures stopped { AtRest self.old → result ≡ false }
+        ensures reader { self.new.reader ≡ self.old.reader }
+        ensures holds { IsDecoding self.new }
+    {
+        match self.todo.first_correction() {
+            Some(correction) if self.waiting.take_correction(correction) => {
                 self.todo.advance();
                 true
             }

@@ -2,9 +2,10 @@
 ghost use Rattle.std.specs.Prelude.{◌≡◌, ◌≤◌, ◌<◌, ◌∷◌, [], ◌↔◌, drop, length, slice_get, Bool, IfSome, IsSome, IsTrue, List, Some, None};
 ghost use Rattle.etm_types.specs.declared.element.Elem.TheVariants as elem;
 ghost use Rattle.etm_types.specs.declared.element.P0.TheVariants.{Atom};
+ghost use Rattle.path_elements.specs.Held.{elem_of_correction};
 
 use etm_types::Elem;
-use path_elements::Elems;
+use path_elements::{Correction, Elems};
 use std::marker::Model;
 
 /// The elements of one packet that are still to be taken, and its offset. Contracts see the offset and the
@@ -105,6 +106,14 @@ impl Todo {
         ensures { IfSome result (λ n. (others : List Elem) × (self.now.elements ≡ elem.Commit n ∷ others)) }
     {
         self.elems.commit(self.next)
+    }
+
+    /// What the next one corrects, where it is a cancel or a mispredict.
+    #[inline(always)]
+    pub fn first_correction(&self) -> Option<Correction>
+        ensures { IfSome result (λ c. (others : List Elem) × (self.now.elements ≡ elem_of_correction c ∷ others)) }
+    {
+        self.elems.correction(self.next)
     }
 
     /// Which address the next one is, where it is an address and the one element of its packet.

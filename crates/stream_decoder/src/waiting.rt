@@ -11,11 +11,13 @@ ghost use Rattle.etm_types.specs.declared.element.P0.{P0};
 ghost use Rattle.etm_types.specs.declared.element.Thing.TheVariants.{Seen};
 ghost use Rattle.etm_types.specs.declared.element.Thing.{Thing};
 ghost use Rattle.etm_types.specs.declared.queue_fault.QueueFault.{QueueFault};
+ghost use Rattle.path_elements.specs.Held.{elem_of_correction};
 ghost use Rattle.stream_decoder.specs.Waiting.{Commits, IsWaiting, committed_by, passed};
 ghost use Rattle.etm_types.specs.Pre.{nothing_told};
 
 use element_queue::{AtomEntry, Committed, Counts, Ledger, PreElem, Queue};
 use etm_types::{Elem, P0, QueueFault, Thing};
+use path_elements::Correction;
 use std::alloc::{AllocError, Global};
 use std::marker::Model;
 
@@ -162,6 +164,23 @@ impl Waiting {
                 true
             }
             Err(_) => false,
+        }
+    }
+
+    /// Takes a cancel or a mispredict where nothing is due and the queue can be corrected so. Else nothing changes.
+    #[inline(always)]
+    pub fn take_correction(&mut self, correction: Correction) -> bool
+        ensures due { IsTrue result → self.old.due ≡ [] }
+        ensures commits { IsTrue result → Commits self.old (elem_of_correction correction) self.new [] }
+        ensures unchanged { result ≡ false → self.new ≡ self.old }
+        ensures holds { IsWaiting self.new }
+    {
+        if self.due > 0 {
+            return false;
+        }
+        match correction {
+            Correction::Cancel(n) => self.queue.cancel(n).is_ok(),
+            Correction::Flip => self.queue.flip().is_ok(),
         }
     }
 

@@ -1,13 +1,13 @@
-use Rattle.std.proofs.Common.{true, false, Ok, Err, refl, ap, ◌∙◌, arith}
-use Rattle.etm_types.specs.declared.atoms.FewAtoms.{FewAtoms}
+use Rattle.std.proofs.Common.{Ok, Err, refl, sym, ap, subst, ◌∙◌, arith}
 use Rattle.packet_grammar.specs.declared.packet.Packet.{Packet}
+use Rattle.packet_reader.specs.declared.state.Progress.{Progress}
 use Rattle.packet_reader.specs.declared.state.Progress.TheVariants.{Done}
-use Rattle.std.specs.Prelude.{◌==◌, ◌%◌, ◌/◌, ◌+◌}
-use Rattle.packet_grammar.specs.declared.packet.Packet.TheVariants.{On, Mispredict, Cancel2, Cancel3}
+use Rattle.packet_reader.specs.States.{HeadsBy}
+use Rattle.packet_grammar.specs.declared.packet.Packet.TheVariants.{On}
 use Rattle.packet_grammar.specs.declared.fault.RefusedKind.TheVariants.{CycleCount, TimeCycle, DataSync, MProfile}
 use Rattle.packet_grammar.specs.declared.fault.PacketFault.TheVariants.{Refused, Reserved}
-use Rattle.packet_grammar.specs.Headers.{refused_headers, few_atoms}
-use Rattle.packet_grammar.proofs.Table.{alone, headers, whole, extension, trace_info, time_stamp, exception, commit, cancel}
+use Rattle.packet_grammar.specs.Headers.{refused_headers}
+use Rattle.packet_grammar.proofs.Table.{alone, headers, whole, extension, trace_info, time_stamp, exception}
 use Rattle.packet_reader.proofs.Rows.{says, refuses}
 use Rattle.packet_reader.proofs.Headed.{by_row}
 use Rattle.packet_reader.proofs.headers.first_headers.Goals as goal
@@ -89,44 +89,10 @@ returns-in-32-to-44-clause-row c =
     (refuses c.args.h 0x20 0x2c (Refused DataSync c.args.h) refl refl refl (omega arith) (omega arith))
     (c.refused-in-32-to-44.ensures)
 
-pub returns-in-45-clause-row : goal.returns-in-45-clause-row
-unfolding headers refused_headers
-returns-in-45-clause-row c =
-    by_row c.args.h _ (commit)
-    (says c.args.h 0x2d 0x2d (commit) refl refl (omega arith) (omega arith))
-    (c.number.ensures)
+pub returns-in-45-to-47-clause-row : goal.returns-in-45-to-47-clause-row
+returns-in-45-to-47-clause-row c = subst (λ (p : Progress). HeadsBy c.args.h p) (sym c.number.ensures) c.purpose_of.ensures
 
-pub returns-in-46-clause-row : goal.returns-in-46-clause-row
-unfolding headers refused_headers
-returns-in-46-clause-row c =
-    by_row c.args.h _ (cancel false)
-    (says c.args.h 0x2e 0x2e (cancel false) refl refl (omega arith) (omega arith))
-    (c.number-in-46.ensures)
-
-pub returns-in-47-clause-row : goal.returns-in-47-clause-row
-unfolding headers refused_headers
-returns-in-47-clause-row c =
-    by_row c.args.h _ (cancel true)
-    (says c.args.h 0x2f 0x2f (cancel true) refl refl (omega arith) (omega arith))
-    (c.number-in-47.ensures)
-
-pub returns-in-48-to-51-clause-row : goal.returns-in-48-to-51-clause-row
-unfolding headers refused_headers
-returns-in-48-to-51-clause-row c =
-    by_row c.args.h _ (whole (Mispredict (few_atoms c.args.h)))
-    (says c.args.h 0x30 0x33 (whole (Mispredict (few_atoms c.args.h))) refl refl (omega arith) (omega arith))
-    (c.whole-in-48-to-51.ensures ∙ ap (λ (f : FewAtoms). Done (Ok (Mispredict f))) c.few_atoms.ensures)
-
-pub returns-in-52-to-55-clause-row : goal.returns-in-52-to-55-clause-row
-unfolding headers refused_headers
-returns-in-52-to-55-clause-row c =
-    by_row c.args.h _ (whole (Cancel2 (few_atoms c.args.h)))
-    (says c.args.h 0x34 0x37 (whole (Cancel2 (few_atoms c.args.h))) refl refl (omega arith) (omega arith))
-    (c.whole-in-52-to-55.ensures ∙ ap (λ (f : FewAtoms). Done (Ok (Cancel2 f))) c.few_atoms-in-52-to-55.ensures)
-
-pub returns-in-56-to-63-clause-row : goal.returns-in-56-to-63-clause-row
-unfolding headers refused_headers
-returns-in-56-to-63-clause-row c =
-    by_row c.args.h _ (whole (Cancel3 (c.args.h % 2 == 1) (c.args.h / 2 % 4 + 2)))
-    (says c.args.h 0x38 0x3f (whole (Cancel3 (c.args.h % 2 == 1) (c.args.h / 2 % 4 + 2))) refl refl (omega arith) (omega arith))
-    (c.whole-in-56-to-63.ensures ∙ ap (λ (p : Packet). Done (Ok p)) c.cancel_3.ensures)
+pub returns-in-48-to-63-clause-row : goal.returns-in-48-to-63-clause-row
+returns-in-48-to-63-clause-row c =
+    let is = c.whole-in-48-to-63.ensures ∙ ap (λ (p : Packet). Done (Ok p)) c.packet.ensures in
+    subst (λ (p : Progress). HeadsBy c.args.h p) (sym is) c.correction_of.ensures

@@ -90,6 +90,22 @@ loop-decoding-preserved-then-take_quiet g c =
       holds = c.take_quiet.ensures.holds;
     }
 
+pub returns-then-is_at_rest-2-clause-prints : goal.returns-then-is_at_rest-2-clause-prints
+returns-then-is_at_rest-2-clause-prints g c none =
+    let state = g.K.Sink.state in let image = c.args.image.now in let id = c.args.line.now.id in let i = c.loop-decoding.invariant in
+    let d = c.args.decoding.now in let m = c.write_atoms.new.decoding in let on = c.in_ok-write_atoms.ensures.prints in
+    let begun = state c.args.sink.now in let was = state c.write_atoms.new.sink in
+    let printed = printed_more image id d c.loop-decoding.decoding c.args.shown.now c.loop-decoding.shown begun (state c.loop-decoding.sink) was i.printed
+    m c.write_atoms.new.shown on.0 on.1 (rw i.id at on.2) on.3 in
+    let q = c.take_quiet.new.self in
+    let there = printed_more image id d m c.args.shown.now c.write_atoms.new.shown begun was was printed q c.write_atoms.new.shown []
+    (c.take_quiet.ensures.goes image) (writes_all was was tt [] (wrote_nothing was)) refl in
+    let whole : q.fault ≡ None = ap (λ (x : Decoding). x.fault) there.goes.rest ∙ none in
+    let rest = c.is_at_rest-then-take_quiet.ensures in
+    let done = rest.rest.0 c.if-is_at_rest-2.true in
+    prints_all image id d q c.args.shown.now c.write_atoms.new.shown begun was was there q
+    (ends_at_rest image q whole (sym (none_due q done.due rest.holds.range.committed)) done)
+
 -- ---- nothing more is found
 
 pub returns-in_default-clause-prints : goal.returns-in_default-clause-prints

@@ -4,7 +4,7 @@ use Rattle.packet_reader.specs.Stands.{Standing, TakesPacket}
 use Rattle.packet_reader.specs.States.{behind_commit}
 use Rattle.packet_reader.specs.declared.phase.Phase.{Phase}
 use Rattle.packet_reader.specs.declared.phase.Phase.TheVariants.{Between, Within}
-use Rattle.packet_reader.proofs.Commits.{takes_commit_end}
+use Rattle.packet_reader.proofs.NumberEnds.{takes_commit_end}
 use Rattle.packet_reader.proofs.reader.PacketReader.take_commit_end.Goals as goal
 
 pub returns-clause-takes : goal.returns-clause-takes

@@ -24,4 +24,4 @@ pub returns-in-None-clause-begun : goal.returns-in-None-clause-begun
 returns-in-None-clause-begun c =
     let i = c.self.inside in
     let same = ap (λ (r : Standing). decoding_of r i.maker i.todo i.waiting i.walker i.fault) (c.in-None.ensures.none refl) ∙ c.self.view_is in
-    subst (λ (d : Decoding). Begun d c.args.byte c.begin_any.new.self) same c.begin_any.ensures.begun
+    subst (λ (d : Decoding). Begun d c.args.byte c.begin_correction.new.self) same c.begin_correction.ensures.begun
