@@ -10,6 +10,8 @@ pub mod Stepping
 pub mod Waits
 pub mod Printing
 pub mod Quiet
+pub mod Following
+pub mod Worded
 pub mod Standing
 pub mod Growing
 pub mod Fronts

@@ -53,7 +53,7 @@ placed_fit : (at : ℕ) (es : List Elem) → All IsElem es → ArePlacedElems (p
 placed_fit at [] are = All-nil IsElemThere
 placed_fit at (e ∷ es) are = All-cons IsElemThere (at, e) (placed at es) (All-head IsElem e es are) (placed_fit at es (All-tail IsElem e es are))
 
-yields_some : (image : Image) (d : Decoding) → HasGap image → IsDecoding d
+pub yields_some : (image : Image) (d : Decoding) → HasGap image → IsDecoding d
     → (items : List Item) × (outcome : Outcome) × (took : List (ℕ × Elem)) × Yields image d items outcome took
 yields_some image d gap is = so (some_trail image d.walk d.due gap is.walk (front_aligned d.due (d.pending).held is.things))
   where

@@ -1,4 +1,5 @@
 pub mod Decoding
+pub mod Follows
 pub mod Left
 pub mod Stands
 pub mod StretchLines

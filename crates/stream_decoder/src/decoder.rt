@@ -25,11 +25,11 @@ ghost use Rattle.trace_io.specs.Bytes.{ShowsAsBefore};
 ghost use Rattle.trace_io.specs.Causes.{HasCause};
 
 use crate::decoding::Decoding;
+use crate::ending::finish;
 use crate::found::{Found, write_found};
 use element_queue::{Counts, Ledger};
 use etm_types::{Ctx, Id, Settings};
-use packet_grammar::End;
-use path_text::{AddressLine, write_end, write_instructions, write_near_lines, write_walked_on};
+use path_text::{AddressLine, write_instructions, write_near_lines, write_walked_on};
 use path_walker::{Stretch, Stretches};
 use program_image::Image;
 use std::alloc::{AllocError, Global};
@@ -213,14 +213,14 @@ impl StreamDecoder {
         ensures cause { HasCause (K.state sink.old) (K.state sink.new) result }
         ensures shows { ShowsAsBefore (K.state sink.old) (K.state sink.new) }
     {
-        let taken = self.decoding.taken();
-        let end = self.decoding.end();
-        self.abandon();
-        if taken == 0 {
-            return Ok(true);
-        }
-        write_end(id, &end, sink)?;
-        Ok(!is_fault(&end))
+        let StreamDecoder {
+            decoding,
+            shown: _,
+            line: _,
+            broken: _,
+            run: _,
+        } = self;
+        finish(decoding, id, sink)
     }
 
     /// Ends it without a line. What is still held is lost; the ledger has what became of all.
@@ -506,16 +506,9 @@ fn write_with_context<K: Sink>(
     Ok(())
 }
 
-/// Whether a stream ends with a fault.
-fn is_fault(end: &End) -> bool
-    ensures { result ≡ is_fault end.now }
-{
-    matches!(end, End::Fault { .. })
-}
-
 /// An image has an address without a word, so that there is a path over it for any bytes. Only the contract is asked for.
 #[inline(always)]
-fn has_gap(image: &Image)
+pub fn has_gap(image: &Image)
     ensures { HasGap image.now }
 {
     image.word_at(0);

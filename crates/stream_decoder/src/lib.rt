@@ -8,12 +8,20 @@
 //! thin layer writes it. The layer above uses the contract of [`StreamDecoder::take`]: from the bytes at
 //! which a decoder stands it comes to those bytes and one more, and writes the lines by which the path of
 //! `path_elements` grew.
+//!
+//! A [`FollowedStream`] is the other layer over the same machine: it writes none of these lines, but gives the
+//! items themselves to a [`Follower`], whatever that makes of them.
 #![tactic(auto)]
 
 mod decoder;
 mod decoding;
+mod ending;
+mod followed;
+mod follower;
 mod found;
 mod todo;
 mod waiting;
 
 pub use decoder::StreamDecoder;
+pub use followed::FollowedStream;
+pub use follower::Follower;
