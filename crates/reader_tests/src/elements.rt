@@ -235,3 +235,24 @@ fn atoms_come_first_and_the_oldest_of_them(rt: HostRuntime) -> Result<(), Fail> 
         &[TAKEN, Elem::Cancel(2), Elem::Flip],
     )
 }
+
+#[test]
+fn an_address_without_a_context(rt: HostRuntime) -> Result<(), Fail> {
+    let mut maker = ElemMaker::new();
+    let form = AddrForm::Long64(0x1000);
+    assert!(rt; maker.take_plain_address(&form, &None).is_none());
+    gives(&rt, &mut maker, &info(None), &[NO_SPEC])?;
+    let elems = maker
+        .take_plain_address(&form, &None)
+        .ok_or("it may come here")?;
+    assert_eq!(rt; elems.len(), 1);
+    assert_eq!(rt; elems.get(0), Some(Elem::Addr(0x1000)));
+    let again = Packet::Addr {
+        form: AddrForm::Match(0),
+        ctx: None,
+    };
+    gives(&rt, &mut maker, &again, &[Elem::Addr(0x1000)])?;
+    gives(&rt, &mut maker, &exception(1, false), &[])?;
+    assert!(rt; maker.take_plain_address(&form, &None).is_none());
+    Ok(())
+}
