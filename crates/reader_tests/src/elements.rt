@@ -250,3 +250,24 @@ fn what_a_cancel_corrects_is_told_behind_its_atoms(rt: HostRuntime) -> Result<()
     assert_eq!(rt; elems.correction(3), None);
     Ok(())
 }
+
+#[test]
+fn an_address_without_a_context(rt: HostRuntime) -> Result<(), Fail> {
+    let mut maker = ElemMaker::new();
+    let form = AddrForm::Long64(0x1000);
+    assert!(rt; maker.take_plain_address(&form, &None).is_none());
+    gives(&rt, &mut maker, &info(None), &[NO_SPEC])?;
+    let elems = maker
+        .take_plain_address(&form, &None)
+        .ok_or("it may come here")?;
+    assert_eq!(rt; elems.len(), 1);
+    assert_eq!(rt; elems.get(0), Some(Elem::Addr(0x1000)));
+    let again = Packet::Addr {
+        form: AddrForm::Match(0),
+        ctx: None,
+    };
+    gives(&rt, &mut maker, &again, &[Elem::Addr(0x1000)])?;
+    gives(&rt, &mut maker, &exception(1, false), &[])?;
+    assert!(rt; maker.take_plain_address(&form, &None).is_none());
+    Ok(())
+}

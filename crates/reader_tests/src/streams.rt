@@ -23,6 +23,9 @@ const MOST_BYTES: u64 = 100;
 /// What is printed of `HEAD` and two atoms E.
 const LINES: &[u8] = b"01 on\n01 ctx el0 s 0 0\n01 1000\n01 1004\n";
 
+/// Two atoms, each behind an address, and a commit of both.
+const RUN: &[u8] = &[0x90, 0xf7, 0x95, 0x83, 0x08, 0xf7, 0x2d, 0x02];
+
 fn code(alloc: Global) -> Result<Image, Fail> {
     let mut text = SafeSource::new(IMAGE.to_vec(alloc)?, 4096);
     Ok(Image::read(alloc, &mut text).ok().ok_or("it is an image")?)
@@ -151,5 +154,28 @@ fn a_write_that_fails(rt: HostRuntime) -> Result<(), Fail> {
     let (_, last) = counts_of(decoder);
     assert_eq!(rt; (last.made, last.committed), (1, 1));
     assert!(rt; sink.written().is_empty());
+    Ok(())
+}
+
+#[test]
+fn a_run_that_is_cut_anywhere(rt: HostRuntime) -> Result<(), Fail> {
+    let image = code(rt.alloc())?;
+    let id = Id::new(1).ok_or("it is an ID")?;
+    for cut in 0..=RUN.len() {
+        let mut sink = MemSink::new(rt.alloc(), Vec::new(rt.alloc()));
+        let mut decoder = decoder_at(&rt, rt.alloc(), 4, &[], &mut sink)?;
+        let (first, second) = RUN.split_at(cut);
+        for run in [first, second] {
+            assert!(rt; !decoder.broken() && decoder.taken() < MOST_BYTES);
+            assert_eq!(rt; decoder.take_run(&image, id, run, &mut sink), Ok(()));
+        }
+        assert_eq!(rt; decoder.taken(), 34);
+        let (counts, _) = counts_of(decoder);
+        assert_eq!(rt; (counts.made, counts.committed), (2, 2));
+        assert_eq!(rt;
+            sink.written(),
+            b"01 on\n01 ctx el0 s 0 0\n01 1000\n01 1004\n01 100c\n".as_slice()
+        );
+    }
     Ok(())
 }

@@ -1,13 +1,13 @@
 //! From the bytes of one stream to the lines of its path (Arm IHI 0064).
 //!
-//! A [`StreamDecoder`] takes bytes one by one, and writes what each adds to the path: packets become
+//! A [`StreamDecoder`] takes bytes, one or many, and writes what each adds to the path: packets become
 //! elements, elements become P0 elements that are held until they are committed, those are walked over an
 //! image, and what the walk shows is written. All memory is taken when it is made.
 //!
 //! Inside, decoding and printing are two things: a machine that knows no sink answers what was found, and a
-//! thin layer writes it. The layer above uses the contract of [`StreamDecoder::take`]: from the bytes at
-//! which a decoder stands it comes to those bytes and one more, and writes the lines by which the path of
-//! `path_elements` grew.
+//! thin layer writes it. The layer above uses the contracts of [`StreamDecoder::take`] and
+//! [`StreamDecoder::take_run`]: from the bytes at which a decoder stands it comes to those and one or many
+//! more, and writes the lines by which the path of `path_elements` grew.
 //!
 //! A [`FollowedStream`] is the other layer over the same machine: it writes none of these lines, but gives the
 //! items themselves to a [`Follower`], whatever that makes of them.
