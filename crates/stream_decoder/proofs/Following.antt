@@ -4,7 +4,7 @@ use Rattle.etm_types.specs.Settings.{AreSettings}
 use Rattle.etm_types.specs.declared.item.Item.{Item}
 use Rattle.path_text.specs.PathLines.{shown_after_all}
 use Rattle.program_image.specs.declared.image.Image.{Image}
-use Rattle.stream_decoder.proofs.Growing.{by_fault, grows_on, grows_stopped, not_none, stands_on, stands_stopped}
+use Rattle.stream_decoder.proofs.Growing.{byte_on, byte_stopped, by_fault, grows_on, grows_stopped, not_none}
 use Rattle.stream_decoder.proofs.Yielding.{goes_nowhere, goes_on, goes_to_end}
 use Rattle.stream_decoder.specs.Decoding.{Decoding}
 use Rattle.stream_decoder.specs.Follows.{CameTo, Follows, GrowsBy, TakesMore}
@@ -51,10 +51,10 @@ module _ {F : Type 0} (took : F → List Item → Type 0) (image : Image) (bytes
       by_fault m.fault
       (λ none.
       let f = follows none in
-      (came.0 ++ f.0, stands_on image bytes byte fits came.0 d m are settings begun came.1 none f.0 d' f.1))
+      (came.0 ++ f.0, byte_on image bytes byte fits came.0 d m are settings begun came.1 none f.0 d' f.1))
       (λ stop met.
       let same = (stopped (not_none m.fault stop met)).0 in
-      let now = stands_stopped image bytes byte fits came.0 d m are settings begun came.1 stop met in
+      let now = byte_stopped image bytes byte fits came.0 d m are settings begun came.1 stop met in
       (came.0, subst (λ (x : Decoding). Came image x (bytes ++ byte ∷ []) came.0) (sym same) now))
 
   pub grew_followed : CameTo image d bytes → (more : List Item) × GrowsBy image ((d.reader).settings) bytes byte more × TakesMore took old new more
