@@ -12,26 +12,28 @@ use Rattle.etm_types.proofs.Tables.{are_settings}
 use Rattle.program_image.specs.ImageText.{image_of}
 use Rattle.program_image.specs.declared.fault.ImageWhy.{ImageWhy}
 use Rattle.program_image.specs.declared.image.Image.{Image}
+use Rattle.count_streams.proofs.OneText.{one_text_of_counts}
 use Rattle.stream_demux.proofs.PathTexts.{one_text_of_paths}
 use Rattle.stream_demux.specs.Texts.{IsText, Printed}
 use Rattle.packet_list.proofs.PacketTexts.{one_text_of_packets}
 use Rattle.time_marks.proofs.Texts.{one_text_of_times}
 use Rattle.answer_laws.proofs.TracedCalls.{image_taken, taken_are}
 use Rattle.trace_cmd.proofs.Programs.{apart, not_refused, not_too_long, one_image, one_program, one_spelled}
-use Rattle.answer_laws.proofs.WordTables.{packets_table, path_table, times_table}
-use Rattle.trace_cmd.proofs.WordKinds.{no_kind, number_kind, one_kind, packets_kind, path_kind, program_kind, retired_kind, times_kind, trace_kind}
+use Rattle.answer_laws.proofs.WordTables.{counts_table, packets_table, path_table, times_table}
+use Rattle.trace_cmd.proofs.WordKinds.{counts_kind, no_kind, number_kind, one_kind, packets_kind, path_kind, program_kind, retired_kind, times_kind}
+use Rattle.trace_cmd.proofs.WordKinds.{trace_kind}
 use Rattle.trace_cmd.specs.Answers.{Answers, Asks, Call, HasImage, HasRead, IsBareCall, IsBenchBad, IsImageCall, IsOfKind, IsOwnBenchBad}
 use Rattle.trace_cmd.specs.Answers.{IsOwnImageBad, IsOwnTooLong, IsPathCall, IsProgramBad, IsRunFileCall, IsSelftestCall, IsSelftestOf}
 use Rattle.answer_laws.specs.Complete.{AreAlike, FaultsAreDecided, HasInput, HasRunFile, IsDone, IsDoneOrFaulted, NothingFailed, ShowAlike}
 use Rattle.answer_laws.specs.Complete.{NumbersAreDone, PacketsAreDone, PathsAreDone, RunFilesAreDone}
 use Rattle.trace_cmd.specs.Programs.{BadFile, BadText, NoProgram, Refuses, Spells, TakesNoProgram}
 use Rattle.input_pieces.specs.Listed.{Completes, Exceeds, most_input}
-use Rattle.trace_cmd.specs.Printing.{PacketsOf, PathsOf, TimesOf, What, laid_of, listing_of, sizes_by}
+use Rattle.trace_cmd.specs.Printing.{CountsOf, PacketsOf, PathsOf, TimesOf, What, laid_of, listing_of, sizes_by}
 use Rattle.retired_paths.specs.Retired.{IsBadBench}
 use Rattle.traced_runs.specs.Selftest.{AreGood}
 use Rattle.traced_runs.specs.Traced.{trace_frames}
-use Rattle.command_words.specs.Words.{BareKind, Kind, NoCommand, NumberKind, Packets, Path, PathKind, Program, RunFileKind, Selftest, Times, kind_of, meaning}
-use Rattle.command_words.specs.Words.{program_of}
+use Rattle.command_words.specs.Words.{BareKind, Counts, Kind, NoCommand, NumberKind, Packets, Path, PathKind, Program, RunFileKind, Selftest, Times}
+use Rattle.command_words.specs.Words.{kind_of, meaning, program_of}
 use Rattle.answer_lines.specs.declared.status.Status.{Status}
 use Rattle.answer_lines.specs.declared.status.Status.TheVariants as status
 use Rattle.trace_io.specs.State.{IoState}
@@ -91,12 +93,14 @@ one_number n image other b also good too =
 -- the kind of the command that reads it
 input_kind : What → Kind
 input_kind (PathsOf image r) = PathKind
+input_kind (CountsOf image r) = PathKind
 input_kind (PacketsOf r) = BareKind
 input_kind (TimesOf r) = BareKind
 
 asks_kind : (c : Call) (what : What) → Asks c what → IsOfKind (input_kind what) c.words
 unfolding input_kind
 asks_kind c (PathsOf image r) asks = path_kind r c.words asks.0
+asks_kind c (CountsOf image r) asks = counts_kind r c.words asks.0
 asks_kind c (PacketsOf r) asks = packets_kind r c.words asks
 asks_kind c (TimesOf r) asks = times_kind r c.words asks
 
@@ -104,12 +108,14 @@ asks_kind c (TimesOf r) asks = times_kind r c.words asks
 no_run_file_input : (what : What) → RunFileKind ≡ input_kind what → ⊥
 unfolding input_kind
 no_run_file_input (PathsOf image r) is = cc
+no_run_file_input (CountsOf image r) is = cc
 no_run_file_input (PacketsOf r) is = cc
 no_run_file_input (TimesOf r) is = cc
 
 no_number_input : (what : What) → NumberKind ≡ input_kind what → ⊥
 unfolding input_kind
 no_number_input (PathsOf image r) is = cc
+no_number_input (CountsOf image r) is = cc
 no_number_input (PacketsOf r) is = cc
 no_number_input (TimesOf r) is = cc
 
@@ -305,6 +311,8 @@ TextOf what bytes faulty = (lines : List Printed) × IsText (listing_of what) ((
 decided : (c : Call) (what : What) → Asks c what → (bytes : List ℕ) (faulty also : Bool) → TextOf what bytes faulty → TextOf what bytes also → faulty ≡ also
 decided c (PathsOf image r) (words, read) bytes faulty also (lines, text) (others, too) =
     (one_text_of_paths image (sizes_by r) (λ id. are_settings r.units id (path_table r c.words words)) _ _ lines others faulty also text too).1
+decided c (CountsOf image r) (words, read) bytes faulty also (lines, text) (others, too) =
+    (one_text_of_counts image (sizes_by r) (λ id. are_settings r.units id (counts_table r c.words words)) _ _ lines others faulty also text too).1
 decided c (PacketsOf r) words bytes faulty also (lines, text) (others, too) =
     (one_text_of_packets (sizes_by r) (λ id. are_settings r.units id (packets_table r c.words words)) _ _ lines others faulty also text too).1
 decided c (TimesOf r) words bytes faulty also (lines, text) (others, too) =
@@ -331,6 +339,22 @@ module _ (c d : Call) (alike : AreAlike c d) where
       let both : Some (Path words.0 r) ≡ Some (Path words'.0 order) = sym words.1 ∙ same_means ∙ words'.1 in
       let images : other ≡ image = same_image image other read read' (path_kind r c.words words) alike.images in
       cc
+  same_what (CountsOf image r) (CountsOf other order) (words, read) (words', read') =
+      let both : Some (Counts words.0 r) ≡ Some (Counts words'.0 order) = sym words.1 ∙ same_means ∙ words'.1 in
+      let images : other ≡ image = same_image image other read read' (counts_kind r c.words words) alike.images in
+      cc
+  same_what (CountsOf image r) (PathsOf other order) (words, read) (words', read') =
+      let both : Some (Counts words.0 r) ≡ Some (Path words'.0 order) = sym words.1 ∙ same_means ∙ words'.1 in absurd cc
+  same_what (PathsOf image r) (CountsOf other order) (words, read) (words', read') =
+      let both : Some (Path words.0 r) ≡ Some (Counts words'.0 order) = sym words.1 ∙ same_means ∙ words'.1 in absurd cc
+  same_what (CountsOf image r) (PacketsOf order) (words, read) words' =
+      let both : Some (Counts words.0 r) ≡ Some (Packets order) = sym words.1 ∙ same_means ∙ words' in absurd cc
+  same_what (CountsOf image r) (TimesOf order) (words, read) words' =
+      let both : Some (Counts words.0 r) ≡ Some (Times order) = sym words.1 ∙ same_means ∙ words' in absurd cc
+  same_what (PacketsOf r) (CountsOf other order) words (words', read') =
+      let both : Some (Packets r) ≡ Some (Counts words'.0 order) = sym words ∙ same_means ∙ words'.1 in absurd cc
+  same_what (TimesOf r) (CountsOf other order) words (words', read') =
+      let both : Some (Times r) ≡ Some (Counts words'.0 order) = sym words ∙ same_means ∙ words'.1 in absurd cc
   same_what (PathsOf image r) (PacketsOf order) (words, read) words' =
       let both : Some (Path words.0 r) ≡ Some (Packets order) = sym words.1 ∙ same_means ∙ words' in absurd cc
   same_what (PacketsOf r) (PathsOf other order) words (words', read') =

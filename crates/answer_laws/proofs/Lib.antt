@@ -1,3 +1,4 @@
 pub mod Complete
 pub mod TracedCalls
+pub mod TracedCounts
 pub mod WordTables

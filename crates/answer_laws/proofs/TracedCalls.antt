@@ -10,7 +10,7 @@ use Rattle.formatter_frames.proofs.RoundTrip.{nothing_left}
 use Rattle.program_image.specs.Part.{IsImage}
 use Rattle.program_image.specs.declared.image.Image.{Image}
 use Rattle.stream_demux.specs.Paths.{paths}
-use Rattle.stream_demux.specs.Texts.{IsText, Printed, by_sizes, text_of}
+use Rattle.stream_demux.specs.Texts.{IsText, Listing, Printed, by_sizes, text_of}
 use Rattle.answer_laws.proofs.WordTables.{path_table}
 use Rattle.traced_runs.proofs.SyncedFrames.{synced_again}
 use Rattle.traced_runs.proofs.TracedStreams.{shows_traces, traces_are_shown}
@@ -18,7 +18,7 @@ use Rattle.trace_cmd.proofs.Programs.{one_program, one_spelled, spelled_image}
 use Rattle.trace_cmd.specs.Answers.{Answers, Asks, Call, HasImage, HasRead, IsRetired, IsTested, IsTraced}
 use Rattle.trace_cmd.specs.Programs.{Spells}
 use Rattle.input_pieces.specs.Listed.{Completes}
-use Rattle.trace_cmd.specs.Printing.{PathsOf, PacketsOf, TimesOf, What, laid_in, laid_of, listing_of, sizes_by}
+use Rattle.trace_cmd.specs.Printing.{CountsOf, PathsOf, PacketsOf, TimesOf, What, laid_in, laid_of, listing_of, sizes_by}
 use Rattle.traced_runs.specs.Traced.{AreAccepted, IsTraceText, trace_frames, trace_pairs, with_syncs}
 use Rattle.answer_laws.specs.TracedCalls.{IsPathOfTrace, PrintsTraces, written_layout, written_under}
 use Rattle.answer_lines.specs.declared.status.Status.{Status}
@@ -42,6 +42,40 @@ image_taken c image other has (p, named, (bytes, taken, spells)) =
     let by_form = subst (λ (q : Program). Spells q.form bytes other) (one_program has.program p c.words has.named named) spells in
     one_spelled has.program.form has.bytes bytes image other same has.spells by_form
 
+-- the frames stand again in what was written of them
+again : (image : Image) (b : BenchParts) → IsImage image → IsBench b → AreAccepted image b → (every : Option ℕ) → IfSome every (λ n. 0 < n)
+    → ((laid_in (written_layout every)).whole (with_syncs every (trace_frames image b)) ≡ unframed (trace_frames image b))
+    × ((laid_in (written_layout every)).left (with_syncs every (trace_frames image b)) ≡ 0)
+again image b is bench none None some = (refl, ap length (nothing_left (trace_pairs image b)))
+again image b is bench none (Some every) some =
+    let same = synced_again image b is bench none None every some in
+    (ap unframed same, ap (λ (l : List ℕ). length (begun_frame l)) same ∙ ap length (nothing_left (trace_pairs image b)))
+
+module _ (image : Image) (b : BenchParts) (is : IsImage image) (bench : IsBench b) (none : AreAccepted image b) (every : Option ℕ)
+    (some : IfSome every (λ n. 0 < n)) where
+  abbrev whole : List ℕ → List (ℕ × ℕ)
+  whole = (laid_in (written_layout every)).whole
+
+  abbrev left : List ℕ → ℕ
+  left = (laid_in (written_layout every)).left
+
+  abbrev written : List ℕ
+  written = with_syncs every (trace_frames image b)
+
+  -- the text of what was written is that of the frames
+  pub of_written : (g : Image → Sizes → Listing) (table : List Sizes) (other : Image) (r : Intake) (bytes : List ℕ) (lines : List Printed)
+      (faulty : Bool) → other ≡ image → r ≡ written_under every table → bytes ≡ written
+      → IsText (by_sizes (g other) (sizes_by r)) ((laid_in r.layout).whole bytes) ((laid_in r.layout).left bytes) lines faulty
+      → IsText (by_sizes (g image) (sizes_at table)) (unframed (trace_frames image b)) 0 lines faulty
+  of_written g table other r bytes lines faulty image_is taken input text =
+      let all = subst (λ (i : Intake). IsText (by_sizes (g other) (sizes_by i)) ((laid_in i.layout).whole bytes) ((laid_in i.layout).left bytes) lines
+      faulty) taken text in
+      let these = subst (λ (l : List ℕ). IsText (by_sizes (g other) (sizes_at table)) (whole l) (left l) lines faulty) input all in
+      let frames = again image b is bench none every some in
+      let carried = subst (λ (pairs : List (ℕ × ℕ)). IsText (by_sizes (g other) (sizes_at table)) pairs (left written) lines faulty) frames.0 these in
+      let nothing = subst (λ (n : ℕ). IsText (by_sizes (g other) (sizes_at table)) (unframed (trace_frames image b)) n lines faulty) frames.1 carried in
+      subst (λ (i : Image). IsText (by_sizes (g i) (sizes_at table)) (unframed (trace_frames image b)) 0 lines faulty) image_is nothing
+
 module _ (c : Call) (old new : IoState) (image : Image) (b : BenchParts) (bench : IsBench b) (none : AreAccepted image b) (asks : IsPathOfTrace c image b)
   where
     -- the sizes of each stream
@@ -54,30 +88,12 @@ module _ (c : Call) (old new : IoState) (image : Image) (b : BenchParts) (bench 
     is_image : IsImage image
     is_image = spelled_image asks.is_same.program.form asks.is_same.bytes image asks.is_same.spells
 
-    -- the frames stand again in what was written of them
-    again : (every : Option ℕ) → IfSome every (λ n. 0 < n)
-        → ((laid_in (written_layout every)).whole (with_syncs every (trace_frames image b)) ≡ unframed (trace_frames image b))
-        × ((laid_in (written_layout every)).left (with_syncs every (trace_frames image b)) ≡ 0)
-    again None some = (refl, ap length (nothing_left (trace_pairs image b)))
-    again (Some every) some =
-        let same = synced_again image b is_image bench none None every some in
-        (ap unframed same, ap (λ (l : List ℕ). length (begun_frame l)) same ∙ ap length (nothing_left (trace_pairs image b)))
-
     -- what is shown of the input is the text of the traces
     shown : (other : Image) (r : Intake) (bytes : List ℕ) (lines : List Printed) (faulty : Bool) → other ≡ image
         → r ≡ written_under asks.every asks.table → bytes ≡ with_syncs asks.every (trace_frames image b)
         → IsText (by_sizes (paths other) (sizes_by r)) ((laid_in r.layout).whole bytes) ((laid_in r.layout).left bytes) lines faulty
         → IsTraceText image asks.table b lines faulty
-    shown other r bytes lines faulty image_is taken input is =
-        let whole = (laid_in (written_layout asks.every)).whole in let left = (laid_in (written_layout asks.every)).left in
-        let frames = again asks.every asks.some in
-        let all = subst (λ (i : Intake). IsText (by_sizes (paths other) (sizes_by i)) ((laid_in i.layout).whole bytes) ((laid_in i.layout).left bytes) lines
-        faulty) taken is in
-        let these = subst (λ (l : List ℕ). IsText (by_sizes (paths other) own) (whole l) (left l) lines faulty) input all in
-        let carried = subst (λ (pairs : List (ℕ × ℕ)). IsText (by_sizes (paths other) own) pairs (left (with_syncs asks.every (trace_frames image b))) lines
-        faulty) frames.0 these in
-        let nothing = subst (λ (n : ℕ). IsText (by_sizes (paths other) own) (unframed (trace_frames image b)) n lines faulty) frames.1 carried in
-        subst (λ (i : Image). IsText (by_sizes (paths i) own) (unframed (trace_frames image b)) 0 lines faulty) image_is nothing
+    shown = of_written image b is_image bench none asks.every asks.some paths asks.table
 
     -- what is printed then
     abbrev Printing : Bool → Type 0
@@ -86,6 +102,7 @@ module _ (c : Call) (old new : IoState) (image : Image) (b : BenchParts) (bench 
     printing : (what : What) (faulty : Bool) → Asks c what
         → Completes (laid_of what) (listing_of what) c.input c.input' old new faulty → Printing faulty
     printing (TimesOf r) faulty asked done = absurd (let words : _ ≡ _ = sym asked ∙ asks.words.1 in cc)
+    printing (CountsOf other r) faulty asked done = absurd (let words : _ ≡ _ = sym asked.0.1 ∙ asks.words.1 in cc)
     printing (PacketsOf r) faulty asked done = absurd (let words : _ ≡ _ = sym asked ∙ asks.words.1 in cc)
     printing (PathsOf other r) faulty (asked, (p, named, (bytes, taken, spells))) done =
         let words = sym asked.1 ∙ asks.words.1 in

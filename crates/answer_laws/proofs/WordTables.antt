@@ -4,14 +4,14 @@ use Rattle.std.proofs.lemmas.Bool.Decides.{nat_tests}
 use Rattle.std.specs.Prelude.{⊤}
 use Rattle.std.specs.Option.{option_and_then, option_map}
 use Rattle.command_words.proofs.WordLists.{told_units}
-use Rattle.command_words.specs.Words.{Command, Intake, Packets, Path, Program, Retired, Seen, Selftest, Times, Trace, command_in, count_of, cut_of, intake_in}
-use Rattle.command_words.specs.Words.{layout_in, meaning, most_every, most_last, most_number, nothing_seen, number_to, program_in, seen_of, units_in}
+use Rattle.command_words.specs.Words.{Command, Counts, Intake, Packets, Path, Program, Retired, Seen, Selftest, Times, Trace, command_in, count_of, cut_of, intake_in}
+use Rattle.command_words.specs.Words.{layout_in, meaning, most_every, most_last, most_number, nothing_seen, number_to, path_by, program_in, seen_of, units_in}
 use Rattle.command_words.specs.declared.words.CommandName.{CommandName}
 use Rattle.command_words.specs.declared.words.CommandName.TheVariants as name
 use Rattle.command_words.specs.declared.words.Layout.{Layout}
 use Rattle.etm_types.specs.Settings.{Sizes}
 use Rattle.etm_types.specs.SettingsTable.{IsTable}
-use Rattle.trace_cmd.specs.Answers.{IsPacketsUnder, IsPathUnder, IsTimesUnder}
+use Rattle.trace_cmd.specs.Answers.{IsCountsUnder, IsPacketsUnder, IsPathUnder, IsTimesUnder}
 
 -- what comes behind a value that is there
 behind : {A B : Type 0} (found : Option A) (f : A → Option B) (y : B) → option_and_then f found ≡ Some y
@@ -42,16 +42,21 @@ counted most (Some text) count e = let n = behind (number_to most text) _ count 
 -- the sizes of a command that has any are a table, and its synchronisation packets stand apart
 abbrev HasTable : Command → Type 0
 HasTable (Path p r) = IsTable r.units
+HasTable (Counts p r) = IsTable r.units
 HasTable (Packets r) = IsTable r.units
 HasTable (Times r) = IsTable r.units
 HasTable (Retired p) = ⊤
 HasTable (Trace p last every) = IfSome every (λ n. 0 < n)
 HasTable (Selftest n cut) = ⊤
 
+path_has : (count : Bool) (p : Program) (r : Intake) → IsTable r.units → HasTable (path_by count p r)
+path_has true p r is = is
+path_has false p r is = is
+
 command_table : (command : CommandName) (seen : Seen) (said : Command) → command_in command seen ≡ Some said → HasTable said
 command_table name.Path seen said is =
-    let program = behind (program_in seen) _ said is in let intake = mapped (intake_in seen) (Path program.0) said program.2 in
-    subst HasTable intake.2 (told_intake seen intake.0 intake.1)
+    let program = behind (program_in seen) _ said is in let intake = mapped (intake_in seen) (path_by seen.count program.0) said program.2 in
+    subst HasTable intake.2 (path_has seen.count program.0 intake.0 (told_intake seen intake.0 intake.1))
 command_table name.Packets seen said is =
     let intake = mapped (intake_in seen) Packets said is in subst HasTable intake.2 (told_intake seen intake.0 intake.1)
 command_table name.Times seen said is =
@@ -74,6 +79,9 @@ words_table (word ∷ words) said is =
 
 pub path_table : (r : Intake) (words : List (List ℕ)) → IsPathUnder r words → IsTable r.units
 path_table r words (p, is) = words_table words (Path p r) is
+
+pub counts_table : (r : Intake) (words : List (List ℕ)) → IsCountsUnder r words → IsTable r.units
+counts_table r words (p, is) = words_table words (Counts p r) is
 
 pub times_table : (r : Intake) (words : List (List ℕ)) → IsTimesUnder r words → IsTable r.units
 times_table r words is = words_table words (Times r) is

@@ -4,7 +4,7 @@ ghost use Rattle.program_image.specs.declared.image.Image.{Image};
 ghost use Rattle.trace_cmd.specs.Answers.{Answers, Call};
 ghost use Rattle.answer_laws.specs.Complete.{FaultsAreDecided, NumbersAreDone, PacketsAreDone, PathsAreDone, RunFilesAreDone};
 ghost use Rattle.traced_runs.specs.Traced.{AreAccepted};
-ghost use Rattle.answer_laws.specs.TracedCalls.{IsPathOfTrace, PrintsTraces};
+ghost use Rattle.answer_laws.specs.TracedCalls.{IsCountOfTrace, IsPathOfTrace, PrintsCounts, PrintsTraces};
 ghost use Rattle.answer_lines.specs.declared.status.Status.{Status};
 ghost use Rattle.trace_io.specs.State.{IoState};
 
@@ -13,6 +13,13 @@ ghost use Rattle.trace_io.specs.State.{IoState};
 pub fn path_prints_what_was_traced()
     ensures { (c : Call) (old new : IoState) (status : Status) (image : Image) (b : BenchParts) → IsBench b → AreAccepted image b
         → IsPathOfTrace c image b → Answers c old new status → PrintsTraces image b old new status }
+{}
+
+/// So whatever `path --count` answers for these frames: where it comes to their end it prints the counts of the retired paths, and the
+/// end of each stream.
+pub fn counts_are_those_of_what_was_traced()
+    ensures { (c : Call) (old new : IoState) (status : Status) (image : Image) (b : BenchParts) → IsBench b → AreAccepted image b
+        → IsCountOfTrace c image b → Answers c old new status → PrintsCounts image b old new status }
 {}
 
 /// Where image and input are good and no call failed, the answer is the text that was asked for, or want of memory; words, image

@@ -1,9 +1,11 @@
-//! What the answers of calls come to, as laws over the contract of `run`: what `path` prints of what was traced, and what is answered where
-//! image and input are good and no call failed.
+//! What the answers of calls come to, as laws over the contract of `run`: what `path` prints, or counts, of what was traced, and what is
+//! answered where image and input are good and no call failed.
 //!
 //! There is no code here. The definition of each answer stands in `specs/Answers.antt` of `trace_cmd`.
 #![tactic(auto)]
 
 mod laws;
 
-pub use laws::{good_input_is_answered, path_prints_what_was_traced};
+pub use laws::{
+    counts_are_those_of_what_was_traced, good_input_is_answered, path_prints_what_was_traced,
+};

@@ -1,5 +1,5 @@
 -- What words mean is how they are spelled.
-use Rattle.std.proofs.Common.{◌≡◌, ◌≢◌, ◌==◌, ◌⊎◌, ◌&&◌, ℕ, Bool, true, false, nat_le, List, [], ◌∷◌, ◌++◌, All, find, if◌then◌else◌, codes}
+use Rattle.std.proofs.Common.{◌≡◌, ◌==◌, ◌⊎◌, ◌&&◌, ℕ, Bool, true, false, nat_le, List, [], ◌∷◌, ◌++◌, All, find, if◌then◌else◌, codes}
 use Rattle.std.proofs.Common.{Option, Some, None, is_some, IfSome, replicate, ◌≤◌, refl, sym, ap, subst, ◌∙◌, inl, inr, arith}
 use Rattle.std.proofs.lemmas.Bool.Decides.{nat_tests}
 use Rattle.std.proofs.lemmas.List.Elements.{All-nil, All-cons, All-head, All-tail}
@@ -16,17 +16,16 @@ use Rattle.command_words.specs.declared.words.CommandOption.TheVariants as optio
 use Rattle.command_words.specs.declared.words.Layout.{Layout}
 use Rattle.command_words.specs.declared.words.Layout.TheVariants.{Wrapped}
 use Rattle.command_words.specs.declared.words.ProgramForm.{ProgramForm}
-use Rattle.command_words.specs.Words.{Command, CommandRow, Intake, Path, Packets, Program, Retired, Seen, Selftest, Times, Trace, command_in, count_of, cut_of}
-use Rattle.command_words.specs.Words.{form_by, intake_in, is_dashed, is_seen, is_whole, key_of, layout_by, layout_in, meaning, most_cut, most_every, most_last}
-use Rattle.command_words.specs.Words.{most_number, most_wrap, name_of, nothing_seen, number_of, number_to, packets_options, path_options, program_in}
-use Rattle.command_words.specs.Words.{retired_options, row, seen_of, selftest_options, sizes_in, takes_value, times_options, trace_options, units_in}
-use Rattle.command_words.specs.Words.{with_dashed}
-use Rattle.command_words.specs.Words.{with_option, with_value, with_word}
+use Rattle.command_words.specs.Words.{Command, CommandRow, Counts, Intake, Packets, Path, Program, Retired, Seen, Selftest, Times, Trace, command_in}
+use Rattle.command_words.specs.Words.{count_of, cut_of, form_by, intake_in, is_dashed, is_seen, is_whole, layout_by, layout_in, meaning, most_cut}
+use Rattle.command_words.specs.Words.{most_every, most_last, most_number, most_wrap, name_of, nothing_seen, number_of, number_to, packets_options, path_by}
+use Rattle.command_words.specs.Words.{path_options, program_in, retired_options, row, seen_of, selftest_options, sizes_in, takes_value, times_options}
+use Rattle.command_words.specs.Words.{trace_options, units_in, with_dashed, with_option, with_value, with_word}
 use Rattle.command_words.specs.declared.lists.Listed.{Listed}
 use Rattle.command_words.specs.Lists.{is_comma, listed_in, nothing_listed, units_by}
-use Rattle.command_words.specs.CommandLines.{Piece, Apart, Joined, Flag, Positional, AreUnits, IsCount, IsCut, IsEnd, IsForm, IsLayout, IsLine, IsNumber}
-use Rattle.command_words.specs.CommandLines.{IsPathLine, IsPacketsLine, IsPiece, IsRetiredLine, IsSelftestLine, IsTakenBy, IsTimesLine, IsTraceLine, IsUnits}
-use Rattle.command_words.specs.CommandLines.{has_option, in_row}
+use Rattle.command_words.specs.CommandLines.{Piece, Apart, Joined, Flag, Positional, AreUnits, IsCount, IsCounted, IsCut, IsEnd, IsForm, IsLayout, IsLine}
+use Rattle.command_words.specs.CommandLines.{IsNumber, IsPacketsLine, IsPiece, IsRetiredLine, IsSelftestLine, IsTakenBy, IsTimesLine, IsTraceLine, IsUnits}
+use Rattle.command_words.specs.CommandLines.{IsWalkLine, has_option, in_row}
 use Rattle.command_words.specs.CommandLines.{is_same, positionals_of, value_for, values_of, word_of, words_of}
 use Rattle.command_words.proofs.WordLemmas.{map_some, sized_by, sizes_there, then_some, within}
 use Rattle.command_words.proofs.WordLists.{alike_found, alike_said, list_found, list_said}
@@ -49,6 +48,7 @@ given option.Vmid seen = listed seen.vmid
 given option.Cid seen = listed seen.cid
 given option.Settings seen = listed seen.settings
 given option.Elf seen = if seen.elf then [] ∷ [] else []
+given option.Count seen = if seen.count then [] ∷ [] else []
 given option.Last seen = listed seen.last
 given option.SyncEvery seen = listed seen.every
 given option.Cut seen = listed seen.cut
@@ -76,6 +76,7 @@ given_more option.Vmid option.Vmid value seen values is none = rw (none_listed s
 given_more option.Cid option.Cid value seen values is none = rw (none_listed seen.cid none) refl
 given_more option.Settings option.Settings value seen values is none = rw (none_listed seen.settings none) refl
 given_more option.Elf option.Elf value seen values is none = simp (none, no_value value is)
+given_more option.Count option.Count value seen values is none = simp (none, no_value value is)
 given_more option.Last option.Last value seen values is none = rw (none_listed seen.last none) refl
 given_more option.SyncEvery option.SyncEvery value seen values is none = rw (none_listed seen.every none) refl
 given_more option.Cut option.Cut value seen values is none = rw (none_listed seen.cut none) refl
@@ -96,6 +97,7 @@ value_stays option.Vmid value seen = record { waits = refl; ended = refl; positi
 value_stays option.Cid value seen = record { waits = refl; ended = refl; positional = refl }
 value_stays option.Settings value seen = record { waits = refl; ended = refl; positional = refl }
 value_stays option.Elf value seen = record { waits = refl; ended = refl; positional = refl }
+value_stays option.Count value seen = record { waits = refl; ended = refl; positional = refl }
 value_stays option.Last value seen = record { waits = refl; ended = refl; positional = refl }
 value_stays option.SyncEvery value seen = record { waits = refl; ended = refl; positional = refl }
 value_stays option.Cut value seen = record { waits = refl; ended = refl; positional = refl }
@@ -109,6 +111,7 @@ given_waits option.Vmid waits seen = refl
 given_waits option.Cid waits seen = refl
 given_waits option.Settings waits seen = refl
 given_waits option.Elf waits seen = refl
+given_waits option.Count waits seen = refl
 given_waits option.Last waits seen = refl
 given_waits option.SyncEvery waits seen = refl
 given_waits option.Cut waits seen = refl
@@ -122,6 +125,7 @@ given_ended option.Vmid ended seen = refl
 given_ended option.Cid ended seen = refl
 given_ended option.Settings ended seen = refl
 given_ended option.Elf ended seen = refl
+given_ended option.Count ended seen = refl
 given_ended option.Last ended seen = refl
 given_ended option.SyncEvery ended seen = refl
 given_ended option.Cut ended seen = refl
@@ -135,6 +139,7 @@ given_positional option.Vmid positional seen = refl
 given_positional option.Cid positional seen = refl
 given_positional option.Settings positional seen = refl
 given_positional option.Elf positional seen = refl
+given_positional option.Count positional seen = refl
 given_positional option.Last positional seen = refl
 given_positional option.SyncEvery positional seen = refl
 given_positional option.Cut positional seen = refl
@@ -234,6 +239,7 @@ has_more row option.Vmid option.Vmid value values there rest = inl there
 has_more row option.Cid option.Cid value values there rest = inl there
 has_more row option.Settings option.Settings value values there rest = inl there
 has_more row option.Elf option.Elf value values there rest = inl there
+has_more row option.Count option.Count value values there rest = inl there
 has_more row option.Last option.Last value values there rest = inl there
 has_more row option.SyncEvery option.SyncEvery value values there rest = inl there
 has_more row option.Cut option.Cut value values there rest = inl there
@@ -290,6 +296,7 @@ seen_waits option.Vmid waits seen = refl
 seen_waits option.Cid waits seen = refl
 seen_waits option.Settings waits seen = refl
 seen_waits option.Elf waits seen = refl
+seen_waits option.Count waits seen = refl
 seen_waits option.Last waits seen = refl
 seen_waits option.SyncEvery waits seen = refl
 seen_waits option.Cut waits seen = refl
@@ -507,6 +514,15 @@ form_said : (elf : Bool) (file : ProgramForm) → IsForm (stood elf) file → fo
 form_said true file is = sym is
 form_said false file is = sym is
 
+-- whether the paths are counted is by the values of its option
+counted_found : (count : Bool) → IsCounted (stood count) count
+counted_found true = refl
+counted_found false = refl
+
+counted_said : (count counted : Bool) → IsCounted (stood count) counted → count ≡ counted
+counted_said true counted is = sym is
+counted_said false counted is = sym is
+
 positional_said : (positional : Option (List ℕ)) (word : List ℕ) → listed positional ≡ word ∷ [] → positional ≡ Some word
 positional_said None word e = absurd cc
 positional_said (Some v) word e = ap Some cc
@@ -536,6 +552,7 @@ not_seen option.Vmid value seen values once = not_listed seen.vmid value values 
 not_seen option.Cid value seen values once = not_listed seen.cid value values once
 not_seen option.Settings value seen values once = not_listed seen.settings value values once
 not_seen option.Elf value seen values once = not_raw seen.elf value values once
+not_seen option.Count value seen values once = not_raw seen.count value values once
 not_seen option.Last value seen values once = not_listed seen.last value values once
 not_seen option.SyncEvery value seen values once = not_listed seen.every value values once
 not_seen option.Cut value seen values once = not_listed seen.cut value values once
@@ -559,6 +576,7 @@ has_this row option.Vmid value values (inr none) = absurd cc
 has_this row option.Cid value values (inr none) = absurd cc
 has_this row option.Settings value values (inr none) = absurd cc
 has_this row option.Elf value values (inr none) = absurd cc
+has_this row option.Count value values (inr none) = absurd cc
 has_this row option.Last value values (inr none) = absurd cc
 has_this row option.SyncEvery value values (inr none) = absurd cc
 has_this row option.Cut value values (inr none) = absurd cc
@@ -573,6 +591,7 @@ dashed_alone row option.Vmid seen has = ap (option_and_then (λ p. with_option p
 dashed_alone row option.Cid seen has = ap (option_and_then (λ p. with_option p None seen)) has
 dashed_alone row option.Settings seen has = ap (option_and_then (λ p. with_option p None seen)) has
 dashed_alone row option.Elf seen has = ap (option_and_then (λ p. with_option p None seen)) has
+dashed_alone row option.Count seen has = ap (option_and_then (λ p. with_option p None seen)) has
 dashed_alone row option.Last seen has = ap (option_and_then (λ p. with_option p None seen)) has
 dashed_alone row option.SyncEvery seen has = ap (option_and_then (λ p. with_option p None seen)) has
 dashed_alone row option.Cut seen has = ap (option_and_then (λ p. with_option p None seen)) has
@@ -587,6 +606,7 @@ dashed_joined row option.Vmid value seen has = ap (option_and_then (λ p. with_o
 dashed_joined row option.Cid value seen has = ap (option_and_then (λ p. with_option p (Some value) seen)) has
 dashed_joined row option.Settings value seen has = ap (option_and_then (λ p. with_option p (Some value) seen)) has
 dashed_joined row option.Elf value seen has = ap (option_and_then (λ p. with_option p (Some value) seen)) has
+dashed_joined row option.Count value seen has = ap (option_and_then (λ p. with_option p (Some value) seen)) has
 dashed_joined row option.Last value seen has = ap (option_and_then (λ p. with_option p (Some value) seen)) has
 dashed_joined row option.SyncEvery value seen has = ap (option_and_then (λ p. with_option p (Some value) seen)) has
 dashed_joined row option.Cut value seen has = ap (option_and_then (λ p. with_option p (Some value) seen)) has
@@ -611,6 +631,7 @@ value_after option.Vmid value seen = refl
 value_after option.Cid value seen = refl
 value_after option.Settings value seen = refl
 value_after option.Elf value seen = refl
+value_after option.Count value seen = refl
 value_after option.Last value seen = refl
 value_after option.SyncEvery value seen = refl
 value_after option.Cut value seen = refl
@@ -946,12 +967,39 @@ form_values : (end : Seen) (file : ProgramForm) (flags : List (List ℕ)) → fo
 form_values end file flags is same =
     subst (λ (l : List (List ℕ)). IsForm l file) same (subst (IsForm (stood end.elf)) is (form_found end.elf))
 
-path_says : (end : Seen) (program : Program) (intake : Intake) → command_in name.Path end ≡ Some (Path program intake)
-    → SaysProgram end program × Says end intake
-path_says end program intake e =
-    let p = then_some (program_in end) _ (Path program intake) e in let i = map_some (intake_in end) (Path p.0) (Path program intake) p.2 in
-    let program_is : p.0 ≡ program = (let f = i.2 in cc) in let intake_is : i.0 ≡ intake = (let f = i.2 in cc) in
-    (program_found end program (p.1 ∙ ap Some program_is), intake_found end intake (i.1 ∙ ap Some intake_is))
+counted_values : (end : Seen) (counted : Bool) (flags : List (List ℕ)) → end.count ≡ counted → given option.Count end ≡ flags → IsCounted flags counted
+counted_values end counted flags is same =
+    subst (λ (l : List (List ℕ)). IsCounted l counted) same (subst (IsCounted (stood end.count)) is (counted_found end.count))
+
+-- paths and their counts are two commands
+record SameWalk (count counted : Bool) (p program : Program) (i intake : Intake) : Type 0 where
+  count_is : count ≡ counted
+  program_is : p ≡ program
+  intake_is : i ≡ intake
+
+walks_apart : (count counted : Bool) (p program : Program) (i intake : Intake) → path_by count p i ≡ path_by counted program intake
+    → SameWalk count counted p program i intake
+walks_apart true true p program i intake e = record { count_is = refl; program_is = cc; intake_is = cc }
+walks_apart false false p program i intake e = record { count_is = refl; program_is = cc; intake_is = cc }
+walks_apart true false p program i intake e = absurd cc
+walks_apart false true p program i intake e = absurd cc
+
+-- what the end says of a program and of an input, and whether the paths are counted
+record SaysWalk (end : Seen) (program : Program) (intake : Intake) (counted : Bool) : Type 0 where
+  count_is : end.count ≡ counted
+  file : SaysProgram end program
+  taken : Says end intake
+
+walk_says : (end : Seen) (program : Program) (intake : Intake) (counted : Bool) → command_in name.Path end ≡ Some (path_by counted program intake)
+    → SaysWalk end program intake counted
+walk_says end program intake counted e =
+    let c = path_by counted program intake in let p = then_some (program_in end) _ c e in
+    let i = map_some (intake_in end) (path_by end.count p.0) c p.2 in let same = walks_apart end.count counted p.0 program i.0 intake i.2 in
+    record {
+      count_is = same.count_is;
+      file = program_found end program (p.1 ∙ ap Some same.program_is);
+      taken = intake_found end intake (i.1 ∙ ap Some same.intake_is);
+    }
 
 packets_says : (end : Seen) (intake : Intake) → command_in name.Packets end ≡ Some (Packets intake) → Says end intake
 packets_says end intake e =
@@ -1032,14 +1080,15 @@ taken_of row words end intake p says =
       units_are = units_values end.settings all intake.units (values_of option.Settings p.pieces) says.units_are (p.values option.Settings);
     }
 
-path_of_line : (word : List ℕ) (words : List (List ℕ)) (program : Program) (intake : Intake) → Begins path_row word words (Path program intake)
-    → IsPathLine (word ∷ words) program intake
-path_of_line word words program intake b =
-    let p = begin_parts path_row word words (Path program intake) b in let says = path_says b.end program intake b.means in
+walk_of_line : (word : List ℕ) (words : List (List ℕ)) (program : Program) (intake : Intake) (counted : Bool)
+    → Begins path_row word words (path_by counted program intake) → IsWalkLine (word ∷ words) program intake counted
+walk_of_line word words program intake counted b =
+    let p = begin_parts path_row word words (path_by counted program intake) b in let says = walk_says b.end program intake counted b.means in
     record {
-      line = line_of path_row word words (program.name ∷ []) (Path program intake) b p (ap listed says.0.0);
-      form_is = form_values b.end program.form (values_of option.Elf p.pieces) says.0.1 (p.values option.Elf);
-      taken = taken_of path_row words b.end intake p says.1;
+      line = line_of path_row word words (program.name ∷ []) (path_by counted program intake) b p (ap listed says.file.0);
+      form_is = form_values b.end program.form (values_of option.Elf p.pieces) says.file.1 (p.values option.Elf);
+      counted_is = counted_values b.end counted (values_of option.Count p.pieces) says.count_is (p.values option.Count);
+      taken = taken_of path_row words b.end intake p says.taken;
     }
 
 -- a command without a positional has none
@@ -1104,14 +1153,21 @@ selftest_of_line word words n cut b =
 -- a command means what its name says
 abbrev name_in : Command → CommandName
 name_in (Path program intake) = name.Path
+name_in (Counts program intake) = name.Path
 name_in (Packets intake) = name.Packets
 name_in (Times intake) = name.Times
 name_in (Retired program) = name.Retired
 name_in (Trace program last every) = name.Trace
 name_in (Selftest n cut) = name.Selftest
 
+walk_name : (counted : Bool) (program : Program) (intake : Intake) → name.Path ≡ name_in (path_by counted program intake)
+walk_name true program intake = refl
+walk_name false program intake = refl
+
 named : (n : CommandName) (end : Seen) (c : Command) → command_in n end ≡ Some c → n ≡ name_in c
-named name.Path end c e = let i = then_some (program_in end) _ c e in let z = map_some (intake_in end) (Path i.0) c i.2 in ap name_in z.2
+named name.Path end c e =
+    let i = then_some (program_in end) _ c e in let z = map_some (intake_in end) (path_by end.count i.0) c i.2 in
+    walk_name end.count i.0 z.0 ∙ ap name_in z.2
 named name.Packets end c e = let z = map_some (intake_in end) Packets c e in ap name_in z.2
 named name.Times end c e = let z = map_some (intake_in end) Times c e in ap name_in z.2
 named name.Retired end c e = let i = map_some (program_in end) Retired c e in ap name_in i.2
@@ -1125,16 +1181,22 @@ named name.Selftest end c e =
 another : (n : CommandName) (end : Seen) (c : Command) → command_in n end ≡ Some c → (n ≡ name_in c → ⊥) → ⊥
 another n end c e other = other (named n end c e)
 
-pub path_line : (words : List (List ℕ)) (program : Program) (intake : Intake) → meaning words ≡ Some (Path program intake)
-    → IsPathLine words program intake
-path_line [] program intake e = absurd cc
-path_line (word ∷ words) program intake e = elim (line word words (Path program intake) e) [
-  | inl b ↦ path_of_line word words program intake b
-  | inr (inl b) ↦ absurd (another name.Packets b.end (Path program intake) b.means (λ f. absurd cc))
-  | inr (inr (inl b)) ↦ absurd (another name.Times b.end (Path program intake) b.means (λ f. absurd cc))
-  | inr (inr (inr (inl b))) ↦ absurd (another name.Retired b.end (Path program intake) b.means (λ f. absurd cc))
-  | inr (inr (inr (inr (inl b)))) ↦ absurd (another name.Trace b.end (Path program intake) b.means (λ f. absurd cc))
-  | inr (inr (inr (inr (inr b)))) ↦ absurd (another name.Selftest b.end (Path program intake) b.means (λ f. absurd cc))
+-- another command than `path` means no paths, counted or not
+no_walk : (n : CommandName) (end : Seen) (program : Program) (intake : Intake) (counted : Bool) → command_in n end ≡ Some (path_by counted program intake)
+    → (n ≡ name.Path → ⊥) → ⊥
+no_walk n end program intake counted e other =
+    another n end (path_by counted program intake) e (λ f. other (f ∙ sym (walk_name counted program intake)))
+
+pub walk_line : (words : List (List ℕ)) (program : Program) (intake : Intake) (counted : Bool) → meaning words ≡ Some (path_by counted program intake)
+    → IsWalkLine words program intake counted
+walk_line [] program intake counted e = absurd cc
+walk_line (word ∷ words) program intake counted e = elim (line word words (path_by counted program intake) e) [
+  | inl b ↦ walk_of_line word words program intake counted b
+  | inr (inl b) ↦ absurd (no_walk name.Packets b.end program intake counted b.means (λ f. absurd cc))
+  | inr (inr (inl b)) ↦ absurd (no_walk name.Times b.end program intake counted b.means (λ f. absurd cc))
+  | inr (inr (inr (inl b))) ↦ absurd (no_walk name.Retired b.end program intake counted b.means (λ f. absurd cc))
+  | inr (inr (inr (inr (inl b)))) ↦ absurd (no_walk name.Trace b.end program intake counted b.means (λ f. absurd cc))
+  | inr (inr (inr (inr (inr b)))) ↦ absurd (no_walk name.Selftest b.end program intake counted b.means (λ f. absurd cc))
 ]
 
 pub packets_line : (words : List (List ℕ)) (intake : Intake) → meaning words ≡ Some (Packets intake)
@@ -1224,6 +1286,11 @@ form_once [] file is = tt
 form_once (f ∷ []) file is = tt
 form_once (f ∷ g ∷ flags) file is = absurd is
 
+counted_once : (flags : List (List ℕ)) (counted : Bool) → IsCounted flags counted → OnceAtMost flags
+counted_once [] counted is = tt
+counted_once (f ∷ []) counted is = tt
+counted_once (f ∷ g ∷ flags) counted is = absurd is
+
 -- each of the options that tell the layout stands once at most
 record LayoutOnce (raws values syncs : List (List ℕ)) : Type 0 where
   raw : OnceAtMost raws
@@ -1252,6 +1319,7 @@ given_nothing option.Vmid = refl
 given_nothing option.Cid = refl
 given_nothing option.Settings = refl
 given_nothing option.Elf = refl
+given_nothing option.Count = refl
 given_nothing option.Last = refl
 given_nothing option.SyncEvery = refl
 given_nothing option.Cut = refl
@@ -1317,29 +1385,31 @@ taken_once pieces intake taken = record {
   settings = units_once (values_of option.Settings pieces) taken.all intake.units taken.units_are;
 }
 
-path_once : (words : List (List ℕ)) (program : Program) (intake : Intake) (l : IsPathLine words program intake) (o : CommandOption)
-    → OnceAtMost (given o nothing_seen ++ values_of o l.line.pieces)
-path_once words program intake l option.Raw = (taken_once l.line.pieces intake l.taken).layout.raw
-path_once words program intake l option.Wrap = (taken_once l.line.pieces intake l.taken).layout.wrap
-path_once words program intake l option.Sync = (taken_once l.line.pieces intake l.taken).layout.sync
-path_once words program intake l option.Depth = (taken_once l.line.pieces intake l.taken).depth
-path_once words program intake l option.Vmid = (taken_once l.line.pieces intake l.taken).vmid
-path_once words program intake l option.Cid = (taken_once l.line.pieces intake l.taken).cid
-path_once words program intake l option.Settings = (taken_once l.line.pieces intake l.taken).settings
-path_once words program intake l option.Elf = form_once (values_of option.Elf l.line.pieces) program.form l.form_is
-path_once words program intake l o = unused_once o (values_of o l.line.pieces) (l.line.only o refl)
+walk_once : (words : List (List ℕ)) (program : Program) (intake : Intake) (counted : Bool) (l : IsWalkLine words program intake counted)
+    (o : CommandOption) → OnceAtMost (given o nothing_seen ++ values_of o l.line.pieces)
+walk_once words program intake counted l option.Raw = (taken_once l.line.pieces intake l.taken).layout.raw
+walk_once words program intake counted l option.Wrap = (taken_once l.line.pieces intake l.taken).layout.wrap
+walk_once words program intake counted l option.Sync = (taken_once l.line.pieces intake l.taken).layout.sync
+walk_once words program intake counted l option.Depth = (taken_once l.line.pieces intake l.taken).depth
+walk_once words program intake counted l option.Vmid = (taken_once l.line.pieces intake l.taken).vmid
+walk_once words program intake counted l option.Cid = (taken_once l.line.pieces intake l.taken).cid
+walk_once words program intake counted l option.Settings = (taken_once l.line.pieces intake l.taken).settings
+walk_once words program intake counted l option.Elf = form_once (values_of option.Elf l.line.pieces) program.form l.form_is
+walk_once words program intake counted l option.Count = counted_once (values_of option.Count l.line.pieces) counted l.counted_is
+walk_once words program intake counted l o = unused_once o (values_of o l.line.pieces) (l.line.only o refl)
 
-path_has : (words : List (List ℕ)) (program : Program) (intake : Intake) (l : IsPathLine words program intake) (o : CommandOption)
-    → Has path_row o ⊎ (values_of o l.line.pieces ≡ [])
-path_has words program intake l option.Raw = inl refl
-path_has words program intake l option.Wrap = inl refl
-path_has words program intake l option.Sync = inl refl
-path_has words program intake l option.Depth = inl refl
-path_has words program intake l option.Vmid = inl refl
-path_has words program intake l option.Cid = inl refl
-path_has words program intake l option.Settings = inl refl
-path_has words program intake l option.Elf = inl refl
-path_has words program intake l o = inr (l.line.only o refl)
+walk_has : (words : List (List ℕ)) (program : Program) (intake : Intake) (counted : Bool) (l : IsWalkLine words program intake counted)
+    (o : CommandOption) → Has path_row o ⊎ (values_of o l.line.pieces ≡ [])
+walk_has words program intake counted l option.Raw = inl refl
+walk_has words program intake counted l option.Wrap = inl refl
+walk_has words program intake counted l option.Sync = inl refl
+walk_has words program intake counted l option.Depth = inl refl
+walk_has words program intake counted l option.Vmid = inl refl
+walk_has words program intake counted l option.Cid = inl refl
+walk_has words program intake counted l option.Settings = inl refl
+walk_has words program intake counted l option.Elf = inl refl
+walk_has words program intake counted l option.Count = inl refl
+walk_has words program intake counted l o = inr (l.line.only o refl)
 
 positional_once : (positionals : List (List ℕ)) (word : List ℕ) → positionals ≡ word ∷ [] → OnceAtMost positionals
 positional_once positionals word are = subst OnceAtMost (sym are) tt
@@ -1353,11 +1423,13 @@ program_said end program flags e same is =
     let file = form_said end.elf program.form (subst (λ (l : List (List ℕ)). IsForm l program.form) (sym same) is) in
     ap (option_map (named_so (form_by end.elf))) e ∙ ap (λ (f : ProgramForm). Some (named_so f program.name)) file
 
-path_means : (words : List (List ℕ)) (end : Seen) (program : Program) (intake : Intake) → seen_of path_row nothing_seen words ≡ Some end
-    → program_in end ≡ Some program → intake_in end ≡ Some intake → meaning (codes "path" ∷ words) ≡ Some (Path program intake)
-path_means words end program intake e p i =
+walk_means : (words : List (List ℕ)) (end : Seen) (program : Program) (intake : Intake) (counted : Bool)
+    → seen_of path_row nothing_seen words ≡ Some end → program_in end ≡ Some program → intake_in end ≡ Some intake → end.count ≡ counted
+    → meaning (codes "path" ∷ words) ≡ Some (path_by counted program intake)
+walk_means words end program intake counted e p i k =
     ap (option_and_then (command_in name.Path)) e
-    ∙ (ap (option_and_then (λ v. option_map (Path v) (intake_in end))) p ∙ ap (option_map (Path program)) i)
+    ∙ (ap (option_and_then (λ v. option_map (path_by end.count v) (intake_in end))) p ∙ ap (option_map (path_by end.count program)) i
+    ∙ ap (λ (b : Bool). Some (path_by b program intake)) k)
 
 packets_means : (words : List (List ℕ)) (end : Seen) (intake : Intake) → seen_of packets_row nothing_seen words ≡ Some end
     → intake_in end ≡ Some intake → meaning (codes "packets" ∷ words) ≡ Some (Packets intake)
@@ -1387,21 +1459,22 @@ selftest_means words end number n cut e i m k =
     ∙ (ap (option_and_then (λ word. option_and_then (λ x. option_map (Selftest x) (cut_of end.cut)) (number_to most_number word))) i
     ∙ (ap (option_and_then (λ x. option_map (Selftest x) (cut_of end.cut))) m ∙ ap (option_map (Selftest n)) k))
 
-pub path_said : (words : List (List ℕ)) (program : Program) (intake : Intake) → IsPathLine words program intake
-    → meaning words ≡ Some (Path program intake)
-path_said words program intake l =
+pub walk_said : (words : List (List ℕ)) (program : Program) (intake : Intake) (counted : Bool) → IsWalkLine words program intake counted
+    → meaning words ≡ Some (path_by counted program intake)
+walk_said words program intake counted l =
     let t = taken path_row l.line.pieces l.line.ended l.line.behind nothing_seen refl l.line.are_pieces l.line.end_is (record {
       free = refl;
-      once = path_once words program intake l;
+      once = walk_once words program intake counted l;
       one = positional_once (positionals_of l.line.pieces ++ l.line.behind) program.name l.line.positionals_are;
-      has = path_has words program intake l;
+      has = walk_has words program intake counted l;
       allowed = inl refl;
       enough = inr (program.name, l.line.positionals_are);
     }) in
     ap meaning l.line.row
-    ∙ path_means (in_row l.line.pieces l.line.ended) t.end program intake t.seen_is
+    ∙ walk_means (in_row l.line.pieces l.line.ended) t.end program intake counted t.seen_is
     (program_said t.end program (values_of option.Elf l.line.pieces) (positional_said t.end.positional program.name (t.positionals ∙ l.line.positionals_are))
     (told_in t.end l.line.pieces t.values option.Elf) l.form_is) (said_by t.end intake l.line.pieces (told_in t.end l.line.pieces t.values) l.taken)
+    (counted_said t.end.count counted (subst (λ (v : List (List ℕ)). IsCounted v counted) (sym (told_in t.end l.line.pieces t.values option.Count)) l.counted_is))
 
 packets_once : (words : List (List ℕ)) (intake : Intake) (l : IsPacketsLine words intake) (o : CommandOption)
     → OnceAtMost (given o nothing_seen ++ values_of o l.line.pieces)

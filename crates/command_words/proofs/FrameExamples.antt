@@ -6,7 +6,7 @@ use Rattle.command_words.specs.declared.words.ProgramForm.TheVariants as form
 use Rattle.command_words.specs.declared.words.Layout.TheVariants.{Raw, Frames, Wrapped}
 use Rattle.command_words.specs.CommandLines.{IsCount, IsLayout}
 use Rattle.command_words.specs.Said.{IsCountTo, IsLaidOut}
-use Rattle.command_words.specs.Words.{Command, Intake, Packets, Path, Program, Retired, Selftest, Times, Trace, image_of, meaning, most_last}
+use Rattle.command_words.specs.Words.{Command, Counts, Intake, Packets, Path, Program, Retired, Selftest, Times, Trace, image_of, meaning, most_last}
 
 abbrev sizes : ℕ → ℕ → ℕ → Sizes
 sizes depth vmid cid = record { depth = depth; vmid_bytes = vmid; cid_bytes = cid }
@@ -258,6 +258,7 @@ no_place_past_the_most is = absurd (omega (arith, is))
 -- how a command takes its input; in their order, where it takes none
 abbrev layout_in : Option Command → Layout
 layout_in (Some (Path program intake)) = intake.layout
+layout_in (Some (Counts program intake)) = intake.layout
 layout_in (Some (Packets intake)) = intake.layout
 layout_in (Some (Times intake)) = intake.layout
 layout_in (Some (Retired program)) = Frames

@@ -1,4 +1,5 @@
 mod CommandLines
+mod CountExamples
 mod FrameExamples
 mod ListExamples
 pub mod ListTables

@@ -6,7 +6,7 @@ use Rattle.etm_types.specs.SettingsTable.{sizes_at}
 use Rattle.command_words.specs.declared.words.Layout.{Layout}
 use Rattle.command_words.specs.declared.words.ProgramForm.TheVariants as form
 use Rattle.command_words.specs.declared.words.Layout.TheVariants.{Raw, Frames}
-use Rattle.command_words.specs.Words.{Command, Path, Packets, Retired, Selftest, Times, Trace, meaning}
+use Rattle.command_words.specs.Words.{Command, Counts, Path, Packets, Retired, Selftest, Times, Trace, meaning}
 
 abbrev sizes : ℕ → ℕ → ℕ → Sizes
 sizes depth vmid cid = record { depth = depth; vmid_bytes = vmid; cid_bytes = cid }
@@ -230,6 +230,7 @@ number_by_a_list = refl
 
 abbrev units_in : Option Command → List Sizes
 units_in (Some (Path program intake)) = intake.units
+units_in (Some (Counts program intake)) = intake.units
 units_in (Some (Packets intake)) = intake.units
 units_in (Some (Times intake)) = intake.units
 units_in (Some (Retired program)) = []

@@ -8,7 +8,7 @@ use Rattle.command_words.specs.declared.words.ProgramForm.{ProgramForm}
 use Rattle.command_words.specs.declared.words.ProgramForm.TheVariants as form
 use Rattle.command_words.specs.CommandLines.{Apart, Flag, IsCount, IsForm, IsLayout, Joined, values_of}
 use Rattle.command_words.specs.Said.{IsCountTo}
-use Rattle.command_words.specs.Words.{Command, Intake, Packets, Path, Program, Retired, Selftest, Times, Trace, image_of, meaning, most_every}
+use Rattle.command_words.specs.Words.{Command, Counts, Intake, Packets, Path, Program, Retired, Selftest, Times, Trace, image_of, meaning, most_every}
 
 abbrev sizes : ℕ → ℕ → ℕ → Sizes
 sizes depth vmid cid = record { depth = depth; vmid_bytes = vmid; cid_bytes = cid }
@@ -224,6 +224,7 @@ not_past_the_most are = absurd (omega (arith, are.1))
 abbrev counts_in : Option Command → List (Option ℕ)
 counts_in (Some (Trace program last every)) = last ∷ every ∷ []
 counts_in (Some (Path program intake)) = []
+counts_in (Some (Counts program intake)) = []
 counts_in (Some (Packets intake)) = []
 counts_in (Some (Times intake)) = []
 counts_in (Some (Retired program)) = []
@@ -238,6 +239,7 @@ not_the_other_count e = let same : ◌≡◌ {A = List (Option ℕ)} (None ∷ S
 -- what the file of a program is, and how an input is laid out
 abbrev form_in : Option Command → ProgramForm
 form_in (Some (Path program intake)) = program.form
+form_in (Some (Counts program intake)) = program.form
 form_in (Some (Retired program)) = program.form
 form_in (Some (Trace program last every)) = program.form
 form_in (Some (Packets intake)) = form.Text
@@ -247,6 +249,7 @@ form_in None = form.Text
 
 abbrev layout_in : Option Command → Layout
 layout_in (Some (Path program intake)) = intake.layout
+layout_in (Some (Counts program intake)) = intake.layout
 layout_in (Some (Packets intake)) = intake.layout
 layout_in (Some (Times intake)) = intake.layout
 layout_in (Some (Retired program)) = Frames

@@ -33,7 +33,7 @@ none_row id (r ∷ rows) e = none_row_by id r rows (bytes_eq r.id id) refl (none
 
 -- the keys of flags
 abbrev pub is_flag : Text → Bool
-is_flag id = bytes_eq (codes "raw") id || bytes_eq (codes "sync") id || bytes_eq (codes "elf") id
+is_flag id = bytes_eq (codes "raw") id || bytes_eq (codes "sync") id || bytes_eq (codes "elf") id || bytes_eq (codes "count") id
 
 -- the rows say the same, but for flags that are off
 pub record Same (rows more : List Row) : Type 0 where
@@ -80,6 +80,7 @@ default_by (Named option.Vmid) rows true is = same_rows rows (with_default rows 
 default_by (Named option.Cid) rows true is = same_rows rows (with_default rows (rule_of (Named option.Cid))) (simp is)
 default_by (Named option.Settings) rows true is = same_rows rows (with_default rows (rule_of (Named option.Settings))) (simp is)
 default_by (Named option.Elf) rows true is = same_rows rows (with_default rows (rule_of (Named option.Elf))) (simp is)
+default_by (Named option.Count) rows true is = same_rows rows (with_default rows (rule_of (Named option.Count))) (simp is)
 default_by (Named option.Last) rows true is = same_rows rows (with_default rows (rule_of (Named option.Last))) (simp is)
 default_by (Named option.SyncEvery) rows true is = same_rows rows (with_default rows (rule_of (Named option.SyncEvery))) (simp is)
 default_by (Named option.Cut) rows true is = same_rows rows (with_default rows (rule_of (Named option.Cut))) (simp is)
@@ -99,6 +100,11 @@ default_by (Named option.Elf) rows false is =
     let added : with_default rows (rule_of (Named option.Elf)) ≡ rows ++ off_row (codes "elf") ∷ [] =
     simp is (row_added (codes "elf") (more_values DefaultValue (codes "false" ∷ [])) (off_row (codes "elf") ∷ []) rows none) in
     subst (Same rows) (sym added) (same_off (codes "elf") rows refl none)
+default_by (Named option.Count) rows false is =
+    let none = none_row (codes "count") rows is in
+    let added : with_default rows (rule_of (Named option.Count)) ≡ rows ++ off_row (codes "count") ∷ [] =
+    simp is (row_added (codes "count") (more_values DefaultValue (codes "false" ∷ [])) (off_row (codes "count") ∷ []) rows none) in
+    subst (Same rows) (sym added) (same_off (codes "count") rows refl none)
 default_by (Named option.Wrap) rows false is = same_rows rows (with_default rows (rule_of (Named option.Wrap))) (simp is)
 default_by (Named option.Depth) rows false is = same_rows rows (with_default rows (rule_of (Named option.Depth))) (simp is)
 default_by (Named option.Vmid) rows false is = same_rows rows (with_default rows (rule_of (Named option.Vmid))) (simp is)
@@ -139,12 +145,14 @@ default_clean_by (Named option.Vmid) rows false is = simp is
 default_clean_by (Named option.Cid) rows true is = simp is
 default_clean_by (Named option.Settings) rows true is = simp is
 default_clean_by (Named option.Elf) rows true is = simp is
+default_clean_by (Named option.Count) rows true is = simp is
 default_clean_by (Named option.Last) rows true is = simp is
 default_clean_by (Named option.SyncEvery) rows true is = simp is
 default_clean_by (Named option.Cut) rows true is = simp is
 default_clean_by (Named option.Cid) rows false is = simp is
 default_clean_by (Named option.Settings) rows false is = simp is
 default_clean_by (Named option.Elf) rows false is = simp is
+default_clean_by (Named option.Count) rows false is = simp is
 default_clean_by (Named option.Last) rows false is = simp is
 default_clean_by (Named option.SyncEvery) rows false is = simp is
 default_clean_by (Named option.Cut) rows false is = simp is

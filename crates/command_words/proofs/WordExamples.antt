@@ -5,7 +5,7 @@ use Rattle.etm_types.specs.SettingsTable.{sizes_at}
 use Rattle.command_words.specs.declared.words.Layout.{Layout}
 use Rattle.command_words.specs.declared.words.ProgramForm.TheVariants as form
 use Rattle.command_words.specs.declared.words.Layout.TheVariants.{Raw, Frames}
-use Rattle.command_words.specs.Words.{Command, Path, Packets, Retired, Selftest, Times, Trace, meaning, image_of}
+use Rattle.command_words.specs.Words.{Command, Counts, Path, Packets, Retired, Selftest, Times, Trace, meaning, image_of}
 use Rattle.command_words.specs.Words.{BareKind, Intake, NoCommand, NumberKind, PathKind, Program, RunFileKind, kind_of, program_of}
 
 abbrev sizes : ℕ → ℕ → ℕ → Sizes
@@ -810,6 +810,7 @@ kind_of_a_number = refl
 -- how a command takes its input; sizes of 0, and frames, where it takes none
 abbrev intake_in : Option Command → Intake
 intake_in (Some (Path program intake)) = intake
+intake_in (Some (Counts program intake)) = intake
 intake_in (Some (Packets intake)) = intake
 intake_in (Some (Times intake)) = intake
 intake_in (Some (Retired program)) = taken (sizes 0 0 0) Frames
@@ -829,6 +830,7 @@ layout_in command = (intake_in command).layout
 -- the number that is told, 0 where none is
 abbrev number_in : Option Command → ℕ
 number_in (Some (Path program intake)) = 0
+number_in (Some (Counts program intake)) = 0
 number_in (Some (Packets intake)) = 0
 number_in (Some (Times intake)) = 0
 number_in (Some (Retired program)) = 0

@@ -186,9 +186,9 @@ flag_is : (k : Key) (rows : List Row) (stood : Bool) → lookup (id_of k) rows �
 flag_is k rows true is = simp is
 flag_is k rows false is = simp is
 
-abbrev all_seen : Bool → Option Text → Bool → Option Text → Option Text → Option Text → Option Text → Bool → Option Text → Option Text → Option Text
-    → Option Text → Seen
-all_seen raw wrap sync depth vmid cid settings elf last every cut positional = record {
+abbrev all_seen : Bool → Option Text → Bool → Option Text → Option Text → Option Text → Option Text → Bool → Bool → Option Text → Option Text
+    → Option Text → Option Text → Seen
+all_seen raw wrap sync depth vmid cid settings elf count last every cut positional = record {
   raw = raw;
   wrap = wrap;
   sync = sync;
@@ -197,6 +197,7 @@ all_seen raw wrap sync depth vmid cid settings elf last every cut positional = r
   cid = cid;
   settings = settings;
   elf = elf;
+  count = count;
   last = last;
   every = every;
   cut = cut;
@@ -208,7 +209,8 @@ all_seen raw wrap sync depth vmid cid settings elf last every cut positional = r
 -- what was seen, with no option that waits
 abbrev all_of : Seen → Seen
 all_of seen =
-    all_seen seen.raw seen.wrap seen.sync seen.depth seen.vmid seen.cid seen.settings seen.elf seen.last seen.every seen.cut seen.positional
+    all_seen seen.raw seen.wrap seen.sync seen.depth seen.vmid seen.cid seen.settings seen.elf seen.count seen.last seen.every seen.cut
+    seen.positional
 
 in_all : (n : CommandName) (seen : Seen) → command_in n (all_of seen) ≡ command_in n seen
 in_all name.Path seen = refl
@@ -218,12 +220,12 @@ in_all name.Retired seen = refl
 in_all name.Trace seen = refl
 in_all name.Selftest seen = refl
 
-pub same_seen : {raw raw' sync sync' elf elf' : Bool} {wrap wrap' depth depth' vmid vmid' cid cid' settings settings' last last' : Option Text}
-    {every every' cut cut' positional positional' : Option Text} → raw ≡ raw' → wrap ≡ wrap' → sync ≡ sync' → depth ≡ depth' → vmid ≡ vmid' → cid ≡ cid'
-    → settings ≡ settings' → elf ≡ elf' → last ≡ last' → every ≡ every' → cut ≡ cut' → positional ≡ positional'
-    → all_seen raw wrap sync depth vmid cid settings elf last every cut positional
-    ≡ all_seen raw' wrap' sync' depth' vmid' cid' settings' elf' last' every' cut' positional'
-same_seen r w s d v c l e n y k p = (λ i. all_seen (r i) (w i) (s i) (d i) (v i) (c i) (l i) (e i) (n i) (y i) (k i) (p i))
+pub same_seen : {raw raw' sync sync' elf elf' count count' : Bool} {wrap wrap' depth depth' vmid vmid' cid cid' settings settings' : Option Text}
+    {last last' every every' cut cut' positional positional' : Option Text} → raw ≡ raw' → wrap ≡ wrap' → sync ≡ sync' → depth ≡ depth' → vmid ≡ vmid'
+    → cid ≡ cid' → settings ≡ settings' → elf ≡ elf' → count ≡ count' → last ≡ last' → every ≡ every' → cut ≡ cut' → positional ≡ positional'
+    → all_seen raw wrap sync depth vmid cid settings elf count last every cut positional
+    ≡ all_seen raw' wrap' sync' depth' vmid' cid' settings' elf' count' last' every' cut' positional'
+same_seen r w s d v c l e o n y k p = (λ i. all_seen (r i) (w i) (s i) (d i) (v i) (c i) (l i) (e i) (o i) (n i) (y i) (k i) (p i))
 
 command_same : (n : CommandName) (rows more : List Row) (seen : Seen) → Shows rows seen → Same rows more → command_in n (seen_in more) ≡ command_in n seen
 command_same n rows more seen shows same =
@@ -235,11 +237,12 @@ command_same n rows more seen shows same =
     let cid = first_is (Named option.Cid) more seen.cid (same.texts (codes "cid") refl ∙ shows (Named option.Cid)) in
     let settings = first_is (Named option.Settings) more seen.settings (same.texts (codes "settings") refl ∙ shows (Named option.Settings)) in
     let elf = same.flags (codes "elf") ∙ flag_is (Named option.Elf) rows seen.elf (shows (Named option.Elf)) in
+    let count = same.flags (codes "count") ∙ flag_is (Named option.Count) rows seen.count (shows (Named option.Count)) in
     let last = first_is (Named option.Last) more seen.last (same.texts (codes "last") refl ∙ shows (Named option.Last)) in
     let every = first_is (Named option.SyncEvery) more seen.every (same.texts (codes "sync-every") refl ∙ shows (Named option.SyncEvery)) in
     let cut = first_is (Named option.Cut) more seen.cut (same.texts (codes "cut") refl ∙ shows (Named option.Cut)) in
     let positional = first_is Positional more seen.positional (same.texts (codes "POSITIONAL") refl ∙ shows Positional) in
-    ap (command_in n) (same_seen raw wrap sync depth vmid cid settings elf last every cut positional) ∙ in_all n seen
+    ap (command_in n) (same_seen raw wrap sync depth vmid cid settings elf count last every cut positional) ∙ in_all n seen
 
 -- ---- the meaning
 
@@ -261,6 +264,7 @@ nothing_shown (Named option.Vmid) = refl
 nothing_shown (Named option.Cid) = refl
 nothing_shown (Named option.Settings) = refl
 nothing_shown (Named option.Elf) = refl
+nothing_shown (Named option.Count) = refl
 nothing_shown (Named option.Last) = refl
 nothing_shown (Named option.SyncEvery) = refl
 nothing_shown (Named option.Cut) = refl

@@ -142,6 +142,7 @@ most_is option.Vmid takes = refl
 most_is option.Cid takes = refl
 most_is option.Settings takes = refl
 most_is option.Elf takes = absurd cc
+most_is option.Count takes = absurd cc
 most_is option.Last takes = refl
 most_is option.SyncEvery takes = refl
 most_is option.Cut takes = refl

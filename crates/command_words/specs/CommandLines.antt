@@ -95,6 +95,12 @@ IsForm [] file = file ≡ form.Text
 IsForm (flag ∷ []) file = file ≡ form.Elf
 IsForm (flag ∷ other ∷ flags) file = ⊥
 
+-- `--count` once stands for counts, and its absence for lines
+abbrev pub IsCounted : List (List ℕ) → Bool → Type 0
+IsCounted [] counted = counted ≡ false
+IsCounted (flag ∷ []) counted = counted ≡ true
+IsCounted (flag ∷ other ∷ flags) counted = ⊥
+
 -- one value is a number, and the absence of one stands for the default
 abbrev pub IsNumber : ℕ → List (List ℕ) → ℕ → Type 0
 IsNumber default [] n = n ≡ default
@@ -180,11 +186,20 @@ pub record IsTakenBy (pieces : List Piece) (intake : Intake) : Type 0 where
   pub within : AreSettings all
   pub units_are : IsUnits (values_of option.Settings pieces) all intake.units
 
--- `path`, with one positional
-pub record IsPathLine (words : List (List ℕ)) (program : Program) (intake : Intake) : Type 0 where
+-- `path`, with one positional, and whether its paths are counted
+pub record IsWalkLine (words : List (List ℕ)) (program : Program) (intake : Intake) (counted : Bool) : Type 0 where
   pub line : IsLine (codes "path") path_options words (program.name ∷ [])
   pub form_is : IsForm (values_of option.Elf line.pieces) program.form
+  pub counted_is : IsCounted (values_of option.Count line.pieces) counted
   pub taken : IsTakenBy line.pieces intake
+
+-- `path` without `--count`
+abbrev pub IsPathLine : List (List ℕ) → Program → Intake → Type 0
+IsPathLine words program intake = IsWalkLine words program intake false
+
+-- `path` with `--count`
+abbrev pub IsCountsLine : List (List ℕ) → Program → Intake → Type 0
+IsCountsLine words program intake = IsWalkLine words program intake true
 
 -- `packets`, with no positional; no packet depends on the depth, which is the default
 pub record IsPacketsLine (words : List (List ℕ)) (intake : Intake) : Type 0 where

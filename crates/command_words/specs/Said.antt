@@ -2,7 +2,7 @@
 use Rattle.std.specs.Prelude.{⊤, ◌≤◌, ℕ, Option, Some, None}
 use Rattle.std.specs.Option.{option_map}
 use Rattle.etm_types.specs.SettingsTable.{IsTable}
-use Rattle.command_words.specs.Words.{Command, CommandRow, Intake, Path, Packets, Program, Retired, Seen, Selftest, Times, Trace}
+use Rattle.command_words.specs.Words.{Command, CommandRow, Counts, Intake, Path, Packets, Program, Retired, Seen, Selftest, Times, Trace}
 use Rattle.command_words.specs.Words.{most_every, most_last, most_number, most_wrap, row}
 use Rattle.command_words.specs.declared.words.Command.{Command as Told}
 use Rattle.command_words.specs.declared.words.Command.TheVariants as told
@@ -21,6 +21,7 @@ said_intake intake = record { units = intake.settings; layout = intake.layout }
 
 abbrev pub said : Told → Command
 said (told.Path program intake) = Path (said_program program) (said_intake intake)
+said (told.Counts program intake) = Counts (said_program program) (said_intake intake)
 said (told.Packets intake) = Packets (said_intake intake)
 said (told.Times intake) = Times (said_intake intake)
 said (told.Retired program) = Retired (said_program program)
@@ -47,6 +48,7 @@ IsCountTo most (Some n) = (1 ≤ n) × (n ≤ most)
 -- how its input is taken, where it has one, which frames it writes, and its number, are in range
 abbrev pub IsInRange : Told → Type 0
 IsInRange (told.Path program intake) = IsIntake intake
+IsInRange (told.Counts program intake) = IsIntake intake
 IsInRange (told.Packets intake) = IsIntake intake
 IsInRange (told.Times intake) = IsIntake intake
 IsInRange (told.Retired program) = ⊤
@@ -66,6 +68,7 @@ seen_by seen = record {
   cid = option_map (λ text. text.now) seen.cid;
   settings = option_map (λ text. text.now) seen.settings;
   elf = seen.elf;
+  count = seen.count;
   last = option_map (λ text. text.now) seen.last;
   every = option_map (λ text. text.now) seen.every;
   cut = option_map (λ text. text.now) seen.cut;

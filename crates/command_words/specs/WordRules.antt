@@ -55,6 +55,7 @@ seen_in rows = record {
   cid = first_of (codes "cid") rows;
   settings = first_of (codes "settings") rows;
   elf = is_true_text (first_of (codes "elf") rows);
+  count = is_true_text (first_of (codes "count") rows);
   last = first_of (codes "last") rows;
   every = first_of (codes "sync-every") rows;
   cut = first_of (codes "cut") rows;

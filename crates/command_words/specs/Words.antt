@@ -34,6 +34,8 @@ pub record Intake : Type 0 where
 pub data Command : Type 0 where
   -- the path of each stream
   Path : Program → Intake → Command
+  -- how often each instruction and each other item stands in the paths of all streams
+  Counts : Program → Intake → Command
   -- the packets of each stream
   Packets : Intake → Command
   -- the times of the P0 elements of each stream
@@ -49,6 +51,7 @@ pub data Command : Type 0 where
 -- the program whose image a command reads, where it reads one
 abbrev pub program_of : Command → Option Program
 program_of (Path program intake) = Some program
+program_of (Counts program intake) = Some program
 program_of (Packets intake) = None
 program_of (Times intake) = None
 program_of (Retired program) = Some program
@@ -70,6 +73,7 @@ pub data Kind : Type 0 where
 abbrev pub kind_of : Option Command → Kind
 kind_of None = NoCommand
 kind_of (Some (Path program intake)) = PathKind
+kind_of (Some (Counts program intake)) = PathKind
 kind_of (Some (Packets intake)) = BareKind
 kind_of (Some (Times intake)) = BareKind
 kind_of (Some (Retired program)) = RunFileKind
@@ -88,6 +92,7 @@ name_of option.Vmid = codes "vmid"
 name_of option.Cid = codes "cid"
 name_of option.Settings = codes "settings"
 name_of option.Elf = codes "elf"
+name_of option.Count = codes "count"
 name_of option.Last = codes "last"
 name_of option.SyncEvery = codes "sync"
 name_of option.Cut = codes "cut"
@@ -107,6 +112,7 @@ takes_value option.Vmid = true
 takes_value option.Cid = true
 takes_value option.Settings = true
 takes_value option.Elf = false
+takes_value option.Count = false
 takes_value option.Last = true
 takes_value option.SyncEvery = true
 takes_value option.Cut = true
@@ -124,7 +130,7 @@ row word name options has_positional = record { word = word; name = name; option
 -- the options of each command; no packet depends on the depth, nor on an image
 abbrev pub path_options : List CommandOption
 path_options =
-    option.Raw ∷ option.Wrap ∷ option.Sync ∷ option.Depth ∷ option.Vmid ∷ option.Cid ∷ option.Settings ∷ option.Elf ∷ []
+    option.Raw ∷ option.Wrap ∷ option.Sync ∷ option.Depth ∷ option.Vmid ∷ option.Cid ∷ option.Settings ∷ option.Elf ∷ option.Count ∷ []
 
 abbrev pub packets_options : List CommandOption
 packets_options = option.Raw ∷ option.Wrap ∷ option.Sync ∷ option.Vmid ∷ option.Cid ∷ option.Settings ∷ []
@@ -184,6 +190,7 @@ pub record Seen : Type 0 where
   pub cid : Option (List ℕ)
   pub settings : Option (List ℕ)
   pub elf : Bool
+  pub count : Bool
   pub last : Option (List ℕ)
   pub every : Option (List ℕ)
   pub cut : Option (List ℕ)
@@ -203,6 +210,7 @@ nothing_seen = record {
   cid = None;
   settings = None;
   elf = false;
+  count = false;
   last = None;
   every = None;
   cut = None;
@@ -220,6 +228,7 @@ is_seen option.Vmid seen = is_some seen.vmid
 is_seen option.Cid seen = is_some seen.cid
 is_seen option.Settings seen = is_some seen.settings
 is_seen option.Elf seen = seen.elf
+is_seen option.Count seen = seen.count
 is_seen option.Last seen = is_some seen.last
 is_seen option.SyncEvery seen = is_some seen.every
 is_seen option.Cut seen = is_some seen.cut
@@ -234,6 +243,7 @@ with_value option.Vmid value seen = record seen { vmid = Some value; waits = Non
 with_value option.Cid value seen = record seen { cid = Some value; waits = None }
 with_value option.Settings value seen = record seen { settings = Some value; waits = None }
 with_value option.Elf value seen = record seen { elf = true; waits = None }
+with_value option.Count value seen = record seen { count = true; waits = None }
 with_value option.Last value seen = record seen { last = Some value; waits = None }
 with_value option.SyncEvery value seen = record seen { every = Some value; waits = None }
 with_value option.Cut value seen = record seen { cut = Some value; waits = None }
@@ -358,8 +368,12 @@ cut_of (Some text) = option_map Some (number_to most_cut text)
 abbrev pub selftest_in : Seen → Option Command
 selftest_in seen = option_and_then (λ word. option_and_then (λ n. option_map (Selftest n) (cut_of seen.cut)) (number_to most_number word)) seen.positional
 
+-- the counts of the paths where `--count` stood, and the paths where it did not
+abbrev pub path_by : Bool → Program → Intake → Command
+path_by count program intake = if count then Counts program intake else Path program intake
+
 abbrev pub command_in : CommandName → Seen → Option Command
-command_in name.Path seen = option_and_then (λ program. option_map (Path program) (intake_in seen)) (program_in seen)
+command_in name.Path seen = option_and_then (λ program. option_map (path_by seen.count program) (intake_in seen)) (program_in seen)
 command_in name.Packets seen = option_map Packets (intake_in seen)
 command_in name.Times seen = option_map Times (intake_in seen)
 command_in name.Retired seen = option_map Retired (program_in seen)

@@ -125,6 +125,7 @@ fn seen_in<'a>(matches: &ArgMatches<'a>) -> Seen<'a>
         cid: matches.get_str("cid"),
         settings: matches.get_str("settings"),
         elf: is_true_text(matches.get_str("elf")),
+        count: is_true_text(matches.get_str("count")),
         last: matches.get_str("last"),
         every: matches.get_str("sync-every"),
         cut: matches.get_str("cut"),

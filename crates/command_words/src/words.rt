@@ -77,6 +77,11 @@ pub enum Command<'a> {
         program: Program<'a>,
         intake: Intake,
     },
+    /// How often each instruction and each other item stands in the paths of all streams (`--count`).
+    Counts {
+        program: Program<'a>,
+        intake: Intake,
+    },
     /// The packets of each stream.
     Packets {
         intake: Intake,
@@ -114,7 +119,8 @@ pub enum CommandName {
     Selftest,
 }
 
-/// The options of the commands. `--raw`, `--elf`, and `--sync` where an input is read, are flags, and the others take a value.
+/// The options of the commands. `--raw`, `--elf`, `--count`, and `--sync` where an input is read, are flags, and the others take a
+/// value.
 #[derive(Clone, Copy, Debug)]
 pub enum CommandOption {
     Raw,
@@ -125,6 +131,7 @@ pub enum CommandOption {
     Cid,
     Settings,
     Elf,
+    Count,
     Last,
     SyncEvery,
     Cut,
@@ -144,6 +151,7 @@ impl CommandOption {
             CommandOption::Cid => "cid",
             CommandOption::Settings => "settings",
             CommandOption::Elf => "elf",
+            CommandOption::Count => "count",
             CommandOption::Last => "last",
             CommandOption::Cut => "cut",
         }
@@ -165,7 +173,7 @@ impl CommandOption {
     {
         !matches!(
             self,
-            CommandOption::Raw | CommandOption::Sync | CommandOption::Elf
+            CommandOption::Raw | CommandOption::Sync | CommandOption::Elf | CommandOption::Count
         )
     }
 }
@@ -179,7 +187,7 @@ pub struct CommandLine {
     pub has_positional: bool,
 }
 
-/// The commands: `path [--raw] [--wrap K] [--sync] [--depth N] [--vmid N] [--cid N] [--settings LIST] [--elf] IMAGE`,
+/// The commands: `path [--raw] [--wrap K] [--sync] [--depth N] [--vmid N] [--cid N] [--settings LIST] [--elf] [--count] IMAGE`,
 /// `packets [--raw] [--wrap K] [--sync] [--vmid N] [--cid N] [--settings LIST]`,
 /// `times [--raw] [--depth N] [--vmid N] [--cid N] [--settings LIST]`, `retired [--elf] IMAGE`,
 /// `trace [--last N] [--sync N] [--elf] IMAGE` and `selftest [--cut K] N`.
@@ -196,6 +204,7 @@ pub const COMMANDS: [CommandLine; 6] = [
             CommandOption::Cid,
             CommandOption::Settings,
             CommandOption::Elf,
+            CommandOption::Count,
         ],
         has_positional: true,
     },
@@ -277,6 +286,7 @@ pub struct Seen<'a> {
     pub cid: Option<&'a str>,
     pub settings: Option<&'a str>,
     pub elf: bool,
+    pub count: bool,
     pub last: Option<&'a str>,
     pub every: Option<&'a str>,
     pub cut: Option<&'a str>,
@@ -328,6 +338,7 @@ impl<'a> Seen<'a> {
             cid: None,
             settings: None,
             elf: false,
+            count: false,
             last: None,
             every: None,
             cut: None,
@@ -350,6 +361,7 @@ impl<'a> Seen<'a> {
             CommandOption::Cid => self.cid.is_some(),
             CommandOption::Settings => self.settings.is_some(),
             CommandOption::Elf => self.elf,
+            CommandOption::Count => self.count,
             CommandOption::Last => self.last.is_some(),
             CommandOption::SyncEvery => self.every.is_some(),
             CommandOption::Cut => self.cut.is_some(),
@@ -370,6 +382,7 @@ impl<'a> Seen<'a> {
             CommandOption::Cid => self.cid = Some(value),
             CommandOption::Settings => self.settings = Some(value),
             CommandOption::Elf => self.elf = true,
+            CommandOption::Count => self.count = true,
             CommandOption::Last => self.last = Some(value),
             CommandOption::SyncEvery => self.every = Some(value),
             CommandOption::Cut => self.cut = Some(value),
@@ -547,7 +560,11 @@ impl<'a> Seen<'a> {
             CommandName::Path => {
                 let program = self.program()?;
                 let intake = self.intake()?;
-                Some(Command::Path { program, intake })
+                Some(if self.count {
+                    Command::Counts { program, intake }
+                } else {
+                    Command::Path { program, intake }
+                })
             }
             CommandName::Packets => {
                 let intake = self.intake()?;
@@ -639,6 +656,7 @@ pub fn image_name(words: &[String]) -> Option<&str>
     match read_command(words) {
         Some(
             Command::Path { program, .. }
+            | Command::Counts { program, .. }
             | Command::Retired { program }
             | Command::Trace { program, .. },
         ) => Some(program.name),

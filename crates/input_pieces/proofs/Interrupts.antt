@@ -5,11 +5,13 @@ use Rattle.std.proofs.KnownBytes.{Appends-kept, Appends-trans, Consumes-trans}
 use Rattle.std.proofs.lemmas.List.{take_all, take-append-drop, take-append-le}
 use Rattle.path_elements.specs.PathLaws.{BeginsWith}
 use Rattle.stream_demux.specs.Demuxed.{Gains}
-use Rattle.stream_demux.specs.Texts.{BodyFrom, IsText, Listing, Printed, text_of}
+use Rattle.path_text.specs.Writing.{Writes}
+use Rattle.stream_demux.specs.Texts.{BodyFrom, IsSum, IsText, Listing, Printed, text_of}
 use Rattle.stream_demux.proofs.Bodies.{body-append, body_parts, text_of-append}
 use Rattle.stream_demux.proofs.Writing.{Gained}
 use Rattle.stream_demux.specs.Laid.{Grow, IsLaid, Laid, Rests}
-use Rattle.input_pieces.specs.Listed.{Breaks, Completes, Exceeds, Interrupts, PrintsBody, Takes, most_at_once, most_input}
+use Rattle.input_pieces.specs.Listed.{Breaks, Completes, Exceeds, FrontOfTaken, HasStopped, Interrupts, PrintsBody, PrintsTaken, Takes}
+use Rattle.input_pieces.specs.Listed.{most_at_once, most_input}
 use Rattle.trace_io.specs.Bytes.{AppendsAll, KeepsBytes, TakesAll}
 use Rattle.trace_io.specs.State.{IoState}
 
@@ -49,20 +51,45 @@ module _ (laid : Laid) (is_laid : IsLaid laid) (g : Listing) where
         ),
       )
 
-  -- all lines of the bytes were printed before
-  pub cut_behind : (a c old new : IoState) (bytes more : List ℕ) → Takes a c (bytes ++ more) → length bytes ≤ most_input → length more ≤ most_at_once
-      → length (bytes ++ more) ≤ most_input + 1 → take most_input (bytes ++ more) ≡ bytes → PrintsBody carried g bytes old new
-      → Interrupts laid g a c old new
-  cut_behind a c old new bytes more took few piece all first (lines, body, printed) =
+  -- all lines of the bytes were printed before, and a front of those of their sum
+  cut_behind : (a c old new : IoState) (bytes more : List ℕ) → Takes a c (bytes ++ more) → length bytes ≤ most_input → length more ≤ most_at_once
+      → length (bytes ++ more) ≤ most_input + 1 → take most_input (bytes ++ more) ≡ bytes → HasStopped laid g a c (bytes ++ more)
+      → (body sums : List Printed) (shown : List ℕ) → BodyFrom g [] (carried bytes) body → IsSum g (carried bytes) sums → AppendsAll old new shown
+      → BeginsWith shown (text_of (body ++ sums)) → BeginsWith (text_of body) shown → Interrupts laid g a c old new
+  cut_behind a c old new bytes more took few piece all first stopped body sums shown gained summed printed front behind =
       record {
         bytes = bytes ++ more;
         took = took;
         few = all;
-        shown = text_of lines;
+        shown = shown;
         printed = printed;
-        late = inl (carried bytes, lines, ([], ap carried first ∙ sym (append-nil (carried bytes))), body, ([], sym (append-nil (text_of lines))));
-        early = early_by bytes more lines (text_of lines) piece body ([], sym (append-nil (text_of lines)));
+        late = inr (inr (
+          stopped,
+          subst (λ b. FrontOfTaken laid g b shown) (sym first) (body ++ sums, (body, sums, gained, summed, refl), front),
+        ));
+        early = early_by bytes more body shown piece gained behind;
       }
+
+  -- so where the lines of the sum could not be written
+  pub cut_sums : {T E : Type 0} (a c old here new : IoState) (bytes more : List ℕ) (e : E) → Takes a c (bytes ++ more) → length bytes ≤ most_input
+      → length more ≤ most_at_once → length (bytes ++ more) ≤ most_input + 1 → take most_input (bytes ++ more) ≡ bytes
+      → HasStopped laid g a c (bytes ++ more) → PrintsBody carried g bytes old here → (sums : List Printed) → IsSum g (carried bytes) sums
+      → Writes {T = T} here new (Err e) (text_of sums) → Interrupts laid g a c old new
+  cut_sums a c old here new bytes more e took few piece all first stopped (body, gained, printed) sums summed writes =
+      let front = writes.front in
+      cut_behind a c old new bytes more took few piece all first stopped body sums (text_of body ++ front.front) gained summed
+      (Appends-trans old.bytes here.bytes new.bytes (text_of body) front.front printed front.appended) (
+        front.rest,
+        text_of-append body sums ∙ ap (λ t. text_of body ++ t) front.whole ∙ sym (append_assoc (text_of body) front.front front.rest),
+      ) (front.front, refl)
+
+  -- or a flush failed behind all of them
+  cut_taken : (a c old new : IoState) (bytes more : List ℕ) → Takes a c (bytes ++ more) → length bytes ≤ most_input → length more ≤ most_at_once
+      → length (bytes ++ more) ≤ most_input + 1 → take most_input (bytes ++ more) ≡ bytes → HasStopped laid g a c (bytes ++ more)
+      → PrintsTaken carried g bytes old new → Interrupts laid g a c old new
+  cut_taken a c old new bytes more took few piece all first stopped (lines, (body, sums, gained, summed, is), printed) =
+      cut_behind a c old new bytes more took few piece all first stopped body sums (text_of lines) gained summed printed
+      ([], ap text_of (sym is) ∙ sym (append-nil (text_of lines))) (text_of sums, ap text_of is ∙ text_of-append body sums)
 
   -- a front of the whole text was printed, all that comes with the bytes included
   pub cut_front : (a c old new : IoState) (bytes : List ℕ) (lines : List Printed) (faulty : Bool) (shown : List ℕ) → TakesAll a c bytes
@@ -83,7 +110,7 @@ module _ (laid : Laid) (is_laid : IsLaid laid) (g : Listing) where
         few = omega (arith, few);
         shown = shown;
         printed = printed;
-        late = inr (read.1, few, inr (lines, faulty, is, front));
+        late = inr (inl (read.1, few, inr (lines, faulty, is, front)));
         early = (early.0, subst (λ b. BodyFrom g [] (carried (take (length b - most_at_once) b)) early.0) same early.1, early.2);
       }
 
@@ -142,7 +169,7 @@ module _ (laid : Laid) (is_laid : IsLaid laid) (g : Listing) where
         few = omega (arith, few);
         shown = shown;
         printed = Appends-trans old.bytes here.bytes new.bytes (text_of lines) front.front printed front.appended;
-        late = inr (
+        late = inr (inl (
           read.1,
           few,
           inl (
@@ -152,7 +179,7 @@ module _ (laid : Laid) (is_laid : IsLaid laid) (g : Listing) where
             body-append g [] (carried bytes) rests.adds.took lines more body rests.adds.body,
             (front.rest, text),
           ),
-        );
+        ));
         early = (early.0, subst (λ b. BodyFrom g [] (carried (take (length b - most_at_once) b)) early.0) same early.1, early.2);
       }
 
@@ -164,21 +191,22 @@ module _ (laid : Laid) (is_laid : IsLaid laid) (g : Listing) where
       cut_whole a c old newer done.bytes done.lines faulty done.read done.few done.shown
       (Appends-kept old.bytes new.bytes newer.bytes (text_of done.lines) done.printed kept)
 
-  kept_body : (bytes : List ℕ) (old new newer : IoState) → PrintsBody carried g bytes old new → KeepsBytes new newer → PrintsBody carried g bytes old newer
-  kept_body bytes old new newer (lines, body, printed) kept =
-      (lines, body, Appends-kept old.bytes new.bytes newer.bytes (text_of lines) printed kept)
+  kept_taken : (bytes : List ℕ) (old new newer : IoState) → PrintsTaken carried g bytes old new → KeepsBytes new newer
+      → PrintsTaken carried g bytes old newer
+  kept_taken bytes old new newer (lines, taken, printed) kept =
+      (lines, taken, Appends-kept old.bytes new.bytes newer.bytes (text_of lines) printed kept)
 
   pub broken_cut : (a c old new newer : IoState) → Breaks laid g a c old new → KeepsBytes new newer → Interrupts laid g a c old newer
   broken_cut a c old new newer broken kept =
       let same = append-nil broken.bytes in
-      cut_behind a c old newer broken.bytes [] (subst (Takes a c) (sym same) broken.took) broken.few (omega arith)
+      cut_taken a c old newer broken.bytes [] (subst (Takes a c) (sym same) broken.took) broken.few (omega arith)
       (omega (arith, broken.few, length-append broken.bytes [])) (ap (take most_input) same ∙ take_all most_input broken.bytes broken.few)
-      (kept_body broken.bytes old new newer broken.printed kept)
+      (inr broken.rose) (kept_taken broken.bytes old new newer broken.printed kept)
 
   pub exceeded_cut : (a c old new newer : IoState) → Exceeds laid g a c old new → KeepsBytes new newer → Interrupts laid g a c old newer
   exceeded_cut a c old new newer exceeds kept =
       let bytes = exceeds.bytes in let last = exceeds.byte ∷ [] in
       let first : take most_input (bytes ++ last) ≡ bytes =
       take-append-le most_input bytes last (omega (arith, exceeds.many)) ∙ take_all most_input bytes (omega (arith, exceeds.many)) in
-      cut_behind a c old newer bytes last exceeds.took (omega (arith, exceeds.many)) (omega arith) (omega (arith, exceeds.many, length-append bytes last)) first
-      (kept_body bytes old new newer exceeds.printed kept)
+      cut_taken a c old newer bytes last exceeds.took (omega (arith, exceeds.many)) (omega arith) (omega (arith, exceeds.many, length-append bytes last)) first
+      (inl (omega (arith, exceeds.many, length-append bytes last))) (kept_taken bytes old new newer exceeds.printed kept)

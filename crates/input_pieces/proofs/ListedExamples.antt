@@ -4,9 +4,10 @@ use Rattle.std.proofs.Common.{append-nil, length-append}
 use Rattle.std.specs.Prelude.{get_or}
 use Rattle.answer_lines.specs.declared.status.Status.{Status}
 use Rattle.answer_lines.specs.declared.status.Status.TheVariants as status
-use Rattle.input_pieces.specs.Listed.{Breaks, Completes, Listed, most_at_once, most_input}
+use Rattle.input_pieces.specs.Listed.{Breaks, Completes, IsTaken, Listed, most_at_once, most_input}
 use Rattle.path_elements.specs.PathLaws.{BeginsWith}
 use Rattle.stream_demux.proofs.OneText.{one_body}
+use Rattle.stream_demux.proofs.Sums.{no_sum}
 use Rattle.stream_demux.proofs.Printing.{PrintsBy, body, body_of, gains_once, printing, prints_by}
 use Rattle.stream_demux.specs.Demuxed.{raw_pairs}
 use Rattle.stream_demux.specs.Laid.{raw_laid}
@@ -96,12 +97,30 @@ a_fault_is_done says =
 
 -- ---- a read that fails: the lines of the bytes before it, and no end
 
+-- what is printed of bytes behind which no more is taken
+taken : (bytes : List ℕ) → IsTaken raw_pairs each bytes (body_of byte_line last_line [] (raw_pairs bytes))
+taken bytes =
+    let lines = body_of byte_line last_line [] (raw_pairs bytes) in (
+      lines,
+      [],
+      body byte_line last_line [] (raw_pairs bytes),
+      no_sum each (λ id before byte. refl) refl (raw_pairs bytes),
+      sym (append-nil lines),
+    )
+
+-- and nothing else
+taken_once : (bytes : List ℕ) (lines : List Printed) → IsTaken raw_pairs each bytes lines → lines ≡ body_of byte_line last_line [] (raw_pairs bytes)
+taken_once bytes lines (first, sums, from, (items, added, none), is) =
+    is ∙ ap (λ (l : List Printed). first ++ l) none ∙ append-nil first
+    ∙ one_body each (gains_once byte_line last_line) [] (raw_pairs bytes) first (body_of byte_line last_line [] (raw_pairs bytes)) from
+    (body byte_line last_line [] (raw_pairs bytes))
+
 pub broken : Says two (41 ∷ []) 1 (40 ∷ 10 ∷ []) (Ok status.ReadFault)
 broken = record {
   bytes = 40 ∷ [];
   took = refl;
   few = omega arith;
-  printed = (lines_under 1 ((40 ∷ 10 ∷ []) ∷ []), body byte_line last_line [] (raw_pairs (40 ∷ [])), refl);
+  printed = (lines_under 1 ((40 ∷ 10 ∷ []) ∷ []), taken (40 ∷ []), refl);
   rose = omega arith;
 }
 
@@ -113,10 +132,8 @@ one_before (a ∷ b ∷ bytes) is = absurd (omega (arith, ap length is, length-a
 breaks_once : (printed : List ℕ) (failed : ℕ)
     → Breaks raw_laid each (shows two 0) (shows (41 ∷ []) failed) (shows (7 ∷ []) 0) (shows (7 ∷ printed) 0) → printed ≡ 40 ∷ 10 ∷ []
 breaks_once printed failed all =
-    let (lines, from, is) = all.printed in
-    let here = subst (λ b. BodyFrom each [] (raw_pairs b) lines) (one_before all.bytes all.took) from in
-    let same = one_body each (gains_once byte_line last_line) [] (raw_pairs (40 ∷ [])) lines (lines_under 1 ((40 ∷ 10 ∷ []) ∷ [])) here
-    (body byte_line last_line [] (raw_pairs (40 ∷ []))) in
+    let (lines, printed_of, is) = all.printed in
+    let same = taken_once (40 ∷ []) lines (subst (λ b. IsTaken raw_pairs each b lines) (one_before all.bytes all.took) printed_of) in
     let text : 7 ∷ printed ≡ 7 ∷ 40 ∷ 10 ∷ [] = is ∙ ap (λ l. 7 ∷ text_of l) same in cc
 
 pub broken_with_an_end : Says two (41 ∷ []) 1 (40 ∷ 10 ∷ 0 ∷ 10 ∷ []) (Ok status.ReadFault) → ⊥
@@ -138,7 +155,7 @@ exceeds bytes byte many = record {
   byte = byte;
   took = sym (append-nil (bytes ++ byte ∷ []));
   many = many;
-  printed = (body_of byte_line last_line [] (raw_pairs bytes), body byte_line last_line [] (raw_pairs bytes), refl);
+  printed = (body_of byte_line last_line [] (raw_pairs bytes), taken bytes, refl);
 }
 
 pub just_as_many : (bytes printed : List ℕ) → length bytes ≡ most_input → Says bytes [] 0 printed (Ok status.InputTooLong) → ⊥
@@ -213,9 +230,14 @@ another_line failed says =
       | inl (pairs, lines, front, from, begins) ↦
           first_line pairs lines (subst (λ b. BeginsWith pairs (raw_pairs (take most_input b))) bytes front) from
           (subst (λ s. BeginsWith s (text_of lines)) shown begins)
-      | inr (end, few, inl (pairs, lines, front, from, begins)) ↦
+      | inr (inl (end, few, inl (pairs, lines, front, from, begins))) ↦
           first_line pairs lines (subst (λ b. BeginsWith pairs (raw_pairs b)) bytes front) from (subst (λ s. BeginsWith s (text_of lines)) shown begins)
-      | inr (end, few, inr (lines, faulty, is, begins)) ↦
+      | inr (inl (end, few, inr (lines, faulty, is, begins))) ↦
           first_of_text lines faulty (subst (λ b. IsText each (raw_pairs b) 0 lines faulty) bytes is)
+          (subst (λ s. BeginsWith s (text_of lines)) shown begins)
+      | inr (inr (stopped, (lines, is, begins))) ↦
+          let here = taken_once two lines (subst (λ b. IsTaken raw_pairs each (take most_input b) lines) bytes is) in
+          first_line (raw_pairs two) lines ([], sym (append-nil (raw_pairs two)))
+          (subst (λ (l : List Printed). BodyFrom each [] (raw_pairs two) l) (sym here) (body byte_line last_line [] (raw_pairs two)))
           (subst (λ s. BeginsWith s (text_of lines)) shown begins)
     ]

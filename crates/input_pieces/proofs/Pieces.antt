@@ -1,22 +1,23 @@
 -- An input that is read by pieces.
-use Rattle.std.proofs.Common.{◌≡◌, ◌⊎◌, ℕ, Bool, true, false, List, [], ◌++◌, Result, Ok, Err, refl, sym, ap, subst, ◌∙◌, inl, inr}
+use Rattle.std.proofs.Common.{◌≡◌, ◌⊎◌, ℕ, Bool, true, false, List, [], ◌∷◌, ◌++◌, length, take, Result, Ok, Err, arith, length-append, refl, sym, ap, subst, ◌∙◌, inl, inr}
 use Rattle.std.proofs.Common.{append-nil, append_assoc}
 use Rattle.std.proofs.KnownBytes.{Appends-trans, Consumes-trans}
+use Rattle.std.proofs.lemmas.List.{take_all, take-append-le}
 use Rattle.path_text.specs.Writing.{Writes}
 use Rattle.stream_demux.specs.Demuxed.{Gains}
-use Rattle.stream_demux.specs.Texts.{BodyFrom, IsEnding, IsText, Listing, Printed, text_of}
+use Rattle.stream_demux.specs.Texts.{BodyFrom, IsEnding, IsSum, IsText, Listing, Printed, text_of}
 use Rattle.stream_demux.proofs.Bodies.{body-append, text_of-append}
 use Rattle.stream_demux.proofs.Writing.{Gained, Written, added, more_gained}
 use Rattle.stream_demux.specs.Laid.{Grow, IsLaid, Laid, Rests}
 use Rattle.answer_lines.specs.declared.status.Status.{Status}
 use Rattle.answer_lines.specs.declared.status.Status.TheVariants as status
-use Rattle.input_pieces.specs.Listed.{Completes, Interrupts, Listed, PrintsBody, Takes}
+use Rattle.input_pieces.specs.Listed.{Breaks, Completes, Exceeds, Interrupts, Listed, PrintsBody, PrintsTaken, Takes, most_input}
 use Rattle.input_pieces.specs.Reading.{Closes, StopsSo, TookUpTo}
 use Rattle.input_pieces.specs.declared.input.Stop.{Stop}
 use Rattle.input_pieces.specs.declared.input.Stop.TheVariants.{End, TooLong, ReadFault}
-use Rattle.input_pieces.proofs.Interrupts.{cut_front, cut_rest}
+use Rattle.input_pieces.proofs.Interrupts.{cut_front, cut_rest, cut_sums}
 use Rattle.trace_io.specs.Bytes.{AppendsAll, TakesAll}
-use Rattle.trace_io.specs.Causes.{KeepsFaults}
+use Rattle.trace_io.specs.Causes.{KeepsFaults, Rose}
 use Rattle.trace_io.specs.State.{IoState}
 use Rattle.trace_io.specs.declared.traits.Failed.{Failed}
 
@@ -102,6 +103,63 @@ module _ (laid : Laid) (is_laid : IsLaid laid) (g : Listing) where
             text_of-append body ending ∙ ap (λ t. text_of body ++ t) front.whole ∙ sym (append_assoc (text_of body) front.front front.rest),
           )
           (front.front, refl)
+
+-- what was written of the sum of bytes behind which no more is taken
+abbrev pub Sums : {T : Type 0} → Laid → Listing → List ℕ → IoState → IoState → Result T Failed → Type 0
+Sums laid g bytes here new result = (sums : List Printed) × IsSum g (laid.carried bytes) sums × Writes here new result (text_of sums)
+
+pub sums_by : {T : Type 0} (laid : ℕ → Laid) (k n : ℕ) → k ≡ n → (g : Listing) (bytes : List ℕ) (here new : IoState) (r : Result T Failed)
+    → Sums (laid k) g bytes here new r → Sums (laid n) g bytes here new r
+sums_by laid k n same g bytes here new r sums = subst (λ (m : ℕ). Sums (laid m) g bytes here new r) same sums
+
+-- where a read failed, or the input is too long
+module _ (laid : Laid) (is_laid : IsLaid laid) (g : Listing) (stands : List ℕ → Type 0) (a c old here new : IoState) where
+  taken_printed : {T : Type 0} (bytes : List ℕ) (x : T) → PrintsBody laid.carried g bytes old here → (sums : List Printed) → IsSum g (laid.carried bytes) sums
+      → Writes {T = T} {E = Failed} here new (Ok x) (text_of sums) → PrintsTaken laid.carried g bytes old new
+  taken_printed bytes x (body, gained, printed) sums summed writes = (
+    body ++ sums,
+    (body, sums, gained, summed, refl),
+    subst (AppendsAll old new) (sym (text_of-append body sums))
+        (Appends-trans old.bytes here.bytes new.bytes (text_of body) (text_of sums) printed writes.whole),
+  )
+
+  pub read_failed : {T : Type 0} (x : T) (took : TookUpTo stands laid g a c old here ReadFault) → Sums {T = T} laid g took.1 here new (Ok x) → Breaks laid g a c old new
+  read_failed x took (sums, summed, writes) =
+      record {
+        bytes = took.1;
+        took = subst (Takes a c) (append-nil took.1) (Consumes-trans a.bytes (took.0).bytes c.bytes took.1 [] took.2 took.7.0);
+        few = took.4;
+        printed = taken_printed took.1 x took.6 sums summed writes;
+        rose = let kept : KeepsFaults a took.0 = took.3 in let rose : Rose took.0 c = took.7.1 in omega (arith, kept, rose);
+      }
+
+  pub was_too_long : {T : Type 0} (x : T) (took : TookUpTo stands laid g a c old here TooLong) → Sums {T = T} laid g took.1 here new (Ok x) → Exceeds laid g a c old new
+  was_too_long x took (sums, summed, writes) =
+      record {
+        bytes = took.1;
+        byte = took.7.1.0;
+        took = Consumes-trans a.bytes (took.0).bytes c.bytes took.1 (took.7.1.0 ∷ []) took.2 took.7.1.1;
+        many = took.7.0;
+        printed = taken_printed took.1 x took.6 sums summed writes;
+      }
+
+  pub read_failed_cut : {T : Type 0} (e : Failed) (took : TookUpTo stands laid g a c old here ReadFault) → Sums {T = T} laid g took.1 here new (Err e)
+      → Interrupts laid g a c old new
+  read_failed_cut e took (sums, summed, writes) =
+      let bytes = took.1 in let same = append-nil bytes in
+      let takes = Consumes-trans a.bytes (took.0).bytes c.bytes bytes [] took.2 took.7.0 in
+      let kept : KeepsFaults a took.0 = took.3 in let rose : Rose took.0 c = took.7.1 in
+      cut_sums laid is_laid g a c old here new bytes [] e takes took.4 (omega arith) (omega (arith, took.4, length-append bytes []))
+      (ap (take most_input) same ∙ take_all most_input bytes took.4) (inr (omega (arith, kept, rose))) took.6 sums summed writes
+
+  pub too_long_cut : {T : Type 0} (e : Failed) (took : TookUpTo stands laid g a c old here TooLong) → Sums {T = T} laid g took.1 here new (Err e)
+      → Interrupts laid g a c old new
+  too_long_cut e took (sums, summed, writes) =
+      let bytes = took.1 in let last = took.7.1.0 ∷ [] in let many : length bytes ≡ most_input = took.7.0 in
+      cut_sums laid is_laid g a c old here new bytes last e (Consumes-trans a.bytes (took.0).bytes c.bytes bytes last took.2 took.7.1.1)
+      (omega (arith, many)) (omega arith) (omega (arith, many, length-append bytes last))
+      (take-append-le most_input bytes last (omega (arith, many)) ∙ take_all most_input bytes (omega (arith, many)))
+      (inl (omega (arith, many, length-append bytes last))) took.6 sums summed writes
 
 -- what a piece adds, where the number of frames that come last is one and the same
 pub gains_by : {T E : Type 0} (laid : ℕ → Laid) (k n : ℕ) → k ≡ n → (g : Listing) (bytes piece : List ℕ) (old new : IoState) (r : Result T E)

@@ -3,7 +3,7 @@ use Rattle.std.specs.Prelude.{◌≡◌, ◌⊎◌, ℕ, ◌+◌, ◌-◌, ◌^�
 use Rattle.std.specs.Io.KnownBytes.{Consumes, IsAtEnd}
 use Rattle.path_elements.specs.PathLaws.{BeginsWith}
 use Rattle.stream_demux.specs.Laid.{Laid}
-use Rattle.stream_demux.specs.Texts.{BodyFrom, IsText, Listing, Printed, text_of}
+use Rattle.stream_demux.specs.Texts.{BodyFrom, IsSum, IsText, Listing, Printed, text_of}
 use Rattle.answer_lines.specs.declared.status.Status.{Status}
 use Rattle.answer_lines.specs.declared.status.Status.TheVariants as status
 use Rattle.trace_io.specs.Bytes.{AppendsAll, TakesAll}
@@ -27,6 +27,14 @@ Takes input input' bytes = Consumes input.bytes input'.bytes bytes
 abbrev pub PrintsBody : (List ℕ → List (ℕ × ℕ)) → Listing → List ℕ → IoState → IoState → Type 0
 PrintsBody carried g bytes out out' = (lines : List Printed) × BodyFrom g [] (carried bytes) lines × AppendsAll out out' (text_of lines)
 
+-- what is printed of bytes behind which no more is taken, though more may come: the lines that come with them, and those of their sum
+abbrev pub IsTaken : (List ℕ → List (ℕ × ℕ)) → Listing → List ℕ → List Printed → Type 0
+IsTaken carried g bytes lines =
+    (body : List Printed) × (sums : List Printed) × BodyFrom g [] (carried bytes) body × IsSum g (carried bytes) sums × (lines ≡ body ++ sums)
+
+abbrev pub PrintsTaken : (List ℕ → List (ℕ × ℕ)) → Listing → List ℕ → IoState → IoState → Type 0
+PrintsTaken carried g bytes out out' = (lines : List Printed) × IsTaken carried g bytes lines × AppendsAll out out' (text_of lines)
+
 module _ (laid : Laid) (g : Listing) where
   -- The input was read to its end, and all that it shows was printed.
   pub record Completes (input input' out out' : IoState) (faulty : Bool) : Type 0 where
@@ -37,34 +45,43 @@ module _ (laid : Laid) (g : Listing) where
     pub shown : IsText g (laid.whole bytes) (laid.left bytes) lines faulty
     pub printed : AppendsAll out out' (text_of lines)
 
-  -- A read failed behind some bytes, whose lines were printed.
+  -- A read failed behind some bytes, whose lines were printed, and those of their sum.
   pub record Breaks (input input' out out' : IoState) : Type 0 where
     pub bytes : List ℕ
     pub took : Takes input input' bytes
     pub few : length bytes ≤ most_input
-    pub printed : PrintsBody laid.carried g bytes out out'
+    pub printed : PrintsTaken laid.carried g bytes out out'
     pub rose : Rose input input'
 
-  -- One byte more than the most was taken, and the lines of the others were printed.
+  -- One byte more than the most was taken, and the lines of the others were printed, and those of their sum.
   pub record Exceeds (input input' out out' : IoState) : Type 0 where
     pub bytes : List ℕ
     pub byte : ℕ
     pub took : Takes input input' (bytes ++ byte ∷ [])
     pub many : length bytes ≡ most_input
-    pub printed : PrintsBody laid.carried g bytes out out'
+    pub printed : PrintsTaken laid.carried g bytes out out'
 
   -- no more than the lines that come with the first of these pairs
   abbrev pub SomeOf : List (ℕ × ℕ) → List ℕ → Type 0
   SomeOf all shown =
       (pairs : List (ℕ × ℕ)) × (lines : List Printed) × BeginsWith pairs all × BodyFrom g [] pairs lines × BeginsWith shown (text_of lines)
 
+  -- or than these and the lines of the sum of all of them
+  abbrev pub FrontOfTaken : List ℕ → List ℕ → Type 0
+  FrontOfTaken bytes shown = (lines : List Printed) × IsTaken laid.carried g bytes lines × BeginsWith shown (text_of lines)
+
   -- or than the whole text
   abbrev pub FrontOf : List ℕ → List ℕ → Type 0
   FrontOf bytes shown =
       (lines : List Printed) × (faulty : Bool) × IsText g (laid.whole bytes) (laid.left bytes) lines faulty × BeginsWith shown (text_of lines)
 
-  -- What is printed where a write fails: no more than the lines that come with some of the pairs, or than the whole text of an
-  -- input that was read to its end and is not too long; and no less than the lines that come with all bytes but the last 4096.
+  -- no more was taken behind these bytes, since there were too many, or a read failed
+  abbrev pub HasStopped : IoState → IoState → List ℕ → Type 0
+  HasStopped input input' bytes = (length bytes ≡ most_input + 1) ⊎ Rose input input'
+
+  -- What is printed where a write fails: no more than the lines that come with some of the pairs; or than the whole text of an input that
+  -- was read to its end and is not too long; or, where reading stopped before, than the lines of all bytes and those of their sum. And no
+  -- less than the lines that come with all bytes but the last 4096.
   pub record Interrupts (input input' out out' : IoState) : Type 0 where
     pub bytes : List ℕ
     pub took : Takes input input' bytes
@@ -73,6 +90,7 @@ module _ (laid : Laid) (g : Listing) where
     pub printed : AppendsAll out out' shown
     pub late : SomeOf (laid.carried (take most_input bytes)) shown
         ⊎ (IsAtEnd input'.bytes × (length bytes ≤ most_input) × (SomeOf (laid.whole bytes) shown ⊎ FrontOf bytes shown))
+        ⊎ (HasStopped input input' bytes × FrontOfTaken (take most_input bytes) shown)
     pub early : (lines : List Printed) × BodyFrom g [] (laid.carried (take (length bytes - most_at_once) bytes)) lines
         × BeginsWith (text_of lines) shown
 

@@ -1,5 +1,5 @@
 //! The reading of the input by pieces. The lines of each piece are written and flushed before the next is read.
-ghost use Rattle.std.specs.Prelude.{◌≡◌, ◌⊎◌, ◌<◌, ◌≤◌, ◌+◌, ◌^◌, ◌++◌, [], ℕ, List, false, length, Ok, Err, IsOk};
+ghost use Rattle.std.specs.Prelude.{◌≡◌, ◌⊎◌, ◌<◌, ◌≤◌, ◌+◌, ◌^◌, ◌++◌, [], ℕ, List, false, length, Ok, Err, IsErr, IsOk};
 ghost use Rattle.etm_types.specs.Settings.{Sizes};
 ghost use Rattle.stream_demux.specs.Demuxed.{Gains};
 ghost use Rattle.input_pieces.specs.Listed.{Listed, most_input};
@@ -98,7 +98,7 @@ pub fn print_input<P: Printer, J: Source, K: Sink>(
     requires fresh { (P.broken printer ≡ false) × (P.taken printer ≡ 0) }
     ensures answer { (t : ℕ → Sizes) → P.stands shared.now t printer [] → Listed (P.laid (P.frames printer)) (P.listing shared.now t)
         (J.state input.old) (J.state input.new) (K.state out.old) (K.state out.new) result }
-    ensures kept { (result ≡ Ok Status.ReadFault) ⊎ KeepsFaults (J.state input.old) (J.state input.new) }
+    ensures kept { (result ≡ Ok Status.ReadFault) ⊎ IsErr result ⊎ KeepsFaults (J.state input.old) (J.state input.new) }
     ensures cause { HasCause (K.state out.old) (K.state out.new) result }
     ensures shows { ShowsAsBefore (K.state out.old) (K.state out.new) }
     ensures input_shows { ShowsAsBefore (J.state input.old) (J.state input.new) }
@@ -107,11 +107,11 @@ pub fn print_input<P: Printer, J: Source, K: Sink>(
     match take_input(&mut printer, shared, input, out) {
         Ok(Stop::End) => print_end(printer, shared, out),
         Ok(Stop::TooLong) => {
-            printer.abandon();
+            printer.close(shared, out)?;
             Ok(Status::InputTooLong)
         }
         Ok(Stop::ReadFault) => {
-            printer.abandon();
+            printer.close(shared, out)?;
             Ok(Status::ReadFault)
         }
         Err(failed) => {
@@ -138,7 +138,7 @@ fn print_end<P: Printer, K: Sink>(
         printer.abandon();
         return Err(failed);
     }
-    if printer.finish(out)? {
+    if printer.finish(shared, out)? {
         Ok(Status::Done)
     } else {
         Ok(Status::Faulted)

@@ -1,8 +1,8 @@
 -- The packets of streams have one text.
-use Rattle.std.proofs.Common.{◌≡◌, ℕ, suc, ◌<◌, List, [], ◌∷◌, ◌++◌, Some, sym, ap, subst, ◌∙◌, arith, append-nil, append_assoc}
+use Rattle.std.proofs.Common.{◌≡◌, ℕ, suc, ◌<◌, List, [], ◌∷◌, ◌++◌, Some, refl, sym, ap, subst, ◌∙◌, arith, append-nil, append_assoc}
 use Rattle.std.specs.Prelude.{All}
 use Rattle.std.proofs.lemmas.List.{get_or_append_left, length-append, map-append}
-use Rattle.std.proofs.lemmas.List.Elements.{All-map}
+use Rattle.std.proofs.lemmas.List.Elements.{All-map, All-nil}
 use Rattle.etm_types.specs.Settings.{AreSettings, Sizes}
 use Rattle.packet_grammar.specs.Ends.{end_of}
 use Rattle.packet_grammar.specs.Parsed.{Ending, IsStream}
@@ -14,11 +14,11 @@ use Rattle.path_text.specs.EndLines.{end_line}
 use Rattle.path_text.specs.Lines.{IsLine}
 use Rattle.path_text.specs.PacketLines.{packet_line}
 use Rattle.path_text.proofs.Feeds.{end_is, packet_is}
-use Rattle.stream_demux.specs.Laws.{EndsAlways, EndsOnce, GainsAlways, GainsOnce, StreamLines, lines_with}
+use Rattle.stream_demux.specs.Laws.{AddsAlways, AddsOnce, EndsAlways, EndsOnce, GainsAlways, GainsOnce, StreamLines, lines_with}
 use Rattle.stream_demux.specs.Texts.{Printed, StreamBody, StreamEnds, by_sizes, lines_under, of}
 use Rattle.stream_demux.proofs.Alone.{source_is_alone}
 use Rattle.stream_demux.proofs.AlonePaths.{PrintsLines, each_is, print_by}
-use Rattle.stream_demux.proofs.BySizes.{ends_always_by, ends_once_by, gains_always_by, gains_once_by, own_lines}
+use Rattle.stream_demux.proofs.BySizes.{adds_always_by, adds_once_by, ends_always_by, ends_once_by, gains_always_by, gains_once_by, own_lines}
 use Rattle.stream_demux.proofs.OneText.{one_body, one_text, some_text}
 use Rattle.stream_demux.proofs.Parted.{CarriesOn, fronts_begin}
 use Rattle.packet_list.specs.PacketLaws.{EachPacketIsALine, FrontsOfPacketsBegin, OneTextOfPackets, PacketsAreAlone, PacketsPrinted, SomeTextOfPackets}
@@ -39,6 +39,12 @@ module _ (s : Sizes) (are : AreSettings s) where
   gain_once : GainsOnce (packet_lists s)
   gain_once id bytes byte lines others gains also = one_gain s are id bytes byte lines others gains also
 
+  add_once : AddsOnce (packet_lists s)
+  add_once id bytes byte items others none also = none ∙ sym also
+
+  add_always : AddsAlways (packet_lists s)
+  add_always id bytes byte small = ([], refl)
+
   end_once : EndsOnce (packet_lists s)
   end_once id bytes line other faulty also ends too = one_end s are id bytes line other faulty also ends too
 
@@ -55,11 +61,13 @@ once_by t are = gains_once_by packet_lists t (λ id. gain_once (t id) (are id))
 
 pub one_text_of_packets : OneTextOfPackets
 one_text_of_packets t are =
-    one_text (by_sizes packet_lists t) (once_by t are) (ends_once_by packet_lists t (λ id. end_once (t id) (are id)))
+    one_text (by_sizes packet_lists t) (once_by t are) (adds_once_by packet_lists t (λ id. add_once (t id) (are id)))
+    (ends_once_by packet_lists t (λ id. end_once (t id) (are id)))
 
 pub some_text_of_packets : SomeTextOfPackets
 some_text_of_packets t are =
     some_text (by_sizes packet_lists t) (gains_always_by packet_lists t (λ id. gain_always (t id) (are id)))
+    (adds_always_by packet_lists t (λ id. add_always (t id) (are id)))
     (ends_always_by packet_lists t (λ id. end_always (t id) (are id)))
 
 pub fronts_of_packets_begin : (carried : List ℕ → List (ℕ × ℕ)) → CarriesOn carried → FrontsOfPacketsBegin carried
@@ -119,6 +127,7 @@ packets_print_lines s =
       gained = λ id bytes byte lines (packets, more, ending, next, was, now, is).
           subst (λ (l : List (List ℕ)). All IsLine l) (sym is) (each_of id more);
       ended = λ id bytes line faulty (packets, ending, stream, line_is, fault_is). subst IsLine (sym line_is) (end_is id (end_of ending));
+      summed = λ items. All-nil IsLine;
     }
   where
     each_of : (id : ℕ) (packets : List (ℕ × Packet)) → All IsLine (packet_lines id packets)

@@ -9,7 +9,7 @@ use Rattle.packet_reader.specs.Answered.{fault_of}
 use Rattle.packet_reader.specs.Stands.{Standing, StandsAt, TakesPacket}
 use Rattle.path_text.specs.EndLines.{end_line}
 use Rattle.path_text.specs.PacketLines.{packet_line}
-use Rattle.stream_demux.specs.Texts.{Listing}
+use Rattle.stream_demux.specs.Texts.{Listing, adds_nothing, no_sums}
 
 -- the lines of packets, each with its offset
 abbrev pub packet_lines : ℕ → List (ℕ × Packet) → List (List ℕ)
@@ -29,7 +29,7 @@ PacketEnds s id bytes line faulty =
 
 -- the packets of streams, under the sizes of their trace units
 abbrev pub packet_lists : Sizes → Listing
-packet_lists s = record { gains = PacketGains s; ends = PacketEnds s }
+packet_lists s = record { gains = PacketGains s; ends = PacketEnds s; adds = adds_nothing; sums = no_sums }
 
 -- ---- at which bytes a stream stands
 

@@ -72,6 +72,8 @@ impl Stream for PacketStream {
 
     type Shared = ();
 
+    type Sum = ();
+
     ghost sizes = { λ p. p.reader.settings };
 
     ghost broken = { λ p. p.broken };
@@ -90,6 +92,12 @@ impl Stream for PacketStream {
 
     ghost listing = { λ shared. packet_lists };
 
+    ghost sums = { λ shared sum items. Unit {0} };
+
+    fn new_sum(_alloc: Global, _shared: &()) -> Result<(), AllocError> {
+        Ok(())
+    }
+
     fn new(_alloc: Global, settings: &Settings) -> Result<PacketStream, AllocError> {
         Ok(PacketStream::begin(settings))
     }
@@ -97,6 +105,7 @@ impl Stream for PacketStream {
     fn take<K: Sink>(
         &mut self,
         _shared: &(),
+        _sum: &mut (),
         id: Id,
         byte: u8,
         sink: &mut K,
@@ -121,6 +130,7 @@ impl Stream for PacketStream {
     fn take_run<K: Sink>(
         &mut self,
         _shared: &(),
+        _sum: &mut (),
         id: Id,
         run: &[u8],
         sink: &mut K,
@@ -146,6 +156,10 @@ impl Stream for PacketStream {
         }
         write_end(id, &end_at(&self.reader, self.fault), sink)?;
         Ok(self.fault.is_none())
+    }
+
+    fn write_sum<K: Sink>(_sum: (), _shared: &(), _sink: &mut K) -> Result<(), Failed> {
+        Ok(())
     }
 
     fn abandon(self) -> Ledger {

@@ -146,7 +146,7 @@ fn long_64_at(bytes: &[u8]) -> Option<(u64, &[u8])>
 }
 
 /// A context, and what follows it.
-#[inline(always)]
+#[inline(never)]
 fn context_at<'a>(settings: &Settings, bytes: &'a [u8]) -> Option<(CtxBits, &'a [u8])>
     ensures front { IfSome result (λ r. IsFront (Context settings.now) bytes.now r.0 r.1.now) }
     ensures some { (info : ℕ) (rest : List ℕ) → bytes.now ≡ info ∷ rest → IsTrue (bit 4 info) → 8 ≤ length rest → IsSome result }

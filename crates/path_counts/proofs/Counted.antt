@@ -1,5 +1,5 @@
 -- The counts of items, and those of the items with others behind them.
-use Rattle.std.proofs.Common.{◌≡◌, ℕ, zero, suc, ◌+◌, ◌-◌, ◌%◌, ◌^◌, ◌<◌, ◌≤◌, List, [], ◌∷◌, ◌++◌, length, map, refl, sym, ap, ◌∙◌, arith}
+use Rattle.std.proofs.Common.{◌≡◌, ℕ, zero, suc, ◌+◌, ◌-◌, ◌%◌, ◌^◌, ◌<◌, ◌≤◌, List, [], ◌∷◌, ◌++◌, length, refl, sym, ap, ◌∙◌, arith}
 use Rattle.std.proofs.Common.{Bool, true, false, subst, get_or, append-nil, append_assoc, replicate, None, Some}
 use Rattle.std.specs.Prelude.{◌==◌, ◌&&◌, IsSome, slice_get}
 use Rattle.std.specs.List.{range_with_len}

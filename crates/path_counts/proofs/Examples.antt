@@ -5,8 +5,10 @@ use Rattle.etm_types.specs.declared.item.Item.{Item}
 use Rattle.etm_types.specs.declared.item.Item.TheVariants.{Exc, Gap, Instr, On, Stop, Unknown}
 use Rattle.path_text.specs.Lines.{in_base}
 use Rattle.program_image.specs.Part.{Part}
-use Rattle.path_counts.specs.Counts.{Counting, times, took_at}
-use Rattle.path_counts.specs.CountLines.{items_text, number_line, words_text}
+use Rattle.path_counts.specs.Counts.{counts_of, times, took_at}
+use Rattle.path_counts.specs.CountLines.{counts_text, items_text, number_line, words_text}
+use Rattle.path_counts.specs.declared.targets.Target.{Target}
+use Rattle.path_counts.specs.Targets.{is_pointer_branch, targets_within}
 use Rattle.path_counts.specs.Levels.{is_within, levels_of, place_behind}
 
 -- four words from 1000 on, and the last one of all addresses
@@ -24,7 +26,7 @@ branch_items =
     On ∷ Instr 0x1000 context false ∷ Instr 0x1004 context true ∷ Instr 0x100c context false ∷ Instr 0x1000 context false
     ∷ Instr 0x1004 context false ∷ []
 
-branch_counts : items_text code branch_items ≡ codes "at 1000 2\nat 1004 2\ntaken 1004 1\nat 100c 1\non 1\n"
+branch_counts : items_text code branch_items [] ≡ codes "at 1000 2\nat 1004 2\ntaken 1004 1\nat 100c 1\non 1\n"
 unfolding in_base code branch_items
 branch_counts = refl
 
@@ -32,11 +34,11 @@ branch_counts = refl
 other_items : List Item
 other_items = Stop ∷ Exc 14 0x1000 ∷ Gap ∷ Exc 5 0x1004 ∷ Unknown ∷ Exc 14 0x1004 ∷ []
 
-other_counts : items_text [] other_items ≡ codes "? 1\ngap 1\nstop 1\nexc 5 1\nexc irq 2\n"
+other_counts : items_text [] other_items [] ≡ codes "? 1\ngap 1\nstop 1\nexc 5 1\nexc irq 2\n"
 unfolding in_base other_items
 other_counts = refl
 
-nothing_counted : items_text code [] ≡ []
+nothing_counted : items_text code [] [] ≡ []
 unfolding code
 nothing_counted = refl
 
@@ -53,7 +55,7 @@ unfolding in_base
 no_line_of_none e = cc
 
 -- `at` stands before `taken`
-taken_is_not_first : words_text (0x1004 ∷ []) (2 ∷ []) (1 ∷ []) ≡ codes "taken 1004 1\nat 1004 2\n" → ⊥
+taken_is_not_first : words_text (0x1004 ∷ []) (2 ∷ []) (1 ∷ []) [] ≡ codes "taken 1004 1\nat 1004 2\n" → ⊥
 unfolding in_base
 taken_is_not_first e = let first : 97 ≡ 116 = ap (λ t. get_or t 0 0) e in absurd (omega (arith, first))
 
@@ -70,3 +72,81 @@ last_places = (refl, refl)
 -- up by one at place 1, and down behind place 2
 levels : levels_of (0 ∷ 1 ∷ 0 ∷ (2 ^ 64 - 1) ∷ 0 ∷ []) ≡ 0 ∷ 1 ∷ 1 ∷ 0 ∷ 0 ∷ []
 levels = refl
+
+-- ---- branches to a register
+
+-- BR, BLR, BRAAZ, BRABZ, BLRAAZ, BLRABZ, BRAA, BRAB, BLRAA and BLRAB, with X16 and X17
+pointer_branches : (is_pointer_branch 0xd61f0200 ≡ true) × (is_pointer_branch 0xd63f0200 ≡ true)
+    × (is_pointer_branch 0xd61f0a1f ≡ true) × (is_pointer_branch 0xd61f0e1f ≡ true)
+    × (is_pointer_branch 0xd63f0a1f ≡ true) × (is_pointer_branch 0xd63f0e1f ≡ true)
+    × (is_pointer_branch 0xd71f0a11 ≡ true) × (is_pointer_branch 0xd71f0e11 ≡ true)
+    × (is_pointer_branch 0xd73f0a11 ≡ true) × (is_pointer_branch 0xd73f0e11 ≡ true)
+pointer_branches = (refl, refl, refl, refl, refl, refl, refl, refl, refl, refl)
+
+-- RET, RETAA, ERET, ERETAA, B.EQ, BL and NOP are none; nor is BR with a bit set that it does not have, nor BRAA with one that is not set
+other_words : (is_pointer_branch 0xd65f03c0 ≡ false) × (is_pointer_branch 0xd65f0bff ≡ false) × (is_pointer_branch 0xd69f03e0 ≡ false)
+    × (is_pointer_branch 0xd69f0bff ≡ false) × (is_pointer_branch 0x54000040 ≡ false) × (is_pointer_branch 0x94000000 ≡ false)
+    × (is_pointer_branch 0xd503201f ≡ false) × (is_pointer_branch 0xd61f0201 ≡ false) × (is_pointer_branch 0xd71f0211 ≡ false)
+other_words = (refl, refl, refl, refl, refl, refl, refl, refl, refl)
+
+-- ---- where they went
+
+-- a table of two: the third pair comes twice when it is full, and one that is in it comes once more
+pairs : List (ℕ × ℕ)
+pairs = (0x1004, 0x2000) ∷ (0x1000, 0x3000) ∷ (0x1000, 0x2000) ∷ (0x1004, 0x2000) ∷ (0x1000, 0x2000) ∷ []
+
+full_table : targets_within 2 pairs ≡ record {
+  entries = record { from = 0x1000; to = 0x3000; times = 1 } ∷ record { from = 0x1004; to = 0x2000; times = 2 } ∷ [];
+  more = 2;
+}
+unfolding pairs
+full_table = refl
+
+-- a table of three has all of them, by the first address and then by the second
+whole_table : targets_within 3 pairs ≡ record {
+  entries = record { from = 0x1000; to = 0x2000; times = 2 } ∷ record { from = 0x1000; to = 0x3000; times = 1 }
+      ∷ record { from = 0x1004; to = 0x2000; times = 2 } ∷ [];
+  more = 0;
+}
+unfolding pairs
+whole_table = refl
+
+-- a call at 1000: its lines stand behind those of the word, and those of a pair from no word are left out
+calls : List (ℕ × ℕ)
+calls = (0x1000, 0x3000) ∷ (0x1000, 0x2000) ∷ (0x2000, 0x1000) ∷ (0x1000, 0x2000) ∷ []
+
+call_items : List Item
+call_items = Instr 0x1000 context false ∷ Instr 0x1000 context false ∷ Instr 0x1000 context false ∷ Instr 0x1004 context true ∷ Stop ∷ []
+
+call_counts : items_text code call_items calls ≡ codes "at 1000 3\nto 1000 2000 2\nto 1000 3000 1\nat 1004 1\ntaken 1004 1\nstop 1\n"
+unfolding in_base code call_items calls
+call_counts = refl
+
+-- the line of the others stands between the words and the marks
+others_between : counts_text [] (counts_of [] (Gap ∷ [])) (record { entries = []; more = 3 }) ≡ codes "to more 3\ngap 1\n"
+unfolding in_base
+others_between = refl
+
+-- ---- near misses
+
+-- what came first does not stand first
+not_as_they_came : (targets_within 3 pairs).entries ≡ record { from = 0x1004; to = 0x2000; times = 2 }
+    ∷ record { from = 0x1000; to = 0x3000; times = 1 } ∷ record { from = 0x1000; to = 0x2000; times = 2 } ∷ [] → ⊥
+unfolding pairs
+not_as_they_came e =
+    let first : 0x1000 ≡ 0x1004 = ap (λ (es : List Target). (get_or es 0 (record { from = 0; to = 0; times = 0 })).from) e in absurd (omega (arith, first))
+
+-- each time counts that another pair comes, and not each other pair
+not_each_pair_once : (targets_within 2 pairs).more ≡ 1 → ⊥
+unfolding pairs
+not_each_pair_once e = let two : 2 ≡ 1 = e in absurd (omega (arith, two))
+
+-- a pair that is in the table is counted when it is full
+not_frozen : (targets_within 2 pairs).more ≡ 3 → ⊥
+unfolding pairs
+not_frozen e = let two : 2 ≡ 3 = e in absurd (omega (arith, two))
+
+-- `taken` stands before `to`
+to_is_not_first : words_text (0x1004 ∷ []) (0 ∷ []) (1 ∷ []) (record { from = 0x1004; to = 0; times = 1 } ∷ []) ≡ codes "to 1004 0 1\ntaken 1004 1\n" → ⊥
+unfolding in_base
+to_is_not_first e = let second : 97 ≡ 111 = ap (λ t. get_or t 1 0) e in absurd (omega (arith, second))

@@ -8,4 +8,8 @@ pub mod Points
 pub mod Kth
 pub mod Counted
 pub mod TextSteps
+pub mod PairOrder
+pub mod Kept
+pub mod Added
+pub mod FromEntries
 pub mod Examples

@@ -27,7 +27,7 @@ abbrev pub is_instruction : Item → Bool
 is_instruction (item.Instr a ctx took) = true
 is_instruction _ = false
 
--- The items that are no instructions have numbers in the order in which they are printed: on, ?, gap, stop, and the exceptions by
+-- The items that are no instructions have numbers in the order in which they are printed: on, unknown, gap, stop, and the exceptions by
 -- their types, of which there are as many as a byte has values.
 abbrev pub mark_count : ℕ
 mark_count = 260

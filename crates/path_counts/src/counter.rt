@@ -1,5 +1,5 @@
 //! How often each word of an image, and each item that is no instruction, stands in paths.
-ghost use Rattle.std.specs.Prelude.{◌≡◌, ◌-◌, ◌∷◌, [], ◌^◌, ◌<◌, ◌≤◌, length, IfOk, List, if◌then◌else◌};
+ghost use Rattle.std.specs.Prelude.{◌≡◌, ◌-◌, ◌∷◌, [], ◌^◌, ◌<◌, ◌≤◌, ◌↔◌, false, length, IfOk, IsTrue, List, if◌then◌else◌};
 ghost use Rattle.etm_types.specs.Walked.{exception, instructions, items_of};
 ghost use Rattle.etm_types.specs.declared.context.Ctx.{Ctx};
 ghost use Rattle.etm_types.specs.declared.item.Item.{Item};
@@ -7,7 +7,7 @@ ghost use Rattle.etm_types.specs.declared.item.Item.TheVariants.{Gap, On, Stop};
 ghost use Rattle.program_image.specs.Places.{AreWords, word_count};
 ghost use Rattle.path_text.specs.PathLines.{block_items};
 ghost use Rattle.path_text.specs.Writing.{Writes};
-ghost use Rattle.program_image.specs.Part.{Part};
+ghost use Rattle.program_image.specs.Part.{IsImage, Part};
 ghost use Rattle.path_counts.specs.Counts.{Counts, HasNumber, counts_of, mark_count};
 ghost use Rattle.path_counts.specs.CountLines.{counts_text};
 ghost use Rattle.path_counts.specs.Levels.{RaisesLast, RaisesRun, place_behind};
@@ -15,6 +15,7 @@ ghost use Rattle.path_counts.specs.Levels.{RaisesLast, RaisesRun, place_behind};
 use crate::count_lines::write_counts;
 use crate::levels::Levels;
 use crate::numbers::Numbers;
+use crate::targets::Targets;
 use etm_types::{ExcMark, Walked};
 use program_image::Image;
 use std::alloc::{AllocError, Global};
@@ -72,12 +73,22 @@ impl Counter {
         })
     }
 
-    /// Counts what the walk of one P0 element shows, of which the instructions are words of the image. It costs the same however many
-    /// these are.
+    /// Whether it has a number for each word of an image.
+    #[inline(always)]
+    pub fn fits(&self, image: &Image) -> bool
+        ensures value { IsTrue result ↔ (length self.now.visits ≡ word_count image.now) }
+        ensures parts { IsImage image.now }
+    {
+        self.taken.len() == image.word_count()
+    }
+
+    /// Counts what the walk of one P0 element shows, of which the instructions are words of the image, where their addresses are known.
+    /// It costs the same however many these are.
     #[inline(always)]
     pub fn add_walked(&mut self, image: &Image, walked: &Walked)
         requires { length self.old.visits ≡ word_count image.now }
-        ensures counted { AreWords image.now walked.now.start walked.now.count → Counts image.now self.old self.new (items_of walked.now) }
+        ensures counted { (walked.now.unknown ≡ false → AreWords image.now walked.now.start walked.now.count)
+            → Counts image.now self.old self.new (items_of walked.now) }
         ensures length { length self.new.visits ≡ length self.old.visits }
     {
         self.add_on(walked.on);
@@ -101,17 +112,22 @@ impl Counter {
         self.add_mark(STOP);
     }
 
-    /// Writes the lines of the counts: one pass over the words of the image.
-    pub fn write<K: Sink>(self, image: &Image, sink: &mut K) -> Result<(), Failed>
+    /// Writes the lines of the counts, with those of where branches went: one pass over the words of the image.
+    pub fn write<K: Sink>(
+        self,
+        image: &Image,
+        targets: &Targets,
+        sink: &mut K,
+    ) -> Result<(), Failed>
         requires { length self.visits ≡ word_count image.now }
-        ensures { Writes (K.state sink.old) (K.state sink.new) result (counts_text image.now self) }
+        ensures { Writes (K.state sink.old) (K.state sink.new) result (counts_text image.now self targets.now) }
     {
         let Counter {
             visits,
             taken,
             marks,
         } = self;
-        write_counts(image, &visits.totals(), &taken, &marks, sink)
+        write_counts(image, &visits.totals(), &taken, targets, &marks, sink)
     }
 
     /// Counts trace on, where it is shown.
@@ -129,7 +145,8 @@ impl Counter {
     #[inline(always)]
     fn add_block(&mut self, image: &Image, walked: &Walked)
         requires { length self.old.visits ≡ word_count image.now }
-        ensures counted { AreWords image.now walked.now.start walked.now.count → Counts image.now self.old self.new (block_items walked.now) }
+        ensures counted { (walked.now.unknown ≡ false → AreWords image.now walked.now.start walked.now.count)
+            → Counts image.now self.old self.new (block_items walked.now) }
         ensures length { length self.new.visits ≡ length self.old.visits }
     {
         if walked.unknown {

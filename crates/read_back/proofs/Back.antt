@@ -22,7 +22,7 @@ use Rattle.trace_cmd.specs.Programs.{IsSpelled, Spells}
 use Rattle.trace_cmd.proofs.Programs.{one_program}
 use Rattle.answer_laws.proofs.WordTables.{trace_counts}
 use Rattle.answer_laws.specs.Complete.{IsDone, IsDoneOrFaulted}
-use Rattle.trace_cmd.specs.Printing.{PacketsOf, PathsOf, TimesOf, What}
+use Rattle.trace_cmd.specs.Printing.{CountsOf, PacketsOf, PathsOf, TimesOf, What}
 use Rattle.traced_runs.specs.Traced.{AreAccepted, AreTracedFrames, IsTracedFrames, trace_frames, with_syncs}
 use Rattle.answer_laws.specs.TracedCalls.{IsPathOfTrace, PrintsTraces, written_under}
 use Rattle.answer_lines.specs.declared.status.Status.{Status}
@@ -67,6 +67,7 @@ appended_are (Some xs) (Some ys) before frames bytes was is appends =
 module _ (t : Call) (old new : IoState) (program file written : List ℕ) (traces : Traces t old new program file written) where
   not_of_input : (what : What) → Asks t what → ⊥
   not_of_input (PathsOf image r) asked = let both : _ ≡ _ = sym asked.0.1 ∙ traces.words in cc
+  not_of_input (CountsOf image r) asked = let both : _ ≡ _ = sym asked.0.1 ∙ traces.words in cc
   not_of_input (TimesOf r) asked = let both : _ ≡ _ = sym asked ∙ traces.words in cc
   not_of_input (PacketsOf r) asked = let both : _ ≡ _ = sym asked ∙ traces.words in cc
 

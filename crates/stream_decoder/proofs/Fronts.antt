@@ -4,6 +4,7 @@ use Rattle.std.specs.Prelude.{IsTrue}
 use Rattle.std.proofs.lemmas.List.Elements.{All-append, All-from_get_or}
 use Rattle.etm_types.specs.Settings.{AreSettings, Sizes}
 use Rattle.etm_types.specs.declared.context.Ctx.{Ctx}
+use Rattle.etm_types.specs.declared.item.Item.{Item}
 use Rattle.packet_grammar.specs.declared.packet.Packet.{Packet}
 use Rattle.packet_grammar.specs.declared.stream_fault.Fault.{Fault}
 use Rattle.packet_reader.specs.Stands.{Standing, TakesPacket}
@@ -14,10 +15,11 @@ use Rattle.program_image.specs.declared.image.Image.{Image}
 use Rattle.stream_decoder.proofs.Growing.{Small, by_fault, not_none}
 use Rattle.stream_decoder.proofs.Holds.{holds_read}
 use Rattle.stream_decoder.proofs.Printing.{Printed, prints_behind}
+use Rattle.stream_decoder.proofs.Yielding.{goes_to_end}
 use Rattle.stream_decoder.specs.Decoding.{AtRest, Decoding, IsDecoding, IsReading, decoding_of}
 use Rattle.stream_decoder.specs.Left.{Left}
 use Rattle.stream_decoder.specs.Waiting.{Waiting}
-use Rattle.stream_decoder.specs.Yields.{BegunFront, Goes, GoesQuietly, OpensPacket, Prints}
+use Rattle.stream_decoder.specs.Yields.{BegunFront, Ends, Goes, GoesQuietly, OpensPacket, Prints}
 use Rattle.trace_io.specs.State.{IoState}
 use Rattle.trace_io.specs.declared.traits.Failed.{Failed}
 
@@ -91,3 +93,8 @@ module _ (image : Image) (m d' : Decoding) where
   quiet_prints id shown d2 shown2 a b r (inr (none, goes)) prints =
       let first : Printed image id m shown d' shown a a = record { items = []; goes = goes image; context = refl; wrote = wrote_nothing a } in
       prints_behind image id m d' shown shown a a b first d2 shown2 r prints
+
+  -- and so is what is done from there on
+  pub quiet_ends : (items : List Item) (d2 : Decoding) → GoesQuietly m d' → Ends image d' items d2 → Ends image m items d2
+  quiet_ends items d2 (inl same) ends = subst (λ (x : Decoding). Ends image x items d2) same ends
+  quiet_ends items d2 (inr (none, goes)) ends = goes_to_end image m d' d2 [] items (goes image) ends

@@ -11,6 +11,7 @@ pub mod Waits
 pub mod Printing
 pub mod Quiet
 pub mod Following
+pub mod FollowedRuns
 pub mod Worded
 pub mod Standing
 pub mod Growing

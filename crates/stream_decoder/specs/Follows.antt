@@ -1,11 +1,13 @@
 -- What follows paths takes of them, and at which bytes a stream stands whose path is followed.
-use Rattle.std.specs.Prelude.{◌≡◌, ℕ, false, All, List, [], ◌∷◌, ◌++◌, ⊤}
+use Rattle.std.specs.Prelude.{◌≡◌, ℕ, ◌+◌, ◌-◌, Bool, true, false, if◌then◌else◌, All, List, [], ◌∷◌, ◌++◌, length, map, is_none, ⊤}
 use Rattle.etm_types.specs.Settings.{Sizes}
 use Rattle.etm_types.specs.declared.item.Item.{Item}
 use Rattle.etm_types.specs.declared.walked.Walked.{Walked}
 use Rattle.packet_grammar.specs.declared.end.End.{End}
 use Rattle.path_elements.specs.Path.{IsPath}
+use Rattle.path_walker.specs.Walk.{is_cond}
 use Rattle.path_walker.specs.declared.stretch.Stretch.{Stretch}
+use Rattle.program_image.specs.Blocks.{IsPlainRun, behind, class_at}
 use Rattle.program_image.specs.Places.{AreWords}
 use Rattle.program_image.specs.declared.image.Image.{Image}
 use Rattle.stream_decoder.specs.Decoding.{Decoding}
@@ -14,13 +16,25 @@ use Rattle.stream_decoder.specs.Yields.{Goes}
 use Rattle.stream_decoder.specs.declared.found.Found.{Found}
 use Rattle.stream_decoder.specs.declared.found.Found.TheVariants as found
 
--- what took some items has then taken these behind them
-abbrev pub TakesMore : {F : Type 0} → (F → List Item → Type 0) → F → F → List Item → Type 0
-TakesMore took old new more = (items : List Item) → took old items → took new (items ++ more)
+-- items of a stream
+abbrev pub items_under : ℕ → List Item → List (ℕ × Item)
+items_under id items = map (λ (i : Item). (id, i)) items
 
--- the instructions that a walk shows, where their addresses are known, are words of an image
+-- what took some items, each with the ID of its stream, has then taken these behind them
+abbrev pub TakesMore : {F : Type 0} → (F → List (ℕ × Item) → Type 0) → F → F → List (ℕ × Item) → Type 0
+TakesMore took old new more = (items : List (ℕ × Item)) → took old items → took new (items ++ more)
+
+-- so many words of an image from an address on, of which so many are plain, and the last is a conditional branch where it was taken
+pub record AreWalked (image : Image) (start count plain : ℕ) (taken : Bool) : Type 0 where
+  pub words : AreWords image start count
+  pub run : IsPlainRun image start plain
+  pub cond : taken ≡ true → is_cond (class_at image (behind start (count - 1))) ≡ true
+
+-- All instructions of an atom but the last are plain, and so are all before an exception.
 abbrev pub ShowsWords : Image → Walked → Type 0
-ShowsWords image walked = walked.unknown ≡ false → AreWords image walked.start walked.count
+ShowsWords image walked =
+    walked.unknown ≡ false
+    → AreWalked image walked.start walked.count (if is_none walked.exc then walked.count - 1 else walked.count) walked.took
 
 -- the same of what was found
 abbrev pub FindsWords : Image → Found → Type 0
@@ -28,15 +42,18 @@ FindsWords image (found.Walked walked) = ShowsWords image walked
 FindsWords image found.Gap = ⊤
 FindsWords image found.Stop = ⊤
 
--- and of stretches
-abbrev pub AreStretchesOfWords : Image → List Stretch → Type 0
-AreStretchesOfWords image run = All (λ (stretch : Stretch). AreWords image stretch.start stretch.count) run
+-- and of the stretches of atoms
+abbrev pub IsStretchOfWords : Image → Stretch → Type 0
+IsStretchOfWords image stretch = AreWalked image stretch.start stretch.count (stretch.count - 1) stretch.took
 
--- some of what is left to do is done, without a fault, and the items that it showed were taken
-pub record Follows {F : Type 0} (took : F → List Item → Type 0) (image : Image) (d d' : Decoding) (old new : F) : Type 0 where
+abbrev pub AreStretchesOfWords : Image → List Stretch → Type 0
+AreStretchesOfWords image run = All (IsStretchOfWords image) run
+
+-- some of what is left to do of a stream is done, without a fault, and the items that it showed were taken
+pub record Follows {F : Type 0} (took : F → List (ℕ × Item) → Type 0) (image : Image) (id : ℕ) (d d' : Decoding) (old new : F) : Type 0 where
   pub items : List Item
   pub goes : Goes image d items d'
-  pub takes : TakesMore took old new items
+  pub takes : TakesMore took old new (items_under id items)
 
 -- the decoding took these bytes
 abbrev pub CameTo : Image → Decoding → List ℕ → Type 0
@@ -49,3 +66,19 @@ pub record GrowsBy (image : Image) (s : Sizes) (bytes : List ℕ) (byte : ℕ) (
   pub next : End
   pub was : IsPath image s bytes items last
   pub is : IsPath image s (bytes ++ byte ∷ []) (items ++ more) next
+
+-- with these bytes more, one after the other, the path has these items more
+abbrev pub GrowsByEach : Image → Sizes → List ℕ → List ℕ → List Item → Type 0
+GrowsByEach image s bytes [] more = more ≡ []
+GrowsByEach image s bytes (byte ∷ run) more =
+    (first : List Item) × (rest : List Item) × GrowsBy image s bytes byte first × GrowsByEach image s (bytes ++ byte ∷ []) run rest
+    × (more ≡ first ++ rest)
+
+-- bytes were taken, at whatever bytes the stream stood before, and the items by which its path grew were taken
+pub record FollowsRun {F : Type 0} (took : F → List (ℕ × Item) → Type 0) (image : Image) (id : ℕ) (d : Decoding) (run : List ℕ) (d' : Decoding)
+    (old new : F) : Type 0 where
+  pub more : List Item
+  pub came : (bytes : List ℕ) (items : List Item) → Came image d bytes items → Came image d' (bytes ++ run) (items ++ more)
+  pub takes : TakesMore took old new (items_under id more)
+  pub settings : (d'.reader).settings ≡ (d.reader).settings
+  pub taken : (d'.reader).taken ≡ (d.reader).taken + length run

@@ -1,5 +1,6 @@
 -- What is left to do shows, and where it leads.
-use Rattle.std.specs.Prelude.{◌≡◌, ◌⊎◌, ℕ, ◌+◌, ◌*◌, ◌<◌, Bool, true, false, List, [], ◌∷◌, ◌++◌, length, Option, Some, None, Result, Ok, Err, IsOk, option_to_list}
+use Rattle.std.specs.Prelude.{◌≡◌, ◌⊎◌, ℕ, ◌+◌, ◌*◌, ◌<◌, Bool, true, false, List, [], ◌∷◌, ◌++◌, length, Option, Some, None}
+use Rattle.std.specs.Prelude.{Result, Ok, Err, IsOk, option_to_list}
 use Rattle.element_queue.specs.Counting.{counts_after, made_by, tally}
 use Rattle.element_queue.specs.Pending.{Gone, Pending, taken}
 use Rattle.element_queue.specs.declared.ledger.Counts.{Counts}

@@ -18,8 +18,10 @@ ghost use Rattle.path_walker.specs.State.{IsState};
 ghost use Rattle.path_walker.specs.Walk.{ToldIsAligned, items_in, walked_in};
 ghost use Rattle.program_image.specs.declared.image.Image.{Image};
 ghost use Rattle.stream_decoder.specs.Decoding.{AtRest, Begins, IsDecoding};
+ghost use Rattle.stream_decoder.specs.Follows.{AreStretchesOfWords, FindsWords, IsStretchOfWords};
 ghost use Rattle.stream_decoder.specs.Stands.{end_at};
-ghost use Rattle.stream_decoder.specs.Yields.{Begun, BegunFront, Ends, Goes, Leaves, OpensPacket, Refuses, Stops, WalksAtoms, items_of_found, items_found, left};
+ghost use Rattle.stream_decoder.specs.Yields.{Begun, BegunFront, Ends, Goes, Leaves, OpensPacket, Refuses, Stops, WalksAtoms};
+ghost use Rattle.stream_decoder.specs.Yields.{items_of_found, items_found, left};
 
 use crate::found::Found;
 use crate::todo::Todo;
@@ -317,6 +319,7 @@ impl Decoding {
     #[inline(always)]
     pub fn next(&mut self, image: &Image) -> Option<Found>
         ensures found { (found : Found) → result ≡ Some found → Goes image.now self.old (items_of_found found) self.new }
+        ensures words { IfSome result (FindsWords image.now) }
         ensures fewer { (found : Found) → result ≡ Some found → left self.new < left self.old }
         ensures ends { result ≡ None → self.old.fault ≡ None → Ends image.now self.old [] self.new }
         ensures stopped { AtRest self.old → (result ≡ None) × (self.new ≡ self.old) }
@@ -478,6 +481,7 @@ impl Decoding {
     #[inline(always)]
     fn next_atom(&mut self, image: &Image) -> Option<Stretch>
         ensures goes { IfSome result (λ stretch. Goes image.now self.old (items_of (walked_in self.new.walk.ctx stretch)) self.new) }
+        ensures words { IfSome result (IsStretchOfWords image.now) }
         ensures fewer { IfSome result (λ stretch. left self.new < left self.old) }
         ensures none { result ≡ None → self.new ≡ self.old }
         ensures stopped { AtRest self.old → result ≡ None }
@@ -495,6 +499,7 @@ impl Decoding {
     #[inline(always)]
     fn walk_due(&mut self, image: &Image) -> Option<Stretch>
         ensures goes { IfSome result (λ stretch. Goes image.now self.old (items_of (walked_in self.new.walk.ctx stretch)) self.new) }
+        ensures words { IfSome result (IsStretchOfWords image.now) }
         ensures fewer { IfSome result (λ stretch. left self.new < left self.old) }
         ensures none { result ≡ None → self.new ≡ self.old }
         ensures stopped { AtRest self.old → result ≡ None }
@@ -513,6 +518,7 @@ impl Decoding {
     #[inline(always)]
     fn walk_taken(&mut self, image: &Image) -> Option<Stretch>
         ensures goes { IfSome result (λ stretch. Goes image.now self.old (items_of (walked_in self.new.walk.ctx stretch)) self.new) }
+        ensures words { IfSome result (IsStretchOfWords image.now) }
         ensures fewer { IfSome result (λ stretch. left self.new < left self.old) }
         ensures none { result ≡ None → self.new ≡ self.old }
         ensures stopped { AtRest self.old → result ≡ None }
@@ -536,6 +542,7 @@ impl Decoding {
     #[inline(always)]
     pub fn next_run(&mut self, image: &Image, run: &mut Stretches)
         ensures goes { Goes image.now self.old (items_in self.new.walk.ctx run.new) self.new }
+        ensures words { AreStretchesOfWords image.now run.new }
         ensures fewer { left self.new ≤ left self.old }
         ensures none { run.new ≡ [] → self.new ≡ self.old }
         ensures stopped { AtRest self.old → run.new ≡ [] }
@@ -555,6 +562,7 @@ impl Decoding {
         requires none { run.old ≡ [] }
         requires holds { IsDecoding self.old }
         ensures goes { Goes image.now self.old (items_in self.new.walk.ctx run.new) self.new }
+        ensures words { AreStretchesOfWords image.now run.new }
         ensures fewer { left self.new ≤ left self.old }
         ensures none { run.new ≡ [] → self.new ≡ self.old }
         ensures stopped { AtRest self.old → run.new ≡ [] }
@@ -570,13 +578,14 @@ impl Decoding {
     }
 
     /// The same, where this address was given before the first atom, or none.
-    #[inline(always)]
+    #[inline(never)]
     fn walk_passing(&mut self, image: &Image, given: Option<u64>, run: &mut Stretches)
         requires none { run.old ≡ [] }
         requires due { self.old.due ≡ [] }
         requires depth { self.old.reader.settings.depth ≡ 0 }
         requires given { self.old.pending.pre ≡ record nothing_told { addr = given } }
         ensures goes { Goes image.now self.old (items_in self.new.walk.ctx run.new) self.new }
+        ensures words { AreStretchesOfWords image.now run.new }
         ensures fewer { left self.new ≤ left self.old }
         ensures none { run.new ≡ [] → self.new ≡ self.old }
         ensures stopped { AtRest self.old → run.new ≡ [] }
@@ -602,6 +611,7 @@ impl Decoding {
     #[inline(never)]
     fn next_any(&mut self, image: &Image) -> Option<Found>
         ensures found { (found : Found) → result ≡ Some found → Goes image.now self.old (items_of_found found) self.new }
+        ensures words { IfSome result (FindsWords image.now) }
         ensures fewer { (found : Found) → result ≡ Some found → left self.new < left self.old }
         ensures ends { result ≡ None → self.old.fault ≡ None → Ends image.now self.old [] self.new }
         ensures stopped { AtRest self.old → (result ≡ None) × (self.new ≡ self.old) }
@@ -638,6 +648,7 @@ impl Decoding {
         requires some { 0 < left self.old }
         requires whole { self.old.fault ≡ None }
         ensures goes { IfOk result (λ found. Goes image.now self.old (items_found found) self.new) }
+        ensures words { IfOk result (λ found. IfSome found (FindsWords image.now)) }
         ensures fewer { IfOk result (λ found. left self.new < left self.old) }
         ensures stops { (fault : Fault) → result ≡ Err fault → Stops image.now self.old fault self.new }
         ensures holds { IsDecoding self.new }
@@ -691,6 +702,7 @@ impl Decoding {
         requires aligned { IsAlignedThing thing.now }
         requires holds { IsDecoding self.old }
         ensures walks { IfOk result (λ found. Walks image.now self.old.walk (thing.now ∷ []) (items_found found) (Ok self.new.walk)) }
+        ensures words { IfOk result (λ found. IfSome found (FindsWords image.now)) }
         ensures fault { (fault : Fault) → result ≡ Err fault
             → (f : WalkFault) × (fault ≡ Fault.Walk f) × Walks image.now self.old.walk (thing.now ∷ []) [] (Err f) }
         ensures others { self.new ≡ record (self.old) { walk = self.new.walk } }

@@ -12,7 +12,8 @@ ghost use Rattle.path_elements.specs.Path.{IsPath, IsPathTaking, unplaced};
 ghost use Rattle.path_text.specs.EndLines.{end_line};
 ghost use Rattle.path_text.specs.Writing.{Writes};
 ghost use Rattle.program_image.specs.declared.image.Image.{Image};
-ghost use Rattle.stream_decoder.specs.Follows.{CameTo, GrowsBy, TakesMore};
+ghost use Rattle.stream_decoder.specs.Decoding.{AtRest, IsDecoding};
+ghost use Rattle.stream_decoder.specs.Follows.{CameTo, FollowsRun, GrowsBy, GrowsByEach, TakesMore, items_under};
 ghost use Rattle.stream_decoder.specs.Stands.{shows_walk_fault};
 ghost use Rattle.trace_io.specs.Bytes.{ShowsAsBefore};
 ghost use Rattle.trace_io.specs.Causes.{HasCause};
@@ -63,14 +64,15 @@ impl FollowedStream {
         })
     }
 
-    /// Takes the next byte, and gives a follower the items by which the path grows. Behind a fault of the stream none comes any more.
+    /// Takes the next byte, and gives a follower the items by which the path grows, as those of the stream of an ID. Behind a fault of the
+    /// stream none comes any more.
     #[inline(always)]
-    pub fn take<F: Follower>(&mut self, image: &Image, byte: u8, follower: &mut F)
+    pub fn take<F: Follower>(&mut self, image: &Image, id: Id, byte: u8, follower: &mut F)
         requires few { self.old.reader.taken < 2 ^ 62 }
         ensures stands { (bytes : List ℕ) → CameTo image.now self.old bytes → CameTo image.now self.new (bytes ++ byte ∷ []) }
         ensures grows { (bytes : List ℕ) → CameTo image.now self.old bytes
             → (more : List Item) × GrowsBy image.now self.old.reader.settings bytes byte more
-            × TakesMore (F.took image.now) follower.old follower.new more }
+            × TakesMore (F.took image.now) follower.old follower.new (items_under id more) }
         ensures stopped { self.old.fault ≢ None
             → (follower.new ≡ follower.old) × (self.new ≡ record (self.old) { reader = self.new.reader }) }
         ensures taken { self.new.reader.taken ≡ self.old.reader.taken + 1 }
@@ -79,7 +81,26 @@ impl FollowedStream {
         ensures most { length (self.new.due ++ self.new.pending.held) ≤ self.new.reader.settings.depth }
     {
         self.decoding.begin(byte);
-        follow_rest(&mut self.decoding, &mut self.run, image, follower);
+        follow_rest(&mut self.decoding, &mut self.run, image, id, follower);
+    }
+
+    /// Takes the next bytes, and gives a follower the items by which the path grows, as [`take`](FollowedStream::take) does of each.
+    ///
+    /// It is for speed: a packet that stands whole in the run, as most addresses and commits do, is read at once.
+    pub fn take_run<F: Follower>(&mut self, image: &Image, id: Id, run: &[u8], follower: &mut F)
+        requires few { self.old.reader.taken + length run.now ≤ 2 ^ 62 }
+        ensures stands { (bytes : List ℕ) → CameTo image.now self.old bytes → CameTo image.now self.new (bytes ++ run.now) }
+        ensures grows { (bytes : List ℕ) → CameTo image.now self.old bytes
+            → (more : List Item) × GrowsByEach image.now self.old.reader.settings bytes run.now more
+            × TakesMore (F.took image.now) follower.old follower.new (items_under id more) }
+        ensures stopped { self.old.fault ≢ None
+            → (follower.new ≡ follower.old) × (self.new ≡ record (self.old) { reader = self.new.reader }) }
+        ensures taken { self.new.reader.taken ≡ self.old.reader.taken + length run.now }
+        ensures settings { self.new.reader.settings ≡ self.old.reader.settings }
+        ensures balanced { Balances self.new.counts (entries (self.new.due ++ self.new.pending.held)) }
+        ensures most { length (self.new.due ++ self.new.pending.held) ≤ self.new.reader.settings.depth }
+    {
+        follow_bytes(&mut self.decoding, &mut self.run, image, id, run, follower);
     }
 
     /// How many bytes were taken.
@@ -129,5 +150,30 @@ impl FollowedStream {
     {
         let FollowedStream { decoding, run: _ } = self;
         decoding.close()
+    }
+}
+
+/// Takes the next bytes, and gives a follower what they show.
+fn follow_bytes<F: Follower>(
+    decoding: &mut Decoding,
+    atoms: &mut Stretches,
+    image: &Image,
+    id: Id,
+    run: &[u8],
+    follower: &mut F,
+)
+    requires holds { IsDecoding decoding.old }
+    requires rest { AtRest decoding.old }
+    requires few { decoding.old.reader.taken + length run.now ≤ 2 ^ 62 }
+    ensures follows { FollowsRun (F.took image.now) image.now id decoding.old run.now decoding.new follower.old follower.new }
+    ensures stopped { decoding.old.fault ≢ None
+        → (decoding.new ≡ record (decoding.old) { reader = decoding.new.reader }) × (follower.new ≡ follower.old) }
+    ensures rest { AtRest decoding.new }
+    ensures holds { IsDecoding decoding.new }
+{
+    let mut rest = run;
+    while let Some(behind) = decoding.begin_front(rest) {
+        rest = behind;
+        follow_rest(decoding, atoms, image, id, follower);
     }
 }

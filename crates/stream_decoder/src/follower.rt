@@ -1,52 +1,51 @@
 //! What follows paths as they grow, whatever it makes of them.
-ghost use Rattle.std.specs.Prelude.{◌≡◌, ◌≤◌, ◌∷◌, [], List, None};
+ghost use Rattle.std.specs.Prelude.{◌≡◌, ◌≤◌, ◌∷◌, [], List, ℕ, None};
 ghost use Rattle.etm_types.specs.Walked.{items_of};
 ghost use Rattle.etm_types.specs.declared.item.Item.{Item};
 ghost use Rattle.etm_types.specs.declared.item.Item.TheVariants as item;
 ghost use Rattle.path_walker.specs.Walk.{items_in};
-ghost use Rattle.program_image.specs.Blocks.{HasGap};
 ghost use Rattle.program_image.specs.declared.image.Image.{Image};
 ghost use Rattle.stream_decoder.specs.Decoding.{AtRest, IsDecoding};
-ghost use Rattle.stream_decoder.specs.Follows.{AreStretchesOfWords, FindsWords, Follows, ShowsWords, TakesMore};
+ghost use Rattle.stream_decoder.specs.Follows.{AreStretchesOfWords, FindsWords, Follows, ShowsWords, TakesMore, items_under};
 ghost use Rattle.stream_decoder.specs.Yields.{Ends, items_of_found, left};
 
-use crate::decoder::has_gap;
 use crate::decoding::Decoding;
 use crate::found::Found;
-use etm_types::{Ctx, Walked};
+use etm_types::{Ctx, Id, Walked};
 use path_walker::Stretches;
 use program_image::Image;
 
-/// What takes the items of paths over an image, one after the other. It can't fail.
+/// What takes the items of the paths of streams over an image, one after the other. It can't fail.
 pub trait Follower {
-    /// It took these items, over this image.
-    ghost took: { Image → Self → List Item → Type 0 };
+    /// It took these items, each with the ID of its stream, in the order in which they came, over this image.
+    ghost took: { Image → Self → List (ℕ × Item) → Type 0 };
 
-    /// Takes what the walk of one P0 element shows.
-    fn take_walked(&mut self, image: &Image, walked: &Walked)
+    /// Takes what the walk of one P0 element of a stream shows.
+    fn take_walked(&mut self, image: &Image, id: Id, walked: &Walked)
         requires words { ShowsWords image.now walked.now }
-        ensures takes { TakesMore (took image.now) self.old self.new (items_of walked.now) };
+        ensures takes { TakesMore (took image.now) self.old self.new (items_under id (items_of walked.now)) };
 
-    /// Takes trace that was lost by an overflow.
-    fn take_gap(&mut self)
-        ensures takes { (image : Image) → TakesMore (took image) self.old self.new (item.Gap ∷ []) };
+    /// Takes trace of a stream that was lost by an overflow.
+    fn take_gap(&mut self, id: Id)
+        ensures takes { (image : Image) → TakesMore (took image) self.old self.new (items_under id (item.Gap ∷ [])) };
 
-    /// Takes a stop of tracing.
-    fn take_stop(&mut self)
-        ensures takes { (image : Image) → TakesMore (took image) self.old self.new (item.Stop ∷ []) };
+    /// Takes a stop of tracing of a stream.
+    fn take_stop(&mut self, id: Id)
+        ensures takes { (image : Image) → TakesMore (took image) self.old self.new (items_under id (item.Stop ∷ [])) };
 }
 
-/// Gives a follower what all that is left to do shows. Many bytes leave nothing to do.
+/// Gives a follower what all that is left to do of a stream shows. Many bytes leave nothing to do.
 #[inline(always)]
 pub fn follow_rest<F: Follower>(
     decoding: &mut Decoding,
     run: &mut Stretches,
     image: &Image,
+    id: Id,
     follower: &mut F,
 )
     requires holds { IsDecoding decoding.old }
     ensures follows { decoding.old.fault ≡ None → (items : List Item) × Ends image.now decoding.old items decoding.new
-        × TakesMore (F.took image.now) follower.old follower.new items }
+        × TakesMore (F.took image.now) follower.old follower.new (items_under id items) }
     ensures stopped { AtRest decoding.old → (decoding.new ≡ decoding.old) × (follower.new ≡ follower.old) }
     ensures rest { AtRest decoding.new }
     ensures reader { decoding.new.reader ≡ decoding.old.reader }
@@ -55,7 +54,7 @@ pub fn follow_rest<F: Follower>(
     if decoding.is_at_rest() {
         return;
     }
-    follow_some(decoding, run, image, follower);
+    follow_some(decoding, run, image, id, follower);
 }
 
 /// The same, where something is left to do: as much as goes the short way; where that ends, one thing that is found the long way;
@@ -65,18 +64,18 @@ fn follow_some<F: Follower>(
     decoding: &mut Decoding,
     run: &mut Stretches,
     image: &Image,
+    id: Id,
     follower: &mut F,
 )
     requires holds { IsDecoding decoding.old }
     ensures follows { decoding.old.fault ≡ None → (items : List Item) × Ends image.now decoding.old items decoding.new
-        × TakesMore (F.took image.now) follower.old follower.new items }
+        × TakesMore (F.took image.now) follower.old follower.new (items_under id items) }
     ensures rest { AtRest decoding.new }
     ensures reader { decoding.new.reader ≡ decoding.old.reader }
     ensures holds { IsDecoding decoding.new }
 {
-    has_gap(image);
     loop {
-        follow_atoms(decoding, run, image, follower);
+        follow_atoms(decoding, run, image, id, follower);
         if decoding.is_at_rest() {
             return;
         }
@@ -86,7 +85,7 @@ fn follow_some<F: Follower>(
         let Some(found) = decoding.next(image) else {
             return;
         };
-        follow_found(image, &found, follower);
+        follow_found(image, id, &found, follower);
     }
 }
 
@@ -97,38 +96,38 @@ fn follow_atoms<F: Follower>(
     decoding: &mut Decoding,
     run: &mut Stretches,
     image: &Image,
+    id: Id,
     follower: &mut F,
 )
     requires holds { IsDecoding decoding.old }
-    requires gap { HasGap image.now }
-    ensures follows { Follows (F.took image.now) image.now decoding.old decoding.new follower.old follower.new }
+    ensures follows { Follows (F.took image.now) image.now id decoding.old decoding.new follower.old follower.new }
     ensures fewer { left decoding.new ≤ left decoding.old }
     ensures reader { decoding.new.reader ≡ decoding.old.reader }
     ensures holds { IsDecoding decoding.new }
 {
     decoding.next_run(image, run);
-    follow_run(run, &decoding.context(), image, follower);
+    follow_run(run, &decoding.context(), image, id, follower);
 }
 
 /// Gives a follower the instructions of a run of atoms, in a context.
 #[inline(always)]
-fn follow_run<F: Follower>(run: &Stretches, ctx: &Ctx, image: &Image, follower: &mut F)
+fn follow_run<F: Follower>(run: &Stretches, ctx: &Ctx, image: &Image, id: Id, follower: &mut F)
     requires words { AreStretchesOfWords image.now run.now }
-    ensures takes { TakesMore (F.took image.now) follower.old follower.new (items_in ctx.now run.now) }
+    ensures takes { TakesMore (F.took image.now) follower.old follower.new (items_under id (items_in ctx.now run.now)) }
 {
     for stretch in run.all() {
-        follower.take_walked(image, &stretch.in_context(*ctx));
+        follower.take_walked(image, id, &stretch.in_context(*ctx));
     }
 }
 
 /// Gives a follower what was found.
-fn follow_found<F: Follower>(image: &Image, found: &Found, follower: &mut F)
+fn follow_found<F: Follower>(image: &Image, id: Id, found: &Found, follower: &mut F)
     requires words { FindsWords image.now found.now }
-    ensures takes { TakesMore (F.took image.now) follower.old follower.new (items_of_found found.now) }
+    ensures takes { TakesMore (F.took image.now) follower.old follower.new (items_under id (items_of_found found.now)) }
 {
     match found {
-        Found::Walked(walked) => follower.take_walked(image, walked),
-        Found::Gap => follower.take_gap(),
-        Found::Stop => follower.take_stop(),
+        Found::Walked(walked) => follower.take_walked(image, id, walked),
+        Found::Gap => follower.take_gap(id),
+        Found::Stop => follower.take_stop(id),
     }
 }

@@ -1,5 +1,5 @@
 -- The lines of one stream are those of its own bytes.
-use Rattle.std.proofs.Common.{◌≡◌, ◌≢◌, ℕ, zero, suc, ◌+◌, ◌<◌, ◌≤◌, ◌==◌, if◌then◌else◌, Bool, true, false, List, [], ◌∷◌, ◌++◌, inl, inr, Some, None}
+use Rattle.std.proofs.Common.{◌≡◌, ◌≢◌, ℕ, zero, suc, ◌+◌, ◌<◌, ◌≤◌, ◌==◌, if◌then◌else◌, Bool, true, false, List, [], ◌∷◌, ◌++◌, map, inl, inr, Some, None}
 use Rattle.std.proofs.Common.{refl, sym, ap, subst, ◌∙◌, arith, append-nil}
 use Rattle.std.specs.List.{range_with_len}
 use Rattle.std.proofs.lemmas.Bool.{eq-eqb}
@@ -11,7 +11,8 @@ use Rattle.etm_types.specs.Settings.{Sizes}
 use Rattle.path_text.specs.EndLines.{frame_cut_line}
 use Rattle.stream_demux.specs.Laws.{EndsOnce, GainsOnce, OthersDoNotCount, OthersHaveNone, SourceIsAlone, StreamLines, has_id, lines_with}
 use Rattle.stream_demux.specs.Texts.{BodyFrom, EndsOf, GainsIf, Listing, Printed, StreamBody, StreamEnds, cut_lines, is_source, lines_under, of, sources}
-use Rattle.stream_demux.specs.Texts.{by_sizes}
+use Rattle.stream_demux.specs.Texts.{by_sizes, sum_lines}
+use Rattle.etm_types.specs.declared.item.Item.{Item}
 use Rattle.stream_demux.proofs.Bodies.{of_other, of_this}
 use Rattle.stream_demux.proofs.BySizes.{own_lines}
 use Rattle.stream_demux.proofs.OneText.{stream_ends_once}
@@ -51,6 +52,19 @@ none_of_cut id left false = refl
 
 pub with_cut : (id left : ℕ) → lines_with id (cut_lines left) ≡ []
 with_cut id left = none_of_cut id left (left == 0)
+
+-- those of a sum are of no stream
+none_of_sum : (id : ℕ) (lines : List (List ℕ)) → lines_with id (map (λ (line : List ℕ). record { id = None; line = line }) lines) ≡ []
+none_of_sum id [] = refl
+none_of_sum id (line ∷ lines) = none_of_sum id lines
+
+-- so the sum and the cut frame leave the ends
+pub with_ends : (g : Listing) (id left : ℕ) (sums ends : List Printed) (items : List (ℕ × Item)) → sums ≡ sum_lines g items
+    → lines_with id (sums ++ (ends ++ cut_lines left)) ≡ lines_with id ends
+with_ends g id left sums ends items is =
+    with-append id sums (ends ++ cut_lines left)
+    ∙ ap (λ (l : List Printed). l ++ lines_with id (ends ++ cut_lines left)) (ap (lines_with id) is ∙ none_of_sum id (g.sums items))
+    ∙ with-append id ends (cut_lines left) ∙ ap (λ (l : List Printed). lines_with id ends ++ l) (with_cut id left) ∙ append-nil (lines_with id ends)
 
 -- ---- what its bytes add
 
@@ -168,8 +182,7 @@ source_is_alone g pairs left lines faulty id source is =
     let last = is.ended in
     let ends = end_here g pairs id last.ends last.some_fault source last.ended in
     let ending : lines_with id is.ending ≡ ends.0
-    = ap (lines_with id) last.all ∙ with-append id last.ends (cut_lines left) ∙ ap (λ (l : List Printed). lines_with id last.ends ++ l) (with_cut id left)
-    ∙ append-nil (lines_with id last.ends) ∙ ends.3 in
+    = ap (lines_with id) last.all ∙ with_ends g id left last.sums last.ends last.summed.0 last.summed.2 ∙ ends.3 in
     record {
       gained = apart.gained;
       ending = ends.0;
@@ -201,8 +214,8 @@ others_have_none g pairs left lines faulty id none is =
     let last = is.ended in
     ap (lines_with id) is.all ∙ with-append id is.body is.ending
     ∙ ap (λ (l : List Printed). l ++ lines_with id is.ending) (none_of_body g id none [] pairs is.body is.gained)
-    ∙ ap (lines_with id) last.all ∙ with-append id last.ends (cut_lines left)
-    ∙ ap (λ (l : List Printed). l ++ lines_with id (cut_lines left)) (no_end g pairs id last.ends last.some_fault none last.ended) ∙ with_cut id left
+    ∙ ap (lines_with id) last.all ∙ with_ends g id left last.sums last.ends last.summed.0 last.summed.2
+    ∙ no_end g pairs id last.ends last.some_fault none last.ended
 
 -- ---- the others do not count
 

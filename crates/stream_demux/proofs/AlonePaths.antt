@@ -35,7 +35,7 @@ no_sync_in_nothing zero here = absurd cc
 no_sync_in_nothing (suc at) here = absurd cc
 
 -- it shows nothing
-nothing_shown : (image : Image) (s : Sizes) (items : List Item) (last : End) → IsPath image s [] items last → items ≡ []
+pub nothing_shown : (image : Image) (s : Sizes) (items : List Item) (last : End) → IsPath image s [] items last → items ≡ []
 nothing_shown image s items last (took, (packets, ending, inl (at, first, parses), path)) = absurd (no_sync_in_nothing at first.here)
 nothing_shown image s items last (took, (packets, ending, inr (none, no_packets, ends), path)) =
     let here = subst (λ (p : List (ℕ × Packet)). IsPathOfPackets image s.depth p ending items last took) no_packets path in
@@ -110,6 +110,7 @@ under_are id lines are = All-map IsPrintedLine (λ (line : List ℕ). record { i
 pub record PrintsLines (g : Listing) : Type 0 where
   pub gained : (id : ℕ) (bytes : List ℕ) (byte : ℕ) (lines : List (List ℕ)) → g.gains id bytes byte lines → All IsLine lines
   pub ended : (id : ℕ) (bytes line : List ℕ) (faulty : Bool) → g.ends id bytes line faulty → IsLine line
+  pub summed : (items : List (ℕ × Item)) → All IsLine (g.sums items)
 
 -- each by its own sizes
 pub print_by : (g : Sizes → Listing) (t : ℕ → Sizes) → ((id : ℕ) → PrintsLines (g (t id))) → PrintsLines (by_sizes g t)
@@ -117,6 +118,7 @@ print_by g t prints =
     record {
       gained = λ id bytes byte lines gains. (prints id).gained id bytes byte lines gains;
       ended = λ id bytes line faulty ends. (prints id).ended id bytes line faulty ends;
+      summed = λ items. (prints 0).summed items;
     }
 
 module _ (g : Listing) (prints : PrintsLines g) where
@@ -151,8 +153,11 @@ pub each_is : (g : Listing) → PrintsLines g → (pairs : List (ℕ × ℕ)) (l
     → All IsPrintedLine lines
 each_is g prints pairs left lines faulty is =
     let last = is.ended in
-    let ending = All-append IsPrintedLine last.ends (cut_lines left) (ends_are g prints pairs sources last.ends last.some_fault last.ended)
+    let behind = All-append IsPrintedLine last.ends (cut_lines left) (ends_are g prints pairs sources last.ends last.some_fault last.ended)
     (cut_or_not left (left == 0)) in
+    let sums = subst (λ (l : List Printed). All IsPrintedLine l) (sym last.summed.2)
+    (All-map IsPrintedLine (λ (line : List ℕ). record { id = None; line = line }) (g.sums last.summed.0) (prints.summed last.summed.0)) in
+    let ending = All-append IsPrintedLine last.sums (last.ends ++ cut_lines left) sums behind in
     subst (λ (l : List Printed). All IsPrintedLine l) (sym is.all)
     (All-append IsPrintedLine is.body is.ending (body_is g prints [] pairs is.body is.gained)
     (subst (λ (l : List Printed). All IsPrintedLine l) (sym last.all) ending))
@@ -162,6 +167,7 @@ paths_print_lines image s =
     record {
       gained = λ id bytes byte lines (shown, more, grows, is). subst (λ (l : List (List ℕ)). All IsLine l) (sym is) (list_each id shown more);
       ended = λ id bytes line faulty (items, last, path, line_is, fault_is). subst IsLine (sym line_is) (end_is id last);
+      summed = λ items. All-nil IsLine;
     }
 
 pub each_is_a_line : EachIsALine

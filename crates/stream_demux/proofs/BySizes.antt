@@ -1,7 +1,7 @@
 -- What is printed of streams of different sizes: each stream has its own.
 use Rattle.std.proofs.Common.{ℕ, Bool, List, [], ◌∷◌, ◌++◌}
 use Rattle.etm_types.specs.Settings.{Sizes}
-use Rattle.stream_demux.specs.Laws.{EndsAlways, EndsOnce, GainsAlways, GainsOnce, StreamLines}
+use Rattle.stream_demux.specs.Laws.{AddsAlways, AddsOnce, EndsAlways, EndsOnce, GainsAlways, GainsOnce, StreamLines}
 use Rattle.stream_demux.specs.Texts.{Listing, Printed, StreamBody, StreamEnds, by_sizes}
 
 module _ (g : Sizes → Listing) (t : ℕ → Sizes) where
@@ -43,6 +43,12 @@ module _ (g : Sizes → Listing) (t : ℕ → Sizes) where
 
   pub gains_once_by : ((id : ℕ) → GainsOnce (g (t id))) → GainsOnce (by_sizes g t)
   gains_once_by once id bytes byte lines others gains also = once id id bytes byte lines others gains also
+
+  pub adds_once_by : ((id : ℕ) → AddsOnce (g (t id))) → AddsOnce (by_sizes g t)
+  adds_once_by once id bytes byte items others adds also = once id id bytes byte items others adds also
+
+  pub adds_always_by : ((id : ℕ) → AddsAlways (g (t id))) → AddsAlways (by_sizes g t)
+  adds_always_by always id bytes byte small = always id id bytes byte small
 
   pub ends_once_by : ((id : ℕ) → EndsOnce (g (t id))) → EndsOnce (by_sizes g t)
   ends_once_by once id bytes line other faulty also ends too = once id id bytes line other faulty also ends too

@@ -9,8 +9,8 @@ use Rattle.path_text.proofs.Wrote.{Wrote, all_written, fails_after, fails_first,
 use Rattle.path_text.specs.EndLines.{frame_cut_line}
 use Rattle.path_text.specs.Writing.{Writes}
 use Rattle.etm_types.specs.Settings.{Sizes}
-use Rattle.stream_demux.specs.Streams.{StandFrom}
-use Rattle.stream_demux.specs.Texts.{EndsOf, IsEnding, Listing, Printed, StreamEnds, by_sizes, cut_lines, of, sources, text_of}
+use Rattle.stream_demux.specs.Streams.{StandFrom, source_count}
+use Rattle.stream_demux.specs.Texts.{EndsOf, IsEnding, IsSum, Listing, Printed, StreamEnds, by_sizes, cut_lines, of, sources, text_of}
 use Rattle.stream_demux.proofs.Bodies.{text_of-append}
 use Rattle.stream_demux.proofs.BySizes.{ends_by}
 use Rattle.trace_io.specs.State.{IoState}
@@ -167,6 +167,12 @@ module _ (g : Listing) (pairs : List (ℕ × ℕ)) (list : List ℕ) (whole : Bo
         fails_after a b c e d (text_of was.lines) (text_of lines) (text_of more) (text_of all) text was.wrote writes,
       )
 
+-- the ends of so many streams as there are sources are those of all
+pub all_sources : {X : Type 0} (g : Listing) (pairs : List (ℕ × ℕ)) (streams : List X) (lines : List Printed) (faulty : Bool) → length streams ≡ source_count
+    → EndsOf g pairs (range_with_len 1 (length streams)) lines faulty → EndsOf g pairs sources lines faulty
+unfolding sources
+all_sources g pairs streams lines faulty count ends = subst (λ n. EndsOf g pairs (range_with_len 1 n) lines faulty) count ends
+
 -- ---- all of them
 
 pub none_left : {X : Type 0} (xs : List X) → (0 < length xs → false ≡ true) → [] ≡ xs
@@ -198,9 +204,26 @@ abbrev pub Ends : {E : Type 0} → Listing → List (ℕ × ℕ) → ℕ → IoS
 Ends g pairs left a c result =
     (all : List Printed) × (fault : Bool) × IsEnding g pairs left all fault × Writes a c result (text_of all) × IfOk result (λ (w : Bool). w ≡ not fault)
 
-module _ (g : Listing) (pairs : List (ℕ × ℕ)) (left : ℕ) (lines : List Printed) (faulty : Bool) (ends : EndsOf g pairs sources lines faulty) where
+module _ (g : Listing) (pairs : List (ℕ × ℕ)) (left : ℕ) (sums : List Printed) (summed : IsSum g pairs sums) (own : List Printed) (faulty : Bool)
+    (ends : EndsOf g pairs sources own faulty) where
+  -- those before the frame
+  abbrev lines : List Printed
+  lines = sums ++ own
+
   ending : IsEnding g pairs left (lines ++ cut_lines left) (faulty || nat_lt 0 left)
-  ending = record { ends = lines; some_fault = faulty; ended = ends; all = refl; fault = refl }
+  ending =
+      record { sums = sums; summed = summed; ends = own; some_fault = faulty; ended = ends; all = append_assoc sums own (cut_lines left); fault = refl }
+
+  -- a front of the lines of the sum was written
+  pub sum_fails : {T E : Type 0} (a b : IoState) (e d : E) → Writes {T = T} a b (Err e) (text_of sums) → Ends {E = E} g pairs left a b (Err d)
+  sum_fails a b e d writes = (
+    lines ++ cut_lines left,
+    faulty || nat_lt 0 left,
+    ending,
+    fails_first a b e d (text_of sums) (text_of (own ++ cut_lines left)) (text_of (lines ++ cut_lines left))
+        (sym (text_of-append sums (own ++ cut_lines left)) ∙ ap text_of (sym (append_assoc sums own (cut_lines left)))) writes,
+    tt,
+  )
 
   pub ends_fail : {E : Type 0} (a b : IoState) (e d : E) → Writes {T = Bool} a b (Err e) (text_of lines) → Ends {E = E} g pairs left a b (Err d)
   ends_fail a b e d writes = (

@@ -7,6 +7,7 @@ pub mod PathStreams
 pub mod RawStreams
 pub mod Runs
 pub mod Standing
+pub mod Sums
 pub mod Examples
 pub mod LaidExamples
 pub mod OneText

@@ -1,11 +1,13 @@
 -- The sizes of IDs that have no byte change nothing of what is printed.
-use Rattle.std.proofs.Common.{◌≡◌, ℕ, zero, suc, ◌+◌, ◌<◌, ◌≤◌, ◌==◌, if◌then◌else◌, Bool, true, false, List, [], ◌∷◌, ◌++◌}
+use Rattle.std.proofs.Common.{◌≡◌, ℕ, zero, suc, ◌+◌, ◌<◌, ◌≤◌, ◌==◌, if◌then◌else◌, Bool, true, false, List, [], ◌∷◌, ◌++◌, map, None}
 use Rattle.std.proofs.Common.{refl, sym, ap, subst, ◌∙◌, arith}
 use Rattle.std.specs.List.{range_with_len}
 use Rattle.std.proofs.lemmas.Bool.{eq-eqb}
 use Rattle.etm_types.specs.Id.{IsId}
 use Rattle.etm_types.specs.Settings.{Sizes}
-use Rattle.stream_demux.specs.Texts.{BodyFrom, EndsOf, GainsIf, IsText, Listing, Printed, StreamEnds, by_sizes, is_source, of, sources}
+use Rattle.stream_demux.specs.Texts.{AddedFrom, AddsIf, BodyFrom, EndsOf, GainsIf, IsText, Listing, Printed, StreamEnds, by_sizes, is_source, of}
+use Rattle.stream_demux.specs.Texts.{sources}
+use Rattle.etm_types.specs.declared.item.Item.{Item}
 use Rattle.stream_demux.proofs.Standing.{source_is}
 
 -- the first of pairs is one of its own stream
@@ -61,15 +63,39 @@ module _ (g : Sizes → Listing) (t u : ℕ → Sizes) where
         fault,
       )
 
-  pub text_alike : (pairs : List (ℕ × ℕ)) (left : ℕ) (lines : List Printed) (faulty : Bool) → AreAlike pairs
+  adds_alike : (source : Bool) (before : List (ℕ × ℕ)) (pair : ℕ × ℕ) (items : List Item) → (source ≡ true → t pair.0 ≡ u pair.0)
+      → AddsIf source (by_sizes g t) before pair items → AddsIf source (by_sizes g u) before pair items
+  adds_alike true before pair items same adds = subst (λ (s : Sizes). (g s).adds pair.0 (of pair.0 before) pair.1 items) (same refl) adds
+  adds_alike false before pair items same adds = adds
+
+  added_alike : (before pairs : List (ℕ × ℕ)) (items : List (ℕ × Item)) → AreAlike pairs → AddedFrom (by_sizes g t) before pairs items
+      → AddedFrom (by_sizes g u) before pairs items
+  added_alike before [] items same none = none
+  added_alike before (pair ∷ pairs) items same (first, rest, adds, later, is) = (
+    first,
+    rest,
+    adds_alike (is_source pair.0) before pair first (λ source. same pair.0 (source_is pair.0 source) (has_first pair pairs)) adds,
+    added_alike (before ++ pair ∷ []) pairs rest
+        (λ id source some. same id source (λ none. some (none_later (pair.0 == id) pair.1 (of id pairs) none))) later,
+    is,
+  )
+
+  -- where the lines of a sum are the same under all sizes
+  pub text_alike : (pairs : List (ℕ × ℕ)) (left : ℕ) (lines : List Printed) (faulty : Bool) → ((s : Sizes) → (g s).sums ≡ (g (u 0)).sums) → AreAlike pairs
       → IsText (by_sizes g t) pairs left lines faulty → IsText (by_sizes g u) pairs left lines faulty
   unfolding sources
-  text_alike pairs left lines faulty same is =
+  text_alike pairs left lines faulty alike same is =
       record {
         body = is.body;
         ending = is.ending;
         gained = body_alike [] pairs is.body same is.gained;
         ended = record {
+          sums = is.ended.sums;
+          summed = (
+            is.ended.summed.0,
+            added_alike [] pairs is.ended.summed.0 same is.ended.summed.1,
+            is.ended.summed.2 ∙ ap (λ (f : List (ℕ × Item) → List (List ℕ)). map (λ (line : List ℕ). record { id = None; line = line }) (f is.ended.summed.0)) (alike (t 0)),
+          );
           ends = is.ended.ends;
           some_fault = is.ended.some_fault;
           ended = ends_alike pairs 1 111 is.ended.ends is.ended.some_fault (omega arith) (omega arith) same is.ended.ended;

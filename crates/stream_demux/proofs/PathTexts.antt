@@ -13,11 +13,12 @@ use Rattle.path_text.specs.EndLines.{end_line}
 use Rattle.path_text.specs.PathLines.{line_list, shown_after_all}
 use Rattle.program_image.specs.Part.{IsImage}
 use Rattle.program_image.specs.declared.image.Image.{Image}
-use Rattle.stream_demux.specs.Laws.{EndsAlways, EndsOnce, FrontsOfPathsBegin, GainsAlways, GainsOnce, OneTextOfPaths, SomeTextOfPaths}
+use Rattle.stream_demux.specs.Laws.{AddsAlways, AddsOnce, EndsAlways, EndsOnce, FrontsOfPathsBegin, GainsAlways, GainsOnce, OneTextOfPaths}
+use Rattle.stream_demux.specs.Laws.{SomeTextOfPaths}
 use Rattle.stream_demux.specs.Paths.{paths}
 use Rattle.stream_demux.specs.Texts.{Printed, by_sizes}
 use Rattle.path_elements.specs.PathLaws.{BeginsWith}
-use Rattle.stream_demux.proofs.BySizes.{ends_always_by, ends_once_by, gains_always_by, gains_once_by}
+use Rattle.stream_demux.proofs.BySizes.{adds_always_by, adds_once_by, ends_always_by, ends_once_by, gains_always_by, gains_once_by}
 use Rattle.stream_demux.proofs.OneText.{one_body, one_text, some_text}
 use Rattle.stream_demux.proofs.Parted.{CarriesOn, fronts_begin}
 
@@ -42,6 +43,13 @@ module _ (image : Image) (s : Sizes) (are : AreSettings s) where
   paths_end_once id bytes line other faulty also (items, last, is, line_is, fault_is) (items', last', is', line_is', fault_is') =
       let same = one_path bytes items items' last last' is is' in
       (line_is ∙ ap (end_line id) same.1 ∙ sym line_is', fault_is ∙ ap is_fault same.1 ∙ sym fault_is')
+
+  -- they add nothing to a sum
+  paths_add_once : AddsOnce (paths image s)
+  paths_add_once id bytes byte items others none also = none ∙ sym also
+
+  paths_add_always : AddsAlways (paths image s)
+  paths_add_always id bytes byte small = ([], refl)
 
   -- ---- some
 
@@ -87,11 +95,13 @@ module _ (image : Image) (t : ℕ → Sizes) (are : (id : ℕ) → AreSettings (
 
 pub one_text_of_paths : OneTextOfPaths
 one_text_of_paths image t are =
-    one_text (by_sizes (paths image) t) (once_by image t are) (ends_once_by (paths image) t (λ id. paths_end_once image (t id) (are id)))
+    one_text (by_sizes (paths image) t) (once_by image t are) (adds_once_by (paths image) t (λ id. paths_add_once image (t id) (are id)))
+    (ends_once_by (paths image) t (λ id. paths_end_once image (t id) (are id)))
 
 pub some_text_of_paths : SomeTextOfPaths
 some_text_of_paths image t is are =
     some_text (by_sizes (paths image) t) (gains_always_by (paths image) t (λ id. paths_gain_always image (t id) (are id) is))
+    (adds_always_by (paths image) t (λ id. paths_add_always image (t id) (are id)))
     (ends_always_by (paths image) t (λ id. paths_end_always image (t id) (are id) is))
 
 pub fronts_of_paths_begin : (carried : List ℕ → List (ℕ × ℕ)) → CarriesOn carried → FrontsOfPathsBegin carried

@@ -1,10 +1,11 @@
 -- Small streams whose texts can be worked out: each prints one line by each byte and one at its end.
 use Rattle.std.proofs.Common.{◌≡◌, ℕ, ◌==◌, Bool, true, false, List, [], ◌∷◌, ◌++◌, length, refl, sym, ◌∙◌}
 use Rattle.std.specs.Prelude.{◌||◌, nat_lt}
-use Rattle.stream_demux.specs.Laws.{EndsOnce, GainsOnce}
+use Rattle.stream_demux.specs.Laws.{AddsOnce, EndsOnce, GainsOnce}
 use Rattle.stream_demux.specs.Texts.{BodyFrom, EndsOf, GainsIf, IsEnding, IsText, Listing, Printed, StreamEnds, cut_lines, is_source}
-use Rattle.stream_demux.specs.Texts.{lines_under, of, sources}
+use Rattle.stream_demux.specs.Texts.{adds_nothing, lines_under, no_sums, of, sources}
 use Rattle.stream_demux.proofs.OneText.{one_text}
+use Rattle.stream_demux.proofs.Sums.{no_sum}
 
 -- a byte 9 is a fault
 abbrev pub has_nine : List ℕ → Bool
@@ -17,10 +18,15 @@ module _ (at_byte : ℕ → ℕ → ℕ → List ℕ) (at_end : ℕ → ℕ → 
   printing = record {
     gains = λ id bytes byte lines. lines ≡ at_byte id (length bytes) byte ∷ [];
     ends = λ id bytes line faulty. (line ≡ at_end id (length bytes)) × (faulty ≡ has_nine bytes);
+    adds = adds_nothing;
+    sums = no_sums;
   }
 
   pub gains_once : GainsOnce printing
   gains_once id bytes byte lines others is too = is ∙ sym too
+
+  adds_once : AddsOnce printing
+  adds_once id bytes byte items others none also = none ∙ sym also
 
   ends_once : EndsOnce printing
   ends_once id bytes line other faulty also (is, fault) (too, fault') = (is ∙ sym too, fault ∙ sym fault')
@@ -79,6 +85,8 @@ module _ (at_byte : ℕ → ℕ → ℕ → List ℕ) (at_end : ℕ → ℕ → 
   pub prints_by : (pairs : List (ℕ × ℕ)) (left : ℕ) → PrintsBy pairs left (lines_of pairs left) (fault_of pairs left)
   prints_by pairs left =
       let ending : IsEnding printing pairs left (ends_of pairs sources ++ cut_lines left) (fault_of pairs left) = record {
+        sums = [];
+        summed = no_sum printing (λ id before byte. refl) refl pairs;
         ends = ends_of pairs sources;
         some_fault = faults_of pairs sources;
         ended = all_end pairs sources;
@@ -94,5 +102,5 @@ module _ (at_byte : ℕ → ℕ → ℕ → List ℕ) (at_end : ℕ → ℕ → 
       } in
       record {
         is = text;
-        only = λ others also too. one_text printing gains_once ends_once pairs left others (lines_of pairs left) also (fault_of pairs left) too text;
+        only = λ others also too. one_text printing gains_once adds_once ends_once pairs left others (lines_of pairs left) also (fault_of pairs left) too text;
       }

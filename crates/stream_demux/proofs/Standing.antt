@@ -10,7 +10,7 @@ use Rattle.etm_types.specs.Id.{IsId}
 use Rattle.etm_types.specs.Settings.{Sizes}
 use Rattle.element_queue.specs.Counting.{sum_of}
 use Rattle.element_queue.specs.declared.ledger.Counts.{Counts}
-use Rattle.stream_demux.specs.Streams.{AllStand, IsReady, StandFrom, TalliedFrom, total}
+use Rattle.stream_demux.specs.Streams.{IsReady, StandFrom, TalliedFrom, source_count, total}
 use Rattle.stream_demux.specs.Texts.{is_source, of}
 use Rattle.formatter_frames.specs.Symbols.{run_of}
 use Rattle.stream_demux.proofs.Bodies.{of_other_run, of_run}
@@ -72,35 +72,26 @@ module _ {X : Type 0} (stands : X → List ℕ → Type 0) (sizes : X → Sizes)
 
   -- ---- by its ID
 
-  abbrev Standing : List X → List (ℕ × ℕ) → Type 0
-  Standing = AllStand stands sizes t
-
-  pub source_stands : (streams : List X) (pairs : List (ℕ × ℕ)) (id k : ℕ) (stream : X) → k + 1 ≡ id → Standing streams pairs
+  pub source_stands : (streams : List X) (pairs : List (ℕ × ℕ)) (id k : ℕ) (stream : X) → k + 1 ≡ id → From 1 streams pairs
       → Some stream ≡ slice_get streams k → stands stream (of id pairs) × (sizes stream ≡ t id)
   source_stands streams pairs id k stream place all at =
       let is : 1 + k ≡ id = omega (arith, place) in
-      let there = stands_at 1 streams pairs k stream all.each (sym at) in
+      let there = stands_at 1 streams pairs k stream all (sym at) in
       (subst (λ (i : ℕ). stands stream (of i pairs)) is there.0, subst (λ (i : ℕ). sizes stream ≡ t i) is there.1)
 
-  pub source_moves : (streams : List X) (pairs : List (ℕ × ℕ)) (id k : ℕ) (run : List ℕ) (stream next : X) → k + 1 ≡ id → Standing streams pairs
+  pub source_moves : (streams : List X) (pairs : List (ℕ × ℕ)) (id k : ℕ) (run : List ℕ) (stream next : X) → k + 1 ≡ id → From 1 streams pairs
       → Some stream ≡ slice_get streams k → stands next (of id pairs ++ run) → sizes next ≡ sizes stream
-      → Standing (slice_set streams k next) (pairs ++ run_of id run)
+      → From 1 (slice_set streams k next) (pairs ++ run_of id run)
   source_moves streams pairs id k run stream next place all at moved same =
       let is : 1 + k ≡ id = omega (arith, place) in
-      record {
-        count = length-set streams k next ∙ all.count;
-        each = subst (λ (i : ℕ). From 1 (slice_set streams k next) (pairs ++ run_of i run)) is
-            (one_moves 1 streams pairs k run next (slice_get_within streams k stream (sym at)) all.each
-            (subst (λ (i : ℕ). stands next (of i pairs ++ run)) (sym is) moved) (same ∙ (stands_at 1 streams pairs k stream all.each (sym at)).1));
-      }
+      subst (λ (i : ℕ). From 1 (slice_set streams k next) (pairs ++ run_of i run)) is
+      (one_moves 1 streams pairs k run next (slice_get_within streams k stream (sym at)) all
+      (subst (λ (i : ℕ). stands next (of i pairs ++ run)) (sym is) moved) (same ∙ (stands_at 1 streams pairs k stream all (sym at)).1))
 
-  pub no_source_moves : (streams : List X) (pairs : List (ℕ × ℕ)) (id : ℕ) (run : List ℕ) → (IsId id → ⊥) → Standing streams pairs
-      → Standing streams (pairs ++ run_of id run)
-  no_source_moves streams pairs id run none all =
-      record {
-        count = all.count;
-        each = others_stand 1 streams pairs id run (λ k within is. none (omega (arith, is), omega (arith, is, within, all.count))) all.each;
-      }
+  pub no_source_moves : (streams : List X) (pairs : List (ℕ × ℕ)) (id : ℕ) (run : List ℕ) → (IsId id → ⊥) → length streams ≡ source_count
+      → From 1 streams pairs → From 1 streams (pairs ++ run_of id run)
+  no_source_moves streams pairs id run none count all =
+      others_stand 1 streams pairs id run (λ k within is. none (omega (arith, is), omega (arith, is, within, count))) all
 
 -- ---- what is ready
 

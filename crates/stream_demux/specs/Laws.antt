@@ -14,7 +14,7 @@ use Rattle.program_image.specs.Part.{IsImage}
 use Rattle.program_image.specs.declared.image.Image.{Image}
 use Rattle.stream_demux.specs.Demuxed.{raw_id, raw_pairs}
 use Rattle.stream_demux.specs.Paths.{paths}
-use Rattle.stream_demux.specs.Texts.{BodyFrom, IsEnding, IsText, Listing, Printed, StreamBody, StreamEnds, by_sizes, lines_under, of}
+use Rattle.stream_demux.specs.Texts.{AddedFrom, BodyFrom, IsEnding, IsText, Listing, Printed, StreamBody, StreamEnds, by_sizes, lines_under, of}
 
 -- ---- bytes are parted
 
@@ -73,6 +73,11 @@ EndsOnce g =
     (id : ℕ) (bytes line other : List ℕ) (faulty also : Bool) → g.ends id bytes line faulty → g.ends id bytes other also
     → (line ≡ other) × (faulty ≡ also)
 
+-- it adds one list of items to the sum by a byte
+abbrev pub AddsOnce : Listing → Type 0
+AddsOnce g =
+    (id : ℕ) (bytes : List ℕ) (byte : ℕ) (items others : List Item) → g.adds id bytes byte items → g.adds id bytes byte others → items ≡ others
+
 -- it gains lines by each byte
 abbrev pub GainsAlways : Listing → Type 0
 GainsAlways g =
@@ -81,6 +86,10 @@ GainsAlways g =
 -- it ends in some way
 abbrev pub EndsAlways : Listing → Type 0
 EndsAlways g = (id : ℕ) (bytes : List ℕ) → All (λ b. b < 256) bytes → (line : List ℕ) × (faulty : Bool) × g.ends id bytes line faulty
+
+-- it adds items to the sum by each byte
+abbrev pub AddsAlways : Listing → Type 0
+AddsAlways g = (id : ℕ) (bytes : List ℕ) (byte : ℕ) → All (λ b. b < 256) (bytes ++ byte ∷ []) → (items : List Item) × g.adds id bytes byte items
 
 -- a byte with an ID, whichever that is
 abbrev pub HasByte : ℕ × ℕ → Type 0
@@ -93,13 +102,25 @@ OneBody g =
 
 abbrev pub OneEnding : Listing → Type 0
 OneEnding g =
-    EndsOnce g → (pairs : List (ℕ × ℕ)) (left : ℕ) (lines others : List Printed) (faulty also : Bool)
+    AddsOnce g → EndsOnce g → (pairs : List (ℕ × ℕ)) (left : ℕ) (lines others : List Printed) (faulty also : Bool)
     → IsEnding g pairs left lines faulty → IsEnding g pairs left others also → (lines ≡ others) × (faulty ≡ also)
 
 abbrev pub OneText : Listing → Type 0
 OneText g =
-    GainsOnce g → EndsOnce g → (pairs : List (ℕ × ℕ)) (left : ℕ) (lines others : List Printed) (faulty also : Bool)
+    GainsOnce g → AddsOnce g → EndsOnce g → (pairs : List (ℕ × ℕ)) (left : ℕ) (lines others : List Printed) (faulty also : Bool)
     → IsText g pairs left lines faulty → IsText g pairs left others also → (lines ≡ others) × (faulty ≡ also)
+
+-- pairs add one list of items to the sum
+abbrev pub OneSum : Listing → Type 0
+OneSum g =
+    AddsOnce g → (before pairs : List (ℕ × ℕ)) (items others : List (ℕ × Item)) → AddedFrom g before pairs items → AddedFrom g before pairs others
+    → items ≡ others
+
+-- and what they add behind others comes last: so a sum of an input begins with that of a front of it
+abbrev pub SumsJoin : Listing → Type 0
+SumsJoin g =
+    (before xs ys : List (ℕ × ℕ)) (items more : List (ℕ × Item)) → AddedFrom g before xs items → AddedFrom g (before ++ xs) ys more
+    → AddedFrom g before (xs ++ ys) (items ++ more)
 
 abbrev pub SomeBody : Listing → Type 0
 SomeBody g =
@@ -108,12 +129,12 @@ SomeBody g =
 
 abbrev pub SomeEnding : Listing → Type 0
 SomeEnding g =
-    EndsAlways g → (pairs : List (ℕ × ℕ)) (left : ℕ) → All HasByte pairs
+    AddsAlways g → EndsAlways g → (pairs : List (ℕ × ℕ)) (left : ℕ) → All HasByte pairs
     → (lines : List Printed) × (faulty : Bool) × IsEnding g pairs left lines faulty
 
 abbrev pub SomeText : Listing → Type 0
 SomeText g =
-    GainsAlways g → EndsAlways g → (pairs : List (ℕ × ℕ)) (left : ℕ) → All HasByte pairs
+    GainsAlways g → AddsAlways g → EndsAlways g → (pairs : List (ℕ × ℕ)) (left : ℕ) → All HasByte pairs
     → (lines : List Printed) × (faulty : Bool) × IsText g pairs left lines faulty
 
 -- what is printed of paths is so, whatever the sizes of each stream

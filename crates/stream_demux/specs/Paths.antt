@@ -14,7 +14,7 @@ use Rattle.path_text.specs.EndLines.{end_line}
 use Rattle.path_text.specs.PathLines.{line_list}
 use Rattle.program_image.specs.declared.image.Image.{Image}
 use Rattle.stream_decoder.specs.Stands.{Grows, shows_walk_fault}
-use Rattle.stream_demux.specs.Texts.{Listing}
+use Rattle.stream_demux.specs.Texts.{Listing, adds_nothing, no_sums}
 
 -- the lines of the items by which the path grows with a byte
 abbrev pub PathGains : Image → Sizes → ℕ → List ℕ → ℕ → List (List ℕ) → Type 0
@@ -28,7 +28,7 @@ PathEnds image s id bytes line faulty =
 
 -- the paths of streams over an image, under the sizes of their trace units
 abbrev pub paths : Image → Sizes → Listing
-paths image s = record { gains = PathGains image s; ends = PathEnds image s }
+paths image s = record { gains = PathGains image s; ends = PathEnds image s; adds = adds_nothing; sums = no_sums }
 
 -- What became of the P0 elements of bytes. All that their path took were made; as long as it met no fault of the walk, those that
 -- its elements committed, cancelled and lost are counted as such.

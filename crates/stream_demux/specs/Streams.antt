@@ -1,11 +1,14 @@
 -- What contracts see of the streams of a capture.
-use Rattle.std.specs.Prelude.{◌≡◌, ℕ, suc, ◌≤◌, Bool, false, List, [], ◌∷◌, ◌++◌, length, Result, IsOk}
+use Rattle.std.specs.Prelude.{◌≡◌, ℕ, suc, ◌≤◌, Bool, false, List, [], ◌∷◌, ◌++◌, length, Result, IsOk, refl}
 use Rattle.std.specs.List.{concat}
 use Rattle.element_queue.specs.Counting.{Balances, sum_of}
 use Rattle.element_queue.specs.declared.ledger.Counts.{Counts}
 use Rattle.etm_types.specs.Settings.{Sizes}
+use Rattle.etm_types.specs.declared.item.Item.{Item}
 use Rattle.path_text.specs.Writing.{Writes}
-use Rattle.stream_demux.specs.Texts.{BodyFrom, Listing, Printed, StreamBody, of, text_of}
+use Rattle.std.specs.Coded.{Coded, code_by, coded×, coded_list}
+use Rattle.stream_decoder.specs.Follows.{TakesMore, items_under}
+use Rattle.stream_demux.specs.Texts.{AddedFrom, BodyFrom, Listing, Printed, StreamAdded, StreamBody, by_sizes, of, text_of}
 use Rattle.trace_io.specs.State.{IoState}
 
 -- ---- the streams of all sources
@@ -21,11 +24,37 @@ StandFrom stands sizes t id [] pairs = Unit {0}
 StandFrom stands sizes t id (stream ∷ streams) pairs =
     stands stream (of id pairs) × (sizes stream ≡ t id) × StandFrom stands sizes t (suc id) streams pairs
 
--- there is one for each source, and all do, that of ID 1 first
-pub record AllStand {X : Type 0} (stands : X → List ℕ → Type 0) (sizes : X → Sizes) (t : ℕ → Sizes) (streams : List X) (pairs : List (ℕ × ℕ))
-    : Type 0 where
-  pub count : length streams ≡ source_count
-  pub each : StandFrom stands sizes t 1 streams pairs
+-- the streams, and what is summed over all of them
+pub record Summed (X Y : Type 0) : Type 0 where
+  pub streams : List X
+  pub sum : Y
+
+abbrev pub summed_code : {X Y : Type 0} → Coded X → Coded Y → Coded (Summed X Y)
+summed_code {X} {Y} stream sum =
+    code_by (List X × Y) (coded× (coded_list stream) sum) (λ s. (s.streams, s.sum)) (λ p. record { streams = p.0; sum = p.1 }) (λ _. refl)
+
+-- a sum has what these pairs add
+abbrev pub SumStands : {Y : Type 0} → (Y → List (ℕ × Item) → Type 0) → Listing → Y → List (ℕ × ℕ) → Type 0
+SumStands sums g sum pairs = (items : List (ℕ × Item)) × AddedFrom g [] pairs items × sums sum items
+
+-- there is a stream for each source, and all stand at their bytes, that of ID 1 first; and the sum has what all pairs add
+pub record AllStand {X Y : Type 0} (stands : X → List ℕ → Type 0) (sizes : X → Sizes) (sums : Y → List (ℕ × Item) → Type 0) (g : Sizes → Listing)
+    (t : ℕ → Sizes) (all : Summed X Y) (pairs : List (ℕ × ℕ)) : Type 0 where
+  pub count : length all.streams ≡ source_count
+  pub each : StandFrom stands sizes t 1 all.streams pairs
+  pub sum : SumStands sums (by_sizes g t) all.sum pairs
+
+-- a sum takes these items of the stream of an ID behind those that it has
+abbrev pub SumTakes : {Y : Type 0} → (Y → List (ℕ × Item) → Type 0) → ℕ → Y → Y → List Item → Type 0
+SumTakes sums id old new more = TakesMore sums old new (items_under id more)
+
+-- a byte of a stream adds items behind others of it, and the sum takes them
+abbrev pub SumGains : {Y : Type 0} → (Y → List (ℕ × Item) → Type 0) → Listing → ℕ → List ℕ → ℕ → Y → Y → Type 0
+SumGains sums g id before byte old new = (more : List Item) × g.adds id before byte more × SumTakes sums id old new more
+
+-- bytes of a stream do so, one after the other
+abbrev pub SumAdds : {Y : Type 0} → (Y → List (ℕ × Item) → Type 0) → Listing → ℕ → List ℕ → List ℕ → Y → Y → Type 0
+SumAdds sums g id before run old new = (more : List Item) × StreamAdded g id before run more × SumTakes sums id old new more
 
 -- a stream of which no write failed, and which took no more bytes than so many
 pub record IsReady {X : Type 0} (broken : X → Bool) (taken : X → ℕ) (most : ℕ) (stream : X) : Type 0 where

@@ -8,7 +8,7 @@ ghost use Rattle.formatter_frames.specs.Unframed.{begun_frame, unframed};
 ghost use Rattle.path_text.specs.Writing.{Writes};
 ghost use Rattle.stream_demux.specs.Demuxed.{Gains, StandsAt};
 ghost use Rattle.stream_demux.specs.Streams.{Adds, AllStand, AllTallied, HoldsToDepth, IsReady, total};
-ghost use Rattle.stream_demux.specs.Texts.{IsEnding, Printed, by_sizes, text_of};
+ghost use Rattle.stream_demux.specs.Texts.{IsEnding, IsSum, Printed, by_sizes, text_of};
 ghost use Rattle.trace_io.specs.Bytes.{ShowsAsBefore};
 ghost use Rattle.trace_io.specs.Causes.{HasCause};
 
@@ -23,7 +23,7 @@ use std::marker::Model;
 use trace_io::{Failed, Sink};
 
 /// Takes the bytes of frames piece by piece, parts them into the streams of up to 111 sources, and writes the lines that they
-/// add. It has no drop: it ends by `finish` or `abandon`.
+/// add. It has no drop: it ends by `finish`, `close` or `abandon`.
 ///
 /// It stands at the bytes that it took. What all streams share is the same in all calls.
 #[must_use]
@@ -41,26 +41,31 @@ impl<S: Stream> Model for Demux<S> {
     ghost use Rattle.stream_demux.specs.Demuxed.{Demuxed, demuxed_code, most_bytes};
     ghost use Rattle.stream_demux.specs.Streams.{HoldsToDepth, IsReady};
 
-    ghost Value = { Demuxed S };
+    ghost Value = { Demuxed S S.Sum };
 
-    ghost coded = { demuxed_code S.code };
+    ghost coded = { demuxed_code S.code S.Sum.code };
 
-    ghost view = { λ d. record { frames = d.frames; streams = d.sources; taken = d.taken; broken = d.broken } };
+    ghost view = { λ d. record { frames = d.frames; sources = d.sources; taken = d.taken; broken = d.broken } };
 
-    ghost invariant = { λ d. (d.taken ≤ most_bytes) × (d.broken ≡ false → All (IsReady S.broken S.taken (15 * d.taken)) d.sources)
-        × All (HoldsToDepth S.held S.sizes) d.sources };
+    ghost invariant = { λ d. (d.taken ≤ most_bytes) × (d.broken ≡ false → All (IsReady S.broken S.taken (15 * d.taken)) d.sources.streams)
+        × All (HoldsToDepth S.held S.sizes) d.sources.streams };
 }
 
 impl<S: Stream> Demux<S> {
     /// A demultiplexer that has taken nothing, with a stream for each source, which has the settings of its ID. This is the one call that
     /// takes memory, and the error means want of it.
-    pub fn new(alloc: Global, table: &SettingsTable) -> Result<Demux<S>, AllocError>
-        ensures stands { IfOk result (λ d. (shared : S.Shared) → StandsAt (S.stands shared) S.sizes (sizes_at table.now) d []) }
-        ensures most { IfOk result (λ d. All (HoldsToDepth S.held S.sizes) d.streams) }
+    pub fn new(
+        alloc: Global,
+        shared: &S::Shared,
+        table: &SettingsTable,
+    ) -> Result<Demux<S>, AllocError>
+        ensures stands { IfOk result (λ d.
+            StandsAt (S.stands shared.now) S.sizes (S.sums shared.now) (S.listing shared.now) (sizes_at table.now) d []) }
+        ensures most { IfOk result (λ d. All (HoldsToDepth S.held S.sizes) d.sources.streams) }
     {
         Ok(Demux {
             frames: FrameReader::new(),
-            sources: Sources::new(alloc, table)?,
+            sources: Sources::new(alloc, shared, table)?,
             taken: 0,
             broken: false,
         })
@@ -76,17 +81,19 @@ impl<S: Stream> Demux<S> {
     ) -> Result<(), Failed>
         requires whole { self.old.broken ≡ false }
         requires few { self.old.taken + length piece.now ≤ 2 ^ 30 }
-        ensures stands { (t : ℕ → Sizes) (bytes : List ℕ) → StandsAt (S.stands shared.now) S.sizes t self.old bytes → IsOk result
-            → StandsAt (S.stands shared.now) S.sizes t self.new (bytes ++ piece.now) }
-        ensures gains { (t : ℕ → Sizes) (bytes : List ℕ) → StandsAt (S.stands shared.now) S.sizes t self.old bytes
+        ensures stands { (t : ℕ → Sizes) (bytes : List ℕ)
+            → StandsAt (S.stands shared.now) S.sizes (S.sums shared.now) (S.listing shared.now) t self.old bytes → IsOk result
+            → StandsAt (S.stands shared.now) S.sizes (S.sums shared.now) (S.listing shared.now) t self.new (bytes ++ piece.now) }
+        ensures gains { (t : ℕ → Sizes) (bytes : List ℕ)
+            → StandsAt (S.stands shared.now) S.sizes (S.sums shared.now) (S.listing shared.now) t self.old bytes
             → Gains unframed (by_sizes (S.listing shared.now) t) bytes piece.now (K.state sink.old) (K.state sink.new) result }
         ensures cause { HasCause (K.state sink.old) (K.state sink.new) result }
         ensures shows { ShowsAsBefore (K.state sink.old) (K.state sink.new) }
         ensures broken { IsTrue self.new.broken ↔ IsErr result }
         ensures taken { IsOk result → self.new.taken ≡ self.old.taken + length piece.now }
         ensures between { (self.old.taken ≤ self.new.taken) × (self.new.taken ≤ self.old.taken + length piece.now) }
-        ensures sizes { map S.sizes self.new.streams ≡ map S.sizes self.old.streams }
-        ensures most { All (HoldsToDepth S.held S.sizes) self.new.streams }
+        ensures sizes { map S.sizes self.new.sources.streams ≡ map S.sizes self.old.sources.streams }
+        ensures most { All (HoldsToDepth S.held S.sizes) self.new.sources.streams }
     {
         let mut at = 0;
         while at < piece.len() {
@@ -120,7 +127,8 @@ impl<S: Stream> Demux<S> {
     /// How many bytes of frames were taken.
     pub fn taken(&self) -> u64
         ensures value { result ≡ self.now.taken }
-        ensures all { (shared : S.Shared) (t : ℕ → Sizes) (bytes : List ℕ) → StandsAt (S.stands shared) S.sizes t self.now bytes
+        ensures all { (shared : S.Shared) (t : ℕ → Sizes) (bytes : List ℕ)
+            → StandsAt (S.stands shared) S.sizes (S.sums shared) (S.listing shared) t self.now bytes
             → result ≡ length bytes }
     {
         self.taken
@@ -129,21 +137,23 @@ impl<S: Stream> Demux<S> {
     /// What became of the P0 elements of all streams. Never more are held of a stream than the depth that its sizes give, whatever
     /// the bytes.
     pub fn ledger(&self) -> Counts
-        ensures value { result ≡ total no_counts (map S.counts self.now.streams) }
-        ensures tallied { (shared : S.Shared) (t : ℕ → Sizes) (bytes : List ℕ) → StandsAt (S.stands shared) S.sizes t self.now bytes
-            → AllTallied (S.tallies shared) t (map S.counts self.now.streams) (unframed bytes) }
-        ensures most { All (HoldsToDepth S.held S.sizes) self.now.streams }
+        ensures value { result ≡ total no_counts (map S.counts self.now.sources.streams) }
+        ensures tallied { (shared : S.Shared) (t : ℕ → Sizes) (bytes : List ℕ)
+            → StandsAt (S.stands shared) S.sizes (S.sums shared) (S.listing shared) t self.now bytes
+            → AllTallied (S.tallies shared) t (map S.counts self.now.sources.streams) (unframed bytes) }
+        ensures most { All (HoldsToDepth S.held S.sizes) self.now.sources.streams }
     {
         self.sources.ledger()
     }
 
-    /// Writes the line of how each stream ends that had a byte, by ID, and then one where a frame was begun and is not
-    /// full. Says whether there is no fault and no such frame.
-    pub fn finish<K: Sink>(self, sink: &mut K) -> Result<bool, Failed>
+    /// Writes the lines of the sum; then that of how each stream ends that had a byte, by ID; and then one where a frame was begun and is
+    /// not full. Says whether there is no fault and no such frame.
+    pub fn finish<K: Sink>(self, shared: &S::Shared, sink: &mut K) -> Result<bool, Failed>
         requires { self.broken ≡ false }
-        ensures ending { (shared : S.Shared) (t : ℕ → Sizes) (bytes : List ℕ) → StandsAt (S.stands shared) S.sizes t self bytes
+        ensures ending { (t : ℕ → Sizes) (bytes : List ℕ)
+            → StandsAt (S.stands shared.now) S.sizes (S.sums shared.now) (S.listing shared.now) t self bytes
             → (lines : List Printed) × (faulty : Bool)
-            × IsEnding (by_sizes (S.listing shared) t) (unframed bytes) (length (begun_frame bytes)) lines faulty
+            × IsEnding (by_sizes (S.listing shared.now) t) (unframed bytes) (length (begun_frame bytes)) lines faulty
             × Writes (K.state sink.old) (K.state sink.new) result (text_of lines) × IfOk result (λ whole. whole ≡ not faulty) }
         ensures cause { HasCause (K.state sink.old) (K.state sink.new) result }
         ensures shows { ShowsAsBefore (K.state sink.old) (K.state sink.new) }
@@ -155,7 +165,7 @@ impl<S: Stream> Demux<S> {
             broken: _,
         } = self;
         let left = frames.left();
-        let whole = sources.finish(sink)?;
+        let whole = sources.finish(shared, sink)?;
         if left == 0 {
             return Ok(whole);
         }
@@ -163,9 +173,27 @@ impl<S: Stream> Demux<S> {
         Ok(false)
     }
 
+    /// Writes the lines of the sum, and ends it without more.
+    pub fn close<K: Sink>(self, shared: &S::Shared, sink: &mut K) -> Result<(), Failed>
+        ensures sum { (t : ℕ → Sizes) (bytes : List ℕ)
+            → StandsAt (S.stands shared.now) S.sizes (S.sums shared.now) (S.listing shared.now) t self bytes
+            → (sums : List Printed) × IsSum (by_sizes (S.listing shared.now) t) (unframed bytes) sums
+            × Writes (K.state sink.old) (K.state sink.new) result (text_of sums) }
+        ensures cause { HasCause (K.state sink.old) (K.state sink.new) result }
+        ensures shows { ShowsAsBefore (K.state sink.old) (K.state sink.new) }
+    {
+        let Demux {
+            frames: _,
+            sources,
+            taken: _,
+            broken: _,
+        } = self;
+        sources.close(shared, sink)
+    }
+
     /// Ends it without a line. The ledger has what became of the P0 elements of all streams.
     pub fn abandon(self) -> Ledger
-        ensures value { result ≡ total no_counts (map S.counts_left self.streams) }
+        ensures value { result ≡ total no_counts (map S.counts_left self.sources.streams) }
         ensures balanced { Balances result 0 }
     {
         let Demux {
@@ -187,21 +215,22 @@ fn take_front<S: Stream, K: Sink>(
     piece: &[u8],
     sink: &mut K,
 ) -> Result<usize, Failed>
-    requires { All (IsReady S.broken S.taken (2 ^ 61)) sources.old }
+    requires { All (IsReady S.broken S.taken (2 ^ 61)) sources.old.streams }
     ensures frames { (bytes : List ℕ) → reader.StandsAt frames.old bytes → IfOk result (λ n. reader.StandsAt frames.new (bytes ++ take n piece.now)) }
     ensures stands { (t : ℕ → Sizes) (bytes : List ℕ) → reader.StandsAt frames.old bytes
-        → AllStand (S.stands shared.now) S.sizes t sources.old (unframed bytes)
-        → IfOk result (λ n. AllStand (S.stands shared.now) S.sizes t sources.new (unframed (bytes ++ take n piece.now))) }
+        → AllStand (S.stands shared.now) S.sizes (S.sums shared.now) (S.listing shared.now) t sources.old (unframed bytes)
+        → IfOk result (λ n. AllStand (S.stands shared.now) S.sizes (S.sums shared.now) (S.listing shared.now)
+        t sources.new (unframed (bytes ++ take n piece.now))) }
     ensures gains { (t : ℕ → Sizes) (bytes : List ℕ) → reader.StandsAt frames.old bytes
-        → AllStand (S.stands shared.now) S.sizes t sources.old (unframed bytes)
+        → AllStand (S.stands shared.now) S.sizes (S.sums shared.now) (S.listing shared.now) t sources.old (unframed bytes)
         → (n : ℕ) × Gains unframed (by_sizes (S.listing shared.now) t) bytes (take n piece.now) (K.state sink.old) (K.state sink.new) result
         × IfOk result (λ count. count ≡ n) }
     ensures cause { HasCause (K.state sink.old) (K.state sink.new) result }
     ensures shows { ShowsAsBefore (K.state sink.old) (K.state sink.new) }
-    ensures ready { (most : ℕ) → All (IsReady S.broken S.taken most) sources.old → IsOk result
-        → All (IsReady S.broken S.taken (most + 15)) sources.new }
-    ensures sizes { map S.sizes sources.new ≡ map S.sizes sources.old }
-    ensures most { All (HoldsToDepth S.held S.sizes) sources.old → All (HoldsToDepth S.held S.sizes) sources.new }
+    ensures ready { (most : ℕ) → All (IsReady S.broken S.taken most) sources.old.streams → IsOk result
+        → All (IsReady S.broken S.taken (most + 15)) sources.new.streams }
+    ensures sizes { map S.sizes sources.new.streams ≡ map S.sizes sources.old.streams }
+    ensures most { All (HoldsToDepth S.held S.sizes) sources.old.streams → All (HoldsToDepth S.held S.sizes) sources.new.streams }
     ensures some { IfOk result (λ n. (n ≤ length piece.now) × (0 < length piece.now → 0 < n)) }
 {
     let (count, frame) = frames.take(piece);
@@ -218,17 +247,19 @@ fn take_frame<S: Stream, K: Sink>(
     frame: &FrameBytes,
     sink: &mut K,
 ) -> Result<(), Failed>
-    requires { All (IsReady S.broken S.taken (2 ^ 61)) sources.old }
-    ensures stands { (t : ℕ → Sizes) (pairs : List (ℕ × ℕ)) → AllStand (S.stands shared.now) S.sizes t sources.old pairs → IsOk result
-        → AllStand (S.stands shared.now) S.sizes t sources.new (pairs ++ frame.now) }
-    ensures adds { (t : ℕ → Sizes) (pairs : List (ℕ × ℕ)) → AllStand (S.stands shared.now) S.sizes t sources.old pairs
+    requires { All (IsReady S.broken S.taken (2 ^ 61)) sources.old.streams }
+    ensures stands { (t : ℕ → Sizes) (pairs : List (ℕ × ℕ))
+        → AllStand (S.stands shared.now) S.sizes (S.sums shared.now) (S.listing shared.now) t sources.old pairs → IsOk result
+        → AllStand (S.stands shared.now) S.sizes (S.sums shared.now) (S.listing shared.now) t sources.new (pairs ++ frame.now) }
+    ensures adds { (t : ℕ → Sizes) (pairs : List (ℕ × ℕ))
+        → AllStand (S.stands shared.now) S.sizes (S.sums shared.now) (S.listing shared.now) t sources.old pairs
         → Adds (by_sizes (S.listing shared.now) t) pairs frame.now (K.state sink.old) (K.state sink.new) result }
     ensures cause { HasCause (K.state sink.old) (K.state sink.new) result }
     ensures shows { ShowsAsBefore (K.state sink.old) (K.state sink.new) }
-    ensures ready { (most : ℕ) → All (IsReady S.broken S.taken most) sources.old → IsOk result
-        → All (IsReady S.broken S.taken (most + 15)) sources.new }
-    ensures sizes { map S.sizes sources.new ≡ map S.sizes sources.old }
-    ensures most { All (HoldsToDepth S.held S.sizes) sources.old → All (HoldsToDepth S.held S.sizes) sources.new }
+    ensures ready { (most : ℕ) → All (IsReady S.broken S.taken most) sources.old.streams → IsOk result
+        → All (IsReady S.broken S.taken (most + 15)) sources.new.streams }
+    ensures sizes { map S.sizes sources.new.streams ≡ map S.sizes sources.old.streams }
+    ensures most { All (HoldsToDepth S.held S.sizes) sources.old.streams → All (HoldsToDepth S.held S.sizes) sources.new.streams }
 {
     let mut place = 0;
     while let Some((id, run)) = frame.run_at(place) {

@@ -4,7 +4,7 @@ ghost use Rattle.etm_types.specs.Settings.{Sizes};
 ghost use Rattle.formatter_frames.specs.Unframed.{unframed};
 ghost use Rattle.stream_demux.specs.Demuxed.{raw_pairs};
 ghost use Rattle.stream_demux.specs.Laws.{BodiesJoin, BodiesPart, BytesJoin, EachIsALine, FrontsBegin, FrontsOfPathsBegin, OneBody, OneEnding};
-ghost use Rattle.stream_demux.specs.Laws.{OneText, OneTextOfPaths, OthersDoNotCount, OthersHaveNone, PathIsAlone, RawIsOfNoOther};
+ghost use Rattle.stream_demux.specs.Laws.{OneSum, OneText, OneTextOfPaths, OthersDoNotCount, OthersHaveNone, PathIsAlone, RawIsOfNoOther, SumsJoin};
 ghost use Rattle.stream_demux.specs.Laws.{RawIsOfOne, SomeBody, SomeEnding, SomeText, SomeTextOfPaths, SourceIsAlone, ZerosAreOfNone};
 ghost use Rattle.stream_demux.specs.Texts.{by_sizes};
 
@@ -20,18 +20,20 @@ pub fn bytes_are_parted()
 {}
 
 /// What pairs print before the ends is what the first of them print, and then what the others print behind them. So what is
-/// printed of an input, framed or not, begins with what is printed of a front of it.
+/// printed of an input, framed or not, begins with what is printed of a front of it. What pairs add to a sum goes on in the same way.
 pub fn a_body_grows<S: Stream>()
     ensures join { (shared : S.Shared) (t : ℕ → Sizes) → BodiesJoin (by_sizes (S.listing shared) t) }
     ensures part { (shared : S.Shared) (t : ℕ → Sizes) → BodiesPart (by_sizes (S.listing shared) t) }
+    ensures sums { (shared : S.Shared) (t : ℕ → Sizes) → SumsJoin (by_sizes (S.listing shared) t) }
     ensures framed { (shared : S.Shared) (t : ℕ → Sizes) → FrontsBegin unframed (by_sizes (S.listing shared) t) }
     ensures raw { (shared : S.Shared) (t : ℕ → Sizes) → FrontsBegin raw_pairs (by_sizes (S.listing shared) t) }
 {}
 
-/// Where a stream gains and ends in one way, pairs have one text at most, and where it always has some way, they have one
+/// Where a stream gains, adds and ends in one way, pairs have one text at most, and where it always has some way, they have one
 /// at least.
 pub fn a_text_is_one<S: Stream>()
     ensures body { (shared : S.Shared) (t : ℕ → Sizes) → OneBody (by_sizes (S.listing shared) t) }
+    ensures sum { (shared : S.Shared) (t : ℕ → Sizes) → OneSum (by_sizes (S.listing shared) t) }
     ensures ending { (shared : S.Shared) (t : ℕ → Sizes) → OneEnding (by_sizes (S.listing shared) t) }
     ensures text { (shared : S.Shared) (t : ℕ → Sizes) → OneText (by_sizes (S.listing shared) t) }
     ensures some_body { (shared : S.Shared) (t : ℕ → Sizes) → SomeBody (by_sizes (S.listing shared) t) }

@@ -18,6 +18,8 @@ impl Stream for StreamDecoder {
 
     type Shared = Image;
 
+    type Sum = ();
+
     ghost sizes = { λ d. d.decoding.reader.settings };
 
     ghost broken = { λ d. d.broken };
@@ -36,6 +38,12 @@ impl Stream for StreamDecoder {
 
     ghost listing = { paths };
 
+    ghost sums = { λ shared sum items. Unit {0} };
+
+    fn new_sum(_alloc: Global, _image: &Image) -> Result<(), AllocError> {
+        Ok(())
+    }
+
     fn new(alloc: Global, settings: &Settings) -> Result<StreamDecoder, AllocError> {
         StreamDecoder::new(alloc, settings)
     }
@@ -44,6 +52,7 @@ impl Stream for StreamDecoder {
     fn take<K: Sink>(
         &mut self,
         image: &Image,
+        _sum: &mut (),
         id: Id,
         byte: u8,
         sink: &mut K,
@@ -54,6 +63,7 @@ impl Stream for StreamDecoder {
     fn take_run<K: Sink>(
         &mut self,
         image: &Image,
+        _sum: &mut (),
         id: Id,
         run: &[u8],
         sink: &mut K,
@@ -67,6 +77,10 @@ impl Stream for StreamDecoder {
 
     fn finish<K: Sink>(self, id: Id, sink: &mut K) -> Result<bool, Failed> {
         StreamDecoder::finish(self, id, sink)
+    }
+
+    fn write_sum<K: Sink>(_sum: (), _image: &Image, _sink: &mut K) -> Result<(), Failed> {
+        Ok(())
     }
 
     fn abandon(self) -> Ledger {

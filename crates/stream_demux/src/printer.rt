@@ -5,7 +5,7 @@ ghost use Rattle.etm_types.specs.Settings.{Sizes};
 ghost use Rattle.path_text.specs.Writing.{Writes};
 ghost use Rattle.stream_demux.specs.Demuxed.{Gains};
 ghost use Rattle.stream_demux.specs.Laid.{IsLaid, Laid, Rests};
-ghost use Rattle.stream_demux.specs.Texts.{IsEnding, Listing, Printed, text_of};
+ghost use Rattle.stream_demux.specs.Texts.{IsEnding, IsSum, Listing, Printed, text_of};
 ghost use Rattle.trace_io.specs.Bytes.{ShowsAsBefore};
 ghost use Rattle.trace_io.specs.Causes.{HasCause};
 
@@ -14,7 +14,7 @@ use crate::raw::RawStream;
 use crate::stream::Stream;
 use trace_io::{Failed, Sink};
 
-/// Takes an input by pieces, and writes the lines that they add. It ends by `finish` or `abandon`: code that works with any printer has
+/// Takes an input by pieces, and writes the lines that they add. It ends by `finish`, `close` or `abandon`: code that works with any printer has
 /// no other way.
 pub trait Printer {
     /// What all streams of the input share.
@@ -73,13 +73,21 @@ pub trait Printer {
         ensures broken { IsTrue (broken self.new) ↔ IsErr result }
         ensures frames { frames self.new ≡ frames self.old };
 
-    /// Writes how the streams end, and says whether none ends with a fault and no frame is cut.
-    fn finish<K: Sink>(self, sink: &mut K) -> Result<bool, Failed>
+    /// Writes the lines of the sum, and how the streams end. Says whether none ends with a fault and no frame is cut.
+    fn finish<K: Sink>(self, shared: &Self::Shared, sink: &mut K) -> Result<bool, Failed>
         requires { broken self ≡ false }
-        ensures ending { (shared : Self.Shared) (t : ℕ → Sizes) (bytes : List ℕ) → ended shared t self bytes
+        ensures ending { (t : ℕ → Sizes) (bytes : List ℕ) → ended shared.now t self bytes
             → (lines : List Printed) × (faulty : Bool)
-            × IsEnding (listing shared t) ((laid (frames self)).whole bytes) ((laid (frames self)).left bytes) lines faulty
+            × IsEnding (listing shared.now t) ((laid (frames self)).whole bytes) ((laid (frames self)).left bytes) lines faulty
             × Writes (K.state sink.old) (K.state sink.new) result (text_of lines) × IfOk result (λ whole. whole ≡ not faulty) }
+        ensures cause { HasCause (K.state sink.old) (K.state sink.new) result }
+        ensures shows { ShowsAsBefore (K.state sink.old) (K.state sink.new) };
+
+    /// Writes the lines of the sum of what was taken, and ends it without more.
+    fn close<K: Sink>(self, shared: &Self::Shared, sink: &mut K) -> Result<(), Failed>
+        ensures sum { (t : ℕ → Sizes) (bytes : List ℕ) → stands shared.now t self bytes
+            → (sums : List Printed) × IsSum (listing shared.now t) ((laid (frames self)).carried bytes) sums
+            × Writes (K.state sink.old) (K.state sink.new) result (text_of sums) }
         ensures cause { HasCause (K.state sink.old) (K.state sink.new) result }
         ensures shows { ShowsAsBefore (K.state sink.old) (K.state sink.new) };
 
@@ -102,11 +110,11 @@ impl<S: Stream> Printer for Demux<S> {
 
     ghost taken = { λ d. d.taken };
 
-    ghost stands = { λ shared t d bytes. StandsAt (S.stands shared) S.sizes t d bytes };
+    ghost stands = { λ shared t d bytes. StandsAt (S.stands shared) S.sizes (S.sums shared) (S.listing shared) t d bytes };
 
     ghost listing = { λ shared t. by_sizes (S.listing shared) t };
 
-    ghost ended = { λ shared t d bytes. StandsAt (S.stands shared) S.sizes t d bytes };
+    ghost ended = { λ shared t d bytes. StandsAt (S.stands shared) S.sizes (S.sums shared) (S.listing shared) t d bytes };
 
     ghost frames = { λ d. 0 };
 
@@ -126,8 +134,12 @@ impl<S: Stream> Printer for Demux<S> {
         Ok(())
     }
 
-    fn finish<K: Sink>(self, sink: &mut K) -> Result<bool, Failed> {
-        Demux::finish(self, sink)
+    fn finish<K: Sink>(self, shared: &S::Shared, sink: &mut K) -> Result<bool, Failed> {
+        Demux::finish(self, shared, sink)
+    }
+
+    fn close<K: Sink>(self, shared: &S::Shared, sink: &mut K) -> Result<(), Failed> {
+        Demux::close(self, shared, sink)
     }
 
     fn abandon(self) {
@@ -145,15 +157,15 @@ impl<S: Stream> Printer for RawStream<S> {
 
     type Shared = S::Shared;
 
-    ghost broken = { S.broken };
+    ghost broken = { λ r. S.broken r.stream };
 
-    ghost taken = { S.taken };
+    ghost taken = { λ r. S.taken r.stream };
 
-    ghost stands = { λ shared t r bytes. RawStandsAt (S.stands shared) S.sizes S.broken S.taken t r bytes };
+    ghost stands = { λ shared t r bytes. RawStandsAt (S.stands shared) S.sizes S.broken S.taken (S.sums shared) (S.listing shared) t r bytes };
 
     ghost listing = { λ shared t. by_sizes (S.listing shared) t };
 
-    ghost ended = { λ shared t r bytes. RawStandsAt (S.stands shared) S.sizes S.broken S.taken t r bytes };
+    ghost ended = { λ shared t r bytes. RawStandsAt (S.stands shared) S.sizes S.broken S.taken (S.sums shared) (S.listing shared) t r bytes };
 
     ghost frames = { λ r. 0 };
 
@@ -173,8 +185,12 @@ impl<S: Stream> Printer for RawStream<S> {
         Ok(())
     }
 
-    fn finish<K: Sink>(self, sink: &mut K) -> Result<bool, Failed> {
-        RawStream::finish(self, sink)
+    fn finish<K: Sink>(self, shared: &S::Shared, sink: &mut K) -> Result<bool, Failed> {
+        RawStream::finish(self, shared, sink)
+    }
+
+    fn close<K: Sink>(self, shared: &S::Shared, sink: &mut K) -> Result<(), Failed> {
+        RawStream::close(self, shared, sink)
     }
 
     fn abandon(self) {

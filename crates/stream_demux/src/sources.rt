@@ -1,4 +1,4 @@
-//! The streams of all trace sources, each found by its ID.
+//! The streams of all trace sources, each found by its ID, and what is summed over them.
 ghost use Rattle.std.specs.Prelude.{◌≡◌, ◌<◌, ◌≤◌, ◌+◌, ◌^◌, ◌++◌, ◌∷◌, [], ℕ, List, Bool, false, All, not, length, map, IsOk, IfOk};
 ghost use Rattle.element_queue.specs.Counting.{Balances, no_counts, sum_of};
 ghost use Rattle.etm_types.specs.Settings.{Sizes};
@@ -6,8 +6,8 @@ ghost use Rattle.etm_types.specs.SettingsTable.{sizes_at};
 ghost use Rattle.formatter_frames.specs.Symbols.{run_of};
 ghost use Rattle.std.specs.List.{range_with_len};
 ghost use Rattle.path_text.specs.Writing.{Writes};
-ghost use Rattle.stream_demux.specs.Streams.{Adds, AllStand, AllTallied, HoldsToDepth, IsReady, StandFrom, total};
-ghost use Rattle.stream_demux.specs.Texts.{EndsOf, Printed, by_sizes, sources, text_of};
+ghost use Rattle.stream_demux.specs.Streams.{Adds, AllStand, AllTallied, HoldsToDepth, IsReady, StandFrom, source_count, total};
+ghost use Rattle.stream_demux.specs.Texts.{EndsOf, IsSum, Printed, by_sizes, sources, text_of};
 ghost use Rattle.trace_io.specs.Bytes.{ShowsAsBefore};
 ghost use Rattle.trace_io.specs.Causes.{HasCause};
 
@@ -30,50 +30,46 @@ const NO_COUNTS: Counts = Counts {
     lost: 0,
 };
 
-/// The stream of each source. Contracts see the list of them, that of ID 1 first. It has no drop: it ends by
-/// `finish` or `abandon`.
+/// The stream of each source, and what is summed over them. Contracts see the list of the streams, that of ID 1 first, and the sum. It has
+/// no drop: it ends by `finish`, `close` or `abandon`.
 #[must_use]
-pub struct Sources<S> {
+pub struct Sources<S: Stream> {
     ring: SpendRing<S>,
+    sum: S::Sum,
 }
 
-impl<S> Model for Sources<S> {
-    ghost use Rattle.std.specs.Prelude.{◌≡◌, List, length};
-    ghost use Rattle.std.specs.Coded.{coded_list};
-    ghost use Rattle.stream_demux.specs.Streams.{source_count};
+impl<S: Stream> Model for Sources<S> {
+    ghost use Rattle.std.specs.Prelude.{◌≡◌, length};
+    ghost use Rattle.stream_demux.specs.Streams.{Summed, source_count, summed_code};
 
-    ghost Value = { List S };
+    ghost Value = { Summed S S.Sum };
 
-    ghost coded = { coded_list S.code };
+    ghost coded = { summed_code S.code S.Sum.code };
 
-    ghost view = { λ s. s.ring.items };
+    ghost view = { λ s. record { streams = s.ring.items; sum = s.sum } };
 
     ghost invariant = { λ s. length s.ring.items ≡ source_count };
 }
 
 impl<S: Stream> Sources<S> {
-    /// Streams of which nothing was taken, each with the settings of its ID. This is the one call that takes memory, and the error means want of it.
-    pub fn new(alloc: Global, table: &SettingsTable) -> Result<Sources<S>, AllocError>
-        ensures stands { IfOk result (λ all. (shared : S.Shared) → AllStand (S.stands shared) S.sizes (sizes_at table.now) all []) }
-        ensures ready { IfOk result (λ all. All (IsReady S.broken S.taken 0) all) }
-        ensures most { IfOk result (λ all. All (HoldsToDepth S.held S.sizes) all) }
+    /// Streams of which nothing was taken, each with the settings of its ID, and the sum of nothing. This is the one call that takes
+    /// memory, and the error means want of it.
+    pub fn new(
+        alloc: Global,
+        shared: &S::Shared,
+        table: &SettingsTable,
+    ) -> Result<Sources<S>, AllocError>
+        ensures stands { IfOk result (λ all. AllStand (S.stands shared.now) S.sizes (S.sums shared.now) (S.listing shared.now) (sizes_at table.now) all []) }
+        ensures ready { IfOk result (λ all. All (IsReady S.broken S.taken 0) all.streams) }
+        ensures most { IfOk result (λ all. All (HoldsToDepth S.held S.sizes) all.streams) }
     {
-        let mut ring = SpendRing::with_capacity(alloc, SOURCES)?;
-        let mut next = 1;
-        while let Some(id) = Id::new(next) {
-            match S::new(alloc, &table.get(id)) {
-                Ok(stream) => add(&mut ring, stream),
-                Err(error) => {
-                    abandon_all(ring);
-                    return Err(error);
-                }
-            }
-            next += 1;
-        }
-        Ok(Sources { ring })
+        let sum = S::new_sum(alloc, shared)?;
+        let ring = new_streams(alloc, table)?;
+        Ok(Sources { ring, sum })
     }
 
-    /// Takes the next bytes of the stream of an ID, and writes the lines that they add. Bytes of no source are passed over.
+    /// Takes the next bytes of the stream of an ID, writes the lines that they add, and adds their items to the sum. Bytes of no source
+    /// are passed over.
     pub fn take_run<K: Sink>(
         &mut self,
         shared: &S::Shared,
@@ -81,67 +77,76 @@ impl<S: Stream> Sources<S> {
         run: &[u8],
         sink: &mut K,
     ) -> Result<(), Failed>
-        requires { (most : ℕ) × All (IsReady S.broken S.taken most) self.old × (most + length run.now ≤ 2 ^ 62) }
-        ensures stands { (t : ℕ → Sizes) (pairs : List (ℕ × ℕ)) → AllStand (S.stands shared.now) S.sizes t self.old pairs
-            → IsOk result → AllStand (S.stands shared.now) S.sizes t self.new (pairs ++ run_of id run.now) }
-        ensures adds { (t : ℕ → Sizes) (pairs : List (ℕ × ℕ)) → AllStand (S.stands shared.now) S.sizes t self.old pairs
+        requires { (most : ℕ) × All (IsReady S.broken S.taken most) self.old.streams × (most + length run.now ≤ 2 ^ 62) }
+        ensures stands { (t : ℕ → Sizes) (pairs : List (ℕ × ℕ))
+            → AllStand (S.stands shared.now) S.sizes (S.sums shared.now) (S.listing shared.now) t self.old pairs
+            → IsOk result → AllStand (S.stands shared.now) S.sizes (S.sums shared.now) (S.listing shared.now) t self.new (pairs ++ run_of id run.now) }
+        ensures adds { (t : ℕ → Sizes) (pairs : List (ℕ × ℕ))
+            → AllStand (S.stands shared.now) S.sizes (S.sums shared.now) (S.listing shared.now) t self.old pairs
             → Adds (by_sizes (S.listing shared.now) t) pairs (run_of id run.now) (K.state sink.old) (K.state sink.new) result }
         ensures cause { HasCause (K.state sink.old) (K.state sink.new) result }
         ensures shows { ShowsAsBefore (K.state sink.old) (K.state sink.new) }
-        ensures ready { (most : ℕ) → All (IsReady S.broken S.taken most) self.old → IsOk result
-            → All (IsReady S.broken S.taken (most + length run.now)) self.new }
-        ensures sizes { map S.sizes self.new ≡ map S.sizes self.old }
-        ensures most { All (HoldsToDepth S.held S.sizes) self.old → All (HoldsToDepth S.held S.sizes) self.new }
+        ensures ready { (most : ℕ) → All (IsReady S.broken S.taken most) self.old.streams → IsOk result
+            → All (IsReady S.broken S.taken (most + length run.now)) self.new.streams }
+        ensures sizes { map S.sizes self.new.streams ≡ map S.sizes self.old.streams }
+        ensures most { All (HoldsToDepth S.held S.sizes) self.old.streams → All (HoldsToDepth S.held S.sizes) self.new.streams }
     {
         let Some(id) = Id::new(id) else {
             return Ok(());
         };
         match self.ring.get_mut(usize::from(id.get()) - 1) {
-            Some(stream) => stream.take_run(shared, id, run, sink),
+            Some(stream) => stream.take_run(shared, &mut self.sum, id, run, sink),
             None => unreachable!(),
         }
     }
 
-    /// Writes the line of how each stream ends that had a byte, by ID, and says whether all end without a fault.
-    pub fn finish<K: Sink>(self, sink: &mut K) -> Result<bool, Failed>
-        requires { (most : ℕ) × All (IsReady S.broken S.taken most) self }
-        ensures ends { (shared : S.Shared) (t : ℕ → Sizes) (pairs : List (ℕ × ℕ)) → AllStand (S.stands shared) S.sizes t self pairs
-            → (lines : List Printed) × (faulty : Bool) × EndsOf (by_sizes (S.listing shared) t) pairs sources lines faulty
-            × Writes (K.state sink.old) (K.state sink.new) result (text_of lines) × IfOk result (λ whole. whole ≡ not faulty) }
+    /// Writes the lines of the sum, and then that of how each stream ends that had a byte, by ID. Says whether all end without a fault.
+    pub fn finish<K: Sink>(self, shared: &S::Shared, sink: &mut K) -> Result<bool, Failed>
+        requires { (most : ℕ) × All (IsReady S.broken S.taken most) self.streams }
+        ensures ends { (t : ℕ → Sizes) (pairs : List (ℕ × ℕ))
+            → AllStand (S.stands shared.now) S.sizes (S.sums shared.now) (S.listing shared.now) t self pairs
+            → (sums : List Printed) × IsSum (by_sizes (S.listing shared.now) t) pairs sums
+            × (lines : List Printed) × (faulty : Bool) × EndsOf (by_sizes (S.listing shared.now) t) pairs sources lines faulty
+            × Writes (K.state sink.old) (K.state sink.new) result (text_of (sums ++ lines)) × IfOk result (λ whole. whole ≡ not faulty) }
         ensures cause { HasCause (K.state sink.old) (K.state sink.new) result }
         ensures shows { ShowsAsBefore (K.state sink.old) (K.state sink.new) }
     {
-        let Sources { mut ring } = self;
-        let mut id = 1;
-        let mut whole = true;
-        while let Some(stream) = ring.pop_front() {
-            match stream.finish(Id::new(id).unwrap(), sink) {
-                Ok(one) => whole &= one,
-                Err(failed) => {
-                    abandon_all(ring);
-                    return Err(failed);
-                }
-            }
-            id += 1;
+        let Sources { ring, sum } = self;
+        if let Err(failed) = S::write_sum(sum, shared, sink) {
+            abandon_all(ring);
+            return Err(failed);
         }
-        ring.close();
-        Ok(whole)
+        finish_all(ring, sink)
+    }
+
+    /// Writes the lines of the sum, and ends all streams without a line.
+    pub fn close<K: Sink>(self, shared: &S::Shared, sink: &mut K) -> Result<(), Failed>
+        ensures sum { (t : ℕ → Sizes) (pairs : List (ℕ × ℕ))
+            → AllStand (S.stands shared.now) S.sizes (S.sums shared.now) (S.listing shared.now) t self pairs
+            → (sums : List Printed) × IsSum (by_sizes (S.listing shared.now) t) pairs sums
+            × Writes (K.state sink.old) (K.state sink.new) result (text_of sums) }
+        ensures cause { HasCause (K.state sink.old) (K.state sink.new) result }
+        ensures shows { ShowsAsBefore (K.state sink.old) (K.state sink.new) }
+    {
+        let Sources { ring, sum } = self;
+        abandon_all(ring);
+        S::write_sum(sum, shared, sink)
     }
 
     /// Ends all streams without a line. The ledger has what became of the P0 elements of all.
     pub fn abandon(self) -> Ledger
-        ensures value { result ≡ total no_counts (map S.counts_left self) }
+        ensures value { result ≡ total no_counts (map S.counts_left self.streams) }
         ensures balanced { Balances result 0 }
     {
-        let Sources { ring } = self;
+        let Sources { ring, sum: _ } = self;
         abandon_all(ring)
     }
 
     /// What became of the P0 elements of all streams.
     pub fn ledger(&self) -> Counts
-        ensures value { result ≡ total no_counts (map S.counts self.now) }
-        ensures tallied { (shared : S.Shared) (t : ℕ → Sizes) (pairs : List (ℕ × ℕ)) → AllStand (S.stands shared) S.sizes t self.now pairs
-            → AllTallied (S.tallies shared) t (map S.counts self.now) pairs }
+        ensures value { result ≡ total no_counts (map S.counts self.now.streams) }
+        ensures tallied { (shared : S.Shared) (t : ℕ → Sizes) (pairs : List (ℕ × ℕ)) → StandFrom (S.stands shared) S.sizes t 1 self.now.streams pairs
+            → AllTallied (S.tallies shared) t (map S.counts self.now.streams) pairs }
     {
         let mut sum = NO_COUNTS;
         let mut place = 0;
@@ -151,6 +156,54 @@ impl<S: Stream> Sources<S> {
         }
         sum
     }
+}
+
+/// A stream for each source of which nothing was taken, that of ID 1 first.
+fn new_streams<S: Stream>(alloc: Global, table: &SettingsTable) -> Result<SpendRing<S>, AllocError>
+    ensures count { IfOk result (λ ring. length ring.items ≡ source_count) }
+    ensures stands { IfOk result (λ ring. (shared : S.Shared) → StandFrom (S.stands shared) S.sizes (sizes_at table.now) 1 ring.items []) }
+    ensures ready { IfOk result (λ ring. All (IsReady S.broken S.taken 0) ring.items) }
+    ensures most { IfOk result (λ ring. All (HoldsToDepth S.held S.sizes) ring.items) }
+{
+    let mut ring = SpendRing::with_capacity(alloc, SOURCES)?;
+    let mut next = 1;
+    while let Some(id) = Id::new(next) {
+        match S::new(alloc, &table.get(id)) {
+            Ok(stream) => add(&mut ring, stream),
+            Err(error) => {
+                abandon_all(ring);
+                return Err(error);
+            }
+        }
+        next += 1;
+    }
+    Ok(ring)
+}
+
+/// Writes the line of how each stream ends that had a byte, by ID, and says whether all end without a fault.
+fn finish_all<S: Stream, K: Sink>(mut ring: SpendRing<S>, sink: &mut K) -> Result<bool, Failed>
+    requires ready { (most : ℕ) × All (IsReady S.broken S.taken most) ring.items }
+    requires count { length ring.items ≡ source_count }
+    ensures ends { (shared : S.Shared) (t : ℕ → Sizes) (pairs : List (ℕ × ℕ)) → StandFrom (S.stands shared) S.sizes t 1 ring.items pairs
+        → (lines : List Printed) × (faulty : Bool) × EndsOf (by_sizes (S.listing shared) t) pairs sources lines faulty
+        × Writes (K.state sink.old) (K.state sink.new) result (text_of lines) × IfOk result (λ whole. whole ≡ not faulty) }
+    ensures cause { HasCause (K.state sink.old) (K.state sink.new) result }
+    ensures shows { ShowsAsBefore (K.state sink.old) (K.state sink.new) }
+{
+    let mut id = 1;
+    let mut whole = true;
+    while let Some(stream) = ring.pop_front() {
+        match stream.finish(Id::new(id).unwrap(), sink) {
+            Ok(one) => whole &= one,
+            Err(failed) => {
+                abandon_all(ring);
+                return Err(failed);
+            }
+        }
+        id += 1;
+    }
+    ring.close();
+    Ok(whole)
 }
 
 /// Adds counts to others, each modulo 2^64.

@@ -4,8 +4,9 @@ ghost use Rattle.std.specs.List.{concat};
 ghost use Rattle.element_queue.specs.Counting.{Balances};
 ghost use Rattle.element_queue.specs.declared.ledger.Counts.{Counts};
 ghost use Rattle.etm_types.specs.Settings.{Sizes};
+ghost use Rattle.etm_types.specs.declared.item.Item.{Item};
 ghost use Rattle.path_text.specs.Writing.{Writes};
-ghost use Rattle.stream_demux.specs.Streams.{HoldsToDepth, RunAdds, SettlesBut};
+ghost use Rattle.stream_demux.specs.Streams.{HoldsToDepth, RunAdds, SettlesBut, SumAdds, SumGains};
 ghost use Rattle.stream_demux.specs.Texts.{Listing, Printed, StreamEnds, text_of};
 ghost use Rattle.trace_io.specs.Bytes.{ShowsAsBefore};
 ghost use Rattle.trace_io.specs.Causes.{HasCause};
@@ -15,11 +16,15 @@ use etm_types::{Id, Settings};
 use std::alloc::{AllocError, Global};
 use trace_io::{Failed, Sink};
 
-/// One stream, of which lines are printed as its bytes come. It ends by `finish` or `abandon`: one that holds P0 elements has no drop,
+/// One stream, of which lines are printed as its bytes come, or whose items are summed with those of the other streams and printed once no
+/// byte more comes. It ends by `finish` or `abandon`: one that holds P0 elements has no drop,
 /// and code that works with any stream has no other way.
 pub trait Stream {
     /// What all streams of a capture share.
     type Shared;
+
+    /// What all streams of a capture add to.
+    type Sum: Drop;
 
     /// The sizes of the stream's trace unit.
     ghost sizes: { Self → Sizes };
@@ -45,8 +50,15 @@ pub trait Stream {
     /// These counts are such as bytes have under these sizes.
     ghost tallies: { Self.Shared → Sizes → List ℕ → Counts → Type 0 };
 
-    /// What is printed of a stream under these sizes.
+    /// What is printed of a stream under these sizes, and what it adds to the sum.
     ghost listing: { Self.Shared → Sizes → Listing };
+
+    /// A sum has these items, each with the ID of its stream, in the order in which they came.
+    ghost sums: { Self.Shared → Self.Sum → List (ℕ × Item) → Type 0 };
+
+    /// The sum of nothing. This takes memory, and the error means want of it.
+    fn new_sum(alloc: Global, shared: &Self::Shared) -> Result<Self::Sum, AllocError>
+        ensures { IfOk result (λ sum. sums shared.now sum []) };
 
     /// A stream of which nothing was taken. This is the one call that takes memory, and the error means want of it.
     fn new(alloc: Global, settings: &Settings) -> Result<Self, AllocError>
@@ -55,11 +67,12 @@ pub trait Stream {
         ensures ready { IfOk result (λ s. (broken s ≡ false) × (taken s ≡ 0)) }
         ensures most { IfOk result (HoldsToDepth held sizes) };
 
-    /// Takes the next byte, and writes the lines that it adds. The error means that a write failed; then the
+    /// Takes the next byte, writes the lines that it adds, and adds its items to the sum. The error means that a write failed; then the
     /// stream is broken.
     fn take<K: Sink>(
         &mut self,
         shared: &Self::Shared,
+        sum: &mut Self::Sum,
         id: Id,
         byte: u8,
         sink: &mut K,
@@ -70,6 +83,8 @@ pub trait Stream {
         ensures gains { (bytes : List ℕ) → stands shared.now self.old bytes
             → (lines : List (List ℕ)) × (listing shared.now (sizes self.old)).gains id bytes byte lines
             × Writes (K.state sink.old) (K.state sink.new) result (concat lines) }
+        ensures adds { IsOk result → (bytes : List ℕ) → stands shared.now self.old bytes
+            → SumGains (sums shared.now) (listing shared.now (sizes self.old)) id bytes byte sum.old sum.new }
         ensures cause { HasCause (K.state sink.old) (K.state sink.new) result }
         ensures shows { ShowsAsBefore (K.state sink.old) (K.state sink.new) }
         ensures broken { IsTrue (broken self.new) ↔ IsErr result }
@@ -77,11 +92,12 @@ pub trait Stream {
         ensures sizes { sizes self.new ≡ sizes self.old }
         ensures most { HoldsToDepth held sizes self.new };
 
-    /// Takes the next bytes, and writes the lines that they add, as [`take`](Stream::take) does of each. The error means that a
-    /// write failed; then nothing more is taken, and the stream is broken.
+    /// Takes the next bytes, as [`take`](Stream::take) does each. The error means that a write failed; then nothing more is taken, and
+    /// the stream is broken.
     fn take_run<K: Sink>(
         &mut self,
         shared: &Self::Shared,
+        sum: &mut Self::Sum,
         id: Id,
         run: &[u8],
         sink: &mut K,
@@ -91,6 +107,8 @@ pub trait Stream {
         ensures stands { IsOk result → (bytes : List ℕ) → stands shared.now self.old bytes → stands shared.now self.new (bytes ++ run.now) }
         ensures gains { (bytes : List ℕ) → stands shared.now self.old bytes
             → RunAdds (listing shared.now (sizes self.old)) id bytes run.now (K.state sink.old) (K.state sink.new) result }
+        ensures adds { IsOk result → (bytes : List ℕ) → stands shared.now self.old bytes
+            → SumAdds (sums shared.now) (listing shared.now (sizes self.old)) id bytes run.now sum.old sum.new }
         ensures cause { HasCause (K.state sink.old) (K.state sink.new) result }
         ensures shows { ShowsAsBefore (K.state sink.old) (K.state sink.new) }
         ensures broken { IsTrue (broken self.new) ↔ IsErr result }
@@ -100,7 +118,7 @@ pub trait Stream {
         ensures most { HoldsToDepth held sizes self.old → HoldsToDepth held sizes self.new }
     {
         for byte in run {
-            self.take(shared, id, *byte, sink)?;
+            self.take(shared, sum, id, *byte, sink)?;
         }
         Ok(())
     }
@@ -118,6 +136,13 @@ pub trait Stream {
         ensures ends { (shared : Self.Shared) (bytes : List ℕ) → stands shared self bytes
             → (lines : List Printed) × (faulty : Bool) × StreamEnds (listing shared (sizes self)) id bytes lines faulty
             × Writes (K.state sink.old) (K.state sink.new) result (text_of lines) × IfOk result (λ whole. whole ≡ not faulty) }
+        ensures cause { HasCause (K.state sink.old) (K.state sink.new) result }
+        ensures shows { ShowsAsBefore (K.state sink.old) (K.state sink.new) };
+
+    /// Writes the lines of a sum.
+    fn write_sum<K: Sink>(sum: Self::Sum, shared: &Self::Shared, sink: &mut K) -> Result<(), Failed>
+        ensures lines { (s : Sizes) (items : List (ℕ × Item)) → sums shared.now sum items
+            → Writes (K.state sink.old) (K.state sink.new) result (concat ((listing shared.now s).sums items)) }
         ensures cause { HasCause (K.state sink.old) (K.state sink.new) result }
         ensures shows { ShowsAsBefore (K.state sink.old) (K.state sink.new) };
 

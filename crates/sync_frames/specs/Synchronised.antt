@@ -2,8 +2,10 @@
 use Rattle.std.specs.Prelude.{◌≡◌, ℕ, List, length, Option, refl}
 use Rattle.std.specs.Coded.{Coded, code_by, coded×, coded_list, coded_option, coded_ℕ}
 use Rattle.etm_types.specs.Settings.{Sizes}
+use Rattle.etm_types.specs.declared.item.Item.{Item}
 use Rattle.stream_demux.specs.Demuxed.{Demuxed, demuxed_code}
 use Rattle.stream_demux.specs.Demuxed as demuxed
+use Rattle.stream_demux.specs.Texts.{Listing}
 use Rattle.sync_frames.specs.Unsyncing.{StandsAt, Unsyncing}
 
 abbrev unsyncing_code : Coded Unsyncing
@@ -12,23 +14,24 @@ unsyncing_code =
     (λ _. refl)
 
 -- what drops the syncs, the streams of the frames among the bytes, and how many bytes were taken, syncs among them
-pub record Synchronised (X : Type 0) : Type 0 where
+pub record Synchronised (X Y : Type 0) : Type 0 where
   pub unsync : Unsyncing
-  pub demux : Demuxed X
+  pub demux : Demuxed X Y
   pub taken : ℕ
 
-abbrev pub synchronised_code : {X : Type 0} → Coded X → Coded (Synchronised X)
-synchronised_code {X} code =
-    code_by (Unsyncing × (Demuxed X × ℕ)) (coded× unsyncing_code (coded× (demuxed_code code) coded_ℕ)) (λ s. (s.unsync, (s.demux, s.taken)))
+abbrev pub synchronised_code : {X Y : Type 0} → Coded X → Coded Y → Coded (Synchronised X Y)
+synchronised_code {X} {Y} stream sum =
+    code_by (Unsyncing × (Demuxed X Y × ℕ)) (coded× unsyncing_code (coded× (demuxed_code stream sum) coded_ℕ)) (λ s. (s.unsync, (s.demux, s.taken)))
     (λ p. record { unsync = p.0; demux = p.1.0; taken = p.1.1 }) (λ _. refl)
 
 -- these bytes were taken, and no write failed: the streams stand at the bytes of frames among them that were given
-pub record HaveTaken {X : Type 0} (stands : X → List ℕ → Type 0) (sizes : X → Sizes) (t : ℕ → Sizes) (u : Unsyncing) (d : Demuxed X) (bytes : List ℕ)
-    : Type 0 where
+pub record HaveTaken {X Y : Type 0} (stands : X → List ℕ → Type 0) (sizes : X → Sizes) (sums : Y → List (ℕ × Item) → Type 0) (g : Sizes → Listing)
+    (t : ℕ → Sizes) (u : Unsyncing) (d : Demuxed X Y) (bytes : List ℕ) : Type 0 where
   pub given : List ℕ
   pub unsync : StandsAt u bytes given
-  pub demux : demuxed.StandsAt stands sizes t d given
+  pub demux : demuxed.StandsAt stands sizes sums g t d given
 
 -- and they are counted
-abbrev pub IsAfter : {X : Type 0} → (X → List ℕ → Type 0) → (X → Sizes) → (ℕ → Sizes) → Synchronised X → List ℕ → Type 0
-IsAfter stands sizes t s bytes = HaveTaken stands sizes t s.unsync s.demux bytes × (s.taken ≡ length bytes)
+abbrev pub IsAfter : {X Y : Type 0} → (X → List ℕ → Type 0) → (X → Sizes) → (Y → List (ℕ × Item) → Type 0) → (Sizes → Listing) → (ℕ → Sizes)
+    → Synchronised X Y → List ℕ → Type 0
+IsAfter stands sizes sums g t s bytes = HaveTaken stands sizes sums g t s.unsync s.demux bytes × (s.taken ≡ length bytes)

@@ -17,7 +17,7 @@ use stream_demux::{Demux, Printer, Stream};
 use trace_io::{Failed, Sink};
 
 /// Takes the bytes of a trace port, and writes the lines that the frames among them add. Bytes before the first full sync add none. It has no
-/// drop: it ends by `finish` or `abandon`.
+/// drop: it ends by `finish`, `close` or `abandon`.
 #[must_use]
 pub struct SyncedDemux<S: Stream> {
     unsync: Unsync,
@@ -30,9 +30,9 @@ impl<S: Stream> Model for SyncedDemux<S> {
     ghost use Rattle.std.specs.Prelude.{◌+◌, ◌≤◌, length};
     ghost use Rattle.sync_frames.specs.Synchronised.{Synchronised, synchronised_code};
 
-    ghost Value = { Synchronised S };
+    ghost Value = { Synchronised S S.Sum };
 
-    ghost coded = { synchronised_code S.code };
+    ghost coded = { synchronised_code S.code S.Sum.code };
 
     ghost view = { λ s. record { unsync = s.unsync; demux = s.demux; taken = s.taken } };
 
@@ -42,10 +42,15 @@ impl<S: Stream> Model for SyncedDemux<S> {
 impl<S: Stream> SyncedDemux<S> {
     /// One that has taken nothing, with a stream for each source, which has the settings of its ID. This is the one call that takes memory, and
     /// the error means want of it.
-    pub fn new(alloc: Global, table: &SettingsTable) -> Result<SyncedDemux<S>, AllocError>
-        ensures stands { IfOk result (λ s. (shared : S.Shared) → IsAfter (S.stands shared) S.sizes (sizes_at table.now) s []) }
+    pub fn new(
+        alloc: Global,
+        shared: &S::Shared,
+        table: &SettingsTable,
+    ) -> Result<SyncedDemux<S>, AllocError>
+        ensures stands { IfOk result (λ s.
+            IsAfter (S.stands shared.now) S.sizes (S.sums shared.now) (S.listing shared.now) (sizes_at table.now) s []) }
     {
-        let demux = Demux::new(alloc, table)?;
+        let demux = Demux::new(alloc, shared, table)?;
         Ok(SyncedDemux {
             unsync: Unsync::new(),
             taken: demux.taken(),
@@ -63,7 +68,8 @@ impl<S: Stream> SyncedDemux<S> {
     /// How many bytes were taken, syncs among them.
     pub fn taken(&self) -> u64
         ensures value { result ≡ self.now.taken }
-        ensures all { (shared : S.Shared) (t : ℕ → Sizes) (bytes : List ℕ) → IsAfter (S.stands shared) S.sizes t self.now bytes → result ≡ length bytes }
+        ensures all { (shared : S.Shared) (t : ℕ → Sizes) (bytes : List ℕ)
+            → IsAfter (S.stands shared) S.sizes (S.sums shared) (S.listing shared) t self.now bytes → result ≡ length bytes }
     {
         self.taken
     }
@@ -80,9 +86,11 @@ fn take_front<S: Stream, K: Sink>(
     requires whole { demux.old.broken ≡ false }
     requires some { 0 < length piece.now }
     requires few { demux.old.taken + length unsync.old.held + length piece.now ≤ 2 ^ 30 }
-    ensures stands { (t : ℕ → Sizes) (bytes : List ℕ) → HaveTaken (S.stands shared.now) S.sizes t unsync.old demux.old bytes → IsOk result.1
-        → HaveTaken (S.stands shared.now) S.sizes t unsync.new demux.new (bytes ++ take result.0 piece.now) }
-    ensures gains { (t : ℕ → Sizes) (bytes : List ℕ) → HaveTaken (S.stands shared.now) S.sizes t unsync.old demux.old bytes
+    ensures stands { (t : ℕ → Sizes) (bytes : List ℕ)
+        → HaveTaken (S.stands shared.now) S.sizes (S.sums shared.now) (S.listing shared.now) t unsync.old demux.old bytes → IsOk result.1
+        → HaveTaken (S.stands shared.now) S.sizes (S.sums shared.now) (S.listing shared.now) t unsync.new demux.new (bytes ++ take result.0 piece.now) }
+    ensures gains { (t : ℕ → Sizes) (bytes : List ℕ)
+        → HaveTaken (S.stands shared.now) S.sizes (S.sums shared.now) (S.listing shared.now) t unsync.old demux.old bytes
         → Gains synced_pairs (by_sizes (S.listing shared.now) t) bytes (take result.0 piece.now) (K.state sink.old) (K.state sink.new) result.1 }
     ensures cause { HasCause (K.state sink.old) (K.state sink.new) result.1 }
     ensures shows { ShowsAsBefore (K.state sink.old) (K.state sink.new) }
@@ -109,9 +117,11 @@ fn take_bytes<S: Stream, K: Sink>(
 ) -> Result<(), Failed>
     requires whole { demux.old.broken ≡ false }
     requires few { demux.old.taken + length unsync.old.held + length piece.now ≤ 2 ^ 30 }
-    ensures stands { (t : ℕ → Sizes) (bytes : List ℕ) → HaveTaken (S.stands shared.now) S.sizes t unsync.old demux.old bytes → IsOk result
-        → HaveTaken (S.stands shared.now) S.sizes t unsync.new demux.new (bytes ++ piece.now) }
-    ensures gains { (t : ℕ → Sizes) (bytes : List ℕ) → HaveTaken (S.stands shared.now) S.sizes t unsync.old demux.old bytes
+    ensures stands { (t : ℕ → Sizes) (bytes : List ℕ)
+        → HaveTaken (S.stands shared.now) S.sizes (S.sums shared.now) (S.listing shared.now) t unsync.old demux.old bytes → IsOk result
+        → HaveTaken (S.stands shared.now) S.sizes (S.sums shared.now) (S.listing shared.now) t unsync.new demux.new (bytes ++ piece.now) }
+    ensures gains { (t : ℕ → Sizes) (bytes : List ℕ)
+        → HaveTaken (S.stands shared.now) S.sizes (S.sums shared.now) (S.listing shared.now) t unsync.old demux.old bytes
         → Gains synced_pairs (by_sizes (S.listing shared.now) t) bytes piece.now (K.state sink.old) (K.state sink.new) result }
     ensures cause { HasCause (K.state sink.old) (K.state sink.new) result }
     ensures shows { ShowsAsBefore (K.state sink.old) (K.state sink.new) }
@@ -142,11 +152,11 @@ impl<S: Stream> Printer for SyncedDemux<S> {
 
     ghost taken = { λ s. s.taken };
 
-    ghost stands = { λ shared t s bytes. IsAfter (S.stands shared) S.sizes t s bytes };
+    ghost stands = { λ shared t s bytes. IsAfter (S.stands shared) S.sizes (S.sums shared) (S.listing shared) t s bytes };
 
     ghost listing = { λ shared t. by_sizes (S.listing shared) t };
 
-    ghost ended = { λ shared t s bytes. StandsAt (S.stands shared) S.sizes t s.demux (unsynced bytes) };
+    ghost ended = { λ shared t s bytes. StandsAt (S.stands shared) S.sizes (S.sums shared) (S.listing shared) t s.demux (unsynced bytes) };
 
     ghost frames = { λ s. 0 };
 
@@ -167,13 +177,22 @@ impl<S: Stream> Printer for SyncedDemux<S> {
         self.demux.take_piece(shared, rest.as_slice(), sink)
     }
 
-    fn finish<K: Sink>(self, sink: &mut K) -> Result<bool, Failed> {
+    fn finish<K: Sink>(self, shared: &S::Shared, sink: &mut K) -> Result<bool, Failed> {
         let SyncedDemux {
             unsync: _,
             demux,
             taken: _,
         } = self;
-        demux.finish(sink)
+        demux.finish(shared, sink)
+    }
+
+    fn close<K: Sink>(self, shared: &S::Shared, sink: &mut K) -> Result<(), Failed> {
+        let SyncedDemux {
+            unsync: _,
+            demux,
+            taken: _,
+        } = self;
+        demux.close(shared, sink)
     }
 
     fn abandon(self) {

@@ -40,9 +40,9 @@ fn code(alloc: Global) -> Result<Image, Fail> {
     Ok(Image::read(alloc, &mut text).ok().ok_or("it is an image")?)
 }
 
-fn printer(alloc: Global) -> Result<SyncedDemux<StreamDecoder>, Fail> {
+fn printer(alloc: Global, image: &Image) -> Result<SyncedDemux<StreamDecoder>, Fail> {
     let settings = Settings::new(4, 0, 0).ok().ok_or("they are settings")?;
-    Ok(SyncedDemux::new(alloc, &SettingsTable::new(settings))?)
+    Ok(SyncedDemux::new(alloc, image, &SettingsTable::new(settings))?)
 }
 
 #[test]
@@ -85,12 +85,12 @@ fn frames_with_syncs(rt: HostRuntime) -> Result<(), Fail> {
 fn the_path_of_a_port(rt: HostRuntime) -> Result<(), Fail> {
     let image = code(rt.alloc())?;
     let mut sink = MemSink::new(rt.alloc(), Vec::new(rt.alloc()));
-    let mut synced = printer(rt.alloc())?;
+    let mut synced = printer(rt.alloc(), &image)?;
     assert!(rt; !synced.broken() && synced.taken() == 0);
     assert_eq!(rt; synced.take_piece(&image, &FIRST_SENT, &mut sink), Ok(()));
     assert_eq!(rt; synced.take_piece(&image, &SECOND_SENT, &mut sink), Ok(()));
     assert_eq!(rt; synced.take_rest(&image, &mut sink), Ok(()));
-    assert_eq!(rt; synced.finish(&mut sink), Ok(false));
+    assert_eq!(rt; synced.finish(&image, &mut sink), Ok(false));
     assert_eq!(rt; sink.written(), PATH);
     Ok(())
 }
@@ -99,7 +99,7 @@ fn the_path_of_a_port(rt: HostRuntime) -> Result<(), Fail> {
 fn a_port_that_is_given_up(rt: HostRuntime) -> Result<(), Fail> {
     let image = code(rt.alloc())?;
     let mut sink = MemSink::new(rt.alloc(), Vec::new(rt.alloc()));
-    let mut synced = printer(rt.alloc())?;
+    let mut synced = printer(rt.alloc(), &image)?;
     assert!(rt; !synced.broken() && synced.taken() == 0);
     assert_eq!(rt; synced.take_piece(&image, &FIRST_SENT, &mut sink), Ok(()));
     synced.abandon();

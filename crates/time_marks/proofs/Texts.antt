@@ -4,7 +4,7 @@ use Rattle.std.proofs.Common.{map, None, Some, refl, sym, ap, subst, ◌∙◌, 
 use Rattle.std.specs.Prelude.{All, ◌==◌, codes}
 use Rattle.std.specs.Int.Digits.{digits_of}
 use Rattle.std.proofs.lemmas.List.{get_or_append_left, length-append, map-append}
-use Rattle.std.proofs.lemmas.List.Elements.{All-append, All-map}
+use Rattle.std.proofs.lemmas.List.Elements.{All-append, All-map, All-nil}
 use Rattle.etm_types.specs.Settings.{AreSettings, Sizes}
 use Rattle.packet_grammar.specs.Parsed.{no_sync}
 use Rattle.packet_grammar.specs.declared.end.End.{End}
@@ -14,11 +14,11 @@ use Rattle.path_elements.specs.PathLaws.{BeginsWith}
 use Rattle.path_text.specs.EndLines.{end_line}
 use Rattle.path_text.specs.Lines.{IsLine, decimal, digit, in_base}
 use Rattle.path_text.proofs.Feeds.{HasNone, end_is, line_is, written}
-use Rattle.stream_demux.specs.Laws.{EndsAlways, EndsOnce, GainsAlways, GainsOnce, StreamLines, lines_with}
+use Rattle.stream_demux.specs.Laws.{AddsAlways, AddsOnce, EndsAlways, EndsOnce, GainsAlways, GainsOnce, StreamLines, lines_with}
 use Rattle.stream_demux.specs.Texts.{Printed, StreamBody, StreamEnds, by_sizes, lines_under, of}
 use Rattle.stream_demux.proofs.Alone.{source_is_alone}
 use Rattle.stream_demux.proofs.AlonePaths.{PrintsLines, each_is, print_by}
-use Rattle.stream_demux.proofs.BySizes.{ends_always_by, ends_once_by, gains_always_by, gains_once_by, own_lines}
+use Rattle.stream_demux.proofs.BySizes.{adds_always_by, adds_once_by, ends_always_by, ends_once_by, gains_always_by, gains_once_by, own_lines}
 use Rattle.stream_demux.proofs.OneText.{one_body, one_text, some_text}
 use Rattle.stream_demux.proofs.Parted.{CarriesOn, fronts_begin}
 use Rattle.time_marks.proofs.Growing.{lines-append}
@@ -45,6 +45,12 @@ module _ (s : Sizes) (are : AreSettings s) where
   gain_once : GainsOnce (times s)
   gain_once id bytes byte lines others gains also = one_gain s are id bytes byte lines others gains also
 
+  add_once : AddsOnce (times s)
+  add_once id bytes byte items others none also = none ∙ sym also
+
+  add_always : AddsAlways (times s)
+  add_always id bytes byte small = ([], refl)
+
   end_once : EndsOnce (times s)
   end_once id bytes line other faulty also ends too = one_end s are id bytes line other faulty also ends too
 
@@ -61,11 +67,13 @@ once_by t are = gains_once_by times t (λ id. gain_once (t id) (are id))
 
 pub one_text_of_times : OneTextOfTimes
 one_text_of_times t are =
-    one_text (by_sizes times t) (once_by t are) (ends_once_by times t (λ id. end_once (t id) (are id)))
+    one_text (by_sizes times t) (once_by t are) (adds_once_by times t (λ id. add_once (t id) (are id)))
+    (ends_once_by times t (λ id. end_once (t id) (are id)))
 
 pub some_text_of_times : SomeTextOfTimes
 some_text_of_times t are =
     some_text (by_sizes times t) (gains_always_by times t (λ id. gain_always (t id) (are id)))
+    (adds_always_by times t (λ id. add_always (t id) (are id)))
     (ends_always_by times t (λ id. end_always (t id) (are id)))
 
 pub fronts_of_times_begin : (carried : List ℕ → List (ℕ × ℕ)) → CarriesOn carried → FrontsOfTimesBegin carried
@@ -158,6 +166,7 @@ times_print_lines s =
       gained = λ id bytes byte lines (t, after, last, next, more, was, is, grows, adds).
           subst (λ (l : List (List ℕ)). All IsLine l) (sym adds) (each_of id more);
       ended = λ id bytes line faulty (t, last, is, line_is, fault_is). subst IsLine (sym line_is) (end_is id last);
+      summed = λ items. All-nil IsLine;
     }
   where
     each_of : (id : ℕ) (lines : List TimeLine) → All IsLine (time_lines id lines)

@@ -11,7 +11,7 @@ use Rattle.packet_grammar.specs.declared.packet.Packet.{Packet}
 use Rattle.path_elements.specs.Elements.{all_elements, untold}
 use Rattle.path_elements.specs.Path.{unplaced}
 use Rattle.path_text.specs.EndLines.{end_line}
-use Rattle.stream_demux.specs.Texts.{Listing}
+use Rattle.stream_demux.specs.Texts.{Listing, adds_nothing, no_sums}
 use Rattle.time_marks.specs.TimeLines.{time_lines}
 use Rattle.time_marks.specs.Times.{Times, end_behind, times_of}
 use Rattle.time_marks.specs.declared.time_line.TimeLine.{TimeLine}
@@ -34,7 +34,7 @@ TimesEnds s id bytes line faulty = (t : Times) × (last : End) × IsTimes s byte
 
 -- the times of streams, under the sizes of their trace units
 abbrev pub times : Sizes → Listing
-times s = record { gains = TimesGains s; ends = TimesEnds s }
+times s = record { gains = TimesGains s; ends = TimesEnds s; adds = adds_nothing; sums = no_sums }
 
 -- what became of the P0 elements of bytes: as their elements say, up to the first that has a fault
 abbrev pub TimesTallies : Sizes → List ℕ → Counts → Type 0

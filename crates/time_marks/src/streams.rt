@@ -20,6 +20,8 @@ impl Stream for TimedDecoder {
 
     type Shared = ();
 
+    type Sum = ();
+
     ghost sizes = { λ d. d.reader.settings };
 
     ghost broken = { λ d. d.broken };
@@ -38,6 +40,12 @@ impl Stream for TimedDecoder {
 
     ghost listing = { λ shared. times };
 
+    ghost sums = { λ shared sum items. Unit {0} };
+
+    fn new_sum(_alloc: Global, _shared: &()) -> Result<(), AllocError> {
+        Ok(())
+    }
+
     fn new(alloc: Global, settings: &Settings) -> Result<TimedDecoder, AllocError> {
         TimedDecoder::new(alloc, settings)
     }
@@ -46,6 +54,7 @@ impl Stream for TimedDecoder {
     fn take<K: Sink>(
         &mut self,
         _shared: &(),
+        _sum: &mut (),
         id: Id,
         byte: u8,
         sink: &mut K,
@@ -59,6 +68,10 @@ impl Stream for TimedDecoder {
 
     fn finish<K: Sink>(self, id: Id, sink: &mut K) -> Result<bool, Failed> {
         TimedDecoder::finish(self, id, sink)
+    }
+
+    fn write_sum<K: Sink>(_sum: (), _shared: &(), _sink: &mut K) -> Result<(), Failed> {
+        Ok(())
     }
 
     fn abandon(self) -> Ledger {

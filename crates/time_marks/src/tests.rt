@@ -117,11 +117,11 @@ fn a_line_is_one_write(rt: HostRuntime) -> Result<(), Fail> {
 fn the_times_of_two_units(rt: HostRuntime) -> Result<(), Fail> {
     let settings = Settings::new(4, 1, 4).ok().ok_or("they are settings")?;
     let mut sink = MemSink::new(rt.alloc(), Vec::new(rt.alloc()));
-    let mut demux = TimesDemux::new(rt.alloc(), &SettingsTable::new(settings))?;
+    let mut demux = TimesDemux::new(rt.alloc(), &(), &SettingsTable::new(settings))?;
     assert!(rt; !demux.broken() && demux.taken() < MOST_BYTES);
     assert_eq!(rt; demux.take_piece(&(), &TWO, &mut sink), Ok(()));
     assert!(rt; !demux.broken());
-    assert_eq!(rt; demux.finish(&mut sink), Ok(true));
+    assert_eq!(rt; demux.finish(&(), &mut sink), Ok(true));
     assert_eq!(rt;
         sink.written(),
         b"11 event 1 6\n10 p0 0 5\n10 p0 1 7\n11 p0 0 6\n10 end\n11 end\n".as_slice()

@@ -6,12 +6,12 @@ use Rattle.bench_text.specs.declared.fault.BenchWhy.{BenchWhy}
 use Rattle.path_text.specs.Writing.{Writes}
 use Rattle.program_image.specs.declared.image.Image.{Image}
 use Rattle.program_image.specs.declared.fault.ImageWhy.{ImageWhy}
-use Rattle.trace_cmd.specs.Answers.{Answers, AnswersSo, Asks, Call, HasRead, IsBenchBad, IsBenchFault, IsCall, IsImageFault, IsNoMemory}
+use Rattle.trace_cmd.specs.Answers.{Answers, AnswersSo, Asks, Call, HasRead, IsBenchBad, IsBenchFault, IsCall, IsCountsUnder, IsImageFault, IsNoMemory}
 use Rattle.trace_cmd.specs.Answers.{IsOwnBenchBad, IsOwnImageBad, IsOwnTooLong, IsPacketsUnder, IsPathUnder, IsProgramBad, IsRetired, IsRetiredCall}
 use Rattle.trace_cmd.specs.Answers.{IsRunFileCall, IsSelftestOf, IsTested, IsTextOf, IsTimesUnder, IsTraceOf, IsTraced, IsUsage, IsWriteFault}
 use Rattle.trace_cmd.specs.Answers.{BenchText, ImageText, OwnBenchText, OwnImageText, RetiredText, TestText, TraceText, UsageText}
 use Rattle.trace_cmd.specs.Programs.{BadFile, BadText, NoProgram}
-use Rattle.trace_cmd.proofs.WordKinds.{one_kind, packets_kind, path_kind, retired_kind, times_kind, trace_kind}
+use Rattle.trace_cmd.proofs.WordKinds.{counts_kind, one_kind, packets_kind, path_kind, retired_kind, times_kind, trace_kind}
 use Rattle.answer_lines.specs.UsageLine.{usage_line}
 use Rattle.answer_lines.specs.Prints.{Prints, PrintsFront}
 use Rattle.retired_paths.specs.Retired.{RetiresSo, RunsSo}
@@ -40,9 +40,13 @@ use Rattle.wrapped_capture.specs.Laid.{wrapped_laid_is}
 pub none_taken : (s : IoState) (most : ℕ) → TakesAtMost s s most
 none_taken s most = ([], omega arith, Consumes-nil s.bytes)
 
--- neither paths nor packets nor times are of a run file
+-- neither paths nor their counts nor packets nor times are of a run file
 pub path_of_no_run_file : (r : Intake) (words : List (List ℕ)) → IsPathUnder r words → IsRunFileCall words → ⊥
 path_of_no_run_file r words path file = let both : PathKind ≡ RunFileKind = one_kind PathKind RunFileKind words (path_kind r words path) file in cc
+
+pub counts_of_no_run_file : (r : Intake) (words : List (List ℕ)) → IsCountsUnder r words → IsRunFileCall words → ⊥
+counts_of_no_run_file r words counts file =
+    let both : PathKind ≡ RunFileKind = one_kind PathKind RunFileKind words (counts_kind r words counts) file in cc
 
 pub packets_of_no_run_file : (r : Intake) (words : List (List ℕ)) → IsPacketsUnder r words → IsRunFileCall words → ⊥
 packets_of_no_run_file r words packets file =

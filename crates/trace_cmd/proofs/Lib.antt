@@ -1,5 +1,6 @@
 mod AnswerExamples
-pub mod AnswerLemmas
 mod Layouts
+pub mod AnswerLemmas
+pub mod Meaningless
 pub mod Programs
 pub mod WordKinds

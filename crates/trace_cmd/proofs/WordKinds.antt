@@ -1,9 +1,9 @@
 -- Words mean one command, and name a program or none.
 use Rattle.std.proofs.Common.{◌≡◌, ◌⊎◌, ℕ, ◌+◌, List, Option, Some, None, refl, sym, ap, subst, ◌∙◌, inl, inr}
 use Rattle.std.specs.Option.{option_and_then, option_map_or}
-use Rattle.command_words.specs.Words.{Command, Intake, Kind, NoCommand, Packets, Path, PathKind, Program, Retired, RunFileKind}
+use Rattle.command_words.specs.Words.{Command, Counts, Intake, Kind, NoCommand, Packets, Path, PathKind, Program, Retired, RunFileKind}
 use Rattle.command_words.specs.Words.{Selftest, Times, Trace, kind_of, meaning, program_of}
-use Rattle.trace_cmd.specs.Answers.{IsBareCall, IsOfKind, IsPacketsUnder, IsPathCall, IsPathUnder, IsRetiredCall, IsRunFileCall, IsSelftestCall}
+use Rattle.trace_cmd.specs.Answers.{IsBareCall, IsCountsUnder, IsOfKind, IsPacketsUnder, IsPathCall, IsPathUnder, IsRetiredCall, IsRunFileCall, IsSelftestCall}
 use Rattle.trace_cmd.specs.Answers.{IsSelftestOf, IsTimesUnder, IsTraceOf}
 use Rattle.trace_cmd.specs.Answers.{Call, ReadsFirst}
 use Rattle.trace_cmd.specs.Programs.{HasProgram, TakesProgram, most_of, most_taken}
@@ -15,6 +15,9 @@ use Rattle.trace_io.specs.State.{IoState}
 
 pub path_kind : (r : Intake) (words : List (List ℕ)) → IsPathUnder r words → IsPathCall words
 path_kind r words (p, is) = ap kind_of is
+
+pub counts_kind : (r : Intake) (words : List (List ℕ)) → IsCountsUnder r words → IsPathCall words
+counts_kind r words (p, is) = ap kind_of is
 
 pub packets_kind : (r : Intake) (words : List (List ℕ)) → IsPacketsUnder r words → IsBareCall words
 packets_kind r words is = ap kind_of is
@@ -49,6 +52,9 @@ one_framing last every other often words (p, is) (q, also) =
 pub path_program : (r : Intake) (words : List (List ℕ)) (under : IsPathUnder r words) → HasProgram under.0 words
 path_program r words (p, is) = ap (option_and_then program_of) is
 
+pub counts_program : (r : Intake) (words : List (List ℕ)) (under : IsCountsUnder r words) → HasProgram under.0 words
+counts_program r words (p, is) = ap (option_and_then program_of) is
+
 pub retired_program : (words : List (List ℕ)) (asks : IsRetiredCall words) → HasProgram asks.0 words
 retired_program words (p, is) = ap (option_and_then program_of) is
 
@@ -58,6 +64,7 @@ trace_program last every words (p, is) = ap (option_and_then program_of) is
 by_program : (said : Option Command) (p : Program) → option_and_then program_of said ≡ Some p → (kind_of said ≡ PathKind) ⊎ (kind_of said ≡ RunFileKind)
 by_program None p is = absurd cc
 by_program (Some (Path q r)) p is = inl refl
+by_program (Some (Counts q r)) p is = inl refl
 by_program (Some (Packets r)) p is = absurd cc
 by_program (Some (Times r)) p is = absurd cc
 by_program (Some (Retired q)) p is = inr refl

@@ -12,11 +12,11 @@ use Rattle.answer_lines.specs.Prints.{Prints, PrintsFront}
 use Rattle.answer_lines.specs.UsageLine.{usage_line}
 use Rattle.traced_runs.specs.Selftest.{HasBadBench, HasBadImage, IsSummary, IsTooLong}
 use Rattle.traced_runs.specs.Traced.{AreWritten}
-use Rattle.command_words.specs.Words.{Command, Intake, Kind, Program, Path, Packets, Retired, Selftest, Times, Trace}
+use Rattle.command_words.specs.Words.{Command, Counts, Intake, Kind, Program, Path, Packets, Retired, Selftest, Times, Trace}
 use Rattle.command_words.specs.Words.{BareKind, NumberKind, PathKind, RunFileKind, kind_of, meaning}
 use Rattle.bench_text.specs.declared.fault.BenchWhy.{BenchWhy}
 use Rattle.input_pieces.specs.Listed.{Breaks, Completes, Exceeds, Interrupts}
-use Rattle.trace_cmd.specs.Printing.{What, PathsOf, PacketsOf, TimesOf, laid_of, listing_of}
+use Rattle.trace_cmd.specs.Printing.{What, CountsOf, PathsOf, PacketsOf, TimesOf, laid_of, listing_of}
 use Rattle.trace_cmd.specs.Programs.{BadFile, BadText, HasProgram, IsSpelled, NoProgram, TakesNoProgram, TakesProgram, line_of}
 use Rattle.trace_io.specs.declared.traits.Failed.{Failed}
 
@@ -35,9 +35,12 @@ call words image image' input input' = record { words = words; image = image; im
 
 -- ---- what the words ask for
 
--- the path, the packets, and the times of the P0 elements, of an input that is taken so
+-- the path, the counts of paths, the packets, and the times of the P0 elements, of an input that is taken so
 abbrev pub IsPathUnder : Intake → List (List ℕ) → Type 0
 IsPathUnder r words = (p : Program) × (meaning words ≡ Some (Path p r))
+
+abbrev pub IsCountsUnder : Intake → List (List ℕ) → Type 0
+IsCountsUnder r words = (p : Program) × (meaning words ≡ Some (Counts p r))
 
 abbrev pub IsPacketsUnder : Intake → List (List ℕ) → Type 0
 IsPacketsUnder r words = meaning words ≡ Some (Packets r)
@@ -122,9 +125,10 @@ pub record IsProgramBad (c : Call) (refusal : NoProgram) (text : List ℕ) : Typ
   pub refused : TakesNoProgram program c.image c.image' refusal
   pub printed : text ≡ line_of refusal
 
--- what the words ask to print of the input: for paths, over the image that was read to its end
+-- what the words ask to print of the input: for paths and their counts, over the image that was read to its end
 abbrev pub Asks : Call → What → Type 0
 Asks c (PathsOf image r) = IsPathUnder r c.words × HasRead c image
+Asks c (CountsOf image r) = IsCountsUnder r c.words × HasRead c image
 Asks c (PacketsOf r) = IsPacketsUnder r c.words
 Asks c (TimesOf r) = IsTimesUnder r c.words
 

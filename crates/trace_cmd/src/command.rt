@@ -5,7 +5,7 @@ ghost use Rattle.trace_io.specs.Bytes.{ShowsAsBefore, TakesAtMost};
 ghost use Rattle.trace_io.specs.Causes.{HasCause, KeepsFaults};
 ghost use Rattle.trace_io.specs.State.{IoState};
 ghost use Rattle.program_image.specs.Part.{Part};
-ghost use Rattle.command_words.specs.Words.{Path, Retired, Trace, meaning, texts};
+ghost use Rattle.command_words.specs.Words.{Counts, Path, Retired, Trace, meaning, texts};
 ghost use Rattle.path_text.specs.Writing.{Writes};
 ghost use Rattle.trace_cmd.specs.Answers.{Answers, AnswersSo, IsBareCall, IsRunFileCall};
 ghost use Rattle.trace_cmd.specs.Answers.{IsSelftestCall, IsWriteFault, NoReadFailed, ReadsFirst, call};
@@ -20,6 +20,7 @@ ghost use Rattle.stream_demux.specs.Texts.{by_sizes};
 
 use answer_lines::{Status, write_elf_bad, write_image_bad, write_usage};
 use command_words::{Command, Intake, Layout, Program, ProgramForm, command_of};
+use count_streams::CountStream;
 use elf_image::{ElfImageFault, ElfWhy, read_elf};
 use input_pieces::print_input;
 use packet_list::PacketStream;
@@ -45,7 +46,7 @@ fn print_by<P: Printer, J: Source, K: Sink>(
     ensures listed { (t : ℕ → Sizes) (laid : Laid) → IfOk made (λ p. P.stands shared.now t p [] × (P.laid (P.frames p) ≡ laid))
         → ((result ≡ Ok Status.NoMemory) × (input.new ≡ input.old) × (out.new ≡ out.old))
         ⊎ Listed laid (P.listing shared.now t) (J.state input.old) (J.state input.new) (K.state out.old) (K.state out.new) result }
-    ensures kept { (result ≡ Ok Status.ReadFault) ⊎ KeepsFaults (J.state input.old) (J.state input.new) }
+    ensures kept { (result ≡ Ok Status.ReadFault) ⊎ IsErr result ⊎ KeepsFaults (J.state input.old) (J.state input.new) }
     ensures cause { HasCause (K.state out.old) (K.state out.new) result }
     ensures shows { ShowsAsBefore (K.state out.old) (K.state out.new) }
     ensures input_shows { ShowsAsBefore (J.state input.old) (J.state input.new) }
@@ -69,7 +70,7 @@ fn print_streams<S: Stream, J: Source, K: Sink>(
     ensures listed { ((result ≡ Ok Status.NoMemory) × (input.new ≡ input.old) × (out.new ≡ out.old))
         ⊎ Listed (laid_in intake.now.layout) (by_sizes (S.listing shared.now) (sizes_by (said_intake intake.now)))
         (J.state input.old) (J.state input.new) (K.state out.old) (K.state out.new) result }
-    ensures kept { (result ≡ Ok Status.ReadFault) ⊎ KeepsFaults (J.state input.old) (J.state input.new) }
+    ensures kept { (result ≡ Ok Status.ReadFault) ⊎ IsErr result ⊎ KeepsFaults (J.state input.old) (J.state input.new) }
     ensures cause { HasCause (K.state out.old) (K.state out.new) result }
     ensures shows { ShowsAsBefore (K.state out.old) (K.state out.new) }
     ensures input_shows { ShowsAsBefore (J.state input.old) (J.state input.new) }
@@ -77,13 +78,22 @@ fn print_streams<S: Stream, J: Source, K: Sink>(
 {
     let table = &intake.settings;
     match intake.layout {
-        Layout::Raw => print_by(RawStream::<S>::new(alloc, table), shared, input, out),
-        Layout::Frames => print_by(Demux::<S>::new(alloc, table), shared, input, out),
+        Layout::Raw => {
+            let raw = RawStream::<S>::new(alloc, shared, table);
+            print_by(raw, shared, input, out)
+        }
+        Layout::Frames => {
+            let frames = Demux::<S>::new(alloc, shared, table);
+            print_by(frames, shared, input, out)
+        }
         Layout::Wrapped(frames) => {
-            let wrapped = WrappedDemux::<S>::new(alloc, frames, table);
+            let wrapped = WrappedDemux::<S>::new(alloc, frames, shared, table);
             print_by(wrapped, shared, input, out)
         }
-        Layout::Synced => print_by(SyncedDemux::<S>::new(alloc, table), shared, input, out),
+        Layout::Synced => {
+            let synced = SyncedDemux::<S>::new(alloc, shared, table);
+            print_by(synced, shared, input, out)
+        }
     }
 }
 
@@ -194,7 +204,7 @@ fn answer_path<I: Source, J: Source, K: Sink>(
         → AnswersSo (call words (I.state image.old) (I.state image.new) (J.state input.old) (J.state input.new))
         (K.state out.old) (K.state out.new) result }
     ensures image_few { TakesAtMost (I.state image.old) (I.state image.new) (most_of (said_program program.now) + 1) }
-    ensures kept { (result ≡ Ok Status.ReadFault)
+    ensures kept { (result ≡ Ok Status.ReadFault) ⊎ IsErr result
         ⊎ (KeepsFaults (I.state image.old) (I.state image.new) × KeepsFaults (J.state input.old) (J.state input.new)) }
     ensures order { (input.new ≡ input.old)
         ⊎ ((parts : List Part) × TakesProgram (said_program program.now) (I.state image.old) (I.state image.new) parts) }
@@ -211,6 +221,41 @@ fn answer_path<I: Source, J: Source, K: Sink>(
 {
     match read_image(alloc, program, image, out)? {
         Ok(image) => print_streams::<StreamDecoder, J, K>(alloc, intake, &image, input, out),
+        Err(status) => Ok(status),
+    }
+}
+
+/// Reads the image, and prints how often the paths of the input over it have what is counted.
+fn answer_counts<I: Source, J: Source, K: Sink>(
+    alloc: Global,
+    program: &Program,
+    intake: &Intake,
+    image: &mut I,
+    input: &mut J,
+    out: &mut K,
+) -> Result<Status, Failed>
+    requires { IsLaidOut intake.now.layout }
+    ensures answer { (words : List (List ℕ)) → meaning words ≡ Some (Counts (said_program program.now) (said_intake intake.now))
+        → AnswersSo (call words (I.state image.old) (I.state image.new) (J.state input.old) (J.state input.new))
+        (K.state out.old) (K.state out.new) result }
+    ensures image_few { TakesAtMost (I.state image.old) (I.state image.new) (most_of (said_program program.now) + 1) }
+    ensures kept { (result ≡ Ok Status.ReadFault) ⊎ IsErr result
+        ⊎ (KeepsFaults (I.state image.old) (I.state image.new) × KeepsFaults (J.state input.old) (J.state input.new)) }
+    ensures order { (input.new ≡ input.old)
+        ⊎ ((parts : List Part) × TakesProgram (said_program program.now) (I.state image.old) (I.state image.new) parts) }
+    ensures image_failed { KeepsFaults (I.state image.old) (I.state image.new) ⊎ (input.new ≡ input.old) }
+    ensures image_first { (line : ℕ) (why : ImageWhy) → result ≡ Ok (Status.ImageBad line why) → input.new ≡ input.old }
+    ensures elf_first { (why : ElfWhy) → result ≡ Ok (Status.ElfBad why) → input.new ≡ input.old }
+    ensures memory { result ≡ Ok Status.NoMemory → input.new ≡ input.old }
+    ensures image_shows { ShowsAsBefore (I.state image.old) (I.state image.new) }
+    ensures image_later { (I.state image.old).faults ≤ (I.state image.new).faults }
+    ensures input_shows { ShowsAsBefore (J.state input.old) (J.state input.new) }
+    ensures input_later { (J.state input.old).faults ≤ (J.state input.new).faults }
+    ensures cause { HasCause (K.state out.old) (K.state out.new) result }
+    ensures shows { ShowsAsBefore (K.state out.old) (K.state out.new) }
+{
+    match read_image(alloc, program, image, out)? {
+        Ok(image) => print_streams::<CountStream, J, K>(alloc, intake, &image, input, out),
         Err(status) => Ok(status),
     }
 }
@@ -305,7 +350,7 @@ fn answer_words<I: Source, J: Source, K: Sink>(
         (K.state out.old) (K.state out.new) result }
     ensures few { IsRunFileCall (texts words.now) → TakesAtMost (J.state input.old) (J.state input.new) (most_text + 1) }
     ensures image_few { TakesAtMost (I.state image.old) (I.state image.new) (most_taken (texts words.now)) }
-    ensures kept { (result ≡ Ok Status.ReadFault)
+    ensures kept { (result ≡ Ok Status.ReadFault) ⊎ IsErr result
         ⊎ (KeepsFaults (I.state image.old) (I.state image.new) × KeepsFaults (J.state input.old) (J.state input.new)) }
     ensures order { (input.new ≡ input.old)
         ⊎ ReadsFirst (call (texts words.now) (I.state image.old) (I.state image.new) (J.state input.old) (J.state input.new)) }
@@ -332,6 +377,9 @@ fn answer_words<I: Source, J: Source, K: Sink>(
         Command::Path { program, intake } => {
             answer_path(alloc, program, intake, image, input, out)
         }
+        Command::Counts { program, intake } => {
+            answer_counts(alloc, program, intake, image, input, out)
+        }
         Command::Packets { intake } => {
             print_streams::<PacketStream, J, K>(alloc, intake, &(), input, out)
         }
@@ -350,14 +398,15 @@ fn answer_words<I: Source, J: Source, K: Sink>(
 
 /// Runs the command that the words mean.
 ///
-/// `path [--raw] [--wrap K] [--sync] [--depth N] [--vmid N] [--cid N] [--settings LIST] [--elf] IMAGE` prints the path of each
-/// stream of an input, and `packets [--raw] [--wrap K] [--sync] [--vmid N] [--cid N] [--settings LIST]` its packets. The input is
-/// formatter frames of up to 111 streams, or with `--raw` one stream that is not framed, with the ID 01. With `--wrap K` the frames
-/// are those of a buffer that was written round, of which frame K is the oldest: those from it on are printed as they come, and
-/// those before it at the end. With `--sync` they are those of a trace port, with synchronisation packets among them, from the
-/// first full one on. `times [--raw] [--depth N] [--vmid N] [--cid N] [--settings LIST]` prints of each stream which committed P0
-/// element has which timestamp, and when its events came. The other three numbers are the settings of each stream's trace unit,
-/// and LIST gives single IDs others, as `01:0:1:4,6f:16:0:0`.
+/// `path [--raw] [--wrap K] [--sync] [--depth N] [--vmid N] [--cid N] [--settings LIST] [--elf] [--count] IMAGE` prints the path of
+/// each stream of an input, or in their place, with `--count`, how often each instruction and each other item stands in them; and
+/// `packets [--raw] [--wrap K] [--sync] [--vmid N] [--cid N] [--settings LIST]` prints its packets. The input is formatter frames of
+/// up to 111 streams, or with `--raw` one stream that is not framed, with the ID 01. With `--wrap K` the frames are those of a
+/// buffer that was written round, of which frame K is the oldest: those from it on are printed as they come, and those before it at
+/// the end. With `--sync` they are those of a trace port, with synchronisation packets among them, from the first full one on.
+/// `times [--raw] [--depth N] [--vmid N] [--cid N] [--settings LIST]` prints of each stream which committed P0 element has which
+/// timestamp, and when its events came. The other three numbers are the settings of each stream's trace unit, and LIST gives single
+/// IDs others, as `01:0:1:4,6f:16:0:0`.
 ///
 /// `retired [--elf] IMAGE` reads a run file, and prints the retired path of each of its streams. `trace [--last N] [--sync M] [--elf]
 /// IMAGE` reads a run file, and writes the traces of its streams in frames, of which `path` prints those retired paths; or only the

@@ -1,5 +1,5 @@
 -- What is printed of paths that all end clean.
-use Rattle.std.proofs.Common.{◌≡◌, ◌⊎◌, ℕ, zero, suc, ◌+◌, ◌<◌, ◌==◌, if◌then◌else◌, Bool, true, false, List, [], ◌∷◌, ◌++◌, Option, Some, None}
+use Rattle.std.proofs.Common.{◌≡◌, ◌⊎◌, ℕ, zero, suc, ◌+◌, ◌<◌, ◌==◌, if◌then◌else◌, Bool, true, false, List, [], ◌∷◌, ◌++◌, map, Option, Some, None}
 use Rattle.std.proofs.Common.{refl, sym, ap, subst, ◌∙◌, inl, inr, arith}
 use Rattle.std.specs.Prelude.{All, ◌||◌, is_some, slice_index_or}
 use Rattle.std.specs.List.{range_with_len}
@@ -18,8 +18,8 @@ use Rattle.path_text.specs.PathLines.{line_list}
 use Rattle.program_image.specs.declared.image.Image.{Image}
 use Rattle.stream_demux.proofs.PathTexts.{one_path}
 use Rattle.stream_demux.specs.Laws.{PathPrinted, has_id, lines_with}
-use Rattle.stream_demux.specs.Paths.{paths}
-use Rattle.stream_demux.specs.Texts.{BodyFrom, EndsOf, IsText, Listing, Printed, StreamEnds, by_sizes, lines_under, of, sources}
+use Rattle.stream_demux.specs.Paths.{PathEnds}
+use Rattle.stream_demux.specs.Texts.{BodyFrom, EndsOf, IsText, Listing, Printed, StreamEnds, lines_under, of, sources}
 
 -- ---- a path that ends clean is one of some bytes
 
@@ -27,7 +27,7 @@ no_sync_in_nothing : (at : ℕ) → SyncAt at [] → ⊥
 no_sync_in_nothing zero here = absurd cc
 no_sync_in_nothing (suc at) here = absurd cc
 
-nothing_is_not_clean : (image : Image) (s : Sizes) (items : List Item) → IsPath image s [] items end.Clean → ⊥
+pub nothing_is_not_clean : (image : Image) (s : Sizes) (items : List Item) → IsPath image s [] items end.Clean → ⊥
 nothing_is_not_clean image s items (took, (packets, ending, inl (at, first, parses), path)) = no_sync_in_nothing at first.here
 nothing_is_not_clean image s items (took, (packets, ending, inr (none, no_packets, ends), path)) =
     let here = subst (λ (p : List (ℕ × Packet)). IsPathOfPackets image s.depth p ending items end.Clean took) no_packets path in
@@ -53,23 +53,30 @@ module _ (image : Image) (s : Sizes) (are : AreSettings s) where
 
 -- ---- no fault
 
-module _ (image : Image) (t : ℕ → Sizes) (are : (id : ℕ) → AreSettings (t id)) where
+-- the streams of this listing end as their paths do
+abbrev pub EndAsPaths : Image → (ℕ → Sizes) → Listing → Type 0
+EndAsPaths image t g = (id : ℕ) (bytes line : List ℕ) (faulty : Bool) → g.ends id bytes line faulty → PathEnds image (t id) id bytes line faulty
+
+module _ (image : Image) (t : ℕ → Sizes) (are : (id : ℕ) → AreSettings (t id)) (g : Listing) (end_so : EndAsPaths image t g) where
   stream_well : (id : ℕ) (bytes : List ℕ) (lines : List Printed) (faulty : Bool) → EndsWell image (t id) bytes
-      → StreamEnds (by_sizes (paths image) t) id bytes lines faulty → faulty ≡ false
+      → StreamEnds g id bytes lines faulty → faulty ≡ false
   stream_well id [] lines faulty well (none, whole) = whole
   stream_well id (b ∷ bytes) lines faulty (inl none) ends = absurd cc
-  stream_well id (b ∷ bytes) lines faulty (inr (items, path)) (line, (others, last, also, line_is, fault_is), all) =
-      fault_is ∙ ap is_fault (one_path image (t id) (are id) (b ∷ bytes) others items last end.Clean also path).1
+  stream_well id (b ∷ bytes) lines faulty (inr (items, path)) (line, ends, all) = of_path (end_so id (b ∷ bytes) line faulty ends)
+    where
+      of_path : PathEnds image (t id) id (b ∷ bytes) line faulty → faulty ≡ false
+      of_path (others, last, also, line_is, fault_is) =
+          fault_is ∙ ap is_fault (one_path image (t id) (are id) (b ∷ bytes) others items last end.Clean also path).1
 
   module _ (pairs : List (ℕ × ℕ)) (well : (id : ℕ) → 0 < id → EndsWell image (t id) (of id pairs)) where
     ends_well : (from count : ℕ) (lines : List Printed) (faulty : Bool) → 0 < from
-        → EndsOf (by_sizes (paths image) t) pairs (range_with_len from count) lines faulty → faulty ≡ false
+        → EndsOf g pairs (range_with_len from count) lines faulty → faulty ≡ false
     ends_well from zero lines faulty some (none, whole) = whole
     ends_well from (suc count) lines faulty some (first, rest, one, others, here, later, is, fault) =
         let this = stream_well from (of from pairs) first one (well from some) here in
         fault ∙ ap (λ (b : Bool). b || others) this ∙ ends_well (from + 1) count rest others (omega arith) later
 
-    pub text_well : (lines : List Printed) (faulty : Bool) → IsText (by_sizes (paths image) t) pairs 0 lines faulty → faulty ≡ false
+    pub text_well : (lines : List Printed) (faulty : Bool) → IsText g pairs 0 lines faulty → faulty ≡ false
     unfolding sources
     text_well lines faulty is =
         let last = is.ended in last.fault ∙ ap (λ (b : Bool). b || false) (ends_well 1 111 last.ends last.some_fault (omega arith) last.ended)
@@ -92,17 +99,21 @@ stream_has : (g : Listing) (id : ℕ) (bytes : List ℕ) (lines : List Printed) 
 stream_has g id [] lines faulty (none, whole) = subst (All HasId) (sym none) (All-nil HasId)
 stream_has g id (b ∷ bytes) lines faulty (line, ends, is) = subst (All HasId) (sym is) (under_have id (line ∷ []))
 
-ends_have : (g : Listing) (pairs : List (ℕ × ℕ)) (ids : List ℕ) (lines : List Printed) (faulty : Bool) → EndsOf g pairs ids lines faulty → All HasId lines
+pub ends_have : (g : Listing) (pairs : List (ℕ × ℕ)) (ids : List ℕ) (lines : List Printed) (faulty : Bool) → EndsOf g pairs ids lines faulty → All HasId lines
 ends_have g pairs [] lines faulty (none, whole) = subst (All HasId) (sym none) (All-nil HasId)
 ends_have g pairs (id ∷ ids) lines faulty (first, rest, one, others, here, later, is, fault) =
     subst (All HasId) (sym is) (All-append HasId first rest (stream_has g id (of id pairs) first one here) (ends_have g pairs ids rest others later))
 
-pub text_has : (g : Listing) (pairs : List (ℕ × ℕ)) (lines : List Printed) (faulty : Bool) → IsText g pairs 0 lines faulty → All HasId lines
-text_has g pairs lines faulty is =
+-- where no line is of a sum
+pub text_has : (g : Listing) → ((items : List (ℕ × Item)) → g.sums items ≡ []) → (pairs : List (ℕ × ℕ)) (lines : List Printed) (faulty : Bool)
+    → IsText g pairs 0 lines faulty → All HasId lines
+text_has g none pairs lines faulty is =
     let last = is.ended in
     let ends = All-append HasId last.ends [] (ends_have g pairs sources last.ends last.some_fault last.ended) (All-nil HasId) in
+    let sums : last.sums ≡ [] = last.summed.2 ∙ ap (map (λ (line : List ℕ). record { id = None; line = line })) (none last.summed.0) in
+    let ending = ap (λ (l : List Printed). l ++ (last.ends ++ [])) sums in
     subst (All HasId) (sym is.all)
-    (All-append HasId is.body is.ending (body_has g [] pairs is.body is.gained) (subst (All HasId) (sym last.all) ends))
+    (All-append HasId is.body is.ending (body_has g [] pairs is.body is.gained) (subst (All HasId) (sym (last.all ∙ ending)) ends))
 
 -- ---- and of no other
 

@@ -12,11 +12,13 @@ use Rattle.bench_text.specs.Refusals.{refusal_among, stream_refusal}
 use Rattle.etm_types.specs.Id.{IsId}
 use Rattle.etm_types.specs.Settings.{AreSettings, Sizes}
 use Rattle.etm_types.specs.SettingsTable.{IsTable, sizes_at}
+use Rattle.etm_types.specs.declared.item.Item.{Item}
 use Rattle.etm_types.proofs.Tables.{are_settings}
 use Rattle.formatter_frames.proofs.RoundTrip.{nothing_left, pairs_again}
 use Rattle.formatter_frames.specs.Unframed.{unframed}
 use Rattle.packet_grammar.specs.declared.end.End.TheVariants as end
 use Rattle.packet_grammar.specs.declared.packet.Packet.{Packet}
+use Rattle.path_elements.specs.Path.{IsPath}
 use Rattle.packet_writer.proofs.Having.{of_bytes}
 use Rattle.packet_writer.specs.Fitting.{HasSpelling}
 use Rattle.packet_writer.specs.Spelling.{spelling}
@@ -86,6 +88,13 @@ spelled_bytes s (p ∷ packets) have =
     All-append IsByte (spelling s p) (spelled s packets) (of_bytes s p (All-head (HasSpelling s) p packets have))
     (spelled_bytes s packets (All-tail (HasSpelling s) p packets have))
 
+-- Bytes are those of the trace of these events, with these items: there is no event, no byte and no item, or the path of the bytes shows the
+-- items and ends clean.
+abbrev pub HasRetired : Image → Sizes → ℕ → List Item → List Event → List ℕ → Type 0
+HasRetired image s id items events bytes =
+    ((bytes ≡ []) × (end_lines id events ≡ []) × (items ≡ []))
+    ⊎ (IsPath image s bytes items end.Clean × (end_lines id events ≡ end_line id end.Clean ∷ []))
+
 module _ (image : Image) (is : IsImage image) (s : Sizes) (are : AreSettings s) (most : ℕ) (le : most ≤ 15) where
   settled_bytes : (events : List Event) (x : Execution) → AreEvents s events → run_after image s.depth events ≡ Ok x
       → All IsByte (settled image s most events)
@@ -103,6 +112,14 @@ module _ (image : Image) (is : IsImage image) (s : Sizes) (are : AreSettings s) 
       → EndsWell image s (settled image s most events)
   settled_well [] x given e = inl refl
   settled_well (event ∷ events) x given e = inr (retired_of x, trace_shows image s most (event ∷ events) x is are le given (omega arith) e)
+
+  -- it is the retired path
+  settled_path : (id : ℕ) (events : List Event) (x : Execution) → AreEvents s events → run_after image s.depth events ≡ Ok x
+      → HasRetired image s id (items_after (run_after image s.depth events)) events (settled image s most events)
+  settled_path id [] x given e = inl (refl, refl, refl)
+  settled_path id (event ∷ events) x given e =
+      let shown = trace_shows image s most (event ∷ events) x is are le given (omega arith) e in
+      inr (subst (λ (items : List Item). IsPath image s (settled image s most (event ∷ events)) items end.Clean) (ap items_after (sym e)) shown, refl)
 
   settled_lines : (id : ℕ) (events : List Event) (x : Execution) (lines : List Printed) → AreEvents s events → run_after image s.depth events ≡ Ok x
       → PathPrinted image s id (settled image s most events) lines
@@ -137,7 +154,7 @@ no_event_no_line image st none = (
 )
 
 -- an ID is one of a source, or not
-one_of_sources : (id : ℕ) → IsId id ⊎ (IsId id → ⊥)
+pub one_of_sources : (id : ℕ) → IsId id ⊎ (IsId id → ⊥)
 one_of_sources id = elim (leb_tells 1 id) [
   | inl low ↦
       elim (leb_tells id 111) [ inl high ↦ inl (low.1, high.1) | inr high ↦ inr (λ source. absurd (omega (arith, source.1, high.1))) ]
@@ -211,6 +228,9 @@ module _ (image : Image) (b : BenchParts) (is : IsImage image) (bench : IsBench 
   absent : (id : ℕ) → has_stream id b.streams ≡ false → of id (trace_pairs image b) ≡ []
   absent id other = others_have_no_byte b.weaves (traces image b) id (same_ids bytes_of id b.streams ∙ other)
 
+  pub others_are_absent : (id : ℕ) → 0 < id → has_stream id b.streams ≡ false → of id frames_carry ≡ []
+  others_are_absent id some other = carried id some ∙ absent id other
+
   -- ---- under a table that suits
 
   record IsTraced (st : BenchStream) : Type 0 where
@@ -243,7 +263,7 @@ module _ (image : Image) (b : BenchParts) (is : IsImage image) (bench : IsBench 
         (subst (EndsWell image st.settings) (sym t.bytes)
         (settled_well image is st.settings t.stream.settings st.stack t.stream.stack (events_of st.lines) t.run.1.0 t.run.0 t.run.1.1))
 
-    ends_well : (id : ℕ) → 0 < id → EndsWell image (own id) (of id frames_carry)
+    pub ends_well : (id : ℕ) → 0 < id → EndsWell image (own id) (of id frames_carry)
     ends_well id some = subst (EndsWell image (own id)) (sym (carried id some)) (by (has_stream id b.streams) refl)
       where
         by : (t : Bool) → has_stream id b.streams ≡ t → EndsWell image (own id) (of id (trace_pairs image b))
@@ -251,6 +271,23 @@ module _ (image : Image) (b : BenchParts) (is : IsImage image) (bench : IsBench 
             let one = found HasSizes id b.streams sized e in
             subst (λ (i : ℕ). EndsWell image (own i) (of i (trace_pairs image b))) one.2 (stream_ends_well one.0 one.1)
         by false e = inl (absent id e)
+
+    -- ---- the retired paths
+
+    abbrev pub StreamHasRetired : BenchStream → Type 0
+    StreamHasRetired st =
+        HasRetired image (own st.id) st.id (items_after (run_after image st.settings.depth (events_of st.lines))) (events_of st.lines)
+        (of st.id frames_carry)
+
+    stream_has_retired : (st : BenchStream) → HasSizes st → StreamHasRetired st
+    stream_has_retired st (t, same) =
+        let items = items_after (run_after image st.settings.depth (events_of st.lines)) in
+        let has = settled_path image is st.settings t.stream.settings st.stack t.stream.stack st.id (events_of st.lines) t.run.1.0 t.run.0 t.run.1.1 in
+        subst (λ (s : Sizes). HasRetired image s st.id items (events_of st.lines) (of st.id frames_carry)) (sym same)
+        (subst (HasRetired image st.settings st.id items (events_of st.lines)) (sym (carried st.id t.stream.id.0 ∙ t.bytes)) has)
+
+    pub streams_have_retired : All StreamHasRetired b.streams
+    streams_have_retired k d within = stream_has_retired (slice_index_or b.streams k d) (sized k d within)
 
     -- ---- the lines
 
@@ -288,12 +325,12 @@ module _ (image : Image) (b : BenchParts) (is : IsImage image) (bench : IsBench 
       shows_traces = record {
         streams = of_streams;
         retired = λ k d within. as_text (slice_index_or b.streams k d) (of_streams k d within);
-        alone = ids_are (λ id. has_stream id b.streams) lines (text_has (by_sizes (paths image) own) frames_carry lines faulty text) of_other
+        alone = ids_are (λ id. has_stream id b.streams) lines (text_has (by_sizes (paths image) own) (λ items. refl) frames_carry lines faulty text) of_other
             (is_of_one b.streams) (λ id. refl);
       }
 
       no_fault : faulty ≡ false
-      no_fault = text_well image own own_settings frames_carry ends_well lines faulty text
+      no_fault = text_well image own own_settings (by_sizes (paths image) own) (λ id bytes line faulty ends. ends) frames_carry ends_well lines faulty text
 
     -- ---- under another
 
@@ -312,7 +349,7 @@ module _ (image : Image) (b : BenchParts) (is : IsImage image) (bench : IsBench 
 
     other_text : (other : List Sizes) → Suits b other → (lines : List Printed) (faulty : Bool) → IsTraceText image table b lines faulty
         → IsTraceText image other b lines faulty
-    other_text other also lines faulty text = text_alike (paths image) own (sizes_at other) frames_carry 0 lines faulty (alike other also) text
+    other_text other also lines faulty text = text_alike (paths image) own (sizes_at other) frames_carry 0 lines faulty (λ s. refl) (alike other also) text
 
   pub traces_are_shown : TracesAreShown image b
   traces_are_shown =

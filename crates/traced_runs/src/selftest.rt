@@ -149,7 +149,7 @@ fn count_lines(
     ensures { IfOk result (λ count. (lines : List Printed) × HasLines image.now bench.now frames.now lines × (count ≡ length lines)) }
 {
     let mut source = source_of(alloc, frames, piece)?;
-    let demux = Demux::<StreamDecoder>::new(alloc, &table_of(bench))?;
+    let demux = Demux::<StreamDecoder>::new(alloc, image, &table_of(bench))?;
     let mut text = MemSink::new(alloc, Vec::new(alloc));
     // No read fails, and there are not too many bytes: where no write failed, all of them were read.
     match print_input(demux, image, &mut source, &mut text) {

@@ -2,8 +2,10 @@
 use Rattle.std.specs.Prelude.{ℕ, ◌+◌, List, refl}
 use Rattle.std.specs.Coded.{Coded, code_by, coded×, coded_list, coded_ℕ}
 use Rattle.etm_types.specs.Settings.{Sizes}
+use Rattle.etm_types.specs.declared.item.Item.{Item}
 use Rattle.stream_demux.specs.Demuxed.{Demuxed, demuxed_code}
 use Rattle.stream_demux.specs.Demuxed as demuxed
+use Rattle.stream_demux.specs.Texts.{Listing}
 use Rattle.wrapped_capture.specs.Rotated.{later_frames}
 use Rattle.wrapped_capture.specs.Unwrapping.{StandsAt, Unwrapping, count_of}
 
@@ -13,21 +15,21 @@ unwrapping_code =
     (λ p. record { frames = p.0; kept = p.1.0; begun = p.1.1 }) (λ _. refl)
 
 -- what holds frames back, and the streams of the frames that were given
-pub record Wrapped (X : Type 0) : Type 0 where
+pub record Wrapped (X Y : Type 0) : Type 0 where
   pub unwrap : Unwrapping
-  pub demux : Demuxed X
+  pub demux : Demuxed X Y
 
-abbrev pub wrapped_code : {X : Type 0} → Coded X → Coded (Wrapped X)
-wrapped_code {X} code =
-    code_by (Unwrapping × Demuxed X) (coded× unwrapping_code (demuxed_code code)) (λ w. (w.unwrap, w.demux)) (λ p. record { unwrap = p.0; demux = p.1 })
+abbrev pub wrapped_code : {X Y : Type 0} → Coded X → Coded Y → Coded (Wrapped X Y)
+wrapped_code {X} {Y} stream sum =
+    code_by (Unwrapping × Demuxed X Y) (coded× unwrapping_code (demuxed_code stream sum)) (λ w. (w.unwrap, w.demux)) (λ p. record { unwrap = p.0; demux = p.1 })
     (λ _. refl)
 
 -- these bytes were taken, and no write failed: the streams stand at the later frames of them
-pub record HaveTaken {X : Type 0} (stands : X → List ℕ → Type 0) (sizes : X → Sizes) (t : ℕ → Sizes) (u : Unwrapping) (d : Demuxed X) (bytes : List ℕ)
-    : Type 0 where
+pub record HaveTaken {X Y : Type 0} (stands : X → List ℕ → Type 0) (sizes : X → Sizes) (sums : Y → List (ℕ × Item) → Type 0) (g : Sizes → Listing)
+    (t : ℕ → Sizes) (u : Unwrapping) (d : Demuxed X Y) (bytes : List ℕ) : Type 0 where
   pub unwrap : StandsAt u bytes
-  pub demux : demuxed.StandsAt stands sizes t d (later_frames u.frames bytes)
+  pub demux : demuxed.StandsAt stands sizes sums g t d (later_frames u.frames bytes)
 
 -- how many bytes were taken
-abbrev pub taken_of : {X : Type 0} → Unwrapping → Demuxed X → ℕ
+abbrev pub taken_of : {X Y : Type 0} → Unwrapping → Demuxed X Y → ℕ
 taken_of u d = count_of u + d.taken

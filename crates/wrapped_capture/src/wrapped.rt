@@ -20,7 +20,7 @@ use trace_io::{Failed, Sink};
 
 /// Takes the bytes of a capture buffer whose oldest frame is not its first one, and writes the lines that its streams add: those of the
 /// frames from the oldest one on as they come, and those of the first frames once no more bytes come. It has no drop: it ends by
-/// `finish` or `abandon`.
+/// `finish`, `close` or `abandon`.
 #[must_use]
 pub struct WrappedDemux<S: Stream> {
     unwrap: Unwrap,
@@ -30,9 +30,9 @@ pub struct WrappedDemux<S: Stream> {
 impl<S: Stream> Model for WrappedDemux<S> {
     ghost use Rattle.wrapped_capture.specs.Wrapped.{Wrapped, wrapped_code};
 
-    ghost Value = { Wrapped S };
+    ghost Value = { Wrapped S S.Sum };
 
-    ghost coded = { wrapped_code S.code };
+    ghost coded = { wrapped_code S.code S.Sum.code };
 
     ghost view = { λ w. record { unwrap = w.unwrap; demux = w.demux } };
 }
@@ -43,16 +43,18 @@ impl<S: Stream> WrappedDemux<S> {
     pub fn new(
         alloc: Global,
         frames: u32,
+        shared: &S::Shared,
         table: &SettingsTable,
     ) -> Result<WrappedDemux<S>, AllocError>
         requires { frames ≤ 65536 }
         ensures frames { IfOk result (λ w. w.unwrap.frames ≡ frames) }
-        ensures stands { IfOk result (λ w. (shared : S.Shared) → HaveTaken (S.stands shared) S.sizes (sizes_at table.now) w.unwrap w.demux []) }
+        ensures stands { IfOk result (λ w.
+            HaveTaken (S.stands shared.now) S.sizes (S.sums shared.now) (S.listing shared.now) (sizes_at table.now) w.unwrap w.demux []) }
     {
         let unwrap = Unwrap::new(alloc, frames)?;
         Ok(WrappedDemux {
             unwrap,
-            demux: Demux::new(alloc, table)?,
+            demux: Demux::new(alloc, shared, table)?,
         })
     }
 }
@@ -67,9 +69,11 @@ fn take_byte<S: Stream, K: Sink>(
 ) -> Result<(), Failed>
     requires whole { demux.old.broken ≡ false }
     requires few { taken_of unwrap.old demux.old + 1 ≤ 2 ^ 30 }
-    ensures stands { (t : ℕ → Sizes) (bytes : List ℕ) → HaveTaken (S.stands shared.now) S.sizes t unwrap.old demux.old bytes → IsOk result
-        → HaveTaken (S.stands shared.now) S.sizes t unwrap.new demux.new (bytes ++ byte ∷ []) }
-    ensures gains { (t : ℕ → Sizes) (bytes : List ℕ) → HaveTaken (S.stands shared.now) S.sizes t unwrap.old demux.old bytes
+    ensures stands { (t : ℕ → Sizes) (bytes : List ℕ)
+        → HaveTaken (S.stands shared.now) S.sizes (S.sums shared.now) (S.listing shared.now) t unwrap.old demux.old bytes → IsOk result
+        → HaveTaken (S.stands shared.now) S.sizes (S.sums shared.now) (S.listing shared.now) t unwrap.new demux.new (bytes ++ byte ∷ []) }
+    ensures gains { (t : ℕ → Sizes) (bytes : List ℕ)
+        → HaveTaken (S.stands shared.now) S.sizes (S.sums shared.now) (S.listing shared.now) t unwrap.old demux.old bytes
         → Gains (later_pairs unwrap.old.frames) (by_sizes (S.listing shared.now) t) bytes (byte ∷ []) (K.state sink.old) (K.state sink.new) result }
     ensures cause { HasCause (K.state sink.old) (K.state sink.new) result }
     ensures shows { ShowsAsBefore (K.state sink.old) (K.state sink.new) }
@@ -94,9 +98,11 @@ fn take_bytes<S: Stream, K: Sink>(
 ) -> Result<(), Failed>
     requires whole { demux.old.broken ≡ false }
     requires few { taken_of unwrap.old demux.old + length piece.now ≤ 2 ^ 30 }
-    ensures stands { (t : ℕ → Sizes) (bytes : List ℕ) → HaveTaken (S.stands shared.now) S.sizes t unwrap.old demux.old bytes → IsOk result
-        → HaveTaken (S.stands shared.now) S.sizes t unwrap.new demux.new (bytes ++ piece.now) }
-    ensures gains { (t : ℕ → Sizes) (bytes : List ℕ) → HaveTaken (S.stands shared.now) S.sizes t unwrap.old demux.old bytes
+    ensures stands { (t : ℕ → Sizes) (bytes : List ℕ)
+        → HaveTaken (S.stands shared.now) S.sizes (S.sums shared.now) (S.listing shared.now) t unwrap.old demux.old bytes → IsOk result
+        → HaveTaken (S.stands shared.now) S.sizes (S.sums shared.now) (S.listing shared.now) t unwrap.new demux.new (bytes ++ piece.now) }
+    ensures gains { (t : ℕ → Sizes) (bytes : List ℕ)
+        → HaveTaken (S.stands shared.now) S.sizes (S.sums shared.now) (S.listing shared.now) t unwrap.old demux.old bytes
         → Gains (later_pairs unwrap.old.frames) (by_sizes (S.listing shared.now) t) bytes piece.now (K.state sink.old) (K.state sink.new) result }
     ensures cause { HasCause (K.state sink.old) (K.state sink.new) result }
     ensures shows { ShowsAsBefore (K.state sink.old) (K.state sink.new) }
@@ -123,9 +129,11 @@ fn take_kept<S: Stream, K: Sink>(
 ) -> Result<(), Failed>
     requires whole { demux.old.broken ≡ false }
     requires few { taken_of unwrap.now demux.old ≤ 2 ^ 30 }
-    ensures stands { (t : ℕ → Sizes) (bytes : List ℕ) → HaveTaken (S.stands shared.now) S.sizes t unwrap.now demux.old bytes → IsOk result
-        → StandsAt (S.stands shared.now) S.sizes t demux.new (rotated unwrap.now.frames bytes) }
-    ensures gains { (t : ℕ → Sizes) (bytes : List ℕ) → HaveTaken (S.stands shared.now) S.sizes t unwrap.now demux.old bytes
+    ensures stands { (t : ℕ → Sizes) (bytes : List ℕ)
+        → HaveTaken (S.stands shared.now) S.sizes (S.sums shared.now) (S.listing shared.now) t unwrap.now demux.old bytes → IsOk result
+        → StandsAt (S.stands shared.now) S.sizes (S.sums shared.now) (S.listing shared.now) t demux.new (rotated unwrap.now.frames bytes) }
+    ensures gains { (t : ℕ → Sizes) (bytes : List ℕ)
+        → HaveTaken (S.stands shared.now) S.sizes (S.sums shared.now) (S.listing shared.now) t unwrap.now demux.old bytes
         → Gains unframed (by_sizes (S.listing shared.now) t) (later_frames unwrap.now.frames bytes)
         (first_frames unwrap.now.frames bytes ++ begun_frame bytes) (K.state sink.old) (K.state sink.new) result }
     ensures cause { HasCause (K.state sink.old) (K.state sink.new) result }
@@ -155,11 +163,11 @@ impl<S: Stream> Printer for WrappedDemux<S> {
 
     ghost taken = { λ w. taken_of w.unwrap w.demux };
 
-    ghost stands = { λ shared t w bytes. HaveTaken (S.stands shared) S.sizes t w.unwrap w.demux bytes };
+    ghost stands = { λ shared t w bytes. HaveTaken (S.stands shared) S.sizes (S.sums shared) (S.listing shared) t w.unwrap w.demux bytes };
 
     ghost listing = { λ shared t. by_sizes (S.listing shared) t };
 
-    ghost ended = { λ shared t w bytes. StandsAt (S.stands shared) S.sizes t w.demux (rotated w.unwrap.frames bytes) };
+    ghost ended = { λ shared t w bytes. StandsAt (S.stands shared) S.sizes (S.sums shared) (S.listing shared) t w.demux (rotated w.unwrap.frames bytes) };
 
     ghost frames = { λ w. w.unwrap.frames };
 
@@ -178,9 +186,14 @@ impl<S: Stream> Printer for WrappedDemux<S> {
         take_kept(&self.unwrap, &mut self.demux, shared, sink)
     }
 
-    fn finish<K: Sink>(self, sink: &mut K) -> Result<bool, Failed> {
+    fn finish<K: Sink>(self, shared: &S::Shared, sink: &mut K) -> Result<bool, Failed> {
         let WrappedDemux { unwrap: _, demux } = self;
-        demux.finish(sink)
+        demux.finish(shared, sink)
+    }
+
+    fn close<K: Sink>(self, shared: &S::Shared, sink: &mut K) -> Result<(), Failed> {
+        let WrappedDemux { unwrap: _, demux } = self;
+        demux.close(shared, sink)
     }
 
     fn abandon(self) {

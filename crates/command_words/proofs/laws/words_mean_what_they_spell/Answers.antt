@@ -1,9 +1,13 @@
-use Rattle.command_words.proofs.CommandLines.{path_line, packets_line, retired_line, selftest_line, times_line, trace_line}
-use Rattle.command_words.proofs.CommandLines.{path_said, packets_said, retired_said, selftest_said, times_said, trace_said}
+use Rattle.std.proofs.Common.{true, false}
+use Rattle.command_words.proofs.CommandLines.{packets_line, retired_line, selftest_line, times_line, trace_line, walk_line}
+use Rattle.command_words.proofs.CommandLines.{packets_said, retired_said, selftest_said, times_said, trace_said, walk_said}
 use Rattle.command_words.proofs.laws.words_mean_what_they_spell.Goals as goal
 
 pub returns-clause-path : goal.returns-clause-path
-returns-clause-path c = λ words program intake. (path_line words program intake, path_said words program intake)
+returns-clause-path c = λ words program intake. (walk_line words program intake false, walk_said words program intake false)
+
+pub returns-clause-counts : goal.returns-clause-counts
+returns-clause-counts c = λ words program intake. (walk_line words program intake true, walk_said words program intake true)
 
 pub returns-clause-packets : goal.returns-clause-packets
 returns-clause-packets c = λ words intake. (packets_line words intake, packets_said words intake)

@@ -14,5 +14,6 @@ returns c =
     (c.get_str-4.ensures ∙ first_value-rows found (codes "depth")) (c.get_str-5.ensures ∙ first_value-rows found (codes "vmid"))
     (c.get_str-6.ensures ∙ first_value-rows found (codes "cid")) (c.get_str-7.ensures ∙ first_value-rows found (codes "settings"))
     (c.is_true_text-3.ensures ∙ ap is_true_text (c.get_str-8.ensures ∙ first_value-rows found (codes "elf")))
-    (c.get_str-9.ensures ∙ first_value-rows found (codes "last")) (c.get_str-10.ensures ∙ first_value-rows found (codes "sync-every"))
-    (c.get_str-11.ensures ∙ first_value-rows found (codes "cut")) (c.get_str-12.ensures ∙ first_value-rows found (codes "POSITIONAL"))
+    (c.is_true_text-4.ensures ∙ ap is_true_text (c.get_str-9.ensures ∙ first_value-rows found (codes "count")))
+    (c.get_str-10.ensures ∙ first_value-rows found (codes "last")) (c.get_str-11.ensures ∙ first_value-rows found (codes "sync-every"))
+    (c.get_str-12.ensures ∙ first_value-rows found (codes "cut")) (c.get_str-13.ensures ∙ first_value-rows found (codes "POSITIONAL"))

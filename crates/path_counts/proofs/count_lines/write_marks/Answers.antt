@@ -1,8 +1,8 @@
-use Rattle.std.proofs.Common.{◌≡◌, ◌+◌, ◌≤◌, ◌++◌, ◌∙◌, [], refl, sym, ap, subst, arith, append_assoc, append-nil, length, drop}
+use Rattle.std.proofs.Common.{◌+◌, ◌++◌, ◌∙◌, [], refl, sym, ap, arith, append_assoc, drop}
 use Rattle.std.proofs.lemmas.Result.{err_from_is_err_and}
-use Rattle.path_text.proofs.Wrote.{Wrote, wrote_nothing, wrote_by, wrote_more, writes_all, fails_after}
+use Rattle.path_text.proofs.Wrote.{wrote_nothing, wrote_by, wrote_more, fails_after}
 use Rattle.path_counts.specs.CountLines.{mark_key, marks_text, number_line}
-use Rattle.path_counts.proofs.TextSteps.{marks_end, marks_next}
+use Rattle.path_counts.proofs.TextSteps.{marks_next}
 use Rattle.path_counts.proofs.count_lines.write_marks.Goals as goal
 
 pub loop-number-init : goal.loop-number-init

@@ -8,5 +8,5 @@ pub returns-then-is_at_rest-clause-follows : goal.returns-then-is_at_rest-clause
 returns-then-is_at_rest-clause-follows g c none =
     let image = c.args.image.now in let took = g.F.Follower.took image in let d = c.args.decoding.now in let f = c.args.follower.now in
     let done = c.is_at_rest.ensures.rest.0 c.if-is_at_rest.true in
-    follows_all took image d d d f f (follows_first took image d f)
+    follows_all took image c.args.id d d d f f (follows_first took image c.args.id d f)
     (ends_at_rest image d none (sym (none_due d done.due c.is_at_rest.ensures.holds.range.committed)) done)

@@ -15,7 +15,7 @@ loop-stretch-preserved g c =
     record {
       so_far = (
         first ++ more,
-        takes_on took c.args.follower.now c.loop-stretch.follower c.take_walked.new.self first more i.so_far.1 c.take_walked.ensures.takes,
+        takes_on took c.args.id c.args.follower.now c.loop-stretch.follower c.take_walked.new.self first more i.so_far.1 c.take_walked.ensures.takes,
         append_assoc first more (items_in ctx (drop (n + 1) run)) ∙ ap (λ (l : List Item). first ++ l) (sym split) ∙ i.so_far.2,
       );
     }

@@ -39,13 +39,14 @@ loop-id-preserved g c =
     let state = g.K.Sink.state in let i = c.loop-id.invariant in let n = c.loop-id.place in let frame = c.args.frame.now in
     let front = take n frame in let run = c.in-Some.run'.now in
     let more = with_run n c.in-Some.id frame run c.in-Some.ensures.run.1 in
-    let stands = g.S.Stream.stands c.args.shared.now in
+    let shared = c.args.shared.now in
+    let all_stand = AllStand (g.S.Stream.stands shared) g.S.Stream.sizes (g.S.Stream.sums shared) (g.S.Stream.listing shared) in
     let old = state c.args.sink.now in let here = state c.loop-id.sink in let new = state c.take_run.new.sink in
     record {
       within = run_within n c.in-Some.id frame run c.in-Some.ensures.run.1 i.within;
       stands = λ t pairs all.
-          subst (λ l. AllStand stands g.S.Stream.sizes t c.take_run.new.self (pairs ++ l)) (sym more)
-          (subst (AllStand stands g.S.Stream.sizes t c.take_run.new.self) (append_assoc pairs front (run_of c.in-Some.id run))
+          subst (λ l. all_stand t c.take_run.new.self (pairs ++ l)) (sym more)
+          (subst (all_stand t c.take_run.new.self) (append_assoc pairs front (run_of c.in-Some.id run))
           (c.in_ok-take_run.ensures.stands t (pairs ++ front) (i.stands t pairs all) refl));
       written = λ t pairs all.
           let listing = by_sizes (g.S.Stream.listing c.args.shared.now) t in
@@ -57,7 +58,7 @@ loop-id-preserved g c =
       shows = c.take_run.ensures.shows ∙ i.shows;
       ready = λ most all.
           let sum : most + n + length run ≡ most + (n + length run) = omega arith in
-          subst (λ k. All (IsReady g.S.Stream.broken g.S.Stream.taken k) c.take_run.new.self) sum
+          subst (λ k. All (IsReady g.S.Stream.broken g.S.Stream.taken k) c.take_run.new.self.streams) sum
           (c.in_ok-take_run.ensures.ready (most + n) (i.ready most all) refl);
       sizes = c.take_run.ensures.sizes ∙ i.sizes;
       held = λ all. c.take_run.ensures.most (i.held all);
@@ -66,7 +67,9 @@ loop-id-preserved g c =
 pub returns-clause-stands : goal.returns-clause-stands
 returns-clause-stands g c t pairs all ok =
     let n = c.loop-id.place in let whole = take_all n c.args.frame.now (c.in_default.ensures.none.0 refl) in
-    subst (λ l. AllStand (g.S.Stream.stands c.args.shared.now) g.S.Stream.sizes t c.loop-id.sources (pairs ++ l)) whole
+    let shared = c.args.shared.now in
+    let all_stand = AllStand (g.S.Stream.stands shared) g.S.Stream.sizes (g.S.Stream.sums shared) (g.S.Stream.listing shared) in
+    subst (λ l. all_stand t c.loop-id.sources (pairs ++ l)) whole
     (c.loop-id.invariant.stands t pairs all)
 
 pub returns-clause-adds : goal.returns-clause-adds
@@ -80,5 +83,5 @@ returns-clause-adds g c t pairs all =
 pub returns-clause-ready : goal.returns-clause-ready
 returns-clause-ready g c most all ok =
     let n = c.loop-id.place in
-    later_ready g.S.Stream.broken g.S.Stream.taken (most + n) (most + 15) c.loop-id.sources
+    later_ready g.S.Stream.broken g.S.Stream.taken (most + n) (most + 15) c.loop-id.sources.streams
     (omega (arith, c.loop-id.invariant.within, c.run_at.ensures.most)) (c.loop-id.invariant.ready most all)

@@ -16,14 +16,14 @@ invariant-loop-id g l =
     let state = g.K.Sink.state in let at = g.S.Stream.stands l.shared in
     record {
       within : l.place ≤ length l.frame;
-      stands : (t : ℕ → Sizes) (pairs : List (ℕ × ℕ)) → AllStand at g.S.Stream.sizes t l.fn.sources pairs
-          → AllStand at g.S.Stream.sizes t l.sources (pairs ++ take l.place l.frame);
-      written : (t : ℕ → Sizes) (pairs : List (ℕ × ℕ)) → AllStand at g.S.Stream.sizes t l.fn.sources pairs
+      stands : (t : ℕ → Sizes) (pairs : List (ℕ × ℕ)) → AllStand at g.S.Stream.sizes (g.S.Stream.sums l.shared) (g.S.Stream.listing l.shared) t l.fn.sources pairs
+          → AllStand at g.S.Stream.sizes (g.S.Stream.sums l.shared) (g.S.Stream.listing l.shared) t l.sources (pairs ++ take l.place l.frame);
+      written : (t : ℕ → Sizes) (pairs : List (ℕ × ℕ)) → AllStand at g.S.Stream.sizes (g.S.Stream.sums l.shared) (g.S.Stream.listing l.shared) t l.fn.sources pairs
           → Written (by_sizes (g.S.Stream.listing l.shared) t) pairs (take l.place l.frame) (state l.fn.sink) (state l.sink);
       kept : KeepsFaults (state l.fn.sink) (state l.sink);
       shows : ShowsAsBefore (state l.fn.sink) (state l.sink);
-      ready : (most : ℕ) → All (IsReady g.S.Stream.broken g.S.Stream.taken most) l.fn.sources
-          → All (IsReady g.S.Stream.broken g.S.Stream.taken (most + l.place)) l.sources;
-      sizes : map g.S.Stream.sizes l.sources ≡ map g.S.Stream.sizes l.fn.sources;
-      held : All (HoldsToDepth g.S.Stream.held g.S.Stream.sizes) l.fn.sources → All (HoldsToDepth g.S.Stream.held g.S.Stream.sizes) l.sources;
+      ready : (most : ℕ) → All (IsReady g.S.Stream.broken g.S.Stream.taken most) l.fn.sources.streams
+          → All (IsReady g.S.Stream.broken g.S.Stream.taken (most + l.place)) l.sources.streams;
+      sizes : map g.S.Stream.sizes l.sources.streams ≡ map g.S.Stream.sizes l.fn.sources.streams;
+      held : All (HoldsToDepth g.S.Stream.held g.S.Stream.sizes) l.fn.sources.streams → All (HoldsToDepth g.S.Stream.held g.S.Stream.sizes) l.sources.streams;
     }

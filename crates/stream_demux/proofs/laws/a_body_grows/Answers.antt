@@ -2,6 +2,7 @@ use Rattle.formatter_frames.specs.Unframed.{unframed}
 use Rattle.stream_demux.specs.Demuxed.{raw_pairs}
 use Rattle.stream_demux.proofs.Bodies.{body-append, body_parts}
 use Rattle.stream_demux.proofs.Parted.{frames_carry_on, fronts_begin, raw_carries_on}
+use Rattle.stream_demux.proofs.Sums.{added-append}
 use Rattle.stream_demux.specs.Texts.{by_sizes}
 use Rattle.stream_demux.proofs.laws.a_body_grows.Goals as goal
 
@@ -16,3 +17,6 @@ returns-clause-framed g c shared t = fronts_begin unframed (by_sizes (g.S.Stream
 
 pub returns-clause-raw : goal.returns-clause-raw
 returns-clause-raw g c shared t = fronts_begin raw_pairs (by_sizes (g.S.Stream.listing shared) t) raw_carries_on
+
+pub returns-clause-sums : goal.returns-clause-sums
+returns-clause-sums g c shared t = added-append (by_sizes (g.S.Stream.listing shared) t)

@@ -1,4 +1,4 @@
-use Rattle.stream_demux.proofs.OneText.{one_body, one_ending, one_text, some_body, some_ending, some_text}
+use Rattle.stream_demux.proofs.OneText.{one_body, one_ending, one_sum, one_text, some_body, some_ending, some_text}
 use Rattle.stream_demux.specs.Texts.{by_sizes}
 use Rattle.stream_demux.proofs.laws.a_text_is_one.Goals as goal
 
@@ -19,3 +19,6 @@ returns-clause-some_ending g c shared t = some_ending (by_sizes (g.S.Stream.list
 
 pub returns-clause-some_text : goal.returns-clause-some_text
 returns-clause-some_text g c shared t = some_text (by_sizes (g.S.Stream.listing shared) t)
+
+pub returns-clause-sum : goal.returns-clause-sum
+returns-clause-sum g c shared t = one_sum (by_sizes (g.S.Stream.listing shared) t)

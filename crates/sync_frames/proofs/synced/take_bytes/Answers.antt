@@ -21,7 +21,7 @@ loop-at-preserved g c =
     record {
       within = omega (arith, i.within, c.take_front-count.ensures.count.1, size);
       stands = λ t bytes stands.
-          subst (HaveTaken there g.S.Stream.sizes t c.take_front-count.new.unsync c.take_front-count.new.demux)
+          subst (HaveTaken there g.S.Stream.sizes (g.S.Stream.sums c.args.shared.now) (g.S.Stream.listing c.args.shared.now) t c.take_front-count.new.unsync c.take_front-count.new.demux)
           (append_assoc bytes front more ∙ ap (λ l. bytes ++ l) (sym next))
           (c.take_front-count.ensures.stands t (bytes ++ front) (i.stands t bytes stands) is_ok);
       gained = λ t bytes stands.

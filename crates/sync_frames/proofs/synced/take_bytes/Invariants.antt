@@ -16,9 +16,9 @@ invariant-loop-at g l =
     let state = g.K.Sink.state in let there = g.S.Stream.stands l.shared in
     record {
       within : l.at ≤ length l.piece;
-      stands : (t : ℕ → Sizes) (bytes : List ℕ) → HaveTaken there g.S.Stream.sizes t l.fn.unsync l.fn.demux bytes
-          → HaveTaken there g.S.Stream.sizes t l.unsync l.demux (bytes ++ take l.at l.piece);
-      gained : (t : ℕ → Sizes) (bytes : List ℕ) → HaveTaken there g.S.Stream.sizes t l.fn.unsync l.fn.demux bytes
+      stands : (t : ℕ → Sizes) (bytes : List ℕ) → HaveTaken there g.S.Stream.sizes (g.S.Stream.sums l.shared) (g.S.Stream.listing l.shared) t l.fn.unsync l.fn.demux bytes
+          → HaveTaken there g.S.Stream.sizes (g.S.Stream.sums l.shared) (g.S.Stream.listing l.shared) t l.unsync l.demux (bytes ++ take l.at l.piece);
+      gained : (t : ℕ → Sizes) (bytes : List ℕ) → HaveTaken there g.S.Stream.sizes (g.S.Stream.sums l.shared) (g.S.Stream.listing l.shared) t l.fn.unsync l.fn.demux bytes
           → Gained synced_pairs (by_sizes (g.S.Stream.listing l.shared) t) bytes (take l.at l.piece) (state l.fn.sink) (state l.sink);
       kept : KeepsFaults (state l.fn.sink) (state l.sink);
       shows : ShowsAsBefore (state l.fn.sink) (state l.sink);

@@ -6,15 +6,20 @@ use Rattle.command_words.specs.Said.{IsInRange, said, said_intake, said_program}
 use Rattle.command_words.specs.Words.{Packets, Times, texts}
 use Rattle.command_words.specs.declared.words.Command.{Command as Told}
 use Rattle.trace_cmd.proofs.AnswerLemmas.{listed_no_file, listed_no_image, listed_no_memory, none_no_file, none_no_image}
-use Rattle.trace_cmd.proofs.AnswerLemmas.{none_taken, packets_of_no_run_file, path_of_no_run_file, so_of_listed, so_of_none, so_of_number, so_of_usage}
+use Rattle.trace_cmd.proofs.AnswerLemmas.{counts_of_no_run_file, none_taken, packets_of_no_run_file, path_of_no_run_file, so_of_listed, so_of_none, so_of_number, so_of_usage}
 use Rattle.trace_cmd.proofs.AnswerLemmas.{so_of_words, times_of_no_run_file}
-use Rattle.trace_cmd.proofs.WordKinds.{path_program, read_first, retired_kind, retired_program, trace_kind, trace_program}
+use Rattle.trace_cmd.proofs.WordKinds.{counts_program, path_program, read_first, retired_kind, retired_program, trace_kind, trace_program}
 use Rattle.trace_cmd.proofs.command.answer_words.Goals as goal
 
 pub returns-in-Path-clause-answer : goal.returns-in-Path-clause-answer
 returns-in-Path-clause-answer g c =
     let means = sym c.in-Ok-Some.ensures.value ∙ ap (option_map said) (c.in-Ok-Some.field-0-is ∙ ap (λ (command : Told). Some command) c.in-Path.is) in
     c.answer_path.ensures.answer (texts c.args.words.now) means
+
+pub returns-in-Counts-clause-answer : goal.returns-in-Counts-clause-answer
+returns-in-Counts-clause-answer g c =
+    let means = sym c.in-Ok-Some.ensures.value ∙ ap (option_map said) (c.in-Ok-Some.field-0-is ∙ ap (λ (command : Told). Some command) c.in-Counts.is) in
+    c.answer_counts.ensures.answer (texts c.args.words.now) means
 
 pub returns-in-Packets-clause-answer : goal.returns-in-Packets-clause-answer
 returns-in-Packets-clause-answer g c =
@@ -134,6 +139,11 @@ returns-in-Path-clause-few g c file =
     let means = sym c.in-Ok-Some.ensures.value ∙ ap (option_map said) (c.in-Ok-Some.field-0-is ∙ ap (λ (command : Told). Some command) c.in-Path.is) in
     absurd (path_of_no_run_file _ (texts c.args.words.now) (said_program c.in-Path.program, means) file)
 
+pub returns-in-Counts-clause-few : goal.returns-in-Counts-clause-few
+returns-in-Counts-clause-few g c file =
+    let means = sym c.in-Ok-Some.ensures.value ∙ ap (option_map said) (c.in-Ok-Some.field-0-is ∙ ap (λ (command : Told). Some command) c.in-Counts.is) in
+    absurd (counts_of_no_run_file _ (texts c.args.words.now) (said_program c.in-Counts.program, means) file)
+
 pub returns-in-Packets-clause-few : goal.returns-in-Packets-clause-few
 returns-in-Packets-clause-few g c file =
     let means = sym c.in-Ok-Some.ensures.value ∙ ap (option_map said) (c.in-Ok-Some.field-0-is ∙ ap (λ (command : Told). Some command) c.in-Packets.is) in
@@ -177,6 +187,14 @@ returns-in-Path-clause-order g c =
     let asked = call words (image c.args.image.now) (image c.answer_path.new.image) (input c.args.input.now) (input c.answer_path.new.input) in
     read_first asked (said_program c.in-Path.program) _ (path_program (said_intake c.in-Path.intake) words (said_program c.in-Path.program, means))
     c.answer_path.ensures.order
+
+pub returns-in-Counts-clause-order : goal.returns-in-Counts-clause-order
+returns-in-Counts-clause-order g c =
+    let means = sym c.in-Ok-Some.ensures.value ∙ ap (option_map said) (c.in-Ok-Some.field-0-is ∙ ap (λ (command : Told). Some command) c.in-Counts.is) in
+    let image = g.I.Source.state in let input = g.J.Source.state in let words = texts c.args.words.now in
+    let asked = call words (image c.args.image.now) (image c.answer_counts.new.image) (input c.args.input.now) (input c.answer_counts.new.input) in
+    read_first asked (said_program c.in-Counts.program) _ (counts_program (said_intake c.in-Counts.intake) words (said_program c.in-Counts.program, means))
+    c.answer_counts.ensures.order
 
 pub returns-in-Retired-clause-order : goal.returns-in-Retired-clause-order
 returns-in-Retired-clause-order g c =

@@ -11,7 +11,7 @@ use Rattle.trace_io.specs.Memory.{Writing, pieces_state, writing_state}
 use Rattle.traced_runs.proofs.selftest.count_lines.Goals as goal
 
 pub print_input-requires : goal.print_input-requires
-print_input-requires c = let stands = c.in_ok-demux.ensures.stands c.args.image.now in record { fresh = (stands.whole, stands.taken) }
+print_input-requires c = let stands = c.in_ok-demux.ensures.stands in record { fresh = (stands.whole, stands.taken) }
 
 pub returns-in-Ok : goal.returns-in-Ok
 returns-in-Ok c =
@@ -25,7 +25,7 @@ returns-in-Ok c =
     let few : length source.left ≤ most_input = subst (λ (l : List ℕ). length l ≤ most_input) (sym same) c.requires.few in
     let listed = subst (λ (l : List Sizes). Listed frames_laid (by_sizes (paths image) (sizes_at l)) (pieces_state source)
     (pieces_state source') (writing_state text) (writing_state text') (Ok c.in-Ok.field-0)) c.table_of.ensures
-    (c.in-Ok.ensures.answer (sizes_at c.table_of.result) (c.in_ok-demux.ensures.stands image)) in
+    (c.in-Ok.ensures.answer (sizes_at c.table_of.result) c.in_ok-demux.ensures.stands) in
     let counted = lines_counted image b source source' text text' c.in-Ok.field-0 few (ap (λ (w : Writing). w.taken) c.new-text.ensures) listed in
     let all = subst (λ (l : List ℕ). Counts image b l (line_feeds text'.taken)) same counted in
     (all.0, all.1, c.line_feeds.ensures ∙ ap line_feeds c.written.ensures ∙ all.2)

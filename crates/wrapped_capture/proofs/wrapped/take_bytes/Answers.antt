@@ -18,7 +18,7 @@ loop-at-preserved g c =
     record {
       within = omega (arith, c.loop-at-test.true);
       stands = λ t bytes stands.
-          subst (HaveTaken stand g.S.Stream.sizes t c.take_byte.new.unwrap c.take_byte.new.demux)
+          subst (HaveTaken stand g.S.Stream.sizes (g.S.Stream.sums c.args.shared.now) (g.S.Stream.listing c.args.shared.now) t c.take_byte.new.unwrap c.take_byte.new.demux)
           (append_assoc bytes front (byte ∷ []) ∙ ap (λ l. bytes ++ l) (sym next))
           (c.in-Ok.ensures.stands t (bytes ++ front) (i.stands t bytes stands) refl);
       gained = λ t bytes stands.

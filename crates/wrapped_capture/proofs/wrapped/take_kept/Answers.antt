@@ -22,7 +22,7 @@ loop-frame-preserved g c =
       within = omega (arith, there.0);
       stands = λ t bytes stands.
           let before = later_frames u.frames bytes in
-          subst (StandsAt stand g.S.Stream.sizes t c.take_piece.new.self) (append_assoc before front frame ∙ ap (λ l. before ++ l) (sym next))
+          subst (StandsAt stand g.S.Stream.sizes (g.S.Stream.sums c.args.shared.now) (g.S.Stream.listing c.args.shared.now) t c.take_piece.new.self) (append_assoc before front frame ∙ ap (λ l. before ++ l) (sym next))
           (c.in-Ok.ensures.stands t (before ++ front) (i.stands t bytes stands) refl);
       gained = λ t bytes stands.
           let before = later_frames u.frames bytes in let listing = by_sizes (g.S.Stream.listing c.args.shared.now) t in
@@ -57,7 +57,7 @@ returns-clause-stands g c t bytes stands ok =
     let front = take (16 * j) u.kept in let before = later_frames u.frames bytes in let stand = g.S.Stream.stands c.args.shared.now in
     let whole = all_behind j bytes u stands.unwrap i.within (none_there j u.kept c.in_default.ensures.value) in
     let tail = c.tail.ensures.stands bytes stands.unwrap in
-    subst (StandsAt stand g.S.Stream.sizes t c.take_piece-2.new.self)
+    subst (StandsAt stand g.S.Stream.sizes (g.S.Stream.sums c.args.shared.now) (g.S.Stream.listing c.args.shared.now) t c.take_piece-2.new.self)
     (append_assoc before front c.tail.result.now ∙ ap (λ l. before ++ (l ++ c.tail.result.now)) whole
     ∙ ap (λ l. before ++ (first_frames u.frames bytes ++ l)) tail)
     (c.take_piece-2.ensures.stands t (before ++ front) (i.stands t bytes stands) ok)

@@ -18,9 +18,9 @@ invariant-loop-frame g l =
     let state = g.K.Sink.state in let there = g.S.Stream.stands l.shared in
     record {
       within : 16 * l.j ≤ length l.unwrap.kept;
-      stands : (t : ℕ → Sizes) (bytes : List ℕ) → HaveTaken there g.S.Stream.sizes t l.unwrap l.fn.demux bytes
-          → StandsAt there g.S.Stream.sizes t l.demux (later_frames l.unwrap.frames bytes ++ take (16 * l.j) l.unwrap.kept);
-      gained : (t : ℕ → Sizes) (bytes : List ℕ) → HaveTaken there g.S.Stream.sizes t l.unwrap l.fn.demux bytes
+      stands : (t : ℕ → Sizes) (bytes : List ℕ) → HaveTaken there g.S.Stream.sizes (g.S.Stream.sums l.shared) (g.S.Stream.listing l.shared) t l.unwrap l.fn.demux bytes
+          → StandsAt there g.S.Stream.sizes (g.S.Stream.sums l.shared) (g.S.Stream.listing l.shared) t l.demux (later_frames l.unwrap.frames bytes ++ take (16 * l.j) l.unwrap.kept);
+      gained : (t : ℕ → Sizes) (bytes : List ℕ) → HaveTaken there g.S.Stream.sizes (g.S.Stream.sums l.shared) (g.S.Stream.listing l.shared) t l.unwrap l.fn.demux bytes
           → Gained unframed (by_sizes (g.S.Stream.listing l.shared) t) (later_frames l.unwrap.frames bytes) (take (16 * l.j) l.unwrap.kept)
           (state l.fn.sink) (state l.sink);
       kept : KeepsFaults (state l.fn.sink) (state l.sink);

@@ -1,4 +1,4 @@
-use Rattle.std.proofs.Common.{ℕ, sym, subst}
+use Rattle.std.proofs.Common.{ℕ, [], refl, sym, subst}
 use Rattle.packet_list.specs.PacketList.{HasRead, Listed, PacketGains}
 use Rattle.packet_list.proofs.packet_list.PacketStreamStream.take.Goals as goal
 
@@ -21,3 +21,6 @@ returns-in-Err-clause-gains g c bytes stands =
           (subst (λ (id : ℕ). PacketGains c.self.inside.reader.settings id bytes c.args.byte lines) c.turn_to.ensures gains),
       writes,
     )
+
+pub returns-in-Ok-clause-adds : goal.returns-in-Ok-clause-adds
+returns-in-Ok-clause-adds g c ok bytes stands = ([], refl, λ items has. tt)

@@ -1,5 +1,6 @@
-use Rattle.std.proofs.Common.{ℕ, Ok, Err, sym, subst}
+use Rattle.std.proofs.Common.{ℕ, [], Ok, Err, refl, sym, subst}
 use Rattle.stream_demux.specs.Streams.{RunAdds}
+use Rattle.stream_demux.proofs.Sums.{no_stream_items}
 use Rattle.packet_list.specs.PacketList.{HasRead, Listed, packet_lists}
 use Rattle.packet_list.proofs.packet_list.PacketStreamStream.take_run.Goals as goal
 use Rattle.trace_io.specs.declared.traits.Failed.{Failed}
@@ -19,3 +20,7 @@ returns-in-Err-clause-gains g c bytes stands =
     subst (λ (l : Listed). RunAdds {T = Unit {0}} {E = Failed} (packet_lists l.reader.settings) c.args.id bytes run old new (Err c.in-Err.failed))
     c.self.view_is (subst (λ (id : ℕ). RunAdds {T = Unit {0}} {E = Failed} (packet_lists c.self.inside.reader.settings) id bytes run old new (Err c.in-Err.failed))
     c.turn_to.ensures (c.in-Err.ensures.gains bytes read))
+
+pub returns-in-Ok-clause-adds : goal.returns-in-Ok-clause-adds
+returns-in-Ok-clause-adds g c ok bytes stands =
+    ([], no_stream_items (packet_lists c.args.self.now.reader.settings) (λ id before byte. refl) c.args.id bytes c.args.run.now, λ items has. tt)

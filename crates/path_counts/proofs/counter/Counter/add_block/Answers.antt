@@ -15,4 +15,4 @@ pub returns-else-walked-clause-counted : goal.returns-else-walked-clause-counted
 returns-else-walked-clause-counted c = λ are.
     let w = c.args.walked.now in
     subst (λ b. Counts c.args.image.now c.args.self.now c.add_run.new.self (if b then Unknown ∷ [] else instructions w.ctx w.start w.count w.took))
-    (sym c.if-walked.false) (c.add_run.ensures.counted are w.ctx)
+    (sym c.if-walked.false) (c.add_run.ensures.counted (are c.if-walked.false) w.ctx)

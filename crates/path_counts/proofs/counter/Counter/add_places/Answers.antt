@@ -1,7 +1,7 @@
-use Rattle.std.proofs.Common.{◌≡◌, ◌-◌, ◌∙◌, List, ℕ, Bool, true, ap, arith, length, subst, sym}
+use Rattle.std.proofs.Common.{◌≡◌, ◌-◌, ◌∙◌, true, ap, arith, length, subst, sym}
 use Rattle.std.specs.Prelude.{◌==◌, ◌&&◌}
 use Rattle.path_counts.specs.Counts.{Counting}
-use Rattle.path_counts.specs.Levels.{Raises, RaisesLast, RaisesRun, levels_of, place_behind}
+use Rattle.path_counts.specs.Levels.{Raises, RaisesRun, levels_of, place_behind}
 use Rattle.path_counts.proofs.LevelSums.{length_sums, run_raised}
 use Rattle.path_counts.proofs.counter.Counter.add_places.Goals as goal
 

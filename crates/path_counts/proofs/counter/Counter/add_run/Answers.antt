@@ -1,4 +1,4 @@
-use Rattle.std.proofs.Common.{◌^◌, ◌<◌, ap, arith, length}
+use Rattle.std.proofs.Common.{◌^◌, ap, arith, length}
 use Rattle.std.proofs.lemmas.Option.{slice_get_within}
 use Rattle.program_image.specs.Places.{word_addresses}
 use Rattle.program_image.proofs.WordPlaces.{few_words, length_addresses, word_at}

@@ -6,6 +6,7 @@ use Rattle.path_walker.specs.State.{State}
 use Rattle.path_walker.specs.Things.{Walks}
 use Rattle.path_walker.specs.Walk.{Shows}
 use Rattle.stream_decoder.specs.Decoding.{Decoding}
+use Rattle.stream_decoder.proofs.Worded.{shows_words}
 use Rattle.stream_decoder.proofs.decoding.Decoding.walk.Goals as goal
 
 pub returns-in-Unseen-clause-walks : goal.returns-in-Unseen-clause-walks
@@ -25,3 +26,7 @@ returns-clause-walks c =
     let walks : Walks image c.args.self.now.walk (Seen c.in-Seen.entry ∷ []) (items_of walked) (Ok next) =
     inl (items_of walked, [], next, (walked, shows, refl), (refl, refl), sym (append-nil (items_of walked))) in
     subst (λ (t : Thing). Walks image c.args.self.now.walk (t ∷ []) (items_of walked) (Ok next)) (sym c.in-Seen.is) walks
+
+pub returns-clause-words : goal.returns-clause-words
+returns-clause-words c =
+    shows_words c.args.image.now c.self.inside.walker c.walk.new.self c.in-Seen.entry c.in-Ok.walked c.in-Ok.ensures.shows

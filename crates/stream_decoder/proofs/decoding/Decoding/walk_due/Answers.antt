@@ -6,6 +6,7 @@ use Rattle.path_walker.specs.Walk.{walked_in}
 use Rattle.stream_decoder.specs.Decoding.{Decoding, decoding_of}
 use Rattle.stream_decoder.specs.Yields.{Goes}
 use Rattle.stream_decoder.proofs.Dues.{due_told_aligned, goes_by_due, holds_by_due}
+use Rattle.stream_decoder.proofs.Worded.{shows_stretch}
 use Rattle.stream_decoder.proofs.decoding.Decoding.walk_due.Goals as goal
 
 pub walk_atom-requires : goal.walk_atom-requires
@@ -33,3 +34,8 @@ returns-clause-goes c =
 
 pub returns-clause-holds : goal.returns-clause-holds
 returns-clause-holds c = (invariant_of-self-2 c).1
+
+pub returns-clause-words : goal.returns-clause-words
+returns-clause-words c =
+    let i = c.self.inside in
+    shows_stretch c.args.image.now i.walker c.walk_atom.new.self _ i.walker.ctx c.in_ok-stretch.stretch c.in_ok-stretch.ensures.shows

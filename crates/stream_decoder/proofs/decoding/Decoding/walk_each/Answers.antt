@@ -1,10 +1,12 @@
 use Rattle.std.proofs.Common.{◌≡◌, [], ◌∷◌, ◌++◌, List, Some, None, refl, sym, ap, subst, ◌∙◌, arith}
+use Rattle.std.proofs.lemmas.List.Elements.{All-append, All-cons, All-nil}
 use Rattle.etm_types.specs.Walked.{items_of}
 use Rattle.etm_types.specs.declared.context.Ctx.{Ctx}
 use Rattle.etm_types.specs.declared.item.Item.{Item}
 use Rattle.path_walker.specs.Walk.{items_in, walked_in}
 use Rattle.path_walker.specs.declared.stretch.Stretch.{Stretch}
-use Rattle.stream_decoder.specs.Decoding.{AtRest, Decoding}
+use Rattle.stream_decoder.specs.Decoding.{AtRest}
+use Rattle.stream_decoder.specs.Follows.{AreStretchesOfWords, IsStretchOfWords}
 use Rattle.stream_decoder.specs.Yields.{Goes}
 use Rattle.stream_decoder.proofs.Runs.{items_more}
 use Rattle.stream_decoder.proofs.Yielding.{goes_nowhere, goes_on}
@@ -15,6 +17,7 @@ loop-self-init c =
     let d = c.args.self.now in let image = c.args.image.now in
     record {
       goes = subst (λ (run : List Stretch). Goes image d (items_in d.walk.ctx run) d) (sym c.requires.none) (goes_nowhere image d);
+      words = subst (AreStretchesOfWords image) (sym c.requires.none) (All-nil (IsStretchOfWords image));
       fewer = omega arith;
       none = λ same. refl;
       stopped = λ done. c.requires.none;
@@ -37,6 +40,9 @@ loop-self-preserved c =
     let more = items_more after.walk.ctx run stretch ∙ ap (items_in after.walk.ctx) (sym c.push.ensures) in
     record {
       goes = subst (λ (items : List Item). Goes image first items after) more all;
+      words = subst (AreStretchesOfWords image) (sym c.push.ensures)
+          (All-append (IsStretchOfWords image) run (stretch ∷ []) i.words
+          (All-cons (IsStretchOfWords image) stretch [] step.words (All-nil (IsStretchOfWords image))));
       fewer = omega (arith, step.fewer, i.fewer);
       none = λ none. absurd (not_none run stretch (sym c.push.ensures ∙ none));
       stopped = λ done. absurd (

@@ -1,6 +1,7 @@
 use Rattle.std.proofs.Common.{◌≡◌, ◌-◌, ◌≤◌, [], length}
 use Rattle.path_walker.specs.Walk.{items_in}
 use Rattle.stream_decoder.specs.Decoding.{AtRest, IsDecoding}
+use Rattle.stream_decoder.specs.Follows.{AreStretchesOfWords}
 use Rattle.stream_decoder.specs.Yields.{Goes, left}
 use Rattle.stream_decoder.proofs.decoding.Decoding.walk_each.Given as goal
 
@@ -11,6 +12,7 @@ abbrev pub invariant-loop-self : goal.invariant-loop-self
 invariant-loop-self l =
     record {
       goes : Goes l.image l.fn.self (items_in l.self.walk.ctx l.run) l.self;
+      words : AreStretchesOfWords l.image l.run;
       fewer : left l.self ≤ left l.fn.self;
       none : l.run ≡ [] → l.self ≡ l.fn.self;
       stopped : AtRest l.fn.self → l.run ≡ [];

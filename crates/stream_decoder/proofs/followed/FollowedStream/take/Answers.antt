@@ -11,7 +11,7 @@ returns-clause-stands g c bytes came =
     let begun = subst (λ (x : Decoding). Begun x c.args.byte m) same c.begin.ensures.begun in
     let settings : m.reader.settings ≡ d.reader.settings = c.begin.ensures.settings ∙ ap (λ (x : Decoding). x.reader.settings) same in
     let are = subst (λ (x : Decoding). AreSettings x.reader.settings) same c.self.invariant.0.reads.settings in
-    came_followed (g.F.Follower.took image) image bytes c.args.byte c.ranges.byte.fits d m c.follow_rest.new.decoding are settings begun
+    came_followed (g.F.Follower.took image) image c.args.id bytes c.args.byte c.ranges.byte.fits d m c.follow_rest.new.decoding are settings begun
     c.args.follower.now c.follow_rest.new.follower c.follow_rest.ensures.follows
     (λ met. c.follow_rest.ensures.stopped (c.begin.ensures.holds.stopped met)) came
 
@@ -21,6 +21,6 @@ returns-clause-grows g c bytes came =
     let begun = subst (λ (x : Decoding). Begun x c.args.byte m) same c.begin.ensures.begun in
     let settings : m.reader.settings ≡ d.reader.settings = c.begin.ensures.settings ∙ ap (λ (x : Decoding). x.reader.settings) same in
     let are = subst (λ (x : Decoding). AreSettings x.reader.settings) same c.self.invariant.0.reads.settings in
-    grew_followed (g.F.Follower.took image) image bytes c.args.byte c.ranges.byte.fits d m c.follow_rest.new.decoding are settings begun
+    grew_followed (g.F.Follower.took image) image c.args.id bytes c.args.byte c.ranges.byte.fits d m c.follow_rest.new.decoding are settings begun
     c.args.follower.now c.follow_rest.new.follower c.follow_rest.ensures.follows
     (λ met. c.follow_rest.ensures.stopped (c.begin.ensures.holds.stopped met)) came

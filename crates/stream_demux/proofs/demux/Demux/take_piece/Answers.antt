@@ -39,10 +39,10 @@ loop-at-preserved g c =
           let there = i.stands t bytes stands in let joined = append_assoc bytes front more in
           let longer : c.loop-at.self-inside.taken + m ≡ length (bytes ++ (front ++ more)) =
           omega (arith, there.taken, many, ap length joined, length-append (bytes ++ front) more) in
-          subst (λ l. StandsAt at g.S.Stream.sizes t
+          subst (λ l. StandsAt at g.S.Stream.sizes (g.S.Stream.sums c.args.shared.now) (g.S.Stream.listing c.args.shared.now) t
           (record {
             frames = c.take_front.new.frames;
-            streams = c.take_front.new.sources;
+            sources = c.take_front.new.sources;
             taken = c.loop-at.self-inside.taken + m;
             broken = c.loop-at.self-inside.broken;
           }) (bytes ++ l))
@@ -51,7 +51,7 @@ loop-at-preserved g c =
             whole = there.whole;
             taken = longer;
             frames = subst (reader.StandsAt c.take_front.new.frames) joined (c.in-Ok.ensures.frames (bytes ++ front) there.frames);
-            streams = subst (λ l. AllStand at g.S.Stream.sizes t c.take_front.new.sources (unframed l)) joined
+            streams = subst (λ l. AllStand at g.S.Stream.sizes (g.S.Stream.sums c.args.shared.now) (g.S.Stream.listing c.args.shared.now) t c.take_front.new.sources (unframed l)) joined
                 (c.in-Ok.ensures.stands t (bytes ++ front) there.frames there.streams);
           });
       gained = λ t bytes stands.
@@ -65,7 +65,7 @@ loop-at-preserved g c =
       taken = omega (arith, i.taken);
       whole = i.whole;
       ready = later_ready g.S.Stream.broken g.S.Stream.taken (15 * c.loop-at.self-inside.taken + 15) (15 * (c.loop-at.self-inside.taken + m))
-          c.take_front.new.sources (omega (arith, c.in-Ok.ensures.some.1 (omega (arith, size, c.loop-at-test.true))))
+          c.take_front.new.sources.streams (omega (arith, c.in-Ok.ensures.some.1 (omega (arith, size, c.loop-at-test.true))))
           (c.in-Ok.ensures.ready (15 * c.loop-at.self-inside.taken) i.ready refl);
       sizes = c.take_front.ensures.sizes ∙ i.sizes;
       most = c.take_front.ensures.most i.most;

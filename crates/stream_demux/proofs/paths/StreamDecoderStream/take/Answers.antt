@@ -1,4 +1,4 @@
-use Rattle.std.proofs.Common.{refl, sym, subst}
+use Rattle.std.proofs.Common.{[], refl, sym, subst}
 use Rattle.path_text.specs.PathLines.{line_list}
 use Rattle.path_text.specs.Writing.{Writes}
 use Rattle.path_text.proofs.LineLists.{list_joined}
@@ -14,3 +14,6 @@ returns-clause-gains g c bytes stands =
       subst (Writes {T = Unit {0}} {E = Failed} (g.K.Sink.state c.args.sink.now) (g.K.Sink.state c.take.new.sink) c.take.result)
           (sym (list_joined c.args.id shown grows.0)) grows.2,
     )
+
+pub returns-clause-adds : goal.returns-clause-adds
+returns-clause-adds g c ok bytes stands = ([], refl, λ items has. tt)

@@ -1,7 +1,7 @@
 use Rattle.std.proofs.Common.{◌≡◌, ◌-◌, ◌≤◌, ℕ, List, length, map, take}
 use Rattle.etm_types.specs.Settings.{Sizes}
 use Rattle.element_queue.specs.Counting.{no_counts}
-use Rattle.stream_demux.specs.Streams.{AllStand, TalliedFrom, total}
+use Rattle.stream_demux.specs.Streams.{StandFrom, TalliedFrom, total}
 use Rattle.stream_demux.proofs.sources.Sources.ledger.Given as goal
 
 abbrev pub invariant-loop-stream : goal.invariant-loop-stream
@@ -9,7 +9,7 @@ invariant-loop-stream g l =
     record {
       value : l.sum ≡ total no_counts (map g.S.Stream.counts (take l.place l.self-inside.ring.items));
       tallied : (shared : g.row.S-Shared.Denot) (t : ℕ → Sizes) (pairs : List (ℕ × ℕ))
-          → AllStand (g.S.Stream.stands shared) g.S.Stream.sizes t l.self-inside.ring.items pairs
+          → StandFrom (g.S.Stream.stands shared) g.S.Stream.sizes t 1 l.self-inside.ring.items pairs
           → TalliedFrom (g.S.Stream.tallies shared) t 1 (map g.S.Stream.counts (take l.place l.self-inside.ring.items)) pairs;
       within : l.place ≤ length l.self-inside.ring.items;
     }

@@ -3,9 +3,10 @@ use Rattle.std.specs.List.{concat}
 use Rattle.std.proofs.lemmas.List.{take_all, take_more, take-append-drop}
 use Rattle.etm_types.specs.Settings.{Sizes}
 use Rattle.path_text.proofs.Wrote.{wrote_by}
-use Rattle.stream_demux.specs.Streams.{RunAdds}
+use Rattle.stream_demux.specs.Streams.{RunAdds, SumAdds, SumGains}
 use Rattle.stream_demux.proofs.Runs.{RunWritten, run_added, run_fails, run_more, stream_body_one}
 use Rattle.stream_demux.proofs.Standing.{by_err, whole_where_ok}
+use Rattle.stream_demux.proofs.Sums.{no_run_adds, run_adds_more}
 use Rattle.stream_demux.proofs.stream.Stream.take_run.Goals as goal
 use Rattle.trace_io.specs.declared.traits.Failed.{Failed}
 
@@ -41,6 +42,12 @@ loop-byte-preserved g c =
           subst (λ (l : List ℕ). RunWritten own id bytes l old new) (sym more)
           (run_more own id bytes front old here new (i.written bytes stands) byte adds.0 gains
           (wrote_by here new c.in_ok-take.field-0 (concat adds.0) adds.2));
+      added = λ bytes stands.
+          let sums = g.Self.Stream.sums c.args.shared.now in let sizes = g.Self.Stream.sizes in
+          let gains = subst (λ (s : Sizes). SumGains sums (listing s) id (bytes ++ front) byte c.loop-byte.sum c.take.new.sum) i.sizes
+          (c.in_ok-take.ensures.adds refl (bytes ++ front) (i.stands bytes stands)) in
+          subst (λ (l : List ℕ). SumAdds sums own id bytes l c.args.sum.now c.take.new.sum) (sym more)
+          (run_adds_more sums own id bytes front byte c.args.sum.now c.loop-byte.sum c.take.new.sum (i.added bytes stands) gains);
       kept = c.in_ok-take.ensures.cause.kept ∙ i.kept;
       shows = c.take.ensures.shows ∙ i.shows;
       taken = omega (arith, c.take.ensures.taken, i.taken);
@@ -57,3 +64,11 @@ returns-clause-gains g c bytes stands =
     let old = state c.args.sink.now in let new = state c.loop-byte.sink in
     run_added own c.args.id bytes run old new tt
     (subst (λ (l : List ℕ). RunWritten own c.args.id bytes l old new) all (c.loop-byte.invariant.written bytes stands))
+
+pub returns-clause-adds : goal.returns-clause-adds
+returns-clause-adds g c ok bytes stands =
+    let n = c.loop-byte.byte-index in let run = c.args.run.now in
+    let all = take_all n run (omega (arith, c.loop-byte-test.false)) in
+    let own = g.Self.Stream.listing c.args.shared.now (g.Self.Stream.sizes c.args.self.now) in
+    subst (λ (l : List ℕ). SumAdds (g.Self.Stream.sums c.args.shared.now) own c.args.id bytes l c.args.sum.now c.loop-byte.sum) all
+    (c.loop-byte.invariant.added bytes stands)

@@ -4,8 +4,8 @@ use Rattle.sync_frames.proofs.synced.SyncedDemux.new.Goals as goal
 pub returns : goal.returns
 returns g c =
     record {
-      stands = λ shared. (
-        record { given = []; unsync = c.new-2.ensures.stands; demux = c.in_ok-demux.ensures.stands shared },
-        c.taken.ensures.value ∙ (c.in_ok-demux.ensures.stands shared).taken,
+      stands = (
+        record { given = []; unsync = c.new-2.ensures.stands; demux = c.in_ok-demux.ensures.stands },
+        c.taken.ensures.value ∙ (c.in_ok-demux.ensures.stands).taken,
       );
     }

@@ -8,13 +8,14 @@ use Rattle.wrapped_capture.proofs.Oldest.{left_rotated}
 use Rattle.wrapped_capture.proofs.wrapped.WrappedDemuxPrinter.finish.Goals as goal
 
 pub returns-clause-ending : goal.returns-clause-ending
-returns-clause-ending g c shared t bytes ended =
-    let k = c.args.self.unwrap.frames in
+returns-clause-ending g c t bytes ended =
+    let shared = c.args.shared.now in let k = c.args.self.unwrap.frames in
     let listing = by_sizes (g.S.Stream.listing shared) t in
     let stands =
-    subst (λ (w : Wrapped g.row.S.Denot). StandsAt (g.S.Stream.stands shared) g.S.Stream.sizes t w.demux (rotated k bytes)) (sym c.self.view_is)
-    ended in
-    let e = c.finish.ensures.ending shared t (rotated k bytes) stands in (
+    subst (λ (w : Wrapped g.row.S.Denot g.row.S-Sum.Denot).
+    StandsAt (g.S.Stream.stands shared) g.S.Stream.sizes (g.S.Stream.sums shared) (g.S.Stream.listing shared) t w.demux (rotated k bytes))
+    (sym c.self.view_is) ended in
+    let e = c.finish.ensures.ending t (rotated k bytes) stands in (
       e.0,
       e.1,
       subst (λ n. IsEnding listing (unframed (rotated k bytes)) n e.0 e.1) (ap length (left_rotated k bytes)) e.2,

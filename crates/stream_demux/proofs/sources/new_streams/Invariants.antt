@@ -2,7 +2,7 @@ use Rattle.std.proofs.Common.{◌≡◌, ◌+◌, ◌-◌, ◌≤◌, [], length
 use Rattle.std.specs.Prelude.{All}
 use Rattle.etm_types.specs.SettingsTable.{sizes_at}
 use Rattle.stream_demux.specs.Streams.{HoldsToDepth, IsReady, StandFrom, source_count}
-use Rattle.stream_demux.proofs.sources.Sources.new.Given as goal
+use Rattle.stream_demux.proofs.sources.new_streams.Given as goal
 
 abbrev pub invariant-loop-id : goal.invariant-loop-id
 invariant-loop-id g l =

@@ -1,10 +1,10 @@
 use Rattle.std.proofs.Common.{◌≡◌, ◌+◌, ◌≤◌, ℕ, List, length}
 use Rattle.std.specs.Prelude.{All}
 use Rattle.etm_types.specs.Settings.{Sizes}
-use Rattle.stream_demux.specs.Streams.{AllStand, IsReady, StandFrom}
+use Rattle.stream_demux.specs.Streams.{IsReady, StandFrom}
 use Rattle.stream_demux.specs.Texts.{by_sizes}
 use Rattle.stream_demux.proofs.Ending.{EndedTo}
-use Rattle.stream_demux.proofs.sources.Sources.finish.Given as goal
+use Rattle.stream_demux.proofs.sources.finish_all.Given as goal
 use Rattle.trace_io.specs.Bytes.{ShowsAsBefore}
 use Rattle.trace_io.specs.Causes.{KeepsFaults}
 
@@ -13,9 +13,9 @@ invariant-loop-stream g l =
     let state = g.K.Sink.state in
     record {
       count : l.id + length l.ring.items ≡ 112;
-      stands : (shared : g.row.S-Shared.Denot) (t : ℕ → Sizes) (pairs : List (ℕ × ℕ)) → AllStand (g.S.Stream.stands shared) g.S.Stream.sizes t l.fn.self pairs
+      stands : (shared : g.row.S-Shared.Denot) (t : ℕ → Sizes) (pairs : List (ℕ × ℕ)) → StandFrom (g.S.Stream.stands shared) g.S.Stream.sizes t 1 l.fn.ring.items pairs
           → StandFrom (g.S.Stream.stands shared) g.S.Stream.sizes t l.id l.ring.items pairs;
-      ended : (shared : g.row.S-Shared.Denot) (t : ℕ → Sizes) (pairs : List (ℕ × ℕ)) → AllStand (g.S.Stream.stands shared) g.S.Stream.sizes t l.fn.self pairs
+      ended : (shared : g.row.S-Shared.Denot) (t : ℕ → Sizes) (pairs : List (ℕ × ℕ)) → StandFrom (g.S.Stream.stands shared) g.S.Stream.sizes t 1 l.fn.ring.items pairs
           → EndedTo (by_sizes (g.S.Stream.listing shared) t) pairs 1 l.id l.whole (state l.fn.sink) (state l.sink);
       kept : KeepsFaults (state l.fn.sink) (state l.sink);
       shows : ShowsAsBefore (state l.fn.sink) (state l.sink);

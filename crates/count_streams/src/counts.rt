@@ -1,0 +1,84 @@
+//! The counts of the paths of all streams, and where their branches went.
+ghost use Rattle.std.specs.Prelude.{◌≡◌, [], IfOk, List, ℕ};
+ghost use Rattle.etm_types.specs.declared.item.Item.{Item};
+ghost use Rattle.count_streams.specs.Counted.{CountsAre, items_alone};
+ghost use Rattle.count_streams.specs.Pairs.{pairs_of};
+ghost use Rattle.path_counts.specs.CountLines.{items_text};
+ghost use Rattle.path_text.specs.Writing.{Writes};
+ghost use Rattle.trace_io.specs.Bytes.{ShowsAsBefore};
+ghost use Rattle.trace_io.specs.Causes.{HasCause};
+
+use crate::branches::Branches;
+use etm_types::{Id, Walked};
+use path_counts::Counter;
+use program_image::Image;
+use std::alloc::{AllocError, Global};
+use std::marker::Model;
+use stream_decoder::Follower;
+use trace_io::{Failed, Sink};
+
+/// How often the paths have what is counted, and where their branches to a register went. It follows each of them.
+#[derive(Drop)]
+pub struct PathCounts {
+    counter: Counter,
+    branches: Branches,
+}
+
+impl Model for PathCounts {
+    ghost use Rattle.count_streams.specs.Counted.{PathCounting};
+
+    ghost Value = { PathCounting };
+
+    ghost view = { λ c. record { counts = c.counter; branches = c.branches } };
+}
+
+impl PathCounts {
+    /// No item is counted. This is the one call that takes memory, and the error means want of it.
+    pub fn new(alloc: Global, image: &Image) -> Result<PathCounts, AllocError>
+        ensures { IfOk result (λ counts. CountsAre image.now counts []) }
+    {
+        Ok(PathCounts {
+            counter: Counter::new(alloc, image)?,
+            branches: Branches::new(alloc)?,
+        })
+    }
+
+    /// Writes the lines of the counts.
+    pub fn write<K: Sink>(self, image: &Image, sink: &mut K) -> Result<(), Failed>
+        ensures text { (items : List (ℕ × Item)) → CountsAre image.now self items
+            → Writes (K.state sink.old) (K.state sink.new) result (items_text image.now (items_alone items) (pairs_of image.now items)) }
+        ensures cause { HasCause (K.state sink.old) (K.state sink.new) result }
+        ensures shows { ShowsAsBefore (K.state sink.old) (K.state sink.new) }
+    {
+        let PathCounts { counter, branches } = self;
+        if counter.fits(image) {
+            counter.write(image, branches.targets(), sink)
+        } else {
+            // It is made for this image: no items have these counts over another one.
+            Ok(())
+        }
+    }
+}
+
+/// What it took are the items that are counted.
+impl Follower for PathCounts {
+    ghost took = { CountsAre };
+
+    #[inline(always)]
+    fn take_walked(&mut self, image: &Image, id: Id, walked: &Walked) {
+        if self.counter.fits(image) {
+            self.counter.add_walked(image, walked);
+            self.branches.take_walked(image, id, walked);
+        }
+    }
+
+    fn take_gap(&mut self, id: Id) {
+        self.counter.add_gap();
+        self.branches.take_mark(id);
+    }
+
+    fn take_stop(&mut self, id: Id) {
+        self.counter.add_stop();
+        self.branches.take_mark(id);
+    }
+}

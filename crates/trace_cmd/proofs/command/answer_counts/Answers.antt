@@ -1,0 +1,58 @@
+use Rattle.std.proofs.Common.{Ok, refl, ap, subst, inl, inr}
+use Rattle.std.specs.Option.{option_and_then}
+use Rattle.stream_demux.proofs.Standing.{by_err}
+use Rattle.trace_cmd.specs.Answers.{AnswersSo, call}
+use Rattle.trace_cmd.specs.Printing.{CountsOf}
+use Rattle.command_words.specs.Said.{said_intake, said_program}
+use Rattle.command_words.specs.Words.{Counts, program_of}
+use Rattle.trace_cmd.proofs.AnswerLemmas.{listed_no_file, listed_no_image, listed_no_memory, none_no_file, none_no_image, so_of_listed, so_of_none}
+use Rattle.trace_cmd.proofs.command.answer_counts.Goals as goal
+
+pub returns-in_err-image-clause-answer : goal.returns-in_err-image-clause-answer
+returns-in_err-image-clause-answer g c words means =
+    let image = g.I.Source.state in let input = g.J.Source.state in let out = g.K.Sink.state in
+    let asked = call words (image c.args.image.now) (image c.read_image.new.image) (input c.args.input.now) (input c.args.input.now) in
+    by_err (AnswersSo asked (out c.args.out.now) (out c.read_image.new.out)) c.from_residual.result c.from_residual.ensures.0 (λ e.
+    (c.in_err-image.ensures.cause.failed, c.in_err-image.ensures.failed refl words (input c.args.input.now) (ap (option_and_then program_of) means)))
+
+pub returns-in-Ok-clause-answer : goal.returns-in-Ok-clause-answer
+returns-in-Ok-clause-answer g c words means =
+    let image = g.I.Source.state in let input = g.J.Source.state in let out = g.K.Sink.state in
+    let asked = call words (image c.args.image.now) (image c.read_image.new.image) (input c.args.input.now) (input c.print_streams.new.input) in
+    let program = said_program c.args.program.now in
+    let taken = said_intake c.args.intake.now in
+    let good = c.in_ok-image.ensures.good c.in-Ok.image (ap Ok c.in-Ok.is) in
+    let so : AnswersSo asked (out c.read_image.new.out) (out c.print_streams.new.out) c.print_streams.result = elim c.print_streams.ensures.listed [
+      | inl none ↦
+          so_of_none asked (out c.read_image.new.out) (out c.print_streams.new.out) c.print_streams.result (Counts program taken, means) none.0
+          (ap input none.1) (ap out none.2)
+      | inr listed ↦
+          so_of_listed asked (CountsOf c.in-Ok.image taken) ((program, means), (program, ap (option_and_then program_of) means, good.0))
+          (out c.read_image.new.out) (out c.print_streams.new.out) c.print_streams.result listed c.print_streams.ensures.cause
+    ] in
+    subst (λ o. AnswersSo asked (out o) (out c.print_streams.new.out) c.print_streams.result) good.1 so
+
+pub returns-in-Err-clause-answer : goal.returns-in-Err-clause-answer
+returns-in-Err-clause-answer g c words means =
+    let input = g.J.Source.state in
+    c.in_ok-image.ensures.answered c.in-Err.status (ap Ok c.in-Err.is) words (input c.args.input.now) (ap (option_and_then program_of) means)
+
+-- ---- no answer for want of memory, or of a bad image, comes behind the image
+
+pub returns-in-Ok-clause-memory : goal.returns-in-Ok-clause-memory
+returns-in-Ok-clause-memory g c is = elim c.print_streams.ensures.listed [
+  | inl none ↦ none.1
+  | inr listed ↦ absurd (listed_no_memory _ _ _ _ _ _ c.print_streams.result listed is)
+]
+
+pub returns-in-Ok-clause-image_first : goal.returns-in-Ok-clause-image_first
+returns-in-Ok-clause-image_first g c line why is = elim c.print_streams.ensures.listed [
+  | inl none ↦ absurd (none_no_image c.print_streams.result line why none.0 is)
+  | inr listed ↦ absurd (listed_no_image _ _ _ _ _ _ c.print_streams.result listed line why is)
+]
+
+pub returns-in-Ok-clause-elf_first : goal.returns-in-Ok-clause-elf_first
+returns-in-Ok-clause-elf_first g c why is = elim c.print_streams.ensures.listed [
+  | inl none ↦ absurd (none_no_file c.print_streams.result why none.0 is)
+  | inr listed ↦ absurd (listed_no_file _ _ _ _ _ _ c.print_streams.result listed why is)
+]
