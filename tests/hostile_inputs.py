@@ -20,10 +20,10 @@ for so many MINUTES at most. Of each it is checked that the program
   `retired`, and with `--elf` 9 in place of 2;
 - writes nothing to standard error;
 - takes no more than 64 MiB of memory, or than this script did, since the system tells no less; and no more than 256 MiB of addresses;
-- prints lines of docs/FORMATS.md alone, in their order: those of streams, then one for the end of each stream, by their IDs, then one
-  for a frame that is cut; or the one line of a bad image, ELF file or run file; or whole frames, no more than were asked for, with
+- prints lines of docs/FORMATS.md alone, in their order: those of streams, or of counts, then one for the end of each stream, by their IDs,
+  then one for a frame that is cut; or the one line of a bad image, ELF file or run file; or whole frames, no more than were asked for, with
   synchronisation packets where they were asked for and nowhere else. What is printed fits the status; of `times` the numbers of a stream
-  begin with 0 and grow, and each has another time than the one before.
+  begin with 0 and grow, and each has another time than the one before, and the addresses of counts ascend.
 
 Before them captures are run that hold as much as may be held: of all 111 IDs, each at the greatest depth by a list of settings, and as many
 atoms of each as its queue has room for, or one more. `path` reads them in 62 MiB of memory and 70 MiB of addresses; in 54 MiB of addresses
@@ -434,7 +434,7 @@ def listed(rng, layout=()):
 
 def options_of(rng, words, layout=()):
     """The sizes that the words tell, or any, and at times those of single IDs."""
-    options = [word for word in words[1:] if word not in ("--raw", "IMAGE")]
+    options = [word for word in words[1:] if word not in ("--raw", "--count", "IMAGE")]
     if rng.random() < 0.2:
         sizes = sizes_of(rng)
         options = ["--depth", f"{sizes.depth}", "--vmid", f"{sizes.vmid}", "--cid", f"{sizes.cid}"]
@@ -461,7 +461,7 @@ def words_of(rng, layout, options):
         return ["packets", *layout, *without_depth(options)]
     if kind < 0.5 and not any(word.startswith(("--wrap", "--sync")) for word in [*layout, *options]):
         return ["times", *layout, *options]
-    return ["path", *layout, *options, "IMAGE"]
+    return ["path", *layout, *options, *["--count"] * (kind > 0.8), "IMAGE"]
 
 
 def of_streams(rng, corpus):
@@ -610,13 +610,23 @@ RUN_REASON = b"|".join([
     b"(?:wrong-kind|no-code|odd|unaligned) %b" % HEX, b"(?:too-deep|retire-too-many|cancel-too-many) %b %b" % (DECIMAL, DECIMAL)])
 
 
-def streams_text(line, reason):
-    """Lines of streams, those of their ends, and that of a frame that is cut."""
+ADDRESS_COUNT = b"(?:(?:at|taken) %b|to %b %b) [1-9][0-9]*" % (HEX, HEX, HEX)
+OTHER_COUNT = b"(?:to more|on|\\?|gap|stop|exc [a-z0-9-]+) [1-9][0-9]*"
+
+
+def printed_text(body, reason):
+    """What is printed before the lines of the ends of streams, these, and that of a frame that is cut."""
     end = b"(?:end|cut (?:[1-9]|1[0-9]|2[01])|nosync|fault %b (?:%b))" % (DECIMAL, reason)
-    return re.compile(b"(?P<body>(?:%b %b\n)*)(?P<ends>(?:%b %b\n)*)(?:frame cut (?P<cut>[0-9]+)\n)?" % (ID, line, ID, end))
+    return re.compile(b"(?P<body>%b)(?P<ends>(?:%b %b\n)*)(?:frame cut (?P<cut>[0-9]+)\n)?" % (body, ID, end))
 
 
-PRINTED = {"path": streams_text(ITEM, PATH_REASON), "packets": streams_text(PACKET, PACKET_REASON), "times": streams_text(TIME, TIMES_REASON)}
+def streams_text(line, reason):
+    """Lines of streams, and those of their ends."""
+    return printed_text(b"(?:%b %b\n)*" % (ID, line), reason)
+
+
+PRINTED = {"path": streams_text(ITEM, PATH_REASON), "packets": streams_text(PACKET, PACKET_REASON), "times": streams_text(TIME, TIMES_REASON),
+           "counts": printed_text(b"(?:%b\n)*(?:%b\n)*" % (ADDRESS_COUNT, OTHER_COUNT), PATH_REASON)}
 RETIRED = re.compile(b"(?:%b (?:on|gap|stop|%b|%b|%b)\n)*" % (ID, HEX, CONTEXT, EXCEPTION))
 REFUSED = {2: re.compile(b"image line %b: (?:syntax|unaligned|overlap|wraps|too-large|too-long)\n" % DECIMAL),
            3: re.compile(b"bench line %b: (?:%b)\n" % (DECIMAL, RUN_REASON)),
@@ -640,12 +650,15 @@ def left_over(case):
 
 
 def wrong_streams(case, ended):
-    """What is wrong with the lines of streams."""
-    found = PRINTED[case.words[0]].fullmatch(ended.out)
+    """What is wrong with the lines of streams, or with those of counts."""
+    is_counted = "--count" in case.words
+    found = PRINTED["counts" if is_counted else case.words[0]].fullmatch(ended.out)
     if found is None:
         return "lines of no form"
+    if is_counted and has_wrong_counts(found["body"]):
+        return "counts without order, or of more branches that went somewhere than were executed"
     ends = ids_of(found["ends"])
-    if ends != sorted(set(ends)) or not set(ids_of(found["body"])) <= set(ends):
+    if ends != sorted(set(ends)) or not (is_counted or set(ids_of(found["body"])) <= set(ends)):
         return "the streams do not end once each, by their IDs"
     is_raw = "--raw" in case.words
     if is_raw and ends != ([b"01"] if case.given else []):
@@ -656,6 +669,19 @@ def wrong_streams(case, ended):
         return "numbers of P0 elements, or their times"
     is_faulty = found["cut"] is not None or b" fault " in found["ends"]
     return None if is_faulty == (ended.status == 4) else "lines that do not fit the status"
+
+
+def has_wrong_counts(body):
+    """Whether the addresses do not ascend, or a branch was taken, or went somewhere, more often than it was executed."""
+    left, last = 0, -1
+    for key, address, *_, number in (line.split() for line in body.splitlines() if line.startswith((b"at ", b"taken ", b"to "))):
+        if address == b"more":
+            continue
+        place, left = int(address, 16), int(number) if key == b"at" else left - int(number)
+        if left < 0 or (place <= last if key == b"at" else place != last):
+            return True
+        last = place
+    return False
 
 
 def has_wrong_numbers(body):
