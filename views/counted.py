@@ -22,6 +22,7 @@ KINDS = [(CONDITIONAL, r"bc?\.\w+|cbn?z|tbn?z"), (JUMP, "b"), (CALL, "bl"), (POI
 LISTED = re.compile(r"^ *([0-9a-f]+):\s+(?:[0-9a-f]{8}|(?:[0-9a-f]{2} ){4})\s+(\S+)(?:.*?\b(?:0x)?([0-9a-f]+) <.*)?", re.MULTILINE)
 SYMBOL = re.compile(r"^ *\d+: ([0-9a-f]+) +(\w+) (?:FUNC|IFUNC) +(\w+) +\w+ +(?:\[.*?\] +)?(?!UND)\w+ (\S+)", re.MULTILINE)
 COUNTED = re.compile(r"(?:(at|taken) ([0-9a-f]{1,16})|(to) ([0-9a-f]{1,16}) ([0-9a-f]{1,16})) ([0-9]+)")
+PASSED_OVER = re.compile(r"(?:(?:to more|on|\?|gap|stop|exc \S+|frame cut) [0-9]+|[0-6][0-9a-f] (?:end|nosync|cut [0-9]+|fault .*))?")
 
 
 class Refused(Exception):
@@ -43,14 +44,14 @@ def counts_of(lines, moved):
     """The counts of a program that stands `moved` behind the addresses of its file. The same line of several captures is added."""
     at, taken, to = (collections.Counter() for _ in Counts._fields)
     for number, line in enumerate(lines, 1):
-        found = COUNTED.fullmatch(line.rstrip("\n"))
+        found = COUNTED.fullmatch(line)
         if found:
             addresses = tuple((int(word, 16) - moved) % SPACE for word in found.group(2, 4, 5) if word)
             if found[3]:
                 to[addresses] += int(found[6])
             else:
                 {"at": at, "taken": taken}[found[1]][addresses[0]] += int(found[6])
-        elif line.startswith(("at ", "taken ", "to ")) and not re.fullmatch("to more [0-9]+\n?", line):
+        elif not PASSED_OVER.fullmatch(line):
             raise Refused(f"line {number} of the counts has no meaning")
     return Counts(at, taken, to)
 
