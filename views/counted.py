@@ -43,6 +43,8 @@ def run(words, given=""):
 def counts_of(lines, moved):
     """The counts of a program that stands `moved` behind the addresses of its file. The same line of several captures is added."""
     at, taken, to = (collections.Counter() for _ in Counts._fields)
+    if not any(lines):
+        raise Refused("there are no counts")
     for number, line in enumerate(lines, 1):
         found = COUNTED.fullmatch(line)
         if found:
