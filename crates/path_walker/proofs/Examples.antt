@@ -22,9 +22,10 @@ use Rattle.etm_types.specs.declared.walk_fault.WalkFault.TheVariants as fault
 use Rattle.path_walker.specs.declared.pc.Pc.{Pc}
 use Rattle.path_walker.specs.declared.pc.Pc.TheVariants.{Known, Awaited, Lost}
 use Rattle.path_walker.specs.State.{State, first_state}
+use Rattle.path_walker.specs.declared.stretch.Stretch.{Stretch}
 use Rattle.path_walker.specs.Start.{context_of, mismatch_of, pc_before, start_of}
 use Rattle.path_walker.specs.Steps.{next_of, stack_after}
-use Rattle.path_walker.specs.Walk.{GoesOn, IsRunBefore, Leads, Shows, Stops, mark_of, takes}
+use Rattle.path_walker.specs.Walk.{GoesOn, IsPlaced, IsRunBefore, Leads, Shows, Stops, mark_of, takes}
 use Rattle.path_walker.specs.Things.{Walks}
 use Rattle.path_walker.proofs.OneWalk.{Walk, one_walk}
 
@@ -235,6 +236,39 @@ jumped_marked after other = let e : true ≡ false = other.took in cc
 indirect_marked : (after : State) → Shows always (at (Known 0xb000) [] user) (atom nothing_told true) (ran_taken false user 0xb000 1) after → ⊥
 unfolding class_of
 indirect_marked after other = let e : true ≡ false = other.took in cc
+
+-- ---- the place of a stretch, and whether a branch to a register is its last instruction
+
+-- the words of calls have the places 0 to 8, and RET at 3014 has 5
+abbrev a_return : ℕ → Bool → Stretch
+a_return place to_register = record { start = 0x3014; place = place; count = 1; took = false; to_register = to_register }
+
+return_placed : IsPlaced calls (a_return 5 true)
+unfolding class_of
+return_placed = record { some = omega arith; place = refl; last = refl }
+
+same_place : (a b : ℕ) → Some a ≡ Some b → a ≡ b
+same_place a b e = cc
+
+-- not that of the RET behind it
+return_elsewhere : IsPlaced calls (a_return 6 true) → ⊥
+return_elsewhere p = let e = same_place 0x3018 0x3014 p.place in absurd (omega (arith, e))
+
+return_unmarked : IsPlaced calls (a_return 5 false) → ⊥
+unfolding class_of
+return_unmarked p = let e : false ≡ true = p.last in cc
+
+-- NOP; NOP; BL, which goes to an address that it has itself
+abbrev a_call : Bool → Stretch
+a_call to_register = record { start = 0x3008; place = 2; count = 3; took = false; to_register = to_register }
+
+call_placed : IsPlaced calls (a_call false)
+unfolding class_of
+call_placed = record { some = omega arith; place = refl; last = refl }
+
+call_marked : IsPlaced calls (a_call true) → ⊥
+unfolding class_of
+call_marked p = let e : true ≡ false = p.last in cc
 
 -- ---- exceptions
 

@@ -1,11 +1,12 @@
 -- The walk of one entry over an image: what it shows and the state after it, or the fault with which it stops (Arm IHI 0064,
 -- "Descriptions of Trace Elements": the atom and exception elements). Which faults there are is this project's own choice.
 use Rattle.std.specs.Prelude.{◌≡◌, ◌≢◌, ◌⊎◌, ℕ, ◌+◌, ◌-◌, ◌<◌, Bool, true, false, ◌&&◌}
-use Rattle.std.specs.Prelude.{List, [], ◌∷◌, ◌++◌, Option, Some, None, is_none, Result, Ok, Err, ⊤}
+use Rattle.std.specs.Prelude.{List, [], ◌∷◌, ◌++◌, Option, Some, None, is_none, slice_get, Result, Ok, Err, ⊤}
 use Rattle.std.specs.Option.{unwrap_or}
 use Rattle.a64_branches.specs.declared.class.Class.{Class}
-use Rattle.a64_branches.specs.declared.class.Class.TheVariants.{Cond, Plain, Odd}
+use Rattle.a64_branches.specs.declared.class.Class.TheVariants.{Cond, Ind, Plain, Odd}
 use Rattle.program_image.specs.Blocks.{class_at, behind, IsPlainRun}
+use Rattle.program_image.specs.Places.{word_addresses}
 use Rattle.program_image.specs.declared.image.Image.{Image}
 use Rattle.etm_types.specs.declared.element.P0.{P0}
 use Rattle.etm_types.specs.declared.element.P0.TheVariants.{Atom, Exc}
@@ -86,6 +87,10 @@ abbrev pub is_cond : Option Class → Bool
 is_cond (Some (Cond offset)) = true
 is_cond class = false
 
+abbrev pub is_to_register : Option Class → Bool
+is_to_register (Some (Ind link)) = true
+is_to_register class = false
+
 -- of so many instructions from an address on the element takes the last: it is an atom E, and that one is a conditional branch
 abbrev pub takes : Image → Option ℕ → P0 → ℕ → Bool
 takes image (Some address) (Atom taken) count = taken && is_cond (class_at image (behind address (count - 1)))
@@ -106,6 +111,12 @@ walked_in ctx stretch = record {
   took = stretch.took;
   exc = None;
 }
+
+-- it has some words; the first has this place among all words of the image, and the last is a branch to a register where it says so
+pub record IsPlaced (image : Image) (stretch : Stretch) : Type 0 where
+  pub some : 0 < stretch.count
+  pub place : slice_get (word_addresses image) stretch.place ≡ Some stretch.start
+  pub last : stretch.to_register ≡ is_to_register (class_at image (behind stretch.start (stretch.count - 1)))
 
 -- the items of atoms that show nothing else, one after the other
 abbrev pub items_in : Ctx → List Stretch → List Item

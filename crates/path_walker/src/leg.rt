@@ -1,20 +1,22 @@
 //! What is executed for a P0 element from an address on, and where it leads.
-ghost use Rattle.std.specs.Prelude.{◌≡◌, ℕ, ◌%◌, false, List, IfOk, IfSome, Some, None};
+ghost use Rattle.std.specs.Prelude.{◌≡◌, ◌≢◌, ℕ, ◌+◌, ◌%◌, ◌-◌, true, false, IfOk, IfSome, Some, None, Err, slice_get};
 ghost use Rattle.a64_branches.specs.Classes.{HasWholeOffset};
+ghost use Rattle.a64_branches.specs.declared.class.Class.TheVariants.{Plain};
+ghost use Rattle.program_image.specs.Runs.{class_behind};
 ghost use Rattle.program_image.specs.Blocks.{behind, class_at, IsBlock};
+ghost use Rattle.program_image.specs.Places.{word_addresses};
 ghost use Rattle.etm_types.specs.declared.element.P0.TheVariants as p0;
 ghost use Rattle.etm_types.specs.declared.walk_fault.WalkFault.{WalkFault};
-ghost use Rattle.path_walker.specs.declared.pc.Pc.TheVariants.{Awaited};
+ghost use Rattle.path_walker.specs.declared.pc.Pc.TheVariants.{Awaited, Known};
 ghost use Rattle.return_stack.specs.Stack.{most_addresses};
-ghost use Rattle.path_walker.specs.State.{IsAligned, IsPc};
-ghost use Rattle.path_walker.specs.Steps.{next_of, stack_after, linked};
-ghost use Rattle.path_walker.specs.Leg.{IsLeg, IsAlignedLeg};
-ghost use Rattle.path_walker.specs.Walk.{Halts, takes, ToldIsAligned, ReturnIsAligned};
+ghost use Rattle.path_walker.specs.Steps.{linked};
+ghost use Rattle.path_walker.specs.Leg.{IsLeg, IsAlignedLeg, IsLegBehind};
+ghost use Rattle.path_walker.specs.Walk.{Halts, Refuses, is_to_register, takes, ToldIsAligned, ReturnIsAligned};
 
 use crate::pc::Pc;
-use a64_branches::{Class, INSTRUCTION_BYTES, target};
+use a64_branches::{INSTRUCTION_BYTES, target};
 use etm_types::{P0, WalkFault};
-use program_image::{BlockEnd, Image};
+use program_image::{BlockEnd, Image, PlacedRun, WordBehind};
 use return_stack::ReturnStack;
 
 /// What is executed for a P0 element, and where it leads.
@@ -22,8 +24,12 @@ use return_stack::ReturnStack;
 pub struct Leg {
     /// How many instructions are shown.
     pub count: u64,
+    /// The place of the first among all words of the image, where it is an atom's.
+    pub place: usize,
     /// Whether the last of them is a conditional branch, and is taken.
     pub took: bool,
+    /// Whether the last of them is a branch to a register.
+    pub to_register: bool,
     pub next: Pc,
     /// The address that is put on the return stack, where one is.
     pub link: Option<u64>,
@@ -32,13 +38,73 @@ pub struct Leg {
 impl Leg {
     /// So many plain words, and an exception after them.
     fn to_exception(count: u64) -> Leg
-        ensures { result ≡ record { count = count; took = false; next = Awaited false; link = None } }
+        ensures { result ≡ record { count = count; place = 0; took = false; to_register = false; next = Awaited false; link = None } }
     {
         Leg {
             count,
+            place: 0,
             took: false,
+            to_register: false,
             next: Pc::Awaited { pops: false },
             link: None,
+        }
+    }
+
+    /// Plain words and the word behind them, and after them the next word.
+    #[inline(always)]
+    fn of_words(placed: PlacedRun, behind: u64) -> Leg
+        ensures { result ≡ record { count = placed.run.plain + 1; place = placed.place; took = false; to_register = false; next = Known behind; link = None } }
+    {
+        Leg {
+            count: u64::from(placed.run.plain) + 1,
+            place: placed.place,
+            took: false,
+            to_register: false,
+            next: Pc::Known(behind),
+            link: None,
+        }
+    }
+
+    /// The same instructions, after which it goes on there.
+    #[inline(always)]
+    fn to(self, next: Pc) -> Leg
+        ensures { result ≡ record self { next = next } }
+    {
+        Leg { next, ..self }
+    }
+
+    /// The same, where the last one is a conditional branch that is taken to an address.
+    #[inline(always)]
+    fn taken_to(self, addr: u64) -> Leg
+        ensures { result ≡ record self { took = true; next = Known addr } }
+    {
+        Leg {
+            took: true,
+            next: Pc::Known(addr),
+            ..self
+        }
+    }
+
+    /// The same, where the last one is a branch to a register, which may be a return.
+    #[inline(always)]
+    fn to_a_register(self, pops: bool) -> Leg
+        ensures { result ≡ record self { to_register = true; next = Awaited pops } }
+    {
+        Leg {
+            to_register: true,
+            next: Pc::Awaited { pops },
+            ..self
+        }
+    }
+
+    /// The same, where the last one puts this return address on the stack.
+    #[inline(always)]
+    fn linking(self, link: u64) -> Leg
+        ensures { result ≡ record self { link = Some link } }
+    {
+        Leg {
+            link: Some(link),
+            ..self
         }
     }
 
@@ -54,35 +120,36 @@ impl Leg {
     }
 }
 
-/// Where the instruction at an address goes on by an atom: none where it can have no such atom.
-fn next_of(class: Class, addr: u64, taken: bool) -> Option<Pc>
+/// What an atom executes of plain words and the word behind them, and where it leads; or why it can't be an atom of that word. One match says
+/// all of it, since each atom goes this way.
+#[inline(always)]
+fn leg_behind(placed: PlacedRun, addr: u64, taken: bool) -> Result<Leg, WalkFault>
     requires address { addr % 4 ≡ 0 }
-    requires whole { HasWholeOffset class }
-    ensures value { result ≡ next_of class addr taken }
-    ensures aligned { IfSome result IsPc }
+    requires whole { IfSome (class_behind placed.run.behind) HasWholeOffset }
+    requires last { class_behind placed.run.behind ≢ Some Plain }
+    ensures leads { IfOk result (IsLegBehind (class_behind placed.run.behind) addr taken) }
+    ensures count { IfOk result (λ leg. leg.count ≡ placed.run.plain + 1) }
+    ensures place { IfOk result (λ leg. leg.place ≡ placed.place) }
+    ensures halts { (fault : WalkFault) → result ≡ Err fault → Refuses (class_behind placed.run.behind) addr taken fault }
+    ensures aligned { IfOk result IsAlignedLeg }
 {
-    match (class, taken) {
-        (Class::Jump { off, .. } | Class::Cond { off }, true) => Some(Pc::Known(target(addr, off))),
-        (Class::Isb, true) | (Class::Cond { .. }, false) => {
-            Some(Pc::Known(addr.wrapping_add(INSTRUCTION_BYTES)))
+    let behind = addr.wrapping_add(INSTRUCTION_BYTES);
+    let leg = Leg::of_words(placed, behind);
+    match (placed.run.behind, taken) {
+        (WordBehind::BranchConditionally { off }, true) => Ok(leg.taken_to(target(addr, off))),
+        (WordBehind::BranchConditionally { .. }, false) | (WordBehind::Barrier, true) => Ok(leg),
+        (WordBehind::Branch { off }, true) => Ok(leg.to(Pc::Known(target(addr, off)))),
+        (WordBehind::BranchWithLink { off }, true) => {
+            Ok(leg.to(Pc::Known(target(addr, off))).linking(behind))
         }
-        (Class::Ind { link }, true) => Some(Pc::Awaited { pops: !link }),
-        (Class::Eret, true) => Some(Pc::Awaited { pops: false }),
-        _ => None,
-    }
-}
-
-/// The return address of the instruction at an address, where it has one.
-fn link_of(class: Class, addr: u64) -> Option<u64>
-    requires { addr % 4 ≡ 0 }
-    ensures value { (stack : List ℕ) → linked result stack ≡ stack_after class addr stack }
-    ensures aligned { IfSome result IsAligned }
-{
-    match class {
-        Class::Jump { link: true, .. } | Class::Ind { link: true } => {
-            Some(addr.wrapping_add(INSTRUCTION_BYTES))
+        (WordBehind::BranchToRegister, true) => Ok(leg.to_a_register(true)),
+        (WordBehind::BranchWithLinkToRegister, true) => {
+            Ok(leg.to_a_register(false).linking(behind))
         }
-        _ => None,
+        (WordBehind::ExceptionReturn, true) => Ok(leg.to(Pc::Awaited { pops: false })),
+        (WordBehind::NoWord, _) => Err(WalkFault::NoCode(addr)),
+        (WordBehind::NotRead, _) => Err(WalkFault::Odd(addr)),
+        _ => Err(WalkFault::BadAtom(addr)),
     }
 }
 
@@ -92,23 +159,16 @@ pub fn leg_of_atom(image: &Image, pc: u64, taken: bool) -> Result<Leg, WalkFault
     requires { pc % 4 ≡ 0 }
     ensures leads { IfOk result (IsLeg image.now (Some pc) (p0.Atom taken)) }
     ensures took { IfOk result (λ leg. leg.took ≡ takes image.now (Some pc) (p0.Atom taken) leg.count) }
+    ensures placed { IfOk result (λ leg. slice_get (word_addresses image.now) leg.place ≡ Some pc) }
+    ensures register { IfOk result (λ leg. leg.to_register ≡ is_to_register (class_at image.now (behind pc (leg.count - 1)))) }
     ensures halts { (fault : WalkFault) → result ≡ Err fault → Halts image.now (Some pc) (p0.Atom taken) fault }
     ensures aligned { IfOk result IsAlignedLeg }
 {
-    let block = image.block(pc);
-    match block.end {
-        BlockEnd::NoCode(addr) => Err(WalkFault::NoCode(addr)),
-        BlockEnd::Odd(addr) => Err(WalkFault::Odd(addr)),
-        BlockEnd::P0 { addr, class } => match next_of(class, addr, taken) {
-            None => Err(WalkFault::BadAtom(addr)),
-            Some(next) => Ok(Leg {
-                count: block.plain + 1,
-                took: taken && matches!(class, Class::Cond { .. }),
-                next,
-                link: link_of(class, addr),
-            }),
-        },
-    }
+    let Some(placed) = image.placed_run(pc) else {
+        return Err(WalkFault::NoCode(pc));
+    };
+    let words = u64::from(placed.run.plain) * INSTRUCTION_BYTES;
+    leg_behind(placed, pc.wrapping_add(words), taken)
 }
 
 /// The plain words from an address on, up to the preferred return address of an exception.
@@ -146,7 +206,9 @@ pub fn leg_of(image: &Image, at: Option<u64>, p0: P0) -> Result<Leg, WalkFault>
         (Some(pc), P0::Exc { kind, ret }) => leg_of_exception(image, pc, kind, ret),
         (None, P0::Atom(_)) => Ok(Leg {
             count: 0,
+            place: 0,
             took: false,
+            to_register: false,
             next: Pc::Lost,
             link: None,
         }),

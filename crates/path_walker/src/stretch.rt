@@ -13,10 +13,14 @@ const MOST: usize = 24;
 pub struct Stretch {
     /// The address of the first instruction.
     pub start: u64,
+    /// The place of the first among all words of the image.
+    pub place: usize,
     /// How many instructions there are, each 4 bytes after the one before, modulo 2^64.
     pub count: u64,
     /// Whether the last one is a conditional branch, and was taken.
     pub took: bool,
+    /// Whether the last one is a branch to a register, a return among them.
+    pub to_register: bool,
 }
 
 impl Stretch {
@@ -63,8 +67,10 @@ impl Stretches {
         Stretches {
             all: [Stretch {
                 start: 0,
+                place: 0,
                 count: 0,
                 took: false,
+                to_register: false,
             }; MOST],
             len: 0,
         }

@@ -37,7 +37,7 @@ impl Walker {
     ghost use Rattle.path_walker.specs.State.{IsState, IsPc, first_state};
     ghost use Rattle.path_walker.specs.Start.{StartsAs, context_of, mismatch_of, pc_before, start_by, start_of, used};
     ghost use Rattle.path_walker.specs.Steps.{linked};
-    ghost use Rattle.path_walker.specs.Walk.{HasAlignedAddresses, HasNoStretch, Shows, Stops, ToldIsAligned, atom_at, mark_of, walked_in};
+    ghost use Rattle.path_walker.specs.Walk.{HasAlignedAddresses, HasNoStretch, IsPlaced, Shows, Stops, ToldIsAligned, atom_at, mark_of, walked_in};
 
     /// A walk that begins at no known address. This is the one call that takes memory, and the error
     /// means want of it.
@@ -89,6 +89,7 @@ impl Walker {
     pub fn walk_atom(&mut self, image: &Image, addr: Option<u64>, taken: bool) -> Option<Stretch>
         requires { ToldIsAligned addr }
         ensures shows { IfSome result (λ stretch. Shows image.now self.old (atom_at addr taken) (walked_in self.old.ctx stretch) self.new) }
+        ensures placed { IfSome result (IsPlaced image.now) }
         ensures none { result ≡ None → HasNoStretch image.now self.old (atom_at addr taken) }
         ensures unchanged { result ≡ None → self.new ≡ self.old }
         ensures context { self.new.ctx ≡ self.old.ctx }
@@ -102,8 +103,10 @@ impl Walker {
         self.go_on(stack, &leg);
         Some(Stretch {
             start,
+            place: leg.place,
             count: leg.count,
             took: leg.took,
+            to_register: leg.to_register,
         })
     }
 

@@ -13,3 +13,4 @@ pub mod Tables
 pub mod WordsBelow
 pub mod WordPlaces
 pub mod Examples
+pub mod TextExamples

@@ -223,7 +223,7 @@ address_in_part (part ∷ parts) n (suc k) place d short low high =
 
 -- ---- addresses and places
 
-some_is : (o : Option ℕ) → IsSome o → (w : ℕ) × (o ≡ Some w)
+pub some_is : (o : Option ℕ) → IsSome o → (w : ℕ) × (o ≡ Some w)
 some_is None some = absurd cc
 some_is (Some w) some = (w, refl)
 
@@ -290,6 +290,16 @@ place_found image a k w part again is short there there' word here =
     let at = place_in_part image 0 k a part is.parts is.order short (omega (arith, has.from, same)) (omega (arith, has.to, same_end)) in
     let found : word_of image a ≡ Some w = word ∙ ap (λ (p : Part). word_in p a) (sym there) ∙ here in
     (omega (arith, at, same'), rw found refl)
+
+-- so many stand before each part
+pub few_before : (image : List Part) (k : ℕ) → IsImage image → k < length image → get_or (words_before 0 image) k 0 ≤ 4194304
+few_before image k is short =
+    let d : Part = record { start = 0; bytes = [] } in
+    let part = get_or image k d in
+    let some = (is.parts k d short).some in
+    let at = place_in_part image 0 k part.start d is.parts is.order short (omega arith) (omega (arith, some)) in
+    let few = few_words image part.start is in
+    omega (arith, at, few)
 
 -- the address at a place, by the part that has it
 pub address_found : (image : List Part) (k place : ℕ) (part : Part) → IsImage image → k < length image → part ≡ get_or image k part

@@ -6,6 +6,7 @@ use Rattle.a64_branches.specs.declared.class.Class.{Class}
 use Rattle.a64_branches.specs.declared.class.Class.TheVariants.{Plain, Jump, Cond, Isb, Ind, Eret, Odd}
 use Rattle.program_image.specs.Part.{Part, end_of}
 use Rattle.program_image.specs.declared.run.Run.{Run}
+use Rattle.program_image.specs.declared.run.WordRun.{WordRun}
 use Rattle.program_image.specs.declared.run.WordBehind.{WordBehind}
 use Rattle.program_image.specs.declared.run.WordBehind.TheVariants as word_behind
 use Rattle.program_image.specs.Blocks.{behind, class_at, IsPlainRun}
@@ -22,6 +23,10 @@ class_behind word_behind.BranchToRegister = Some (Ind false)
 class_behind word_behind.BranchWithLinkToRegister = Some (Ind true)
 class_behind word_behind.ExceptionReturn = Some Eret
 class_behind word_behind.NotRead = Some Odd
+
+-- a run as it is kept
+abbrev pub run_of : WordRun → Run
+run_of kept = record { plain = kept.plain; class = class_behind kept.behind }
 
 -- the run from a word on, by the word's class and the run from the next word on
 abbrev pub run_from : Class → Run → Run

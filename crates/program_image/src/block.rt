@@ -1,7 +1,8 @@
 //! Blocks of an image: the plain words from an address on, up to the next word that is traced.
-ghost use Rattle.std.specs.Prelude.{◌≢◌, Some};
+ghost use Rattle.std.specs.Prelude.{◌≡◌, ◌≢◌, Some};
 ghost use Rattle.a64_branches.specs.declared.class.Class.TheVariants.{Plain};
 ghost use Rattle.program_image.specs.Blocks.{EndsAs};
+ghost use Rattle.program_image.specs.declared.block.BlockEnd.TheVariants.{NoCode};
 
 use a64_branches::Class;
 

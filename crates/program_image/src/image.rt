@@ -1,14 +1,14 @@
 //! The image of a program: the parts of a core's memory that hold it.
-ghost use Rattle.std.specs.Prelude.{◌≡◌, ◌⊎◌, ℕ, ◌+◌, ◌/◌, ◌%◌, ◌^◌, ◌<◌, ◌≤◌, [], length, slice_get, Some, None, MatchOption, IfOk, IsErrOf};
+ghost use Rattle.std.specs.Prelude.{◌≡◌, ◌⊎◌, ℕ, ◌+◌, ◌/◌, ◌%◌, ◌^◌, ◌<◌, ◌≤◌, [], get_or, length, slice_get, Some, None, MatchOption, IfOk, IsErrOf, IsSome, IfSome};
 ghost use Rattle.std.specs.Str.Lines.{lines};
 ghost use Rattle.trace_io.specs.Causes.{KeepsFaults, Rose};
 ghost use Rattle.trace_io.specs.Bytes.{ShowsAsBefore, TakesAtMost};
-ghost use Rattle.program_image.specs.Part.{IsImage, most_bytes, word_of};
+ghost use Rattle.program_image.specs.Part.{IsImage, Part, most_bytes, word_in, word_of};
 ghost use Rattle.program_image.specs.Places.{word_addresses, word_count};
 ghost use Rattle.program_image.specs.ImageText.{add_lines, image_of, most_text};
 ghost use Rattle.program_image.specs.Answers.{AnswersText, TakesImage, TakesNoImage};
 ghost use Rattle.program_image.specs.Blocks.{HasGap, IsBlock, class_at};
-ghost use Rattle.program_image.specs.Runs.{IsRun};
+ghost use Rattle.program_image.specs.Runs.{IsRun, run_of};
 
 use crate::block::{Block, BlockEnd, end_at};
 use crate::draft::Draft;
@@ -16,7 +16,7 @@ use crate::fault::{ImageFault, ImageWhy, LineFault};
 use crate::lookup::{part_at, word_at};
 use crate::part::Part;
 use crate::places::Places;
-use crate::run::Run;
+use crate::run::{PlacedRun, WordRun};
 use crate::run_table::{Runs, table};
 use a64_branches::INSTRUCTION_BYTES;
 use line_words::NumberedLines;
@@ -125,20 +125,36 @@ impl Image {
         ensures few { result.plain < 2 ^ 62 }
         ensures gap { HasGap self.now }
     {
-        // It does nothing: what holds of each image is known where a field is used.
-        let _ = &self.parts;
-        let Some(run) = self.run_at(pc) else {
+        let Some(placed) = self.placed_run(pc) else {
             return Block {
                 plain: 0,
                 end: BlockEnd::NoCode(pc),
             };
         };
-        let plain = u64::from(run.plain);
+        let plain = u64::from(placed.run.plain);
         let addr = pc.wrapping_add(plain * INSTRUCTION_BYTES);
         Block {
             plain,
-            end: end_at(run.class, addr),
+            end: end_at(placed.run.behind.class(), addr),
         }
+    }
+
+    /// The same as the image keeps it, and the place of the word at the address: none where no word begins there. It costs one search
+    /// of a part.
+    #[inline(always)]
+    pub fn placed_run(&self, pc: u64) -> Option<PlacedRun>
+        requires { pc % 4 ≡ 0 }
+        ensures run { MatchOption result (class_at self.now pc ≡ None) (λ placed. IsRun self.now pc (run_of placed.run)) }
+        ensures place { IfSome result (λ placed. IsSome (word_of self.now pc)
+            → slice_get (word_addresses self.now) placed.place ≡ Some pc) }
+        ensures gap { HasGap self.now }
+    {
+        let part = part_at(&self.parts, pc)?;
+        let run = self.run_in(part, pc)?;
+        Some(PlacedRun {
+            place: self.place_in(part, pc),
+            run,
+        })
     }
 
     /// How many words there are.
@@ -160,8 +176,7 @@ impl Image {
     {
         let part = part_at(&self.parts, addr)?;
         self.parts[part].word_at(addr)?;
-        let offset = addr - self.parts[part].start();
-        Some(self.places.count_before(part) + (offset / INSTRUCTION_BYTES) as usize)
+        Some(self.place_in(part, addr))
     }
 
     /// The address of the word at a place: none where there are no more words. It costs as much.
@@ -177,15 +192,29 @@ impl Image {
         Some(self.parts[part].start() + offset)
     }
 
-    /// The run from the word at an address on: none where no word begins there.
+    /// The run from the word at an address on, by the part that the word can be of: none where no word begins there.
     #[inline(always)]
-    fn run_at(&self, addr: u64) -> Option<Run>
-        requires { addr % 4 ≡ 0 }
-        ensures run { MatchOption result (class_at self.now addr ≡ None) (IsRun self.now addr) }
+    fn run_in(&self, part: usize, addr: u64) -> Option<WordRun>
+        requires aligned { addr % 4 ≡ 0 }
+        requires part { (d : Part) → word_of self.now addr ≡ word_in (get_or self.now part d) addr }
+        requires begun { (d : Part) → (get_or self.now part d).start ≤ addr }
+        requires within { part < length self.now }
+        ensures run { MatchOption result (class_at self.now addr ≡ None) (λ run. IsRun self.now addr (run_of run)) }
     {
-        let place = part_at(&self.parts, addr)?;
-        let offset = addr - self.parts[place].start();
-        self.table[place].at((offset / INSTRUCTION_BYTES) as usize)
+        let offset = addr - self.parts[part].start();
+        self.table[part].kept_at((offset / INSTRUCTION_BYTES) as usize)
+    }
+
+    /// The place of the word at an address, where one begins there, by the part that the word can be of.
+    #[inline(always)]
+    fn place_in(&self, part: usize, addr: u64) -> usize
+        requires part { (d : Part) → word_of self.now addr ≡ word_in (get_or self.now part d) addr }
+        requires begun { (d : Part) → (get_or self.now part d).start ≤ addr }
+        requires within { part < length self.now }
+        ensures place { IsSome (word_of self.now addr) → slice_get (word_addresses self.now) result ≡ Some addr }
+    {
+        let offset = addr - self.parts[part].start();
+        self.places.count_before(part) + (offset / INSTRUCTION_BYTES) as usize
     }
 }
 

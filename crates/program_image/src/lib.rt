@@ -9,7 +9,8 @@
 //! - [`Image::of_text`]: the image that a text spells, or the first line that has a fault, and which.
 //! - [`Image::read`]: the same of the text that a source has left.
 //! - [`Image::word_at`]: the instruction word at an address.
-//! - [`Image::block`]: the plain words from an address on, and what stands after them.
+//! - [`Image::block`]: the plain words from an address on, and what stands after them; and [`Image::placed_run`], the same as
+//!   the image keeps it, with the place of the first.
 //! - [`Image::place_at`] and [`Image::address_of`]: the place of a word among all words of the image, and back.
 //! - the laws: what a text spells, and what holds of every image.
 #![tactic(auto)]
@@ -33,6 +34,4 @@ pub use laws::{
     a_fault_is_that_of_the_first_line, each_image_has_a_gap, reads_what_is_spelled,
     words_are_of_their_parts, words_have_places,
 };
-
-#[cfg(test)]
-mod tests;
+pub use run::{PlacedRun, WordBehind, WordRun};

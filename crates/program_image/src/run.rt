@@ -1,6 +1,6 @@
 //! A run of plain words and what stands behind it, as contracts see it and as the table of an image keeps it.
 ghost use Rattle.std.specs.Prelude.{◌≡◌};
-ghost use Rattle.program_image.specs.Runs.{class_behind, no_word};
+ghost use Rattle.program_image.specs.Runs.{class_behind, no_word, run_of};
 
 use a64_branches::Class;
 use std::marker::Model;
@@ -29,7 +29,7 @@ impl Run {
     }
 }
 
-/// The word behind a run: an `Option<Class>` in 8 bytes. Offsets are in bytes.
+/// The word behind plain words: an `Option<Class>` in 8 bytes, one variant for each that a walk tells apart. Offsets are in bytes.
 #[derive(Clone, Copy, Debug, PartialEq, Eq)]
 pub enum WordBehind {
     NoWord,
@@ -63,9 +63,9 @@ impl WordBehind {
         }
     }
 
-    /// Its class.
+    /// Its class, where one begins there.
     #[inline(always)]
-    fn class(self) -> Option<Class>
+    pub fn class(self) -> Option<Class>
         ensures { result ≡ class_behind self }
     {
         match self {
@@ -81,6 +81,21 @@ impl WordBehind {
             WordBehind::NotRead => Some(Class::Odd),
         }
     }
+}
+
+/// The plain words from one of an image on, and the word behind them, as the table of the image keeps them: a walk needs no more.
+#[derive(Clone, Copy, Debug, PartialEq, Eq)]
+pub struct WordRun {
+    /// How many plain words there are.
+    pub plain: u32,
+    pub behind: WordBehind,
+}
+
+/// The run from a word on, with the place of that word among all words of the image.
+#[derive(Clone, Copy, Debug, PartialEq, Eq)]
+pub struct PlacedRun {
+    pub place: usize,
+    pub run: WordRun,
 }
 
 /// A run as the table of an image keeps it. Contracts see the run.
@@ -110,8 +125,18 @@ impl TableEntry {
         }
     }
 
-    /// Its run.
+    /// Its run, as it is kept.
     #[inline(always)]
+    pub fn kept(&self) -> WordRun
+        ensures { run_of result ≡ self.now }
+    {
+        WordRun {
+            plain: self.plain,
+            behind: self.behind,
+        }
+    }
+
+    /// Its run.
     pub fn run(&self) -> Run
         ensures { result ≡ self.now }
     {

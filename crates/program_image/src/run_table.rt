@@ -4,16 +4,16 @@
 //! The run from a plain word on is one longer than that from the next word on, and ends likewise. So the parts are taken from
 //! the last to the first, and the words of each likewise. A run goes on over parts that touch, and from
 //! the last address to address 0.
-ghost use Rattle.std.specs.Prelude.{◌≡◌, ◌==◌, ◌+◌, ◌%◌, ◌^◌, ◌<◌, ◌≤◌, if◌then◌else◌, length, slice_get, Some, IfOk, IsTrue, ◌↔◌};
+ghost use Rattle.std.specs.Prelude.{◌≡◌, ◌==◌, ◌+◌, ◌%◌, ◌^◌, ◌<◌, ◌≤◌, if◌then◌else◌, length, slice_get, Some, IfOk, IsTrue, ◌↔◌, MatchOption, None};
 ghost use Rattle.a64_branches.specs.Classes.{class_of};
 ghost use Rattle.program_image.specs.Part.{IsImage, end_of, total};
 ghost use Rattle.a64_branches.specs.declared.class.Class.TheVariants.{Plain};
 ghost use Rattle.program_image.specs.Blocks.{class_at};
-ghost use Rattle.program_image.specs.Runs.{IsFollowedBy, IsRun, IsRunLength, IsTable, first_run, no_word, run_from, runs_of};
+ghost use Rattle.program_image.specs.Runs.{IsFollowedBy, IsRun, IsRunLength, IsTable, first_run, no_word, run_from, run_of, runs_of};
 
 use crate::lookup::class_at;
 use crate::part::{ADDRESSES, Part};
-use crate::run::{Run, TableEntry};
+use crate::run::{Run, TableEntry, WordRun};
 use a64_branches::{Class, INSTRUCTION_BYTES, class_of};
 use byteorder::{ByteOrder, LittleEndian};
 use std::alloc::{AllocError, Global};
@@ -35,8 +35,19 @@ impl Model for Runs {
 }
 
 impl Runs {
+    /// The run from a word on, as it is kept; words count from 0.
+    #[inline(always)]
+    pub fn kept_at(&self, word: usize) -> Option<WordRun>
+        ensures { MatchOption result (slice_get self.now word ≡ None) (λ run. slice_get self.now word ≡ Some (run_of run)) }
+    {
+        match self.of_words.get(word) {
+            Some(entry) => Some(entry.kept()),
+            None => None,
+        }
+    }
+
     /// The run from a word on; words count from 0.
-    pub fn at(&self, word: usize) -> Option<Run>
+    fn at(&self, word: usize) -> Option<Run>
         ensures { result ≡ slice_get self.now word }
     {
         match self.of_words.get(word) {

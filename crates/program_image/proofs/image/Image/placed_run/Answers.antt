@@ -1,7 +1,7 @@
 use Rattle.std.proofs.Common.{subst}
 use Rattle.program_image.specs.Blocks.{HasGap}
 use Rattle.program_image.proofs.Gaps.{gap_of}
-use Rattle.program_image.proofs.image.Image.block.Goals as goal
+use Rattle.program_image.proofs.image.Image.placed_run.Goals as goal
 
 pub returns-clause-gap : goal.returns-clause-gap
 returns-clause-gap c =
