@@ -28,7 +28,7 @@ newest kept gone n e = drop_at kept gone _ (omega (arith, length-append kept gon
 oldest : (kept gone : List Thing) (n : ℕ) → length gone ≡ n → take (length (kept ++ gone) - n) (kept ++ gone) ≡ kept
 oldest kept gone n e = take_at kept gone _ (omega (arith, length-append kept gone))
 
-some : (n : ℕ) → (suc n == 0) ≡ false
+pub some : (n : ℕ) → (suc n == 0) ≡ false
 some n = grind (arith, nat_tests)
 
 pub takes_back : (depth n : ℕ) (informed : Bool) (pre : Pre) (kept gone : List Thing) → length gone ≡ n

@@ -46,10 +46,10 @@ is_e thing = false
 
 -- ---- the states
 
-abbrev program : Ctx
+abbrev pub program : Ctx
 program = record { el = 0; ns = true; vmid = 5; cid = 7 }
 
-abbrev handler : Ctx
+abbrev pub handler : Ctx
 handler = record { el = 1; ns = true; vmid = 5; cid = 7 }
 
 abbrev begun : Pre
@@ -58,19 +58,19 @@ begun = record nothing_told { on = true; ctx = Some handler; addr = Some 0x1000 
 abbrev since : Pre
 since = record nothing_told { ctx = Some program; addr = Some 0x4000 }
 
-abbrev seen : Pre → P0 → Thing
+abbrev pub seen : Pre → P0 → Thing
 seen pre p0 = Seen (record { pre = pre; p0 = p0 })
 
-abbrev first : Thing
+abbrev pub first : Thing
 first = seen begun (Atom true)
 
-abbrev second : Thing
+abbrev pub second : Thing
 second = seen nothing_told (Exc 1 0x2000)
 
-abbrev third : Thing
+abbrev pub third : Thing
 third = seen (record nothing_told { addr = Some 0x3000 }) (Atom false)
 
-abbrev full : Pending
+abbrev pub full : Pending
 full = record { held = first ∷ second ∷ third ∷ []; pre = since; informed = true }
 
 abbrev two : Pending

@@ -92,7 +92,7 @@ same_option : {X : Type 0} (o : Option X) → option_map (λ x. x) o ≡ o
 same_option None = refl
 same_option (Some x) = refl
 
-flip_newest_behind : (others : List Thing) (thing : Thing) (things : List Thing)
+pub flip_newest_behind : (others : List Thing) (thing : Thing) (things : List Thing)
     → flip_newest (others ++ thing ∷ things) ≡ option_map (λ l. others ++ l) (flip_newest (thing ∷ things))
 flip_newest_behind [] thing things = sym (same_option (flip_newest (thing ∷ things)))
 flip_newest_behind (x ∷ []) thing things = refl

@@ -1,7 +1,12 @@
 pub mod Balanced
 pub mod Cancelled
 pub mod Counted
+pub mod Deferred
 pub mod Examples
 pub mod Flipped
 pub mod Held
 pub mod Joined
+pub mod Noted
+pub mod Runs
+pub mod RewritingExamples
+pub mod TwoStates

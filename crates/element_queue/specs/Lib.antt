@@ -3,3 +3,4 @@ pub mod Packed
 pub mod Pending
 pub mod Queued
 pub mod Resolved
+pub mod Rewriting

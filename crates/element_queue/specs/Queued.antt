@@ -1,6 +1,7 @@
 -- What contracts see of a queue.
 use Rattle.std.specs.Prelude.{◌≡◌, ◌≤◌, ℕ, ◌-◌, Bool, true, None, Some, Option, List, [], ◌∷◌, ◌++◌, All, length, take, Ok, Err, ⊤}
 use Rattle.etm_types.specs.declared.element.Elem.{Elem}
+use Rattle.etm_types.specs.declared.element.Elem.TheVariants as elem
 use Rattle.etm_types.specs.Pre.{nothing_told}
 use Rattle.etm_types.specs.declared.element.Entry.{Entry}
 use Rattle.etm_types.specs.declared.element.P0.{P0}
@@ -16,7 +17,7 @@ use Rattle.element_queue.specs.declared.queue.Committed.TheVariants as committed
 use Rattle.element_queue.specs.declared.queue.PreElem.{PreElem}
 use Rattle.element_queue.specs.declared.queue.PreElem.TheVariants as pre_elem
 use Rattle.element_queue.specs.Counting.{Balances, add, counts_after, entries, made_by}
-use Rattle.element_queue.specs.Pending.{Gone, Pending, taken}
+use Rattle.element_queue.specs.Pending.{Gone, Pending, Taken, nothing_gone, taken}
 
 -- what is held, oldest first, what was given since, the most that may be held, and the counts
 pub record Queued : Type 0 where
@@ -51,12 +52,32 @@ pub record Takes (q : Queued) (e : Elem) (gone : Gone) (q' : Queued) : Type 0 wh
 abbrev pub Refuses : Queued → Elem → QueueFault → Type 0
 Refuses q e fault = (informed : Bool) → taken q.depth (pending_of q informed) e ≡ Err fault
 
--- what an element that is no P0 element gives to the next one
+-- A trace info is taken, where one came before or where none did. From it on one came.
+pub record TakesInfo (informed : Bool) (q : Queued) (spec : ℕ) (q' : Queued) : Type 0 where
+  pub rule : taken q.depth (pending_of q informed) (elem.Info spec) ≡ Ok (pending_of q' true, nothing_gone)
+  pub counts : q'.counts ≡ q.counts
+  pub depth : q'.depth ≡ q.depth
+
+-- an element that gives something to the next P0 element is taken: of trace infos any that is not the first, whatever it announces
+abbrev pub TakesPre : Queued → PreElem → Queued → Type 0
+TakesPre q pre_elem.Info q' = (spec : ℕ) → TakesInfo true q spec q'
+TakesPre q pre_elem.On q' = Takes q elem.On nothing_gone q'
+TakesPre q (pre_elem.Ctx ctx) q' = Takes q (elem.Ctx ctx) nothing_gone q'
+TakesPre q (pre_elem.Addr addr) q' = Takes q (elem.Addr addr) nothing_gone q'
+
+abbrev pub elem_of : PreElem → Elem
+elem_of pre_elem.Info = elem.Info 0
+elem_of pre_elem.On = elem.On
+elem_of (pre_elem.Ctx ctx) = elem.Ctx ctx
+elem_of (pre_elem.Addr addr) = elem.Addr addr
+
+abbrev pub given_behind : Pre → Taken → Pre
+given_behind pre (Ok t) = (t.0).pre
+given_behind pre (Err fault) = pre
+
+-- what such an element gives, with what was given before, by the rules
 abbrev pub noted : Pre → PreElem → Pre
-noted pre pre_elem.Info = record pre { flush = true }
-noted pre pre_elem.On = record pre { on = true; addr = None }
-noted pre (pre_elem.Ctx ctx) = record pre { ctx = Some ctx }
-noted pre (pre_elem.Addr addr) = record pre { addr = Some addr }
+noted pre e = given_behind pre (taken 0 (record { held = []; pre = pre; informed = true }) (elem_of e))
 
 -- what was given before the oldest of the newest entries, or else since the newest
 abbrev pub given_since : Pre → List Entry → Pre

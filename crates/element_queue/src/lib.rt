@@ -18,8 +18,10 @@ mod slot;
 mod uncommitted;
 
 pub use laws::{
-    a_tally_counts_what_is_resolved, done_stays_done, elements_are_resolved_one_by_one,
-    no_more_than_the_depth_is_held,
+    a_commit_may_be_deferred, a_flipped_atom_is_the_inverted_atom, a_tally_counts_what_is_resolved,
+    cancelled_atoms_vanish, done_stays_done, elements_are_resolved_one_by_one,
+    joined_cancels_are_their_sum, no_more_than_the_depth_is_held,
+    packed_atoms_are_taken_one_by_one,
 };
 pub use ledger::{Counts, Ledger};
 pub use queue::{AtomEntry, Committed, PreElem, Queue};

@@ -1,15 +1,15 @@
 //! The queue of P0 elements that are not committed.
-ghost use Rattle.std.specs.Prelude.{◌≡◌, ◌≤◌, ◌<◌, ◌-◌, ◌↔◌, ℕ, [], length, take, drop, map, replicate, Option, Ok, Err};
-ghost use Rattle.std.specs.Prelude.{IfOk, IfSome, IsOk, IsErr, IsSome, IsTrue, ◌∷◌};
+ghost use Rattle.std.specs.Prelude.{◌≡◌, ◌≤◌, ◌<◌, ◌-◌, ◌↔◌, ℕ, [], length, take, drop, map, Option, Ok, Err};
+ghost use Rattle.std.specs.Prelude.{IfOk, IfSome, IsOk, IsErr, IsSome, IsTrue, false, ◌∷◌};
 ghost use Rattle.etm_types.specs.Pre.{nothing_told, trace_missing};
 ghost use Rattle.etm_types.specs.declared.element.Elem.TheVariants as elem;
 ghost use Rattle.etm_types.specs.declared.element.P0.TheVariants.{Atom};
-ghost use Rattle.etm_types.specs.declared.element.Thing.TheVariants.{Seen, Unseen};
+ghost use Rattle.etm_types.specs.declared.element.Thing.TheVariants.{Seen};
 ghost use Rattle.etm_types.specs.declared.queue_fault.QueueFault.{QueueFault};
 ghost use Rattle.element_queue.specs.Counting.{AreCounts, Balances, counts_after, no_counts};
 ghost use Rattle.element_queue.specs.Packed.{pre_of_packed};
-ghost use Rattle.element_queue.specs.Pending.{cancelling, committing, flip_newest, losing, nothing_gone};
-ghost use Rattle.element_queue.specs.Queued.{IsQueued, Refuses, Takes, committed_by, entry_of, given_since, noted, passed, things_of};
+ghost use Rattle.element_queue.specs.Pending.{cancelling, committing, flip_newest, losing, nothing_gone, taken};
+ghost use Rattle.element_queue.specs.Queued.{IsQueued, Refuses, Takes, TakesInfo, TakesPre, committed_by, entry_of, given_since, noted, passed, pending_of, things_of};
 ghost use Rattle.element_queue.specs.declared.queue.AtomEntry.{AtomEntry};
 
 use crate::ledger::{Counts, Ledger};
@@ -98,8 +98,9 @@ impl Queue {
         })
     }
 
-    /// What an element gives to the next P0 element.
+    /// What an element gives to the next P0 element. A trace info is a later one here: `start` takes the first.
     pub fn note(&mut self, elem: PreElem)
+        ensures takes { TakesPre self.old elem self.new }
         ensures value { self.new ≡ record (self.old) { pre = noted self.old.pre elem } }
         ensures queued { IsQueued self.new }
         ensures counted { AreCounts self.old.counts }
@@ -294,13 +295,13 @@ impl Queue {
         Ok(())
     }
 
-    /// Holds P0 elements from before the trace that was found, of which nothing else is known. Nothing is held
-    /// yet.
+    /// The first trace info. It announces P0 elements from before the trace that was found, of which nothing else is known.
+    /// Nothing is held yet.
     pub fn start(&mut self, spec: u32) -> Result<(), QueueFault>
         requires { self.old.held ≡ [] }
         ensures within { IsOk result ↔ (spec ≤ self.old.depth) }
-        ensures ok { IsOk result → self.new ≡ record (self.old) { held = replicate spec Unseen } }
-        ensures fault { (fault : QueueFault) → result ≡ Err fault → fault ≡ QueueFault.SpecTooDeep spec self.old.depth }
+        ensures ok { IsOk result → TakesInfo false self.old spec self.new }
+        ensures fault { (fault : QueueFault) → result ≡ Err fault → taken self.old.depth (pending_of self.old false) (elem.Info spec) ≡ Err fault }
         ensures unchanged { IsErr result → self.new ≡ self.old }
         ensures queued { IsQueued self.new }
         ensures counted { AreCounts self.old.counts }
@@ -312,6 +313,7 @@ impl Queue {
             });
         }
         self.unseen = spec;
+        self.next.note(PreElem::Info);
         Ok(())
     }
 
