@@ -12,6 +12,7 @@ pub mod OneText
 pub mod Pairs
 pub mod PathWords
 pub mod PointerClass
+pub mod RunItems
 pub mod RunsOfBytes
 pub mod SumsOfStreams
 pub mod Texts

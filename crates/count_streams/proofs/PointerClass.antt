@@ -9,7 +9,7 @@ use Rattle.a64_branches.specs.Classes.{Row, class_by, class_of, row, rows}
 use Rattle.a64_branches.specs.declared.class.Class.{Class}
 use Rattle.a64_branches.specs.declared.class.Class.TheVariants.{Ind, Plain}
 use Rattle.path_counts.specs.Targets.{is_pointer_branch}
-use Rattle.path_walker.specs.Walk.{is_cond}
+use Rattle.path_walker.specs.Walk.{is_cond, is_to_register}
 use Rattle.program_image.specs.Blocks.{class_at}
 use Rattle.program_image.specs.Part.{word_of}
 use Rattle.program_image.specs.declared.image.Image.{Image}
@@ -90,6 +90,10 @@ none_by (Some w) address not =
 
 pub plain_is_none : (image : Image) (address : ℕ) → class_at image address ≡ Some Plain → branch_at image address ≡ None
 plain_is_none image address plain = none_by (word_of image address) address (λ link class. let e : Some Plain ≡ Some (Ind link) = sym plain ∙ class in cc)
+
+pub other_is_none : (image : Image) (address : ℕ) → is_to_register (class_at image address) ≡ false → branch_at image address ≡ None
+other_is_none image address other =
+    none_by (word_of image address) address (λ link class. let e : true ≡ false = sym (ap is_to_register class) ∙ other in cc)
 
 pub cond_is_none : (image : Image) (address : ℕ) → is_cond (class_at image address) ≡ true → branch_at image address ≡ None
 cond_is_none image address cond =

@@ -13,15 +13,15 @@ use Rattle.etm_types.specs.declared.item.Item.TheVariants.{Exc, On, Unknown}
 use Rattle.etm_types.specs.declared.walked.ExcMark.{ExcMark}
 use Rattle.etm_types.specs.declared.walked.Walked.{Walked}
 use Rattle.path_counts.specs.Targets.{is_pointer_branch}
-use Rattle.path_walker.specs.Walk.{is_cond}
+use Rattle.path_walker.specs.Walk.{is_cond, is_to_register}
 use Rattle.program_image.specs.Blocks.{IsPlainRun, behind, class_at}
 use Rattle.program_image.proofs.WordSearch.{outside}
 use Rattle.program_image.specs.Part.{IsPart, Part, word_of}
 use Rattle.program_image.specs.declared.image.Image.{Image}
 use Rattle.stream_decoder.specs.Follows.{ShowsWords}
-use Rattle.count_streams.proofs.Pairs.{left-append, own_pairs}
-use Rattle.count_streams.proofs.PointerClass.{cond_is_none, plain_is_none}
-use Rattle.count_streams.specs.Pairs.{branch_at, left_after, left_by}
+use Rattle.count_streams.proofs.Pairs.{left-append}
+use Rattle.count_streams.proofs.PointerClass.{cond_is_none, other_is_none, plain_is_none}
+use Rattle.count_streams.specs.Pairs.{branch_at, left_after, left_by, own_pairs}
 
 behind_next : (start k : ℕ) → behind ((start + 4) % 2 ^ 64) k ≡ behind start (suc k)
 behind_next start k = omega arith
@@ -148,6 +148,13 @@ module _ (image : Image) where
   left_taken ctx start zero took left some small cond = absurd (omega (arith, some))
   left_taken ctx start (suc n) took left some small cond = left_run ctx start n took left small
       ∙ cond_is_none image (behind start n) (subst (λ (m : ℕ). is_cond (class_at image (behind start m)) ≡ true) (omega arith) cond)
+
+  -- nor behind a word that is no branch to a register
+  pub left_elsewhere : (ctx : Ctx) (start count : ℕ) (took : Bool) (left : Option ℕ) → 0 < count → start < 2 ^ 64
+      → is_to_register (class_at image (behind start (count - 1))) ≡ false → left_after image left (instructions ctx start count took) ≡ None
+  left_elsewhere ctx start zero took left some small other = absurd (omega (arith, some))
+  left_elsewhere ctx start (suc n) took left some small other = left_run ctx start n took left small
+      ∙ other_is_none image (behind start n) (subst (λ (m : ℕ). is_to_register (class_at image (behind start m)) ≡ false) (omega arith) other)
 
   -- ---- what a word of the image is
 

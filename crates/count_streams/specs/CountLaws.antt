@@ -1,5 +1,5 @@
 -- What the counts of streams are, as a whole.
-use Rattle.std.specs.Prelude.{◌≡◌, ◌≤◌, ◌+◌, ◌<◌, ◌^◌, ◌==◌, ℕ, All, Bool, true, List, [], ◌∷◌, ◌++◌, bytes_eq, drop, if◌then◌else◌, map, nat_eq, sum}
+use Rattle.std.specs.Prelude.{◌≡◌, ◌≤◌, ◌+◌, ◌<◌, ◌^◌, ℕ, All, Bool, true, List, [], ◌∷◌, ◌++◌, bytes_eq, drop, map, nat_eq, sum}
 use Rattle.std.specs.Prelude.{IsSome}
 use Rattle.std.specs.List.{starts_with}
 use Rattle.etm_types.specs.Settings.{AreSettings, Sizes}

@@ -36,6 +36,15 @@ abbrev pub first_entered : List Item → Option ℕ
 first_entered [] = None
 first_entered (i ∷ items) = entered_by i
 
+abbrev pub pair_by : Option ℕ → Option ℕ → List (ℕ × ℕ)
+pair_by (Some from) (Some to) = (from, to) ∷ []
+pair_by _ _ = []
+
+-- the pairs of items of one stream, of which this was left before
+abbrev pub own_pairs : Image → Option ℕ → List Item → List (ℕ × ℕ)
+own_pairs image left [] = []
+own_pairs image left (i ∷ items) = pair_by left (entered_by i) ++ own_pairs image (left_by image i) items
+
 -- ---- many streams
 
 -- the items of one stream among those of all, in order
@@ -46,10 +55,6 @@ items_of_stream id (x ∷ items) = if x.0 == id then x.1 ∷ items_of_stream id 
 -- the address of the branch that the last item of a stream is
 abbrev pub left_under : Image → ℕ → List (ℕ × Item) → Option ℕ
 left_under image id items = left_after image None (items_of_stream id items)
-
-abbrev pub pair_by : Option ℕ → Option ℕ → List (ℕ × ℕ)
-pair_by (Some from) (Some to) = (from, to) ∷ []
-pair_by _ _ = []
 
 -- the pairs that items add behind others, in the order in which they came: one where the last item of the same stream is a branch
 abbrev pub pairs_behind : Image → List (ℕ × Item) → List (ℕ × Item) → List (ℕ × ℕ)

@@ -1,17 +1,18 @@
 //! Where the branches to a register of the paths of all streams went.
-ghost use Rattle.std.specs.Prelude.{◌≡◌, ◌<◌, ◌-◌, ◌∷◌, [], ◌++◌, IfOk, List, Option, ℕ, None, true};
+ghost use Rattle.std.specs.Prelude.{◌≡◌, ◌<◌, ◌-◌, ◌∷◌, [], ◌++◌, IfOk, List, Option, ℕ, None, Some, true};
 ghost use Rattle.etm_types.specs.Walked.{instructions, items_of};
 ghost use Rattle.etm_types.specs.declared.context.Ctx.{Ctx};
 ghost use Rattle.etm_types.specs.declared.item.Item.{Item};
 ghost use Rattle.path_counts.specs.Targets.{targets_of};
-ghost use Rattle.path_walker.specs.Walk.{is_cond};
+ghost use Rattle.path_walker.specs.Walk.{is_cond, items_in};
 ghost use Rattle.program_image.specs.Blocks.{behind, class_at};
 ghost use Rattle.program_image.specs.Part.{IsImage};
-ghost use Rattle.stream_decoder.specs.Follows.{ShowsWords, TakesMore, items_under};
-ghost use Rattle.count_streams.specs.Pairs.{BranchesAre, entered_by, first_entered, left_after, left_by, pair_by};
+ghost use Rattle.stream_decoder.specs.Follows.{AreStretchesOfWords, IsStretchOfWords, ShowsWords, TakesMore, items_under};
+ghost use Rattle.count_streams.specs.Pairs.{BranchesAre, entered_by, first_entered, left_after, left_by, own_pairs, pair_by};
 
 use etm_types::{Id, Walked};
 use path_counts::{Targets, is_pointer_branch};
+use path_walker::{Stretch, Stretches};
 use program_image::Image;
 use std::alloc::{AllocError, Global};
 use std::marker::Model;
@@ -65,6 +66,19 @@ impl Branches {
         self.left[place] = branch_behind(image, walked, left);
     }
 
+    /// Takes what the walks of a run of atoms show, in a context. What the stream was left at is read and written once, and a word is
+    /// looked up only where it is that of a branch to a register: a return is one too.
+    #[inline(always)]
+    pub fn take_run(&mut self, image: &Image, id: Id, run: &Stretches)
+        requires words { AreStretchesOfWords image.now run.now }
+        requires image { IsImage image.now }
+        ensures { (ctx : Ctx) → TakesMore (BranchesAre image.now) self.old self.new (items_under id (items_in ctx run.now)) }
+    {
+        let place = usize::from(id.get());
+        let left = self.left[place];
+        self.left[place] = add_run(&mut self.targets, image, left, run);
+    }
+
     /// Takes an item of a stream that is at no address.
     pub fn take_mark(&mut self, id: Id)
         ensures { (image : Image) (i : Item) → entered_by i ≡ None → left_by image i ≡ None
@@ -94,6 +108,48 @@ fn add_pair(targets: &mut Targets, left: Option<u64>, walked: &Walked)
         return;
     };
     targets.add(from, to);
+}
+
+/// Counts where the branches of a run of atoms went, and that at which a stream was left before, where it was. It gives the branch at
+/// which the stream is left.
+#[inline(always)]
+fn add_run(targets: &mut Targets, image: &Image, left: Option<u64>, run: &Stretches) -> Option<u64>
+    requires words { AreStretchesOfWords image.now run.now }
+    requires image { IsImage image.now }
+    ensures pairs { (ctx : Ctx) (pairs : List (ℕ × ℕ)) → targets.old ≡ targets_of pairs
+        → targets.new ≡ targets_of (pairs ++ own_pairs image.now left (items_in ctx run.now)) }
+    ensures left { (ctx : Ctx) → result ≡ left_after image.now left (items_in ctx run.now) }
+{
+    let mut at = left;
+    for stretch in run.all() {
+        add_target(targets, at, stretch.start);
+        at = last_of(image, stretch);
+    }
+    at
+}
+
+/// Counts that a branch, where one was left, went to an address.
+#[inline(always)]
+fn add_target(targets: &mut Targets, left: Option<u64>, to: u64)
+    ensures { (pairs : List (ℕ × ℕ)) → targets.old ≡ targets_of pairs → targets.new ≡ targets_of (pairs ++ pair_by left (Some to)) }
+{
+    if let Some(from) = left {
+        targets.add(from, to);
+    }
+}
+
+/// The address of the last instruction of a stretch, where it is a branch to a register and no return.
+#[inline(always)]
+fn last_of(image: &Image, stretch: &Stretch) -> Option<u64>
+    requires words { IsStretchOfWords image.now stretch.now }
+    requires image { IsImage image.now }
+    ensures { (ctx : Ctx) (left : Option ℕ)
+        → result ≡ left_after image.now left (instructions ctx stretch.now.start stretch.now.count stretch.now.took) }
+{
+    if !stretch.to_register {
+        return None;
+    }
+    last_branch(image, stretch.start, stretch.count, stretch.took)
 }
 
 /// The address at which the items of a walk go on, where the first has one.

@@ -22,6 +22,3 @@ pub use laws::{
     addresses_are_counted_by_their_lines, counts_have_one_text, counts_never_fall_with_bytes,
     each_stream_is_counted, only_words_are_counted,
 };
-
-#[cfg(test)]
-mod tests;

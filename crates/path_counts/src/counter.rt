@@ -1,10 +1,10 @@
 //! How often each word of an image, and each item that is no instruction, stands in paths.
-ghost use Rattle.std.specs.Prelude.{◌≡◌, ◌-◌, ◌∷◌, [], ◌^◌, ◌<◌, ◌≤◌, ◌↔◌, false, length, IfOk, IsTrue, List, if◌then◌else◌};
+ghost use Rattle.std.specs.Prelude.{◌≡◌, ◌-◌, ◌∷◌, [], ◌^◌, ◌<◌, ◌≤◌, ◌↔◌, ℕ, false, length, slice_get, IfOk, IsTrue, List, Some, if◌then◌else◌};
 ghost use Rattle.etm_types.specs.Walked.{exception, instructions, items_of};
 ghost use Rattle.etm_types.specs.declared.context.Ctx.{Ctx};
 ghost use Rattle.etm_types.specs.declared.item.Item.{Item};
 ghost use Rattle.etm_types.specs.declared.item.Item.TheVariants.{Gap, On, Stop};
-ghost use Rattle.program_image.specs.Places.{AreWords, word_count};
+ghost use Rattle.program_image.specs.Places.{AreWords, word_addresses, word_count};
 ghost use Rattle.path_text.specs.PathLines.{block_items};
 ghost use Rattle.path_text.specs.Writing.{Writes};
 ghost use Rattle.program_image.specs.Part.{IsImage, Part};
@@ -94,6 +94,23 @@ impl Counter {
         self.add_on(walked.on);
         self.add_block(image, walked);
         self.add_exception(&walked.exc);
+    }
+
+    /// Counts the instructions of so many words from a place on, one word of the image after another, of which the last may be a
+    /// conditional branch that was taken. Nothing is looked up.
+    #[inline(always)]
+    pub fn add_words(&mut self, place: usize, count: u64, took: bool)
+        requires small { length self.old.visits < 2 ^ 62 }
+        requires place { place < length self.old.visits }
+        requires some { 0 < count }
+        ensures counted { (image : List Part) (start : ℕ) → IsImage image → length self.old.visits ≡ word_count image
+            → slice_get (word_addresses image) place ≡ Some start → AreWords image start count
+            → (ctx : Ctx) → Counts image self.old self.new (instructions ctx start count took) }
+        ensures length { length self.new.visits ≡ length self.old.visits }
+    {
+        if count <= self.taken.len() as u64 {
+            self.add_places(place, count as usize, took);
+        }
     }
 
     /// Counts trace that was lost by an overflow.
@@ -189,11 +206,7 @@ impl Counter {
             return;
         }
         match image.place_at(start) {
-            Some(place) => {
-                if count <= self.taken.len() as u64 {
-                    self.add_places(place, count as usize, took);
-                }
-            }
+            Some(place) => self.add_words(place, count, took),
             None => (),
         }
     }

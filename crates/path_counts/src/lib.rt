@@ -9,8 +9,8 @@
 //!
 //! The layer above uses these contracts:
 //! - [`Counter::new`]: no item is counted.
-//! - [`Counter::add_walked`], [`Counter::add_gap`], [`Counter::add_stop`]: the counts of some items become those of the items with
-//!   these behind them.
+//! - [`Counter::add_walked`], [`Counter::add_words`], [`Counter::add_gap`], [`Counter::add_stop`]: the counts of some items become
+//!   those of the items with these behind them.
 //! - [`is_pointer_branch`]: of which instructions it is counted where they went.
 //! - [`Targets::new`], [`Targets::add`]: the table of some pairs becomes that of the pairs with one more behind them.
 //! - [`Counter::write`]: the text of the counts and of the table.
@@ -29,6 +29,3 @@ pub use counter::Counter;
 pub use laws::{branches_are_taken_when_executed, counts_never_fall};
 pub use pointer_branch::is_pointer_branch;
 pub use targets::Targets;
-
-#[cfg(test)]
-mod tests;

@@ -24,7 +24,7 @@ use Rattle.stream_decoder.proofs.Fronts.{quiet_fault, quiet_prints, quiet_reader
 use Rattle.stream_decoder.proofs.Growing.{Small, path_on, stands_on, stands_stopped}
 use Rattle.stream_decoder.specs.Decoding.{Decoding}
 use Rattle.stream_decoder.specs.Stands.{Came, GrowsAlong, GrowsBy, RunsAlong}
-use Rattle.stream_decoder.specs.Yields.{Begun, BegunBy, BegunFront, GoesQuietly, OpensBehind, Prints}
+use Rattle.stream_decoder.specs.Yields.{BegunByte, BegunBy, BegunFront, GoesQuietly, OpensBehind, Prints}
 use Rattle.trace_io.specs.State.{IoState}
 use Rattle.trace_io.specs.declared.traits.Failed.{Failed}
 
@@ -62,7 +62,7 @@ not_failed (Err e) ok = absurd cc
 
 -- ---- behind a fault only the reader goes on
 
-reader_alone : (f : Option (ℕ × Fault)) (d m : Decoding) (byte : ℕ) (begun : Begun d byte m) → f ≢ None → OpensBehind f d begun.0 m
+reader_alone : (f : Option (ℕ × Fault)) (d m : Decoding) (byte : ℕ) (begun : BegunByte d byte m) → f ≢ None → OpensBehind f d begun.0 m
     → m ≡ record d { reader = m.reader }
 reader_alone None d m byte begun met opens = absurd (met refl)
 reader_alone (Some stop) d m byte begun met opens = opens

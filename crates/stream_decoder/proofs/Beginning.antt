@@ -12,7 +12,7 @@ use Rattle.path_walker.specs.State.{State}
 use Rattle.stream_decoder.specs.Decoding.{AtRest, Decoding, IsDecoding, IsReading, decoding_of}
 use Rattle.stream_decoder.specs.Left.{Left}
 use Rattle.stream_decoder.specs.Waiting.{Waiting}
-use Rattle.stream_decoder.specs.Yields.{Begun, Opens, OpensBehind, Reads}
+use Rattle.stream_decoder.specs.Yields.{BegunByte, Opens, OpensBehind, Reads}
 use Rattle.stream_decoder.proofs.Holds.{holds_faulted, holds_read}
 
 abbrev IsByte : ℕ → Type 0
@@ -55,9 +55,9 @@ module _ (r r' : Standing) (byte : ℕ) (small : byte < 256) (step : Step) (size
           (is.0 ∙ ap (λ (z : Sizes). z.depth) (sym sizes), holds_faulted r r' t l w s f is.1 (reading_on (is.1).reads) sizes stop rest)
 
     module _ (now : Decoding) (same : here ≡ now) (d' : Decoding) (reader_same : d'.reader ≡ r') where
-      begun_by : OpensBehind f here step d' → Begun now byte d'
+      begun_by : OpensBehind f here step d' → BegunByte now byte d'
       begun_by opens =
-          subst (λ (n : Decoding). Begun n byte d') same
+          subst (λ (n : Decoding). BegunByte n byte d') same
           (step, subst (λ (x : Standing). Reads r x byte step) (sym reader_same) reads, opens)
 
       behind_fault : (met : Option (ℕ × Fault)) → true ≡ is_some met → d' ≡ record here { reader = d'.reader } → OpensBehind met here step d'
@@ -68,8 +68,8 @@ module _ (r r' : Standing) (byte : ℕ) (small : byte < 256) (step : Step) (size
       no_fault None e opens = opens
       no_fault (Some stop) e opens = absurd cc
 
-      pub begun_behind_fault : true ≡ is_some f → d' ≡ record here { reader = d'.reader } → Begun now byte d'
+      pub begun_behind_fault : true ≡ is_some f → d' ≡ record here { reader = d'.reader } → BegunByte now byte d'
       begun_behind_fault e opens = begun_by (behind_fault f e opens)
 
-      pub begun_opening : f ≡ None → Opens here step d' → Begun now byte d'
+      pub begun_opening : f ≡ None → Opens here step d' → BegunByte now byte d'
       begun_opening e opens = begun_by (no_fault f e opens)

@@ -29,7 +29,7 @@ use Rattle.path_elements.proofs.BytePaths.{fault_stays}
 use Rattle.path_elements.proofs.Grows.{each_packet_adds}
 use Rattle.path_elements.proofs.Paths.{last_of, runs_to_path}
 use Rattle.path_elements.proofs.Runs.{ended_or_stopped, goes, goes_or_halts, runs_all, runs_append, same_ended, same_goes, same_walking, walking_or_halting}
-use Rattle.path_elements.specs.Elements.{Gained, all_elements, elements_of, is_misplaced, placed, told_after, untold}
+use Rattle.path_elements.specs.Elements.{Gained, all_elements, elements_of, is_misplaced, with_offset, told_after, untold}
 use Rattle.path_elements.specs.Elements as told_so
 use Rattle.path_elements.specs.Laws.{with_packet}
 use Rattle.path_elements.specs.Path.{end_behind, IsPathOfElements, IsPathTaking, unplaced}
@@ -66,7 +66,7 @@ module _ (packets : List (ℕ × Packet)) (elements : List (ℕ × Elem)) (so_fa
   abbrev either : Bool → Gained
   either misplaced =
       if misplaced then gains elements (Some at) so_far
-      else gains (elements ++ placed at (elements_of so_far packet)) None (told_after so_far packet)
+      else gains (elements ++ with_offset at (elements_of so_far packet)) None (told_after so_far packet)
 
   one_more : all_elements untold (packets ++ (at, packet) ∷ []) ≡ either (is_misplaced so_far packet)
   one_more = each_packet_adds untold packets at packet (ap (λ (g : Gained). g.awaited) is) ∙ ap (λ (g : Gained). with_packet g at packet) is
@@ -74,15 +74,15 @@ module _ (packets : List (ℕ × Packet)) (elements : List (ℕ × Elem)) (so_fa
 -- ---- what is left to do of a packet is its elements
 
 yields_runs : (image : Image) (d : Decoding) (more : List Item) (outcome : Outcome) (took : List (ℕ × Elem)) → d.due ≡ []
-    → Yields image d more outcome took → Runs image (depth_of d) d.pending d.walk (placed d.at d.todo) more outcome took
+    → Yields image d more outcome took → Runs image (depth_of d) d.pending d.walk (with_offset d.at d.todo) more outcome took
 yields_runs image d more outcome took none yields =
     let here : YieldsFrom image (depth_of d) d.at d.pending d.walk [] d.todo more outcome took =
     subst (λ (l : List Thing). YieldsFrom image (depth_of d) d.at d.pending d.walk l d.todo more outcome took) none yields in
     elim here [
       | inl y ↦
-          let runs = subst (λ (w : State). Runs image (depth_of d) d.pending w (placed d.at d.todo) y.1 outcome took) (same_walking y.2 d.walk (y.3).1) y.4 in
+          let runs = subst (λ (w : State). Runs image (depth_of d) d.pending w (with_offset d.at d.todo) y.1 outcome took) (same_walking y.2 d.walk (y.3).1) y.4 in
           let shown : y.1 ≡ more = ap (λ (l : List Item). l ++ y.1) (sym (y.3).0) ∙ sym y.5 in
-          subst (λ (l : List Item). Runs image (depth_of d) d.pending d.walk (placed d.at d.todo) l outcome took) shown runs
+          subst (λ (l : List Item). Runs image (depth_of d) d.pending d.walk (with_offset d.at d.todo) l outcome took) shown runs
       | inr y ↦ absurd (walking_or_halting d.walk y.0 (sym (y.1).1))
     ]
 
@@ -139,7 +139,7 @@ none_due d none small =
 record Opened (image : Image) (s : Sizes) (bytes : List ℕ) (items : List Item) (took : List (ℕ × Elem)) (m : Decoding) : Type 0 where
   packets : List (ℕ × Packet)
   so : Told s bytes packets None
-  gained : all_elements untold packets ≡ gains (took ++ placed m.at m.todo) None m.told
+  gained : all_elements untold packets ≡ gains (took ++ with_offset m.at m.todo) None m.told
   due : m.due ≡ []
   runs : Runs image (depth_of m) at_first first_state took items (Ok (m.pending, m.walk)) took
 
@@ -179,7 +179,7 @@ module _ (image : Image) (bytes text : List ℕ) (items : List Item) (d m : Deco
         packets = c.0;
         so = subst (λ (l : List (ℕ × Packet)). Told ((d.reader).settings) more l None) packets so;
         gained = c.4 ∙ ap (λ (l : List (ℕ × Elem)). gains l None d.told)
-            (sym (ap (λ (l : List Elem). took ++ placed d.at l) (came.done).todo ∙ append-nil took));
+            (sym (ap (λ (l : List Elem). took ++ with_offset d.at l) (came.done).todo ∙ append-nil took));
         due = (came.done).due;
         runs = subst (λ (k : Sizes). Runs image k.depth at_first first_state took items (Ok (d.pending, d.walk)) took) (sym settings) c.5;
       } in
@@ -374,15 +374,15 @@ module _ (image : Image) (bytes text : List ℕ) (items : List Item) (d m : Deco
       opened = opened_so d.fault refl opens
 
       module _ (others : List Item) (outcome : Outcome) (took' : List (ℕ × Elem)) (yields : Yields image m others outcome took') where
-        runs_on : Runs image (depth_of m) at_first first_state (took ++ placed m.at m.todo) (items ++ others) outcome (took ++ took')
+        runs_on : Runs image (depth_of m) at_first first_state (took ++ with_offset m.at m.todo) (items ++ others) outcome (took ++ took')
         runs_on =
-            runs_append image (depth_of m) at_first first_state took (placed m.at m.todo) items others (m.pending, m.walk) outcome took took' opened.runs
+            runs_append image (depth_of m) at_first first_state took (with_offset m.at m.todo) items others (m.pending, m.walk) outcome took took' opened.runs
             (yields_runs image m others outcome took' opened.due yields)
 
         path_with : IsPathTaking image ((d.reader).settings) more (items ++ others) (last_of (end_behind None (opened.so).ending) outcome) (took ++ took')
         path_with =
             let last = last_of (end_behind None (opened.so).ending) outcome in
-            let path = runs_to_path image (depth_of m) (took ++ placed m.at m.todo) (end_behind None (opened.so).ending) (items ++ others) outcome
+            let path = runs_to_path image (depth_of m) (took ++ with_offset m.at m.todo) (end_behind None (opened.so).ending) (items ++ others) outcome
             (took ++ took') runs_on in
             let there = subst (λ (g : Gained). IsPathOfElements image (depth_of m) g.elements (end_behind g.awaited (opened.so).ending) (items ++ others) last
             (took ++ took')) (sym opened.gained) path in
@@ -425,10 +425,10 @@ module _ (image : Image) (bytes text : List ℕ) (items : List Item) (d m : Deco
           (sym (ap (λ (r : reader.Standing). r.settings) reads ∙ settings)) (path_with others (Err stop) took' yields)
       comes_by others d' None took' reads told_same yields =
           let runs = runs_on others (Ok (d'.pending, d'.walk)) took' yields in
-          let all : took' ≡ placed m.at m.todo =
-          runs_all image (depth_of m) m.pending m.walk (placed m.at m.todo) others (d'.pending, d'.walk) took'
+          let all : took' ≡ with_offset m.at m.todo =
+          runs_all image (depth_of m) m.pending m.walk (with_offset m.at m.todo) others (d'.pending, d'.walk) took'
           (yields_runs image m others (Ok (d'.pending, d'.walk)) took' opened.due yields) in
-          let same : took ++ placed m.at m.todo ≡ took ++ took' = ap (λ (l : List (ℕ × Elem)). took ++ l) (sym all) in
+          let same : took ++ with_offset m.at m.todo ≡ took ++ took' = ap (λ (l : List (ℕ × Elem)). took ++ l) (sym all) in
           let sizes : (d'.reader).settings ≡ (d.reader).settings = ap (λ (r : reader.Standing). r.settings) reads ∙ settings in (
             opened.packets,
             (opened.so).ending,

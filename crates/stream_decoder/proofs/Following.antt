@@ -10,7 +10,7 @@ use Rattle.stream_decoder.proofs.Yielding.{goes_nowhere, goes_on, goes_to_end}
 use Rattle.stream_decoder.specs.Decoding.{Decoding}
 use Rattle.stream_decoder.specs.Follows.{CameTo, Follows, GrowsBy, TakesMore, items_under}
 use Rattle.stream_decoder.specs.Stands.{Came}
-use Rattle.stream_decoder.specs.Yields.{Begun, Ends, Goes, outcome_at}
+use Rattle.stream_decoder.specs.Yields.{BegunByte, Ends, Goes, outcome_at}
 
 pub under-append : (id : ℕ) (xs ys : List Item) → items_under id (xs ++ ys) ≡ items_under id xs ++ items_under id ys
 under-append id xs ys = map-append (λ (i : Item). (id, i)) xs ys
@@ -52,7 +52,7 @@ module _ {F : Type 0} (took : F → List (ℕ × Item) → Type 0) where
 
 -- a byte more is taken, and its items
 module _ {F : Type 0} (took : F → List (ℕ × Item) → Type 0) (image : Image) (id : ℕ) (bytes : List ℕ) (byte : ℕ) (fits : byte < 256)
-    (d m d' : Decoding) (are : AreSettings ((d.reader).settings)) (settings : (m.reader).settings ≡ (d.reader).settings) (begun : Begun d byte m) (old new : F)
+    (d m d' : Decoding) (are : AreSettings ((d.reader).settings)) (settings : (m.reader).settings ≡ (d.reader).settings) (begun : BegunByte d byte m) (old new : F)
     (follows : m.fault ≡ None → FollowsAll took image id m d' old new) (stopped : m.fault ≢ None → (d' ≡ m) × (new ≡ old)) where
   pub came_followed : CameTo image d bytes → CameTo image d' (bytes ++ byte ∷ [])
   came_followed came =

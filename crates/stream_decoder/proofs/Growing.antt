@@ -22,7 +22,7 @@ use Rattle.program_image.specs.declared.image.Image.{Image}
 use Rattle.stream_decoder.proofs.Coming.{Adds, came_by, came_stopped, path_by, path_of}
 use Rattle.stream_decoder.specs.Decoding.{Decoding}
 use Rattle.stream_decoder.specs.Stands.{Came, Grows}
-use Rattle.stream_decoder.specs.Yields.{Begun, BegunBy, Ends, OpensBehind, OpensPacket, Yields}
+use Rattle.stream_decoder.specs.Yields.{BegunByte, BegunBy, Ends, OpensBehind, OpensPacket, Yields}
 
 -- by whether a fault was met
 pub by_fault : {A : Type 0} (f : Option (ℕ × Fault)) → (f ≡ None → A) → ((stop : ℕ × Fault) → f ≡ Some stop → A) → A
@@ -121,7 +121,7 @@ module _ (image : Image) (bytes text : List ℕ) (fits : Small text) (items : Li
       (after.0, (now.took, subst (λ (s : Sizes). IsPathTaking image s all items after.0 now.took) settings after.1))
 
 module _ (image : Image) (bytes : List ℕ) (byte : ℕ) (fits : byte < 256) (items : List Item) (d m : Decoding) (are : AreSettings ((d.reader).settings))
-    (settings : (m.reader).settings ≡ (d.reader).settings) (begun : Begun d byte m) (came : Came image d bytes items) where
+    (settings : (m.reader).settings ≡ (d.reader).settings) (begun : BegunByte d byte m) (came : Came image d bytes items) where
   abbrev here : BegunBy d (byte ∷ []) m
   here = inl (byte, refl, begun)
 

@@ -12,7 +12,7 @@ use Rattle.packet_grammar.specs.declared.stream_fault.Fault.TheVariants.{Walk}
 use Rattle.packet_reader.proofs.Adds.{nothing_is_a_stream}
 use Rattle.path_elements.proofs.InRange.{IsElemThere}
 use Rattle.path_elements.proofs.Runs.{runs_some, walks_state}
-use Rattle.path_elements.specs.Elements.{placed}
+use Rattle.path_elements.specs.Elements.{with_offset}
 use Rattle.path_elements.specs.Held.{IsElem}
 use Rattle.path_elements.specs.Running.{Outcome}
 use Rattle.path_elements.specs.Standing.{ArePlacedElems, IsPlace}
@@ -49,9 +49,9 @@ came_first image s d is =
 
 -- ---- all that is left to do shows something
 
-placed_fit : (at : ℕ) (es : List Elem) → All IsElem es → ArePlacedElems (placed at es)
+placed_fit : (at : ℕ) (es : List Elem) → All IsElem es → ArePlacedElems (with_offset at es)
 placed_fit at [] are = All-nil IsElemThere
-placed_fit at (e ∷ es) are = All-cons IsElemThere (at, e) (placed at es) (All-head IsElem e es are) (placed_fit at es (All-tail IsElem e es are))
+placed_fit at (e ∷ es) are = All-cons IsElemThere (at, e) (with_offset at es) (All-head IsElem e es are) (placed_fit at es (All-tail IsElem e es are))
 
 pub yields_some : (image : Image) (d : Decoding) → HasGap image → IsDecoding d
     → (items : List Item) × (outcome : Outcome) × (took : List (ℕ × Elem)) × Yields image d items outcome took
@@ -65,7 +65,7 @@ yields_some image d gap is = so (some_trail image d.walk d.due gap is.walk (fron
           pending = record { told = is.address; held = back_aligned d.due (d.pending).held is.things };
           state = state;
         } in
-        let run = runs_some image (depth_of d) d.pending w (placed d.at d.todo) gap place (placed_fit d.at d.todo is.elements) in
+        let run = runs_some image (depth_of d) d.pending w (with_offset d.at d.todo) gap place (placed_fit d.at d.todo is.elements) in
         (items ++ run.0, run.1, run.2, inl (items, run.0, w, walks, run.3, refl))
     so (items, Err f, walks) = (items, Err (d.at, Walk f), [], inr (f, walks, refl, refl))
 
@@ -138,7 +138,7 @@ module _ (image : Image) (id : ℕ) (d e : Decoding) (shown now : Option Ctx) (o
         record {
           items = items;
           outcome = rest.1;
-          took = placed d.at whole.took ++ rest.2;
+          took = with_offset d.at whole.took ++ rest.2;
           yields = whole.leads rest.0 rest.1 rest.2 rest.3;
           writes = fails_after old mid new f f (lines_of id shown p.items) (lines_of id now more) (lines_of id (shown_after_all now more) rest.0)
               (lines_of id shown items) lines p.wrote writes;
@@ -173,7 +173,7 @@ module _ (image : Image) (id : ℕ) (d e : Decoding) (shown now : Option Ctx) (o
       record {
         items = p.items ++ q.items;
         outcome = q.outcome;
-        took = placed d.at (p.goes).took ++ q.took;
+        took = with_offset d.at (p.goes).took ++ q.took;
         yields = (p.goes).leads q.items q.outcome q.took q.yields;
         writes = then_writes old mid new r (lines_of id shown p.items) (lines_of id now q.items) (lines_of id shown (p.items ++ q.items))
             (lines_on q.items) p.wrote q.writes;

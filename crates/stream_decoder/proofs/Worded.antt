@@ -1,14 +1,12 @@
 -- The instructions that a walk shows are words of the image, and most of them are plain.
-use Rattle.std.proofs.Common.{◌≡◌, ◌⊎◌, ◌-◌, ℕ, suc, ◌<◌, Bool, true, false, List, [], ◌∷◌, Option, Some, None, refl, sym, ap, subst, ◌∙◌, inl, inr, arith}
+use Rattle.std.proofs.Common.{◌≡◌, ◌⊎◌, ◌-◌, ℕ, suc, ◌<◌, Bool, true, false, List, Option, Some, None, refl, sym, ap, subst, ◌∙◌, inl, inr, arith}
 use Rattle.std.specs.Prelude.{IsSome, if◌then◌else◌, is_none}
 use Rattle.std.specs.Option.{option_map, unwrap_or}
 use Rattle.std.proofs.lemmas.Bool.{and_parts}
 use Rattle.std.proofs.lemmas.Bool.Decides.{leb_tells}
-use Rattle.std.proofs.lemmas.List.Elements.{All-cons, All-nil}
 use Rattle.a64_branches.specs.Classes.{class_of}
 use Rattle.a64_branches.specs.declared.class.Class.{Class}
 use Rattle.etm_types.specs.declared.context.Ctx.{Ctx}
-use Rattle.etm_types.specs.declared.element.Elem.{Elem}
 use Rattle.etm_types.specs.declared.element.Entry.{Entry}
 use Rattle.etm_types.specs.declared.element.P0.{P0}
 use Rattle.etm_types.specs.declared.element.P0.TheVariants.{Atom, Exc}
@@ -16,15 +14,14 @@ use Rattle.etm_types.specs.declared.walked.ExcMark.{ExcMark}
 use Rattle.etm_types.specs.declared.walked.Walked.{Walked}
 use Rattle.path_walker.specs.Start.{start_of}
 use Rattle.path_walker.specs.State.{State}
-use Rattle.path_walker.specs.Walk.{Leads, Shows, atom_at, is_cond, mark_of, takes, walked_in}
+use Rattle.path_walker.specs.Walk.{IsPlaced, Leads, Shows, is_cond, mark_of, takes, walked_in}
 use Rattle.path_walker.specs.declared.pc.Pc.{Pc}
 use Rattle.path_walker.specs.declared.stretch.Stretch.{Stretch}
 use Rattle.program_image.specs.Blocks.{behind, class_at}
 use Rattle.program_image.specs.Part.{word_of}
 use Rattle.program_image.specs.Places.{AreWords}
 use Rattle.program_image.specs.declared.image.Image.{Image}
-use Rattle.stream_decoder.specs.Follows.{AreStretchesOfWords, AreWalked, IsStretchOfWords, ShowsWords}
-use Rattle.stream_decoder.specs.Yields.{WalksAtoms}
+use Rattle.stream_decoder.specs.Follows.{AreWalked, IsStretchOfWords, ShowsWords}
 
 word_there : (word : Option ℕ) (class : Class) → option_map class_of word ≡ Some class → IsSome word
 word_there None class e = absurd cc
@@ -78,12 +75,5 @@ module _ (image : Image) where
       known_walked w at.at at.stack entry.p0 next.pc next.stack shows.leads shows.unknown shows.start shows.exc shows.took
 
   pub shows_stretch : (s next : State) (entry : Entry) (ctx : Ctx) (stretch : Stretch) → Shows image s entry (walked_in ctx stretch) next
-      → IsStretchOfWords image stretch
-  shows_stretch s next entry ctx stretch shows = shows_words s next entry (walked_in ctx stretch) shows refl
-
-  pub shows_stretches : (s s' : State) (addr : Option ℕ) (elements : List Elem) (run : List Stretch) → WalksAtoms image s addr elements run s'
-      → AreStretchesOfWords image run
-  shows_stretches s s' addr elements [] none = All-nil (IsStretchOfWords image)
-  shows_stretches s s' addr elements (stretch ∷ run) (taken, others, next, is, shows, state, more) =
-      All-cons (IsStretchOfWords image) stretch run (shows_stretch s next (atom_at addr taken) s.ctx stretch shows)
-      (shows_stretches next s' None others run more)
+      → IsPlaced image stretch → IsStretchOfWords image stretch
+  shows_stretch s next entry ctx stretch shows placed = (shows_words s next entry (walked_in ctx stretch) shows refl, placed)

@@ -11,7 +11,7 @@ use Rattle.etm_types.specs.declared.queue_fault.QueueFault.{QueueFault}
 use Rattle.etm_types.specs.declared.walk_fault.WalkFault.{WalkFault}
 use Rattle.packet_grammar.specs.declared.stream_fault.Fault.{Fault}
 use Rattle.packet_grammar.specs.declared.stream_fault.Fault.TheVariants.{Queue, Walk}
-use Rattle.path_elements.specs.Elements.{placed}
+use Rattle.path_elements.specs.Elements.{with_offset}
 use Rattle.path_elements.specs.Path.{unplaced}
 use Rattle.path_elements.specs.Running.{Outcome, TakesSo, walked}
 use Rattle.path_walker.proofs.Joined.{fault_stays, parts_join}
@@ -23,11 +23,11 @@ use Rattle.stream_decoder.specs.Yields.{Ends, Goes, Leaves, LeavesBy, Refuses, S
 
 -- ---- offsets
 
-pub placed_append : (at : ℕ) (xs ys : List Elem) → placed at (xs ++ ys) ≡ placed at xs ++ placed at ys
+pub placed_append : (at : ℕ) (xs ys : List Elem) → with_offset at (xs ++ ys) ≡ with_offset at xs ++ with_offset at ys
 placed_append at [] ys = refl
 placed_append at (x ∷ xs) ys = ap (λ (l : List (ℕ × Elem)). (at, x) ∷ l) (placed_append at xs ys)
 
-pub unplaced_placed : (at : ℕ) (xs : List Elem) (ys : List (ℕ × Elem)) → unplaced (placed at xs ++ ys) ≡ xs ++ unplaced ys
+pub unplaced_placed : (at : ℕ) (xs : List Elem) (ys : List (ℕ × Elem)) → unplaced (with_offset at xs ++ ys) ≡ xs ++ unplaced ys
 unplaced_placed at [] ys = refl
 unplaced_placed at (x ∷ xs) ys = ap (λ (l : List Elem). x ∷ l) (unplaced_placed at xs ys)
 
@@ -116,7 +116,7 @@ leads_by_element image depth at e p p' w w' due' xs todo' gone items rule is wal
 leads_so : (image : Image) (d : Decoding) (p' : Pending) (w' : State) (due' xs : List Thing) (took todo' : List Elem) (items : List Item)
     → (d.todo ≡ took ++ todo') → LeavesBy d took p' (xs ++ due') → Walks image d.walk xs items (Ok w')
     → (rest : List Item) (outcome : Outcome) (more : List (ℕ × Elem)) → YieldsFrom image (depth_of d) d.at p' w' due' todo' rest outcome more
-    → Yields image d (items ++ rest) outcome (placed d.at took ++ more)
+    → Yields image d (items ++ rest) outcome (with_offset d.at took ++ more)
 leads_so image d p' w' due' xs [] todo' items still by walks rest outcome more yields =
     leads_by image (depth_of d) d.at d.pending p' d.walk w' d.due due' xs d.todo todo' items by.0 by.1 still walks rest outcome more yields
 leads_so image d p' w' due' xs (e ∷ []) todo' items still by walks rest outcome more yields =
@@ -173,13 +173,13 @@ goes_on image d m d' items others a b =
       todo = a.todo ∙ ap (λ (l : List Elem). a.took ++ l) b.todo ∙ sym (append_assoc a.took b.took d'.todo);
       takes = takes_append (depth_of d) d.pending m.pending d'.pending (counted d) (counted m) (counted d') a.took b.took a.takes takes;
       leads = λ rest outcome more yields.
-          let first : Yields image d (items ++ (others ++ rest)) outcome (placed d.at a.took ++ (placed m.at b.took ++ more)) =
-          a.leads (others ++ rest) outcome (placed m.at b.took ++ more) (b.leads rest outcome more yields) in
-          let joined : placed d.at a.took ++ (placed m.at b.took ++ more) ≡ placed d.at (a.took ++ b.took) ++ more =
-          ap (λ (n : ℕ). placed d.at a.took ++ (placed n b.took ++ more)) at ∙ sym (append_assoc (placed d.at a.took) (placed d.at b.took) more)
+          let first : Yields image d (items ++ (others ++ rest)) outcome (with_offset d.at a.took ++ (with_offset m.at b.took ++ more)) =
+          a.leads (others ++ rest) outcome (with_offset m.at b.took ++ more) (b.leads rest outcome more yields) in
+          let joined : with_offset d.at a.took ++ (with_offset m.at b.took ++ more) ≡ with_offset d.at (a.took ++ b.took) ++ more =
+          ap (λ (n : ℕ). with_offset d.at a.took ++ (with_offset n b.took ++ more)) at ∙ sym (append_assoc (with_offset d.at a.took) (with_offset d.at b.took) more)
           ∙ ap (λ (l : List (ℕ × Elem)). l ++ more) (sym (placed_append d.at a.took b.took)) in
           subst (λ (l : List (ℕ × Elem)). Yields image d ((items ++ others) ++ rest) outcome l) joined
-          (subst (λ (l : List Item). Yields image d l outcome (placed d.at a.took ++ (placed m.at b.took ++ more)))
+          (subst (λ (l : List Item). Yields image d l outcome (with_offset d.at a.took ++ (with_offset m.at b.took ++ more)))
           (sym (append_assoc items others rest)) first);
       rest = b.rest ∙ ap (λ (x : Decoding). record x { pending = d'.pending; due = d'.due; walk = d'.walk; todo = d'.todo; counts = d'.counts }) a.rest;
     }
@@ -188,7 +188,7 @@ pub goes_to_end : (image : Image) (d m d' : Decoding) (items others : List Item)
     → Ends image d (items ++ others) d'
 goes_to_end image d m d' items others a b =
     let depth : depth_of m ≡ depth_of d = ap depth_of a.rest in
-    let took = placed d.at a.took ++ b.took in
+    let took = with_offset d.at a.took ++ b.took in
     let tallied : tally (depth_of m) m.pending (counted m) (unplaced b.took) ≡ tally (depth_of d) d.pending (counted d) (unplaced took) =
     ap (λ (n : ℕ). tally n m.pending (counted m) (unplaced b.took)) depth
     ∙ sym (ap (tally (depth_of d) d.pending (counted d)) (unplaced_placed d.at a.took b.took)
@@ -205,8 +205,8 @@ goes_to_end image d m d' items others a b =
 
 -- ---- the end
 
-same_took : (at : ℕ) (took : List Elem) → took ≡ unplaced (placed at took)
-same_took at took = sym (ap unplaced (sym (append-nil (placed at took))) ∙ unplaced_placed at took [] ∙ append-nil took)
+same_took : (at : ℕ) (took : List Elem) → took ≡ unplaced (with_offset at took)
+same_took at took = sym (ap unplaced (sym (append-nil (with_offset at took))) ∙ unplaced_placed at took [] ∙ append-nil took)
 
 at_rest : (d : Decoding) → AtRest d → d ≡ record d { due = []; todo = [] }
 at_rest d done = ap (λ (l : List Thing). record d { due = l }) done.due ∙ ap (λ (l : List Elem). record d { due = []; todo = l }) done.todo
@@ -233,7 +233,7 @@ stops_refused image d f none r =
 -- the walk of the oldest that is due, or of what an element commits, has a fault
 halts_so : (image : Image) (d : Decoding) (p' : Pending) (due' : List Thing) (thing : Thing) (f : WalkFault) (took todo' : List Elem)
     → (d.todo ≡ took ++ todo') → LeavesBy d took p' (thing ∷ due') → Walks image d.walk (thing ∷ []) [] (Err f)
-    → Yields image d [] (Err (d.at, Walk f)) (placed d.at took)
+    → Yields image d [] (Err (d.at, Walk f)) (with_offset d.at took)
 halts_so image d p' due' thing f [] todo' still by walks =
     rw by.0 (inr (f, fault_stays image d.walk (thing ∷ []) due' [] f walks, refl, refl))
 halts_so image d p' due' thing f (e ∷ []) todo' still by walks =
@@ -281,8 +281,8 @@ pub ends_stopped : (image : Image) (d m d' : Decoding) (f : Fault) → Stops ima
 ends_stopped image d m d' f s is =
     let at : m.at ≡ d.at = ap (λ (x : Decoding). x.at) s.rest in
     subst (λ (x : Decoding). Ends image d [] x) (sym is) (record {
-      took = placed d.at s.took;
-      leads = subst (λ (n : ℕ). Yields image d [] (Err (n, f)) (placed d.at s.took)) (sym at) s.leads;
+      took = with_offset d.at s.took;
+      leads = subst (λ (n : ℕ). Yields image d [] (Err (n, f)) (with_offset d.at s.took)) (sym at) s.leads;
       done = record { due = refl; todo = refl };
       made = s.made ∙ ap (λ (l : List Elem). (tally (depth_of d) d.pending (counted d) l).made) (same_took d.at s.took);
       counts = λ free. s.counts free ∙ ap (tally (depth_of d) d.pending (counted d)) (same_took d.at s.took);

@@ -5,7 +5,7 @@ use Rattle.etm_types.specs.declared.item.Item.{Item}
 use Rattle.etm_types.specs.declared.walked.Walked.{Walked}
 use Rattle.packet_grammar.specs.declared.end.End.{End}
 use Rattle.path_elements.specs.Path.{IsPath}
-use Rattle.path_walker.specs.Walk.{is_cond}
+use Rattle.path_walker.specs.Walk.{IsPlaced, is_cond}
 use Rattle.path_walker.specs.declared.stretch.Stretch.{Stretch}
 use Rattle.program_image.specs.Blocks.{IsPlainRun, behind, class_at}
 use Rattle.program_image.specs.Places.{AreWords}
@@ -42,9 +42,10 @@ FindsWords image (found.Walked walked) = ShowsWords image walked
 FindsWords image found.Gap = ⊤
 FindsWords image found.Stop = ⊤
 
--- and of the stretches of atoms
+-- and of the stretches of atoms, each with its place
 abbrev pub IsStretchOfWords : Image → Stretch → Type 0
-IsStretchOfWords image stretch = AreWalked image stretch.start stretch.count (stretch.count - 1) stretch.took
+IsStretchOfWords image stretch =
+    AreWalked image stretch.start stretch.count (stretch.count - 1) stretch.took × IsPlaced image stretch
 
 abbrev pub AreStretchesOfWords : Image → List Stretch → Type 0
 AreStretchesOfWords image run = All (IsStretchOfWords image) run

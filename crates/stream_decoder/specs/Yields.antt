@@ -21,7 +21,7 @@ use Rattle.packet_reader.specs.Stands.{Standing}
 use Rattle.packet_reader.specs.Stands as reader
 use Rattle.packet_reader.specs.declared.step.Step.{Step}
 use Rattle.packet_reader.specs.declared.step.Step.TheVariants.{Whole, Bad}
-use Rattle.path_elements.specs.Elements.{elements_of, told_after, is_misplaced, placed}
+use Rattle.path_elements.specs.Elements.{elements_of, told_after, is_misplaced, with_offset}
 use Rattle.path_elements.specs.Path.{unplaced}
 use Rattle.path_elements.specs.Running.{Outcome, Runs}
 use Rattle.path_text.specs.PathLines.{lines_of, shown_after_all}
@@ -72,8 +72,8 @@ OpensBehind None d step d' = Opens d step d'
 OpensBehind (Some f) d step d' = d' ≡ record d { reader = d'.reader }
 
 -- a byte is taken
-abbrev pub Begun : Decoding → ℕ → Decoding → Type 0
-Begun d byte d' = (step : Step) × Reads d.reader d'.reader byte step × OpensBehind d.fault d step d'
+abbrev pub BegunByte : Decoding → ℕ → Decoding → Type 0
+BegunByte d byte d' = (step : Step) × Reads d.reader d'.reader byte step × OpensBehind d.fault d step d'
 
 -- the bytes of a whole packet are taken
 abbrev pub BegunPacket : Decoding → List ℕ → Decoding → Type 0
@@ -81,7 +81,7 @@ BegunPacket d text d' = (at : ℕ) × (packet : Packet) × reader.TakesPacket d.
 
 -- bytes are taken: one, or where no fault was met those of a whole packet
 abbrev pub BegunBy : Decoding → List ℕ → Decoding → Type 0
-BegunBy d text d' = ((byte : ℕ) × (text ≡ byte ∷ []) × Begun d byte d') ⊎ ((d.fault ≡ None) × BegunPacket d text d')
+BegunBy d text d' = ((byte : ℕ) × (text ≡ byte ∷ []) × BegunByte d byte d') ⊎ ((d.fault ≡ None) × BegunPacket d text d')
 
 -- ---- one thing or one element more
 
@@ -126,7 +126,7 @@ left d = length d.todo * (depth_of d + 1) + length d.due
 abbrev pub YieldsFrom : Image → ℕ → ℕ → Pending → State → List Thing → List Elem → List Item → Outcome → List (ℕ × Elem) → Type 0
 YieldsFrom image depth at p w due todo items outcome took =
     ((first : List Item) × (rest : List Item) × (next : State) × Walks image w due first (Ok next)
-    × Runs image depth p next (placed at todo) rest outcome took × (items ≡ first ++ rest))
+    × Runs image depth p next (with_offset at todo) rest outcome took × (items ≡ first ++ rest))
     ⊎ ((f : WalkFault) × Walks image w due items (Err f) × (outcome ≡ Err (at, fault.Walk f)) × (took ≡ []))
 
 abbrev pub Yields : Image → Decoding → List Item → Outcome → List (ℕ × Elem) → Type 0
@@ -144,7 +144,7 @@ pub record Goes (image : Image) (d : Decoding) (items : List Item) (d' : Decodin
   pub todo : d.todo ≡ took ++ d'.todo
   pub takes : TakesAll (depth_of d) d.pending (counted d) took d'.pending (counted d')
   pub leads : (rest : List Item) (outcome : Outcome) (more : List (ℕ × Elem)) → Yields image d' rest outcome more
-      → Yields image d (items ++ rest) outcome (placed d.at took ++ more)
+      → Yields image d (items ++ rest) outcome (with_offset d.at took ++ more)
   pub rest : d' ≡ record d { pending = d'.pending; due = d'.due; walk = d'.walk; todo = d'.todo; counts = d'.counts }
 
 abbrev pub is_walk_fault : Option (ℕ × Fault) → Bool
@@ -154,7 +154,7 @@ is_walk_fault stop = false
 -- The next thing or element has a fault; these items are shown before it, and with it these elements are taken.
 pub record Stops (image : Image) (d : Decoding) (f : Fault) (d' : Decoding) : Type 0 where
   pub took : List Elem
-  pub leads : Yields image d [] (Err (d.at, f)) (placed d.at took)
+  pub leads : Yields image d [] (Err (d.at, f)) (with_offset d.at took)
   pub made : (d'.counts).made ≡ (tally (depth_of d) d.pending (counted d) took).made
   pub counts : is_walk_fault (Some (d.at, f)) ≡ false → d'.counts ≡ tally (depth_of d) d.pending (counted d) took
   pub rest : d' ≡ record d { pending = d'.pending; due = d'.due; walk = d'.walk; todo = d'.todo; counts = d'.counts }

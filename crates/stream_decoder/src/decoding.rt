@@ -20,7 +20,7 @@ ghost use Rattle.program_image.specs.declared.image.Image.{Image};
 ghost use Rattle.stream_decoder.specs.Decoding.{AtRest, Begins, IsDecoding};
 ghost use Rattle.stream_decoder.specs.Follows.{AreStretchesOfWords, FindsWords, IsStretchOfWords};
 ghost use Rattle.stream_decoder.specs.Stands.{end_at};
-ghost use Rattle.stream_decoder.specs.Yields.{Begun, BegunFront, Ends, Goes, Leaves, OpensPacket, Refuses, Stops, WalksAtoms};
+ghost use Rattle.stream_decoder.specs.Yields.{BegunByte, BegunFront, Ends, Goes, Leaves, OpensPacket, Refuses, Stops, WalksAtoms};
 ghost use Rattle.stream_decoder.specs.Yields.{items_of_found, items_found, left};
 
 use crate::found::Found;
@@ -86,7 +86,7 @@ impl Decoding {
     pub fn begin(&mut self, byte: u8)
         requires few { self.old.reader.taken < 2 ^ 62 }
         requires rest { AtRest self.old }
-        ensures begun { Begun self.old byte self.new }
+        ensures begun { BegunByte self.old byte self.new }
         ensures taken { self.new.reader.taken ≡ self.old.reader.taken + 1 }
         ensures settings { self.new.reader.settings ≡ self.old.reader.settings }
         ensures holds { IsDecoding self.new }
@@ -151,7 +151,7 @@ impl Decoding {
         requires few { self.old.reader.taken < 2 ^ 62 }
         requires rest { AtRest self.old }
         requires whole { self.old.fault ≡ None }
-        ensures begun { Begun self.old byte self.new }
+        ensures begun { BegunByte self.old byte self.new }
         ensures taken { self.new.reader.taken ≡ self.old.reader.taken + 1 }
         ensures settings { self.new.reader.settings ≡ self.old.reader.settings }
         ensures holds { IsDecoding self.new }
@@ -169,7 +169,7 @@ impl Decoding {
         requires few { self.old.reader.taken < 2 ^ 62 }
         requires rest { AtRest self.old }
         requires whole { self.old.fault ≡ None }
-        ensures begun { Begun self.old byte self.new }
+        ensures begun { BegunByte self.old byte self.new }
         ensures taken { self.new.reader.taken ≡ self.old.reader.taken + 1 }
         ensures settings { self.new.reader.settings ≡ self.old.reader.settings }
         ensures holds { IsDecoding self.new }
@@ -186,7 +186,7 @@ impl Decoding {
         requires few { self.old.reader.taken < 2 ^ 62 }
         requires rest { AtRest self.old }
         requires whole { self.old.fault ≡ None }
-        ensures begun { Begun self.old byte self.new }
+        ensures begun { BegunByte self.old byte self.new }
         ensures taken { self.new.reader.taken ≡ self.old.reader.taken + 1 }
         ensures settings { self.new.reader.settings ≡ self.old.reader.settings }
         ensures holds { IsDecoding self.new }
@@ -203,7 +203,7 @@ impl Decoding {
         requires few { self.old.reader.taken < 2 ^ 62 }
         requires rest { AtRest self.old }
         requires whole { self.old.fault ≡ None }
-        ensures begun { Begun self.old byte self.new }
+        ensures begun { BegunByte self.old byte self.new }
         ensures taken { self.new.reader.taken ≡ self.old.reader.taken + 1 }
         ensures settings { self.new.reader.settings ≡ self.old.reader.settings }
         ensures holds { IsDecoding self.new }
@@ -219,7 +219,7 @@ impl Decoding {
     fn begin_any(&mut self, byte: u8)
         requires few { self.old.reader.taken < 2 ^ 62 }
         requires rest { AtRest self.old }
-        ensures begun { Begun self.old byte self.new }
+        ensures begun { BegunByte self.old byte self.new }
         ensures taken { self.new.reader.taken ≡ self.old.reader.taken + 1 }
         ensures settings { self.new.reader.settings ≡ self.old.reader.settings }
         ensures holds { IsDecoding self.new }
@@ -794,6 +794,7 @@ fn walk_run(
     requires aligned { ToldIsAligned given }
     requires none { run.old ≡ [] }
     ensures walks { WalksAtoms image.now walker.old given todo.now.elements run.new walker.new }
+    ensures words { AreStretchesOfWords image.now run.new }
     ensures few { length run.new ≤ 24 }
     ensures context { walker.new.ctx ≡ walker.old.ctx }
     ensures unchanged { run.new ≡ [] → walker.new ≡ walker.old }

@@ -25,6 +25,11 @@ pub trait Follower {
         requires words { ShowsWords image.now walked.now }
         ensures takes { TakesMore (took image.now) self.old self.new (items_under id (items_of walked.now)) };
 
+    /// Takes what the walks of a run of atoms show, in a context.
+    fn take_run(&mut self, image: &Image, id: Id, ctx: &Ctx, run: &Stretches)
+        requires words { AreStretchesOfWords image.now run.now }
+        ensures takes { TakesMore (took image.now) self.old self.new (items_under id (items_in ctx.now run.now)) };
+
     /// Takes trace of a stream that was lost by an overflow.
     fn take_gap(&mut self, id: Id)
         ensures takes { (image : Image) → TakesMore (took image) self.old self.new (items_under id (item.Gap ∷ [])) };
@@ -106,18 +111,7 @@ fn follow_atoms<F: Follower>(
     ensures holds { IsDecoding decoding.new }
 {
     decoding.next_run(image, run);
-    follow_run(run, &decoding.context(), image, id, follower);
-}
-
-/// Gives a follower the instructions of a run of atoms, in a context.
-#[inline(always)]
-fn follow_run<F: Follower>(run: &Stretches, ctx: &Ctx, image: &Image, id: Id, follower: &mut F)
-    requires words { AreStretchesOfWords image.now run.now }
-    ensures takes { TakesMore (F.took image.now) follower.old follower.new (items_under id (items_in ctx.now run.now)) }
-{
-    for stretch in run.all() {
-        follower.take_walked(image, id, &stretch.in_context(*ctx));
-    }
+    follower.take_run(image, id, &decoding.context(), run);
 }
 
 /// Gives a follower what was found.

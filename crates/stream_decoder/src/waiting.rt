@@ -208,11 +208,12 @@ impl Waiting {
         ensures unchanged { IsErr result → self.new ≡ self.old }
         ensures holds { IsWaiting self.new }
     {
-        if !self.informed {
-            self.queue.start(spec)?;
-            self.informed = true;
+        if self.informed {
+            self.queue.note(PreElem::Info);
+            return Ok(None);
         }
-        self.queue.note(PreElem::Info);
+        self.queue.start(spec)?;
+        self.informed = true;
         Ok(None)
     }
 

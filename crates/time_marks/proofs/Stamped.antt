@@ -13,7 +13,7 @@ use Rattle.etm_types.specs.declared.queue_fault.QueueFault.{QueueFault}
 use Rattle.packet_grammar.specs.declared.packet.Packet.{Packet}
 use Rattle.packet_grammar.specs.declared.stream_fault.Fault.{Fault}
 use Rattle.packet_grammar.specs.declared.stream_fault.Fault.TheVariants.{AddressAwaited, Queue}
-use Rattle.path_elements.specs.Elements.{Gained, Told, all_elements, elements_of, is_misplaced, placed, told_after, untold, with_gained}
+use Rattle.path_elements.specs.Elements.{Gained, Told, all_elements, elements_of, is_misplaced, with_offset, told_after, untold, with_gained}
 use Rattle.path_elements.specs.Path.{unplaced}
 use Rattle.time_marks.proofs.Growing.{packet_good, packets_stop}
 use Rattle.time_marks.proofs.Own.{get_last, get_more}
@@ -221,7 +221,7 @@ if_beside stamps more u t next_u next_t is later =
 
 module _ (depth at : ℕ) where
   elements_beside : (stamps : List Stamp) (u t : Times) (es : List Elem) → Beside stamps u t
-      → Beside (stamps ++ stamps_in t.stamp es) (run depth (length stamps) u (placed at es)) (after_elements depth at t es)
+      → Beside (stamps ++ stamps_in t.stamp es) (run depth (length stamps) u (with_offset at es)) (after_elements depth at t es)
   elements_beside stamps u t [] is = more_beside stamps [] u t is
   elements_beside stamps u t (e ∷ es) is =
       let next_u = after_element depth at (record u { stamp = Some (length stamps) }) e in let next = after_element depth at t e in
@@ -231,9 +231,9 @@ module _ (depth at : ℕ) where
       ∙ ap (λ (l : List Stamp). stamps ++ l) (stamps_first t.stamp e es) in
       let number : length more ≡ length stamps + made_by e =
       length-append stamps (mark_of t.stamp e) ∙ ap (λ (k : ℕ). length stamps + k) (marks_made t.stamp e) in
-      if_beside stamps (stamps_in t.stamp (e ∷ es)) u t (run depth (length stamps + made_by e) next_u (placed at es)) (after_elements depth at next es) is
-      (subst (λ (k : ℕ). Beside (stamps ++ stamps_in t.stamp (e ∷ es)) (run depth k next_u (placed at es)) (after_elements depth at next es)) number
-      (subst (λ (l : List Stamp). Beside l (run depth (length more) next_u (placed at es)) (after_elements depth at next es)) all
+      if_beside stamps (stamps_in t.stamp (e ∷ es)) u t (run depth (length stamps + made_by e) next_u (with_offset at es)) (after_elements depth at next es) is
+      (subst (λ (k : ℕ). Beside (stamps ++ stamps_in t.stamp (e ∷ es)) (run depth k next_u (with_offset at es)) (after_elements depth at next es)) number
+      (subst (λ (l : List Stamp). Beside l (run depth (length more) next_u (with_offset at es)) (after_elements depth at next es)) all
       (elements_beside more next_u next es (element_beside stamps u t is at e depth))))
 
 -- ---- packets
@@ -247,7 +247,7 @@ awaits_none : (u : Times) (stop : ℕ × Fault) (awaited : Option ℕ) → u.fau
 awaits_none u stop None some = refl
 awaits_none u stop (Some at) some = ap (λ (f : Option (ℕ × Fault)). if is_some f then u else record u { fault = Some (at, AddressAwaited) }) some
 
-unplaced_placed : (at : ℕ) (es : List Elem) → unplaced (placed at es) ≡ es
+unplaced_placed : (at : ℕ) (es : List Elem) → unplaced (with_offset at es) ≡ es
 unplaced_placed at [] = refl
 unplaced_placed at (e ∷ es) = ap (λ (l : List Elem). e ∷ l) (unplaced_placed at es)
 
@@ -268,7 +268,7 @@ module _ (depth : ℕ) (stamps : List Stamp) (u t : Times) (p : ℕ × Packet) (
   next_t = after_elements depth p.0 begun here
 
   abbrev next_u : Times
-  next_u = run depth (length stamps) u (placed p.0 here)
+  next_u = run depth (length stamps) u (with_offset p.0 here)
 
   abbrev known : List Stamp
   known = stamps ++ stamps_in begun.stamp here
@@ -300,7 +300,7 @@ module _ (depth : ℕ) (stamps : List Stamp) (u t : Times) (p : ℕ × Packet) (
       (subst (Beside (known ++ others) next_u) (sym (packets_stop depth next_t stop packets some)) (more_beside known others next_u next_t first))
 
   -- the number of the next P0 element behind those of the packet
-  number : length stamps + count (placed p.0 here) ≡ length known
+  number : length stamps + count (with_offset p.0 here) ≡ length known
   number =
       ap (λ (es : List Elem). length stamps + length (p0s_in es)) (unplaced_placed p.0 here)
       ∙ ap (λ (k : ℕ). length stamps + k) (sym (length-map (p0s_in here) (λ (p0 : P0). begun.stamp))) ∙ sym (length-append stamps (stamps_in begun.stamp here))
@@ -308,8 +308,8 @@ module _ (depth : ℕ) (stamps : List Stamp) (u t : Times) (p : ℕ × Packet) (
   packet_beside : (b : Bool) → (next_t.fault ≡ None → Later known next_u next_t)
       → Beside (stamps ++ (stamps_in begun.stamp here ++ others))
       (awaits
-      (run depth (length stamps) u (if b then record { elements = []; awaited = Some p.0; told = t.told } else with_gained (placed p.0 here) further).elements)
-      (if b then record { elements = []; awaited = Some p.0; told = t.told } else with_gained (placed p.0 here) further).awaited)
+      (run depth (length stamps) u (if b then record { elements = []; awaited = Some p.0; told = t.told } else with_gained (with_offset p.0 here) further).elements)
+      (if b then record { elements = []; awaited = Some p.0; told = t.told } else with_gained (with_offset p.0 here) further).awaited)
       (after_packets depth (if b then record t { fault = Some (p.0, AddressAwaited) } else next_t) packets)
   packet_beside true on =
       let stop : ℕ × Fault = (p.0, AddressAwaited) in let stopped : Times = record t { fault = Some stop } in let more = stamps_in begun.stamp here ++ others in
@@ -319,9 +319,9 @@ module _ (depth : ℕ) (stamps : List Stamp) (u t : Times) (p : ℕ × Packet) (
       (subst (λ (w : Times). Beside (stamps ++ more) w stopped) so
       (more_beside stamps more (record u { fault = Some stop }) stopped (record { pending = is.pending; held = is.held; done = is.done; fault = refl })))
   packet_beside false on =
-      let so : run depth (length known) next_u further.elements ≡ run depth (length stamps) u (placed p.0 here ++ further.elements) =
-      sym (run-append depth (length stamps) u (placed p.0 here) further.elements ∙ ap (λ (k : ℕ). run depth k next_u further.elements) number) in
-      subst (λ (l : List Stamp). Beside l (awaits (run depth (length stamps) u (placed p.0 here ++ further.elements)) further.awaited)
+      let so : run depth (length known) next_u further.elements ≡ run depth (length stamps) u (with_offset p.0 here ++ further.elements) =
+      sym (run-append depth (length stamps) u (with_offset p.0 here) further.elements ∙ ap (λ (k : ℕ). run depth k next_u further.elements) number) in
+      subst (λ (l : List Stamp). Beside l (awaits (run depth (length stamps) u (with_offset p.0 here ++ further.elements)) further.awaited)
       (after_packets depth next_t packets)) (append_assoc stamps (stamps_in begun.stamp here) others)
       (subst (λ (w : Times). Beside (known ++ others) (awaits w further.awaited) (after_packets depth next_t packets)) so (behind on next_t.fault refl))
 

@@ -8,7 +8,7 @@ use Rattle.etm_types.specs.declared.element.Elem.{Elem}
 use Rattle.packet_grammar.specs.declared.packet.Packet.{Packet}
 use Rattle.packet_grammar.specs.declared.stream_fault.Fault.{Fault}
 use Rattle.packet_grammar.specs.declared.stream_fault.Fault.TheVariants.{AddressAwaited, Queue}
-use Rattle.path_elements.specs.Elements.{Gained, Told, all_elements, elements_of, is_misplaced, placed, told_after, with_gained}
+use Rattle.path_elements.specs.Elements.{Gained, Told, all_elements, elements_of, is_misplaced, with_offset, told_after, with_gained}
 use Rattle.path_elements.specs.Path.{unplaced}
 use Rattle.time_marks.proofs.Growing.{elements_next, elements_stop, packet_good, packets_stop}
 use Rattle.time_marks.specs.Times.{Times, after_element, after_elements, after_packets, opened, taken_so}
@@ -59,7 +59,7 @@ told_kept depth at t (e ∷ es) =
 
 -- ---- packets
 
-unplaced_behind : (at : ℕ) (es : List Elem) (more : List (ℕ × Elem)) → unplaced (placed at es ++ more) ≡ es ++ unplaced more
+unplaced_behind : (at : ℕ) (es : List Elem) (more : List (ℕ × Elem)) → unplaced (with_offset at es ++ more) ≡ es ++ unplaced more
 unplaced_behind at [] more = refl
 unplaced_behind at (e ∷ es) more = ap (λ (l : List Elem). e ∷ l) (unplaced_behind at es more)
 
@@ -86,7 +86,7 @@ module _ (depth : ℕ) (t : Times) (p : ℕ × Packet) (packets : List (ℕ × P
   one_counted : (b : Bool) → Counted (after_elements depth p.0 begun here)
       → (after_packets depth (if b then record t { fault = Some (p.0, AddressAwaited) } else after_elements depth p.0 begun here) packets).counts
       ≡ tally depth t.pending t.counts
-      (unplaced (if b then record { elements = []; awaited = Some p.0; told = t.told } else with_gained (placed p.0 here) later).elements)
+      (unplaced (if b then record { elements = []; awaited = Some p.0; told = t.told } else with_gained (with_offset p.0 here) later).elements)
   one_counted true counted =
       let stopped : Times = record t { fault = Some (p.0, AddressAwaited) } in
       ap (λ (x : Times). x.counts) (packets_stop depth stopped (p.0, AddressAwaited) packets refl)

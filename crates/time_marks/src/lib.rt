@@ -36,6 +36,3 @@ pub use laws::{
     marks_are_those_of_p0_elements, times_have_one_text, times_number_what_a_path_shows,
 };
 pub use streams::TimesDemux;
-
-#[cfg(test)]
-mod tests;

@@ -129,7 +129,6 @@ impl MarkedQueue {
             return Ok(());
         }
         self.queue.start(spec)?;
-        self.queue.note(PreElem::Info);
         self.informed = true;
         Ok(())
     }

@@ -1,6 +1,7 @@
 use Rattle.std.proofs.Common.{◌≡◌, ◌≤◌, ◌-◌, [], length}
 use Rattle.path_walker.specs.Walk.{ToldIsAligned}
 use Rattle.stream_decoder.proofs.Runs.{addr_behind}
+use Rattle.stream_decoder.specs.Follows.{AreStretchesOfWords}
 use Rattle.stream_decoder.specs.Yields.{WalksAtoms}
 use Rattle.stream_decoder.proofs.decoding.walk_run.Given as goal
 
@@ -13,6 +14,7 @@ invariant-loop-addr l =
       walks : WalksAtoms l.image l.fn.walker l.fn.given l.todo.elements l.run l.walker;
       addr : l.addr ≡ addr_behind l.fn.given l.run;
       aligned : ToldIsAligned l.addr;
+      words : AreStretchesOfWords l.image l.run;
       few : length l.run ≤ 24;
       context : l.walker.ctx ≡ l.fn.walker.ctx;
       same : l.run ≡ [] → l.walker ≡ l.fn.walker;

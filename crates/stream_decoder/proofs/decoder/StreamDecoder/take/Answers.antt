@@ -8,7 +8,7 @@ use Rattle.path_text.specs.PathLines.{lines_of, shown_after_all}
 use Rattle.path_text.specs.Writing.{Writes}
 use Rattle.stream_decoder.specs.Decoding.{Decoder, Decoding}
 use Rattle.stream_decoder.specs.Stands.{Came}
-use Rattle.stream_decoder.specs.Yields.{Begun}
+use Rattle.stream_decoder.specs.Yields.{BegunByte}
 use Rattle.stream_decoder.proofs.Growing.{byte_on, byte_stopped, by_fault, grows_on, grows_stopped, not_none}
 use Rattle.trace_io.specs.declared.traits.Failed.{Failed}
 use Rattle.stream_decoder.proofs.decoder.StreamDecoder.take.Goals as goal
@@ -17,7 +17,7 @@ pub returns-in-Ok-clause-stands : goal.returns-in-Ok-clause-stands
 returns-in-Ok-clause-stands g c ok bytes stands =
     let image = c.args.image.now in let d = c.args.self.now.decoding in let m = c.begin.new.self in let d' = c.write_rest.new.decoding in
     let same : c.self.inside.decoding ≡ d = ap (λ (x : Decoder). x.decoding) c.self.view_is in
-    let begun = subst (λ (x : Decoding). Begun x c.args.byte m) same c.begin.ensures.begun in
+    let begun = subst (λ (x : Decoding). BegunByte x c.args.byte m) same c.begin.ensures.begun in
     let settings : m.reader.settings ≡ d.reader.settings = c.begin.ensures.settings ∙ ap (λ (x : Decoding). x.reader.settings) same in
     let are = subst (λ (x : Decoding). AreSettings x.reader.settings) same c.self.invariant.0.reads.settings in
     let shown : c.self.inside.shown ≡ c.args.self.now.shown = ap (λ (x : Decoder). x.shown) c.self.view_is in
@@ -46,7 +46,7 @@ pub returns-in-Ok-clause-grows : goal.returns-in-Ok-clause-grows
 returns-in-Ok-clause-grows g c bytes stands =
     let image = c.args.image.now in let d = c.args.self.now.decoding in let m = c.begin.new.self in
     let same : c.self.inside.decoding ≡ d = ap (λ (x : Decoder). x.decoding) c.self.view_is in
-    let begun = subst (λ (x : Decoding). Begun x c.args.byte m) same c.begin.ensures.begun in
+    let begun = subst (λ (x : Decoding). BegunByte x c.args.byte m) same c.begin.ensures.begun in
     let settings : m.reader.settings ≡ d.reader.settings = c.begin.ensures.settings ∙ ap (λ (x : Decoding). x.reader.settings) same in
     let are = subst (λ (x : Decoding). AreSettings x.reader.settings) same c.self.invariant.0.reads.settings in
     let shown : c.self.inside.shown ≡ c.args.self.now.shown = ap (λ (x : Decoder). x.shown) c.self.view_is in
@@ -71,7 +71,7 @@ pub returns-in-Err-clause-grows : goal.returns-in-Err-clause-grows
 returns-in-Err-clause-grows g c bytes stands =
     let image = c.args.image.now in let d = c.args.self.now.decoding in let m = c.begin.new.self in
     let same : c.self.inside.decoding ≡ d = ap (λ (x : Decoder). x.decoding) c.self.view_is in
-    let begun = subst (λ (x : Decoding). Begun x c.args.byte m) same c.begin.ensures.begun in
+    let begun = subst (λ (x : Decoding). BegunByte x c.args.byte m) same c.begin.ensures.begun in
     let settings : m.reader.settings ≡ d.reader.settings = c.begin.ensures.settings ∙ ap (λ (x : Decoding). x.reader.settings) same in
     let are = subst (λ (x : Decoding). AreSettings x.reader.settings) same c.self.invariant.0.reads.settings in
     let shown : c.self.inside.shown ≡ c.args.self.now.shown = ap (λ (x : Decoder). x.shown) c.self.view_is in

@@ -5,7 +5,7 @@ use Rattle.packet_reader.specs.declared.step.Step.TheVariants.{Whole}
 use Rattle.path_elements.proofs.Taken.{in_range}
 use Rattle.stream_decoder.proofs.Beginning.{begun_opening, kept_reading}
 use Rattle.stream_decoder.specs.Decoding.{Decoding, decoding_of}
-use Rattle.stream_decoder.specs.Yields.{Begun}
+use Rattle.stream_decoder.specs.Yields.{BegunByte}
 use Rattle.stream_decoder.proofs.decoding.Decoding.begin_cancel.Goals as goal
 
 pub invariant_of-self : goal.invariant_of-self
@@ -25,7 +25,7 @@ pub returns-in-None-clause-begun : goal.returns-in-None-clause-begun
 returns-in-None-clause-begun c =
     let i = c.self.inside in
     let same = ap (λ (r : Standing). decoding_of r i.maker i.todo i.waiting i.walker i.fault) (c.in-None.ensures.none refl) ∙ c.self.view_is in
-    subst (λ (d : Decoding). Begun d c.args.byte c.begin_number.new.self) same c.begin_number.ensures.begun
+    subst (λ (d : Decoding). BegunByte d c.args.byte c.begin_number.new.self) same c.begin_number.ensures.begun
 
 pub open_correction-requires-clause-packet : goal.open_correction-requires-clause-packet
 open_correction-requires-clause-packet c =

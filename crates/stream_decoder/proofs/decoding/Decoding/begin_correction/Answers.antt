@@ -7,7 +7,7 @@ use Rattle.packet_reader.specs.Stands.{Standing}
 use Rattle.packet_reader.specs.declared.step.Step.TheVariants.{Whole}
 use Rattle.stream_decoder.proofs.Beginning.{begun_opening, kept_reading}
 use Rattle.stream_decoder.specs.Decoding.{Decoding, decoding_of}
-use Rattle.stream_decoder.specs.Yields.{Begun, OpensPacket}
+use Rattle.stream_decoder.specs.Yields.{BegunByte, OpensPacket}
 use Rattle.stream_decoder.proofs.decoding.Decoding.begin_correction.Goals as goal
 
 pub invariant_of-self : goal.invariant_of-self
@@ -29,7 +29,7 @@ pub returns-in-None-clause-begun : goal.returns-in-None-clause-begun
 returns-in-None-clause-begun c =
     let i = c.self.inside in
     let same = ap (λ (r : Standing). decoding_of r i.maker i.todo i.waiting i.walker i.fault) (c.in-None.ensures.none refl) ∙ c.self.view_is in
-    subst (λ (d : Decoding). Begun d c.args.byte c.begin_cancel.new.self) same c.begin_cancel.ensures.begun
+    subst (λ (d : Decoding). BegunByte d c.args.byte c.begin_cancel.new.self) same c.begin_cancel.ensures.begun
 
 pub open_correction-requires-clause-packet : goal.open_correction-requires-clause-packet
 open_correction-requires-clause-packet c =

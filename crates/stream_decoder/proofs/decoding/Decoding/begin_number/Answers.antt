@@ -3,7 +3,7 @@ use Rattle.packet_reader.specs.Stands.{Standing}
 use Rattle.packet_reader.specs.declared.step.Step.TheVariants.{More}
 use Rattle.stream_decoder.proofs.Beginning.{begun_opening, kept_reading}
 use Rattle.stream_decoder.specs.Decoding.{Decoding, decoding_of}
-use Rattle.stream_decoder.specs.Yields.{Begun}
+use Rattle.stream_decoder.specs.Yields.{BegunByte}
 use Rattle.stream_decoder.proofs.decoding.Decoding.begin_number.Goals as goal
 
 pub invariant_of-self : goal.invariant_of-self
@@ -28,4 +28,4 @@ returns-clause-begun c =
     let i = c.self.inside in
     let kept = c.take_number_header.ensures.unchanged c.if-take_number_header.false in
     let same = ap (λ (r : Standing). decoding_of r i.maker i.todo i.waiting i.walker i.fault) kept ∙ c.self.view_is in
-    subst (λ (d : Decoding). Begun d c.args.byte c.begin_any.new.self) same c.begin_any.ensures.begun
+    subst (λ (d : Decoding). BegunByte d c.args.byte c.begin_any.new.self) same c.begin_any.ensures.begun

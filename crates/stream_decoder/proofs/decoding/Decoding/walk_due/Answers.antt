@@ -39,3 +39,4 @@ pub returns-clause-words : goal.returns-clause-words
 returns-clause-words c =
     let i = c.self.inside in
     shows_stretch c.args.image.now i.walker c.walk_atom.new.self _ i.walker.ctx c.in_ok-stretch.stretch c.in_ok-stretch.ensures.shows
+    c.in_ok-stretch.ensures.placed

@@ -8,7 +8,6 @@ use Rattle.stream_decoder.specs.Waiting.{passed}
 use Rattle.stream_decoder.specs.Yields.{Goes, left}
 use Rattle.stream_decoder.proofs.Runs.{Ran, none_walked, ran, some_run, walks_within}
 use Rattle.stream_decoder.proofs.Yielding.{goes_nowhere}
-use Rattle.stream_decoder.proofs.Worded.{shows_stretches}
 use Rattle.stream_decoder.proofs.decoding.Decoding.walk_passing.Goals as goal
 
 pub advance_by-requires : goal.advance_by-requires
@@ -66,13 +65,3 @@ returns-else-not-is_empty-clause-goes c =
     let last = decoding_of i.reader i.maker i.todo i.waiting c.walk_run.new.walker i.fault in
     subst (λ (run : List Stretch). Goes image c.args.self.now (items_in c.walk_run.new.walker.ctx run) last) (sym none)
     (subst (λ (d : Decoding). Goes image d [] last) c.self.view_is moved)
-
-pub returns-then-not-is_empty-clause-words : goal.returns-then-not-is_empty-clause-words
-returns-then-not-is_empty-clause-words c =
-    let i = c.self.inside in
-    shows_stretches c.args.image.now i.walker c.walk_run.new.walker c.args.given i.todo.elements c.walk_run.new.run c.walk_run.ensures.walks
-
-pub returns-else-not-is_empty-clause-words : goal.returns-else-not-is_empty-clause-words
-returns-else-not-is_empty-clause-words c =
-    let i = c.self.inside in
-    shows_stretches c.args.image.now i.walker c.walk_run.new.walker c.args.given i.todo.elements c.walk_run.new.run c.walk_run.ensures.walks
