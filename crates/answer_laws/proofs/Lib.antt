@@ -1,4 +1,5 @@
 pub mod Complete
+mod CompleteExamples
 pub mod TracedCalls
 pub mod TracedCounts
 pub mod WordTables

@@ -8,14 +8,15 @@ ghost use Rattle.answer_laws.specs.TracedCalls.{IsCountOfTrace, IsPathOfTrace, P
 ghost use Rattle.answer_lines.specs.declared.status.Status.{Status};
 ghost use Rattle.trace_io.specs.State.{IoState};
 
-/// So whatever `path` answers for these frames over the same image, where its words give each stream of the run file its sizes, it
-/// finds no fault, and where it comes to their end it prints these paths and nothing else.
+/// Whatever `path` answers for the frames that `trace` writes of an accepted run file, or for these with synchronisation packets among
+/// them, over the same image, where its words give each stream of the run file its sizes: it finds no fault, and where it comes to their
+/// end it prints the retired paths and nothing else.
 pub fn path_prints_what_was_traced()
     ensures { (c : Call) (old new : IoState) (status : Status) (image : Image) (b : BenchParts) → IsBench b → AreAccepted image b
         → IsPathOfTrace c image b → Answers c old new status → PrintsTraces image b old new status }
 {}
 
-/// So whatever `path --count` answers for these frames: where it comes to their end it prints the counts of the retired paths, and the
+/// Whatever `path --count` answers for such frames: where it comes to their end it prints the counts of the retired paths, and the
 /// end of each stream.
 pub fn counts_are_those_of_what_was_traced()
     ensures { (c : Call) (old new : IoState) (status : Status) (image : Image) (b : BenchParts) → IsBench b → AreAccepted image b

@@ -8,3 +8,4 @@ pub mod Pairs
 pub mod Benches
 pub mod WrittenOut
 pub mod Examples
+pub mod TextExamples

@@ -132,6 +132,9 @@ vmid_100_in_1_byte fits = omega (arith, fits.vmid)
 pub vmid_10000_in_2_bytes : Fits 2 4 (ctx 0 false 0x10000 0) → ⊥
 vmid_10000_in_2_bytes fits = omega (arith, fits.vmid)
 
+pub cid_of_33_bits : Fits 4 4 (ctx 0 false 0 0x100000000) → ⊥
+cid_of_33_bits fits = omega (arith, fits.cid)
+
 pub el_4 : Fits 4 4 (ctx 4 false 0 0) → ⊥
 el_4 fits = omega (arith, fits.el)
 
@@ -159,11 +162,19 @@ pub same_as_last :
     ≡ true ∷ false ∷ false ∷ false ∷ false ∷ []
 same_as_last = refl
 
+-- lower fields where those were higher, and a higher one where that was lower
+pub other_than_last :
+    map (λ c. same_context c last) (ctx 0 true 7 0x1234 ∷ ctx 1 true 6 0x1234 ∷ ctx 1 true 7 0x1235 ∷ []) ≡ false ∷ false ∷ false ∷ []
+other_than_last = refl
+
 -- ---- forms of an address
 
 pub forms : IsAddrForm (Match 2) × IsAddrForm (Short1 0x1fc) × IsAddrForm (Short2 0x1fffc) × IsAddrForm (Long32 0xfffffffc)
     × IsAddrForm (Long64 0xfffffffffffffffc)
 forms = (omega arith, (omega arith, omega arith), (omega arith, omega arith), (omega arith, omega arith), omega arith)
+
+pub lowest_bits : IsAddrForm (Match 0) × IsAddrForm (Short1 4) × IsAddrForm (Short2 4) × IsAddrForm (Long32 4) × IsAddrForm (Long64 4)
+lowest_bits = (omega arith, (omega arith, omega arith), (omega arith, omega arith), (omega arith, omega arith), omega arith)
 
 pub entry_3 : IsAddrForm (Match 3) → ⊥
 entry_3 is = omega (arith, is)
@@ -177,6 +188,15 @@ bit_17_of_short is = omega (arith, is.0)
 pub bit_32_of_long : IsAddrForm (Long32 0x100000000) → ⊥
 bit_32_of_long is = omega (arith, is.0)
 
+pub bit_1_of_short : IsAddrForm (Short1 2) → ⊥
+bit_1_of_short is = omega (arith, is.1)
+
+pub bit_1_of_longer_short : IsAddrForm (Short2 2) → ⊥
+bit_1_of_longer_short is = omega (arith, is.1)
+
+pub bit_1_of_long : IsAddrForm (Long32 2) → ⊥
+bit_1_of_long is = omega (arith, is.1)
+
 pub bit_1 : IsAddrForm (Long64 0x1002) → ⊥
 bit_1 is = omega (arith, is)
 
@@ -184,6 +204,12 @@ bit_1 is = omega (arith, is)
 
 pub oldest_first : atoms_in (record { count = 4; bits = 3 }) ≡ true ∷ true ∷ false ∷ false ∷ []
 oldest_first = refl
+
+pub by_turns : atoms_in (record { count = 4; bits = 10 }) ≡ false ∷ true ∷ false ∷ true ∷ []
+by_turns = refl
+
+pub shortest_run : IsAtomRun (record { count = 1; bits = 1 })
+shortest_run = record { some = omega arith; most = omega arith; bits = omega arith }
 
 pub longest_run : IsAtomRun (record { count = 24; bits = 0xffffff })
 longest_run = record { some = omega arith; most = omega arith; bits = omega arith }

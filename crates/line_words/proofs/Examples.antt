@@ -11,10 +11,18 @@ words_by_spaces_and_tabs = refl
 not_by_line_ends : words_in (97 ∷ 10 ∷ 98 ∷ 13 ∷ []) ≡ (97 ∷ 10 ∷ 98 ∷ 13 ∷ []) ∷ []
 not_by_line_ends = refl
 
+-- nor is any other byte below or beside the space a blank
+not_by_other_bytes : words_in (97 ∷ 0 ∷ 8 ∷ 11 ∷ 31 ∷ 33 ∷ []) ≡ (97 ∷ 0 ∷ 8 ∷ 11 ∷ 31 ∷ 33 ∷ []) ∷ []
+not_by_other_bytes = refl
+
 blanks_alone : words_in (32 ∷ 9 ∷ []) ≡ []
 blanks_alone = refl
 
 -- ---- hex numbers
+
+one_hex_digit : number_of (codes "c") ≡ Some 12
+unfolding decode_pairs
+one_hex_digit = refl
 
 sixteen_digits : number_of (codes "000000000000fF0c") ≡ Some 0xff0c
 unfolding decode_pairs
@@ -48,6 +56,9 @@ three_digits : two_digits_of (codes "001") ≡ None
 three_digits = refl
 
 -- ---- decimal numbers
+
+one_decimal_digit : decimal_of (codes "7") ≡ Some 7
+one_decimal_digit = refl
 
 ten_digits : decimal_of (codes "0000000004") ≡ Some 4
 ten_digits = refl

@@ -7,7 +7,8 @@
 //!
 //! The texts are this project's own (`docs/FORMATS.md`, "Lines"); the names of exceptions are of Arm IHI 0064, exception types.
 //!
-//! [`Line`] is public because `answer_lines` writes with it the lines of a bad image, of a bad run file and of a number.
+//! [`Line`] is public because `answer_lines` writes with it the lines of a bad image, ELF file or run file and of a number, and `time_marks`
+//! and `path_counts` theirs.
 #![tactic(auto)]
 
 mod address_line;

@@ -3,3 +3,4 @@ pub mod RetiredEvents
 pub mod RetiredMany
 pub mod RetiredSteps
 pub mod RetiredStreams
+pub mod RetiredExamples

@@ -1,5 +1,6 @@
 -- Worked examples of stacks, and near misses.
 use Rattle.std.proofs.Common.{◌≡◌, ◌<◌, ◌^◌, ℕ, List, [], ◌∷◌, refl, arith}
+use Rattle.std.proofs.lemmas.List.Elements.{All-cons, All-nil}
 use Rattle.return_stack.specs.Stack.{IsStack, stack, pushed}
 
 abbrev three : List ℕ
@@ -24,6 +25,17 @@ twice = refl
 
 pub deepest : IsStack (stack [] 15)
 deepest = record { few = omega arith; bounded = omega arith; addresses = λ k a below. absurd (omega (arith, below)) }
+
+abbrev is_address : ℕ → Type 0
+is_address a = a < 2 ^ 64
+
+-- as many addresses as there may be, and the greatest one
+pub fullest : IsStack (stack (0xffffffffffffffff ∷ 0 ∷ []) 2)
+fullest = record {
+  few = omega arith;
+  bounded = omega arith;
+  addresses = All-cons is_address 0xffffffffffffffff (0 ∷ []) (omega arith) (All-cons is_address 0 [] (omega arith) (All-nil is_address));
+}
 
 pub too_deep : IsStack (stack [] 16) → ⊥
 too_deep is = omega (arith, is.bounded)

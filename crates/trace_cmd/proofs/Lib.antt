@@ -1,5 +1,6 @@
 mod AnswerExamples
 mod Layouts
+pub mod StatusExamples
 pub mod AnswerLemmas
 pub mod Meaningless
 pub mod Programs

@@ -139,8 +139,8 @@ pub record IsImageFault (c : Call) (out out' : IoState) : Type 0 where
   pub untouched : c.input' ≡ c.input
   pub printed : AppendsAll out out' []
 
--- NoMemory, by a command, or while the words were read, before image and input were touched: nothing was printed, and of paths, packets and
--- times nothing of the input taken. Of a run file, for its retired paths or its traces, some of the input may be.
+-- NoMemory, by a command, or while the words were read, before image and input were touched: nothing was printed, and of paths, counts,
+-- packets and times nothing of the input taken. Of a run file, for its retired paths or its traces, some of the input may be.
 pub record IsNoMemory (c : Call) (out out' : IoState) : Type 0 where
   pub command : IsCall c.words ⊎ ((c.image' ≡ c.image) × (c.input' ≡ c.input))
   pub untouched : (c.input' ≡ c.input) ⊎ IsRunFileCall c.words

@@ -418,7 +418,7 @@ fn answer_words<I: Source, J: Source, K: Sink>(
 /// `image` is what the word IMAGE names: the text of an image, or with `--elf` an ELF file, of at most 256 MiB.
 ///
 /// Words are read with memory of their own: where it is wanting, nothing is touched and nothing printed, whatever they mean.
-/// Of paths, packets and times all memory is taken before the first byte of the input is read. That input is read by pieces of at
+/// Of paths, their counts, packets and times all memory is taken before the first byte of the input is read. That input is read by pieces of at
 /// most 4096 bytes, whose lines are written and flushed before the next is read. A run file is read whole, at most 64 MiB of
 /// it, and all its lines and events are tested before anything is written, and all memory is taken. All is flushed before it
 /// answers, and a flush that fails is `WriteFault`.
