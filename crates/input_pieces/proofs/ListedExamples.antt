@@ -1,5 +1,5 @@
 -- Answers that were worked out by hand, for one stream of which little is printed, and answers near them that no input has.
-use Rattle.std.proofs.Common.{◌≡◌, ℕ, ◌-◌, Bool, true, false, List, [], ◌∷◌, ◌++◌, length, take, Some, Result, Ok, Err, refl, sym, ap, subst, ◌∙◌, inl, inr, arith}
+use Rattle.std.proofs.Common.{◌≡◌, ℕ, ◌-◌, ◌≤◌, Bool, true, false, List, [], ◌∷◌, ◌++◌, length, take, Some, Result, Ok, Err, refl, sym, ap, subst, ◌∙◌, inl, inr, arith}
 use Rattle.std.proofs.Common.{append-nil, length-append}
 use Rattle.std.specs.Prelude.{get_or}
 use Rattle.answer_lines.specs.declared.status.Status.{Status}
@@ -240,4 +240,40 @@ another_line failed says =
           first_line (raw_pairs two) lines ([], sym (append-nil (raw_pairs two)))
           (subst (λ (l : List Printed). BodyFrom each [] (raw_pairs two) l) (sym here) (body byte_line last_line [] (raw_pairs two)))
           (subst (λ s. BeginsWith s (text_of lines)) shown begins)
+    ]
+
+-- a front that ends within the line of the end, where the input is at its end
+pub cut_in_its_end : (failed : Failed) → Says two [] 0 (40 ∷ 10 ∷ 41 ∷ 10 ∷ 0 ∷ []) (Err failed)
+cut_in_its_end failed = record {
+  bytes = two;
+  took = refl;
+  few = omega arith;
+  shown = 40 ∷ 10 ∷ 41 ∷ 10 ∷ 0 ∷ [];
+  printed = refl;
+  late = inr (inl (refl, omega arith, inr (two_lines, false, two_prints.is, (10 ∷ [], refl))));
+  early = ([], refl, (40 ∷ 10 ∷ 41 ∷ 10 ∷ 0 ∷ [], refl));
+}
+
+-- while a byte is left, and no read failed, nothing of that line is printed
+front_of_one : (pairs : List (ℕ × ℕ)) (lines : List Printed) → BeginsWith pairs (raw_pairs (40 ∷ [])) → BodyFrom each [] pairs lines
+    → length (text_of lines) ≤ 2
+front_of_one [] lines front none = omega (arith, ap (λ (l : List Printed). length (text_of l)) none)
+front_of_one (p ∷ []) lines (rest, is) from =
+    let same : p ∷ [] ≡ raw_pairs (40 ∷ []) = cc in
+    let once = one_body each (gains_once byte_line last_line) [] (raw_pairs (40 ∷ [])) lines (lines_under 1 ((40 ∷ 10 ∷ []) ∷ []))
+    (subst (λ (q : List (ℕ × ℕ)). BodyFrom each [] q lines) same from) (body byte_line last_line [] (raw_pairs (40 ∷ []))) in
+    omega (arith, ap (λ (l : List Printed). length (text_of l)) once)
+front_of_one (p ∷ q ∷ pairs) lines (rest, is) from = absurd (omega (arith, ap length is))
+
+pub an_end_before_its_end : (failed : Failed) → Says two (41 ∷ []) 0 (40 ∷ 10 ∷ 0 ∷ []) (Err failed) → ⊥
+an_end_before_its_end failed says =
+    let bytes = one_before says.bytes says.took in
+    let shown : says.shown ≡ 40 ∷ 10 ∷ 0 ∷ [] = let is : 7 ∷ 40 ∷ 10 ∷ 0 ∷ [] ≡ 7 ∷ says.shown = says.printed in cc in
+    elim says.late [
+      | inl (pairs, lines, front, from, (rest, begins)) ↦
+          let few = front_of_one pairs lines (subst (λ b. BeginsWith pairs (raw_pairs (take most_input b))) bytes front) from in
+          absurd (omega (arith, few, ap length begins, ap length shown, length-append says.shown rest))
+      | inr (inl (end, few, text)) ↦ absurd (omega (arith, ap length end))
+      | inr (inr (inl many, text)) ↦ absurd (omega (arith, many, ap length bytes))
+      | inr (inr (inr rose, text)) ↦ absurd (omega (arith, rose))
     ]

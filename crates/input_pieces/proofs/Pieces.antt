@@ -13,16 +13,16 @@ use Rattle.answer_lines.specs.declared.status.Status.{Status}
 use Rattle.answer_lines.specs.declared.status.Status.TheVariants as status
 use Rattle.input_pieces.specs.Listed.{Breaks, Completes, Exceeds, Interrupts, Listed, PrintsBody, PrintsTaken, Takes, most_input}
 use Rattle.input_pieces.specs.Reading.{Closes, StopsSo, TookUpTo}
-use Rattle.input_pieces.specs.declared.input.Stop.{Stop}
-use Rattle.input_pieces.specs.declared.input.Stop.TheVariants.{End, TooLong, ReadFault}
+use Rattle.input_pieces.specs.declared.input.InputEnd.{InputEnd}
+use Rattle.input_pieces.specs.declared.input.InputEnd.TheVariants.{End, TooLong, ReadFault}
 use Rattle.input_pieces.proofs.Interrupts.{cut_front, cut_rest, cut_sums}
 use Rattle.trace_io.specs.Bytes.{AppendsAll, TakesAll}
 use Rattle.trace_io.specs.Causes.{KeepsFaults, Rose}
 use Rattle.trace_io.specs.State.{IoState}
 use Rattle.trace_io.specs.declared.traits.Failed.{Failed}
 
-pub stop_kept : (a b c : IoState) (n : ℕ) (stop : Stop) → KeepsFaults a b → StopsSo b c n stop
-    → (◌≡◌ {A = Result Stop Failed} (Ok stop) (Ok ReadFault)) ⊎ KeepsFaults a c
+pub stop_kept : (a b c : IoState) (n : ℕ) (stop : InputEnd) → KeepsFaults a b → StopsSo b c n stop
+    → (◌≡◌ {A = Result InputEnd Failed} (Ok stop) (Ok ReadFault)) ⊎ KeepsFaults a c
 stop_kept a b c n End kept stops = inr (stops.2 ∙ kept)
 stop_kept a b c n TooLong kept stops = inr (stops.2 ∙ kept)
 stop_kept a b c n ReadFault kept stops = inl refl

@@ -19,7 +19,7 @@ const MOST_AT_ONCE: usize = 4096;
 
 /// Why no more of an input is taken.
 #[derive(Clone, Copy, Debug)]
-pub enum Stop {
+pub enum InputEnd {
     /// It is at its end.
     End,
     /// It has more bytes than are taken.
@@ -34,7 +34,7 @@ pub enum Piece {
     /// So many bytes, at the front of the buffer.
     Bytes(usize),
     /// No bytes to take.
-    Stop(Stop),
+    Ended(InputEnd),
 }
 
 /// Reads the next piece of an input of which `taken` bytes were taken. Once no more are taken, one byte more tells that
@@ -42,17 +42,17 @@ pub enum Piece {
 fn read_piece<J: Source>(input: &mut J, taken: usize, buffer: &mut [u8; MOST_AT_ONCE]) -> Piece
     requires { taken ≤ most_input }
     ensures bytes { (count : ℕ) → result ≡ Piece.Bytes count → GivesBytes (J.state input.old) (J.state input.new) taken count buffer.new }
-    ensures stop { (stop : Stop) → result ≡ Piece.Stop stop → StopsSo (J.state input.old) (J.state input.new) taken stop }
+    ensures stop { (stop : InputEnd) → result ≡ Piece.Ended stop → StopsSo (J.state input.old) (J.state input.new) taken stop }
     ensures shows { ShowsAsBefore (J.state input.old) (J.state input.new) }
     ensures later { (J.state input.old).faults ≤ (J.state input.new).faults }
 {
     let left = MOST_INPUT - taken;
     let room = left.clamp(1, MOST_AT_ONCE);
     match input.read(&mut buffer[..room]) {
-        Ok(0) => Piece::Stop(Stop::End),
-        Ok(_) if left == 0 => Piece::Stop(Stop::TooLong),
+        Ok(0) => Piece::Ended(InputEnd::End),
+        Ok(_) if left == 0 => Piece::Ended(InputEnd::TooLong),
         Ok(count) => Piece::Bytes(count),
-        Err(_) => Piece::Stop(Stop::ReadFault),
+        Err(_) => Piece::Ended(InputEnd::ReadFault),
     }
 }
 
@@ -62,14 +62,14 @@ fn take_input<P: Printer, J: Source, K: Sink>(
     shared: &P::Shared,
     input: &mut J,
     out: &mut K,
-) -> Result<Stop, Failed>
+) -> Result<InputEnd, Failed>
     requires fresh { (P.broken printer.old ≡ false) × (P.taken printer.old ≡ 0) }
     ensures took { (t : ℕ → Sizes) → P.stands shared.now t printer.old []
         → Took (P.stands shared.now t printer.new) (P.laid (P.frames printer.old)) (P.listing shared.now t)
         (J.state input.old) (J.state input.new) (K.state out.old) (K.state out.new) result }
-    ensures whole { (stop : Stop) → result ≡ Ok stop → (P.broken printer.new ≡ false) × (P.taken printer.new ≤ most_input) }
+    ensures whole { (stop : InputEnd) → result ≡ Ok stop → (P.broken printer.new ≡ false) × (P.taken printer.new ≤ most_input) }
     ensures frames { P.frames printer.new ≡ P.frames printer.old }
-    ensures kept { (result ≡ Ok Stop.ReadFault) ⊎ KeepsFaults (J.state input.old) (J.state input.new) }
+    ensures kept { (result ≡ Ok InputEnd.ReadFault) ⊎ KeepsFaults (J.state input.old) (J.state input.new) }
     ensures cause { HasCause (K.state out.old) (K.state out.new) result }
     ensures shows { ShowsAsBefore (K.state out.old) (K.state out.new) }
     ensures input_shows { ShowsAsBefore (J.state input.old) (J.state input.new) }
@@ -83,7 +83,7 @@ fn take_input<P: Printer, J: Source, K: Sink>(
                 print_piece(printer, shared, &buffer[..count], out)?;
                 taken += count;
             }
-            Piece::Stop(stop) => return Ok(stop),
+            Piece::Ended(stop) => return Ok(stop),
         }
     }
 }
@@ -105,12 +105,12 @@ pub fn print_input<P: Printer, J: Source, K: Sink>(
     ensures input_later { (J.state input.old).faults ≤ (J.state input.new).faults }
 {
     match take_input(&mut printer, shared, input, out) {
-        Ok(Stop::End) => print_end(printer, shared, out),
-        Ok(Stop::TooLong) => {
+        Ok(InputEnd::End) => print_end(printer, shared, out),
+        Ok(InputEnd::TooLong) => {
             printer.close(shared, out)?;
             Ok(Status::InputTooLong)
         }
-        Ok(Stop::ReadFault) => {
+        Ok(InputEnd::ReadFault) => {
             printer.close(shared, out)?;
             Ok(Status::ReadFault)
         }

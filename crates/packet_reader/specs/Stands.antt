@@ -47,7 +47,7 @@ pub record Zeros (zeros : ℕ) (bytes : List ℕ) : Type 0 where
   pub all : zeros < zeros_of_sync → (other : List ℕ) → bytes ≡ other ++ replicate (suc zeros) 0x00 → ⊥
 
 -- The bytes are whole packets and the bytes of a begun one, and what may follow these is what may follow in the state.
-pub record Begun (s : Sizes) (state : State) (start : ℕ) (bytes : List ℕ) : Type 0 where
+pub record PartOfPacket (s : Sizes) (state : State) (start : ℕ) (bytes : List ℕ) : Type 0 where
   pub front : List ℕ
   pub text : List ℕ
   pub parts : bytes ≡ front ++ text
@@ -60,7 +60,7 @@ pub record Begun (s : Sizes) (state : State) (start : ℕ) (bytes : List ℕ) : 
 abbrev pub InPhase : Sizes → Phase → ℕ → List ℕ → Type 0
 InPhase s (Hunting zeros) start bytes = ((at : ℕ) → SyncAt at bytes → ⊥) × Zeros zeros bytes
 InPhase s Between start bytes = (length bytes ≡ start) × ((packets : List (ℕ × Packet)) × IsStream s bytes packets clean)
-InPhase s (Within state) start bytes = Begun s state start bytes
+InPhase s (Within state) start bytes = PartOfPacket s state start bytes
 InPhase s Failed start bytes = (packets : List (ℕ × Packet)) × (at : ℕ) × (f : PacketFault) × IsStream s bytes packets (fault at f)
 
 -- the reader took these bytes

@@ -15,7 +15,7 @@ use Rattle.packet_grammar.specs.declared.packet.Packet.{Packet}
 use Rattle.packet_grammar.specs.declared.packet.Packet.TheVariants.{Async, Discard, Overflow, Info, On, Ignore, Event, Time, Exc}
 use Rattle.packet_grammar.specs.declared.packet.Packet.TheVariants.{Commit, Cancel, Mispredict, Cancel2, Cancel3, CtxSame, CtxInfo, Addr, Atoms}
 use Rattle.packet_writer.specs.Fitting.{HasSpelling}
-use Rattle.packet_writer.specs.Laws.{placed}
+use Rattle.packet_writer.specs.Laws.{with_offsets}
 use Rattle.packet_writer.specs.Spelling.{spelling}
 use Rattle.packet_writer.proofs.Having.{spelled_fits}
 
@@ -366,7 +366,7 @@ pub bytes_of_turned : flat_map (spelling none) turned
 unfolding atom_formats byte_of
 bytes_of_turned = refl
 
-pub offsets_of_turned : placed none 0 turned
+pub offsets_of_turned : with_offsets none 0 turned
     ≡ (0, Async) ∷ (12, Info (Some 0) None None None) ∷ (15, On) ∷ (16, Addr (Long64 0x1000) (Some el_0)) ∷ (26, branch) ∷ (27, Async)
     ∷ (39, Info (Some 0) None (Some 1) None) ∷ (43, Addr (Long64 0x100c) (Some el_0)) ∷ (53, Mispredict no_atom) ∷ (54, branch) ∷ (55, Commit 2) ∷ []
 unfolding atom_formats byte_of

@@ -9,10 +9,10 @@ use Rattle.packet_grammar.specs.declared.packet.Packet.TheVariants.{Async}
 use Rattle.packet_grammar.specs.Parsed.{clean, Parses}
 use Rattle.packet_writer.specs.Spelling.{spelling}
 use Rattle.packet_writer.specs.Fitting.{HasSpelling}
-use Rattle.packet_writer.specs.Laws.{placed, WrittenIsRead}
+use Rattle.packet_writer.specs.Laws.{with_offsets, WrittenIsRead}
 use Rattle.packet_writer.proofs.Having.{it_spells}
 
-parses : (s : Sizes) (at : ℕ) (packets : List Packet) → All (HasSpelling s) packets → Parses s at (flat_map (spelling s) packets) (placed s at packets) clean
+parses : (s : Sizes) (at : ℕ) (packets : List Packet) → All (HasSpelling s) packets → Parses s at (flat_map (spelling s) packets) (with_offsets s at packets) clean
 parses s at [] have = refl
 parses s at (p ∷ packets) have = (
   spelling s p,

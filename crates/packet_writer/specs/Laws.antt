@@ -49,12 +49,12 @@ abbrev pub SpelledWhereFits : Type 0
 SpelledWhereFits = (s : Sizes) (packet : Packet) → HasSpelling s packet ↔ Fits s packet
 
 -- packets with their offsets, where they are written one after the other from an offset on
-abbrev pub placed : Sizes → ℕ → List Packet → List (ℕ × Packet)
-placed s at [] = []
-placed s at (packet ∷ packets) = (at, packet) ∷ placed s (at + length (spelling s packet)) packets
+abbrev pub with_offsets : Sizes → ℕ → List Packet → List (ℕ × Packet)
+with_offsets s at [] = []
+with_offsets s at (packet ∷ packets) = (at, packet) ∷ with_offsets s (at + length (spelling s packet)) packets
 
 -- what is written for packets, an A-sync first, is a stream of these packets, and it ends behind the last of them
 abbrev pub WrittenIsRead : Type 0
 WrittenIsRead =
     (s : Sizes) (packets : List Packet) → All (HasSpelling s) packets
-    → IsStream s (flat_map (spelling s) (Async ∷ packets)) (placed s 0 (Async ∷ packets)) clean
+    → IsStream s (flat_map (spelling s) (Async ∷ packets)) (with_offsets s 0 (Async ∷ packets)) clean

@@ -21,6 +21,3 @@ pub use buffer::PACKET_ROOM;
 pub use fronts::longest_front;
 pub use laws::{each_packet_has_its_bytes, written_packets_are_read};
 pub use packet::write_packet;
-
-#[cfg(test)]
-mod tests;

@@ -3,7 +3,7 @@ use Rattle.std.proofs.Common.{◌≡◌, ℕ, Bool, true, false, if◌then◌els
 use Rattle.std.proofs.lemmas.List.{append_assoc, append-nil}
 use Rattle.etm_types.specs.declared.element.Elem.{Elem}
 use Rattle.packet_grammar.specs.declared.packet.Packet.{Packet}
-use Rattle.path_elements.specs.Elements.{Told, Gained, all_elements, elements_of, told_after, is_misplaced, placed, with_gained}
+use Rattle.path_elements.specs.Elements.{Told, Gained, all_elements, elements_of, told_after, is_misplaced, with_offset, with_gained}
 use Rattle.path_elements.specs.Laws.{EachPacketAdds, NoneBehind}
 
 same_gained : (elements others : List (ℕ × Elem)) (awaited other : Option ℕ) (told : Told) → elements ≡ others → awaited ≡ other
@@ -35,7 +35,7 @@ pub elements_append : (told : Told) (packets more : List (ℕ × Packet)) → (a
 elements_append told [] more none = refl
 elements_append told (p ∷ packets) more none =
     let after = told_after told p.1 in
-    goes_on (is_misplaced told p.1) told p.0 (placed p.0 (elements_of told p.1)) (all_elements after packets) (all_elements after (packets ++ more)) more
+    goes_on (is_misplaced told p.1) told p.0 (with_offset p.0 (elements_of told p.1)) (all_elements after packets) (all_elements after (packets ++ more)) more
     (elements_append after packets more) none
 
 stays : (b : Bool) (told : Told) (at stop : ℕ) (here : List (ℕ × Elem)) (front whole : Gained)
@@ -49,7 +49,7 @@ pub none_behind : NoneBehind
 none_behind told [] more at some = absurd (cc)
 none_behind told (p ∷ packets) more at some =
     let after = told_after told p.1 in
-    stays (is_misplaced told p.1) told at p.0 (placed p.0 (elements_of told p.1)) (all_elements after packets) (all_elements after (packets ++ more))
+    stays (is_misplaced told p.1) told at p.0 (with_offset p.0 (elements_of told p.1)) (all_elements after packets) (all_elements after (packets ++ more))
     (none_behind after packets more at) some
 
 one_more : (b : Bool) (g : Gained) (at : ℕ) (here : List (ℕ × Elem)) (after : Told) → g.awaited ≡ None
@@ -64,4 +64,4 @@ pub each_packet_adds : EachPacketAdds
 each_packet_adds told packets at packet none =
     let g = all_elements told packets in
     elements_append told packets ((at, packet) ∷ []) none
-    ∙ one_more (is_misplaced g.told packet) g at (placed at (elements_of g.told packet)) (told_after g.told packet) none
+    ∙ one_more (is_misplaced g.told packet) g at (with_offset at (elements_of g.told packet)) (told_after g.told packet) none

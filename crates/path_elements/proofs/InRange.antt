@@ -15,7 +15,7 @@ use Rattle.packet_grammar.specs.Parsed.{Ending, Parses, IsStream}
 use Rattle.packet_grammar.specs.declared.packet.Packet.{Packet}
 use Rattle.packet_grammar.specs.declared.packet.Packet.TheVariants as packet
 use Rattle.path_elements.specs.Elements.{Told, Gained, untold, atoms, with_address, after_address, elements_in, told_by, tells, elements_of, told_after}
-use Rattle.path_elements.specs.Elements.{is_misplaced, placed, with_gained, all_elements}
+use Rattle.path_elements.specs.Elements.{is_misplaced, with_offset, with_gained, all_elements}
 use Rattle.path_elements.specs.Held.{CanBeTaken, IsElem}
 use Rattle.path_elements.specs.Standing.{ArePlacedElems}
 use Rattle.path_elements.specs.declared.maker.Interrupt.{Interrupt}
@@ -155,9 +155,9 @@ IsElemThere e = IsElem e.1
 abbrev pub CanBeTakenThere : ℕ × Packet → Type 0
 CanBeTakenThere p = CanBeTaken p.1
 
-placed_fit : (at : ℕ) (es : List Elem) → All IsElem es → ArePlacedElems (placed at es)
+placed_fit : (at : ℕ) (es : List Elem) → All IsElem es → ArePlacedElems (with_offset at es)
 placed_fit at [] are = All-nil IsElemThere
-placed_fit at (e ∷ es) are = All-cons IsElemThere (at, e) (placed at es) (All-head IsElem e es are) (placed_fit at es (All-tail IsElem e es are))
+placed_fit at (e ∷ es) are = All-cons IsElemThere (at, e) (with_offset at es) (All-head IsElem e es are) (placed_fit at es (All-tail IsElem e es are))
 
 joined_fit : (b : Bool) (stop : Gained) (here : List (ℕ × Elem)) (rest : Gained) → ArePlacedElems stop.elements → ArePlacedElems here
     → ArePlacedElems rest.elements → ArePlacedElems (if b then stop else with_gained here rest).elements
@@ -170,7 +170,7 @@ all_fit told (p ∷ packets) can is =
     let first = All-head CanBeTakenThere p packets can in
     let here = chosen_elements (tells told p.1) (elements_in told p.1) (elements_fit told p.1 first is) in
     let after = chosen_told (tells told p.1) (told_by told p.1) told (told_kept told p.1 first is) is in
-    joined_fit (is_misplaced told p.1) _ (placed p.0 (elements_of told p.1)) (all_elements (told_after told p.1) packets) (All-nil IsElemThere)
+    joined_fit (is_misplaced told p.1) _ (with_offset p.0 (elements_of told p.1)) (all_elements (told_after told p.1) packets) (All-nil IsElemThere)
     (placed_fit p.0 (elements_of told p.1) here) (all_fit (told_after told p.1) packets (All-tail CanBeTakenThere p packets can) after)
 
 -- the elements that packets tell from the first on

@@ -5,7 +5,7 @@ use Rattle.std.specs.Prelude.{is_some}
 use Rattle.std.proofs.lemmas.List.{map-append}
 use Rattle.etm_types.specs.declared.element.Elem.{Elem}
 use Rattle.packet_grammar.specs.declared.packet.Packet.{Packet}
-use Rattle.path_elements.specs.Elements.{Told, Gained, all_elements, elements_of, told_after, is_misplaced, placed, with_gained}
+use Rattle.path_elements.specs.Elements.{Told, Gained, all_elements, elements_of, told_after, is_misplaced, with_offset, with_gained}
 use Rattle.path_elements.specs.Path.{unplaced}
 use Rattle.path_elements.specs.PathLaws.{BeginsWith, ElementsJoin, OffsetsDoNotCount, packets_alone}
 use Rattle.path_elements.proofs.Grows.{elements_append, none_behind}
@@ -33,16 +33,16 @@ record Alike (g h : Gained) : Type 0 where
   awaited : is_some g.awaited ≡ is_some h.awaited
   told : g.told ≡ h.told
 
-placed_alone : (at : ℕ) (es : List Elem) → unplaced (placed at es) ≡ es
+placed_alone : (at : ℕ) (es : List Elem) → unplaced (with_offset at es) ≡ es
 placed_alone at [] = refl
 placed_alone at (e ∷ es) = ap (λ l. e ∷ l) (placed_alone at es)
 
-behind_alone : (at : ℕ) (es : List Elem) (more : List (ℕ × Elem)) → unplaced (placed at es ++ more) ≡ es ++ unplaced more
-behind_alone at es more = map-append (λ (e : ℕ × Elem). e.1) (placed at es) more ∙ ap (λ l. l ++ unplaced more) (placed_alone at es)
+behind_alone : (at : ℕ) (es : List Elem) (more : List (ℕ × Elem)) → unplaced (with_offset at es ++ more) ≡ es ++ unplaced more
+behind_alone at es more = map-append (λ (e : ℕ × Elem). e.1) (with_offset at es) more ∙ ap (λ l. l ++ unplaced more) (placed_alone at es)
 
 one_alike : (b : Bool) (told : Told) (at at' : ℕ) (es : List Elem) (g h : Gained) → Alike g h
-    → Alike (if b then record { elements = []; awaited = Some at; told = told } else with_gained (placed at es) g)
-    (if b then record { elements = []; awaited = Some at'; told = told } else with_gained (placed at' es) h)
+    → Alike (if b then record { elements = []; awaited = Some at; told = told } else with_gained (with_offset at es) g)
+    (if b then record { elements = []; awaited = Some at'; told = told } else with_gained (with_offset at' es) h)
 one_alike true told at at' es g h alike = record { elements = refl; awaited = refl; told = refl }
 one_alike false told at at' es g h alike = record {
   elements = behind_alone at es g.elements ∙ ap (λ l. es ++ l) alike.elements ∙ sym (behind_alone at' es h.elements);

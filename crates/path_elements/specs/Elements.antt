@@ -116,8 +116,8 @@ pub record Gained : Type 0 where
   pub told : Told
 
 -- elements, each with the offset of their packet
-abbrev pub placed : ℕ → List Elem → List (ℕ × Elem)
-placed at elements = map (λ e. (at, e)) elements
+abbrev pub with_offset : ℕ → List Elem → List (ℕ × Elem)
+with_offset at elements = map (λ e. (at, e)) elements
 
 -- elements of earlier packets, and after them what is gained of later ones
 abbrev pub with_gained : List (ℕ × Elem) → Gained → Gained
@@ -128,4 +128,4 @@ abbrev pub all_elements : Told → List (ℕ × Packet) → Gained
 all_elements told [] = record { elements = []; awaited = None; told = told }
 all_elements told (p ∷ packets) =
     if is_misplaced told p.1 then record { elements = []; awaited = Some p.0; told = told }
-    else with_gained (placed p.0 (elements_of told p.1)) (all_elements (told_after told p.1) packets)
+    else with_gained (with_offset p.0 (elements_of told p.1)) (all_elements (told_after told p.1) packets)

@@ -5,7 +5,7 @@ use Rattle.packet_grammar.specs.Ranges.{IsPacket}
 use Rattle.packet_grammar.specs.Spelling.{SpellsPacket}
 use Rattle.packet_grammar.specs.declared.packet.Packet.{Packet}
 use Rattle.path_elements.specs.Held.{CanBeTaken}
-use Rattle.path_elements.specs.Elements.{Told, Gained, untold, all_elements, elements_of, told_after, is_misplaced, placed}
+use Rattle.path_elements.specs.Elements.{Told, Gained, untold, all_elements, elements_of, told_after, is_misplaced, with_offset}
 
 -- no packet, no element
 abbrev pub NoneAtFirst : Type 0
@@ -15,7 +15,7 @@ NoneAtFirst = all_elements untold [] ≡ record { elements = []; awaited = None;
 abbrev pub with_packet : Gained → ℕ → Packet → Gained
 with_packet gained at packet =
     if is_misplaced gained.told packet then record gained { awaited = Some at }
-    else record gained { elements = gained.elements ++ placed at (elements_of gained.told packet); told = told_after gained.told packet }
+    else record gained { elements = gained.elements ++ with_offset at (elements_of gained.told packet); told = told_after gained.told packet }
 
 -- after packets that all may come where they do, one more adds its elements, or may not come
 abbrev pub EachPacketAdds : Type 0

@@ -14,7 +14,7 @@ use Rattle.spec_run.specs.RunAfter.{after_event, go_on, place_in, run_after, run
 use Rattle.spec_run.specs.Runs.{Closing, Execution, Running, applied_on, at_first}
 use Rattle.spec_run.specs.Stands.{Kept, StandsAt, held_at}
 use Rattle.spec_run.specs.Steps.{is_p0, p0s}
-use Rattle.spec_run.specs.Windows.{HasRoom, place_after, planned, planned_by}
+use Rattle.spec_run.specs.Windows.{RoomInWindow, place_after, planned, planned_by}
 use Rattle.spec_run.specs.declared.effect.Effect.{Effect}
 use Rattle.spec_run.specs.declared.effect.Effect.TheVariants as effect
 use Rattle.spec_run.specs.declared.event.Event.{Event}
@@ -40,15 +40,15 @@ below n m fault h = by_test n m (nat_lt n m) fault refl h
 has_room : (depth : ℕ) (held : List RunStep) (s : RunStep) → room_fault depth held s ≡ None → length held < window
 has_room depth held s h = below (length held) window fault.WindowFull (second (depth_fault depth (is_p0 s) (p0s held)) _ h)
 
-ran_has_room : (depth : ℕ) (p : Place) (e : Event) (step : Option (RunStep × Ctx)) → executed_fault depth p e step ≡ None → HasRoom (ran_by step) p.held
+ran_has_room : (depth : ℕ) (p : Place) (e : Event) (step : Option (RunStep × Ctx)) → executed_fault depth p e step ≡ None → RoomInWindow (ran_by step) p.held
 ran_has_room depth p e None h = tt
 ran_has_room depth p e (Some step) h = has_room depth p.held step.0 (second (aim_fault e) _ h)
 
-step_has_room : (depth : ℕ) (class : Option Class) (p : Place) (e : Event) → step_fault depth class p e ≡ None → HasRoom (ran_by (executed class p e)) p.held
+step_has_room : (depth : ℕ) (class : Option Class) (p : Place) (e : Event) → step_fault depth class p e ≡ None → RoomInWindow (ran_by (executed class p e)) p.held
 step_has_room depth class p e h = ran_has_room depth p e (executed class p e) (second (word_fault class p.pc) _ h)
 
 pub room_for : (image : Image) (depth : ℕ) (place : Option Place) (e : Event) → check image depth place e ≡ None
-    → HasRoom (effect_of image place e) (held_at place)
+    → RoomInWindow (effect_of image place e) (held_at place)
 room_for image depth None (event.On addr ctx) h = tt
 room_for image depth None event.Step h = tt
 room_for image depth None event.Taken h = tt

@@ -5,7 +5,7 @@ use Rattle.etm_types.specs.declared.context.Ctx.{Ctx}
 use Rattle.etm_types.specs.declared.item.Item.{Item}
 use Rattle.etm_types.specs.declared.item.Item.TheVariants as item
 use Rattle.etm_types.specs.declared.walked.Walked.{Walked}
-use Rattle.spec_run.specs.Blocks.{Begun, begun, blocks, fresh, items_of_blocks}
+use Rattle.spec_run.specs.Blocks.{BegunBlock, begun, blocks, fresh, items_of_blocks}
 use Rattle.spec_run.specs.RetiredItems.{added_by, items_behind, retired_of, stretch_items}
 use Rattle.spec_run.specs.Runs.{ByOff, ByOverflow, Closing, Execution, Running}
 use Rattle.spec_run.specs.Stands.{OpenBlock, begun_behind, shown_by}
@@ -159,7 +159,7 @@ pub begun_behind_two : begun (fresh 0x1000) (branch_block ++ return_block ++ fir
 begun_behind_two = refl
 
 pub a_branch_leads_to_the_next_block : begun (fresh 0x1000) branch_block ≡ fresh 0x100c → ⊥
-a_branch_leads_to_the_next_block = λ e. let a : 0x1010 ≡ 0x100c = ap (λ (o : Begun). o.start) e in absurd (omega (arith, a))
+a_branch_leads_to_the_next_block = λ e. let a : 0x1010 ≡ 0x100c = ap (λ (o : BegunBlock). o.start) e in absurd (omega (arith, a))
 
 pub a_block_of_an_exception : items_of_blocks (blocks (fresh 0x2000) (exception_at_once ∷ return_from_handler))
     ≡ item.Exc 3 0x2000 ∷ in_handler 0x8000 ∷ in_handler 0x8004 ∷ []

@@ -14,7 +14,7 @@ use Rattle.program_image.specs.Blocks.{HasGap, IsPlainRun, behind, class_at}
 use Rattle.program_image.specs.declared.image.Image.{Image}
 use Rattle.spec_run.proofs.Shown.{instructions_grow, plain_item, same_instructions}
 use Rattle.spec_run.proofs.StepLists.{bools, plain_kind, steps_front, steps_rest}
-use Rattle.spec_run.specs.Blocks.{Begun, begun, fresh}
+use Rattle.spec_run.specs.Blocks.{BegunBlock, begun, fresh}
 use Rattle.spec_run.specs.Executed.{AreSteps, Executes, IsPlace, context_behind}
 use Rattle.spec_run.specs.RetiredItems.{has_p0, item_of}
 use Rattle.spec_run.specs.Stands.{Follows, OpenBlock, PathStandsAt, behind_last_p0}
@@ -28,7 +28,7 @@ all_behind : (steps : List RunStep) → has_p0 steps ≡ false → behind_last_p
 all_behind [] e = refl
 all_behind (s ∷ steps) e = simp e
 
-one_begun : (o : Begun) (context : Ctx) (s : RunStep) → o.start < 2 ^ 64 → s.addr ≡ behind o.start o.plain → (0 < o.plain → s.ctx ≡ context) → is_p0 s ≡ false
+one_begun : (o : BegunBlock) (context : Ctx) (s : RunStep) → o.start < 2 ^ 64 → s.addr ≡ behind o.start o.plain → (0 < o.plain → s.ctx ≡ context) → is_p0 s ≡ false
     → instructions s.ctx o.start (o.plain + 1) false ≡ instructions context o.start o.plain false ++ item_of s ∷ []
 one_begun o context s lt there same p =
     instructions_grow s.ctx o.start o.plain false (λ e. lt)
@@ -37,7 +37,7 @@ one_begun o context s lt there same p =
     ∙ ap (λ l. l ++ item_of s ∷ []) (same_instructions o.plain s.ctx context o.start same)
 
 -- the instructions that a block that is begun has before steps, where none of them ends it
-abbrev begun_before : Begun → Ctx → List RunStep → List Item
+abbrev begun_before : BegunBlock → Ctx → List RunStep → List Item
 begun_before o context steps = if has_p0 steps then [] else instructions context o.start o.plain false
 
 fresh_before : (start : ℕ) (context : Ctx) (steps : List RunStep) → begun_before (fresh start) context steps ≡ []
@@ -46,10 +46,10 @@ fresh_before start context steps = elim (bools (has_p0 steps)) [
   | inr none ↦ simp none
 ]
 
-abbrev begun_items : Begun → Ctx → List RunStep → List Item
+abbrev begun_items : BegunBlock → Ctx → List RunStep → List Item
 begun_items o context steps = instructions (context_behind context steps) (begun o steps).start (begun o steps).plain false
 
-begun_shows : (image : Image) (o : Begun) (context : Ctx) (steps : List RunStep) → o.start < 2 ^ 64 → AreSteps image o context steps
+begun_shows : (image : Image) (o : BegunBlock) (context : Ctx) (steps : List RunStep) → o.start < 2 ^ 64 → AreSteps image o context steps
     → begun_before o context steps ++ map item_of (behind_last_p0 steps) ≡ begun_items o context steps
 begun_shows image o context [] lt are = append-nil (instructions context o.start o.plain false)
 begun_shows image o context (s ∷ steps) lt are = elim (bools (is_p0 s)) [
@@ -58,7 +58,7 @@ begun_shows image o context (s ∷ steps) lt are = elim (bools (is_p0 s)) [
       let shows = begun_shows image (fresh s.next) s.ctx steps are.0.next.0 rest in
       simp p (ap (λ l. l ++ map item_of (behind_last_p0 steps)) (sym (fresh_before s.next s.ctx steps)) ∙ shows)
   | inr p ↦
-      let o' : Begun = record o { plain = o.plain + 1 } in
+      let o' : BegunBlock = record o { plain = o.plain + 1 } in
       let rest : AreSteps image o' s.ctx steps = simp p at are.1 in
       let shows = begun_shows image o' s.ctx steps lt rest in
       elim (bools (has_p0 steps)) [
@@ -81,7 +81,7 @@ length-instructions ctx start zero = refl
 length-instructions ctx start (suc n) = ap (λ k. suc k) (length-instructions ctx ((start + 4) % 2 ^ 64) n)
 
 -- the begun block of a retired path is that of its steps
-record AreBegun (b : OpenBlock) (o : Begun) (context : Ctx) : Type 0 where
+record AreBegun (b : OpenBlock) (o : BegunBlock) (context : Ctx) : Type 0 where
   pub plain : b.plain ≡ o.plain
   pub start : 0 < b.plain → b.start ≡ o.start
   pub ctx : 0 < b.plain → b.ctx ≡ context
@@ -151,18 +151,18 @@ grows_run image start n run here k lt = elim (cases_lt k n) [
 no_run : (image : Image) (start : ℕ) → IsPlainRun image start 0
 no_run image start k lt = absurd (omega (arith, lt))
 
-record IsBegun (image : Image) (o : Begun) : Type 0 where
+record IsBegun (image : Image) (o : BegunBlock) : Type 0 where
   pub place : IsPlace o.start
   pub run : IsPlainRun image o.start o.plain
 
-begun_is : (image : Image) (o : Begun) (context : Ctx) (steps : List RunStep) → IsBegun image o → AreSteps image o context steps → IsBegun image (begun o steps)
+begun_is : (image : Image) (o : BegunBlock) (context : Ctx) (steps : List RunStep) → IsBegun image o → AreSteps image o context steps → IsBegun image (begun o steps)
 begun_is image o context [] is are = is
 begun_is image o context (s ∷ steps) is are = elim (bools (is_p0 s)) [
   | inl p ↦
       let rest : AreSteps image (fresh s.next) s.ctx steps = simp p at are.1 in
       simp p (begun_is image (fresh s.next) s.ctx steps (record { place = are.0.next; run = no_run image s.next }) rest)
   | inr p ↦
-      let o' : Begun = record o { plain = o.plain + 1 } in
+      let o' : BegunBlock = record o { plain = o.plain + 1 } in
       let rest : AreSteps image o' s.ctx steps = simp p at are.1 in
       let does : Executes image Plain s = subst (λ k. Executes image k s) (plain_kind s.kind p) are.0.does in
       let here : class_at image (behind o.start o.plain) ≡ Some class.Plain = subst (λ a. class_at image a ≡ Some class.Plain) are.0.there does.0 in

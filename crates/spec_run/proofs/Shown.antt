@@ -7,7 +7,7 @@ use Rattle.etm_types.specs.declared.item.Item.TheVariants as item
 use Rattle.program_image.specs.Blocks.{behind}
 use Rattle.program_image.specs.declared.image.Image.{Image}
 use Rattle.spec_run.proofs.StepLists.{bools, plain_kind}
-use Rattle.spec_run.specs.Blocks.{Begun, blocks, fresh, items_of_blocks, last_item}
+use Rattle.spec_run.specs.Blocks.{BegunBlock, blocks, fresh, items_of_blocks, last_item}
 use Rattle.spec_run.specs.Executed.{AreSteps, IsPlace}
 use Rattle.spec_run.specs.RetiredItems.{has_p0, item_of, path_of_steps}
 use Rattle.spec_run.specs.Steps.{is_p0}
@@ -45,7 +45,7 @@ plain_item s p = ap (λ k. last_item k s) (plain_kind s.kind p)
 
 -- ---- blocks show their steps
 
-none_shown : (o : Begun) (steps : List RunStep) → has_p0 steps ≡ false → (blocks o steps ≡ []) × (path_of_steps steps ≡ [])
+none_shown : (o : BegunBlock) (steps : List RunStep) → has_p0 steps ≡ false → (blocks o steps ≡ []) × (path_of_steps steps ≡ [])
 none_shown o [] e = (refl, refl)
 none_shown o (s ∷ steps) e = elim (bools (is_p0 s)) [
   | inl p ↦ absurd (let f = simp p at e in cc)
@@ -55,7 +55,7 @@ none_shown o (s ∷ steps) e = elim (bools (is_p0 s)) [
       (simp p none.0, simp (p, rest))
 ]
 
-steps_show : (image : Image) (o : Begun) (context : Ctx) (steps : List RunStep) → o.start < 2 ^ 64 → AreSteps image o context steps → has_p0 steps ≡ true
+steps_show : (image : Image) (o : BegunBlock) (context : Ctx) (steps : List RunStep) → o.start < 2 ^ 64 → AreSteps image o context steps → has_p0 steps ≡ true
     → items_of_blocks (blocks o steps) ≡ instructions context o.start o.plain false ++ path_of_steps steps
 steps_show image o context [] lt are e = absurd cc
 steps_show image o context (s ∷ steps) lt are e = elim (bools (is_p0 s)) [
@@ -72,7 +72,7 @@ steps_show image o context (s ∷ steps) lt are e = elim (bools (is_p0 s)) [
       ∙ ap (λ l. instructions context o.start o.plain false ++ item_of s ∷ l) after)
   | inr p ↦
       let some : has_p0 steps ≡ true = simp p at e in
-      let o' : Begun = record o { plain = o.plain + 1 } in
+      let o' : BegunBlock = record o { plain = o.plain + 1 } in
       let rest : AreSteps image o' s.ctx steps = simp p at are.1 in
       let before : instructions s.ctx o.start (o.plain + 1) false ≡ instructions context o.start o.plain false ++ item_of s ∷ [] =
       instructions_grow s.ctx o.start o.plain false (λ e. lt)

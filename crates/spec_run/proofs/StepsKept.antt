@@ -17,7 +17,7 @@ use Rattle.program_image.specs.Blocks.{behind, class_at}
 use Rattle.program_image.specs.Part.{word_of}
 use Rattle.program_image.specs.declared.image.Image.{Image}
 use Rattle.spec_run.proofs.StepLists.{begun-append, bools, context_behind-append, steps_front, steps_joined, steps_rest}
-use Rattle.spec_run.specs.Blocks.{Begun, begun, fresh, grown}
+use Rattle.spec_run.specs.Blocks.{BegunBlock, begun, fresh, grown}
 use Rattle.spec_run.specs.Executed.{AreSteps, Executes, IsPlace, IsRunning, IsStep, IsStretch, context_behind}
 use Rattle.spec_run.specs.Kinds.{is_cond, is_isb, is_p0_kind}
 use Rattle.spec_run.specs.Runs.{Running, begins, cancels, flips, other_next, retires, runs, turn_newest, turned}
@@ -51,7 +51,7 @@ pub cond_place : (image : Image) (addr : ℕ) (offset : ℤ) → addr % 4 ≡ 0 
 cond_place image addr offset aligned e =
     (within_64 (pos addr +ℤ offset), aligned_target addr offset aligned (whole_class (word_of image addr) (class.Cond offset) e))
 
-begun_place : (image : Image) (o : Begun) (context : Ctx) (steps : List RunStep) → IsPlace o.start → AreSteps image o context steps
+begun_place : (image : Image) (o : BegunBlock) (context : Ctx) (steps : List RunStep) → IsPlace o.start → AreSteps image o context steps
     → IsPlace (begun o steps).start
 begun_place image o context [] place are = place
 begun_place image o context (s ∷ steps) place are = elim (bools (is_p0 s)) [
@@ -95,7 +95,7 @@ plain_next image (Ind link) t does p = absurd cc
 plain_next image Eret t does p = absurd cc
 plain_next image (Exc kind) t does p = absurd cc
 
-grown_at : (o : Begun) (t : RunStep) → t.addr ≡ behind o.start o.plain → (is_p0 t ≡ false → t.next ≡ behind t.addr 1) → IsPlace t.next
+grown_at : (o : BegunBlock) (t : RunStep) → t.addr ≡ behind o.start o.plain → (is_p0 t ≡ false → t.next ≡ behind t.addr 1) → IsPlace t.next
     → t.next ≡ behind (grown o t).start (grown o t).plain
 grown_at o t at plain place = elim (bools (is_p0 t)) [
   | inl p ↦ simp p (at_place t.next place)
@@ -105,7 +105,7 @@ grown_at o t at plain place = elim (bools (is_p0 t)) [
       simp p (next ∙ ap (λ a. behind a 1) at ∙ far)
 ]
 
-grown_context : (o : Begun) (t : RunStep) (ctx : Ctx) → (is_p0 t ≡ false → ctx ≡ t.ctx) → 0 < (grown o t).plain → ctx ≡ t.ctx
+grown_context : (o : BegunBlock) (t : RunStep) (ctx : Ctx) → (is_p0 t ≡ false → ctx ≡ t.ctx) → 0 < (grown o t).plain → ctx ≡ t.ctx
 grown_context o t ctx same some = elim (bools (is_p0 t)) [
   | inl p ↦ absurd (let lt : 0 < 0 = simp p at some in omega (arith, lt))
   | inr p ↦ same p
@@ -122,8 +122,8 @@ one_step image r t ctx steps first can is =
     record { there = there; same = λ some. can.context ∙ is.in_context some; does = can.does; next = can.next } in
     record {
       are = steps_joined image f first steps (t ∷ []) is.are (step, tt);
-      at = grown_at o t there (plain_next image t.kind t can.does) can.next ∙ ap (λ (b : Begun). behind b.start b.plain) (sym ends);
-      in_context = λ some. grown_context o t ctx can.same (subst (λ (b : Begun). 0 < b.plain) ends some) ∙ sym (context_behind-append first steps (t ∷ []));
+      at = grown_at o t there (plain_next image t.kind t can.does) can.next ∙ ap (λ (b : BegunBlock). behind b.start b.plain) (sym ends);
+      in_context = λ some. grown_context o t ctx can.same (subst (λ (b : BegunBlock). 0 < b.plain) ends some) ∙ sym (context_behind-append first steps (t ∷ []));
     }
 
 goes_on : (image : Image) (r : Running) (is : IsRunning image r) → GoesOn image r.start is.first (r.retired ++ r.held) r.pc r.ctx
@@ -166,7 +166,7 @@ isb_behind-append before [] ys = refl
 isb_behind-append before (x ∷ xs) ys = isb_behind-append (is_isb x.kind) xs ys
 
 -- the block is fresh behind an ISB
-none_plain : (before : Bool) (o : Begun) (steps : List RunStep) → (before ≡ true → o.plain ≡ 0) → isb_behind before steps ≡ true → (begun o steps).plain ≡ 0
+none_plain : (before : Bool) (o : BegunBlock) (steps : List RunStep) → (before ≡ true → o.plain ≡ 0) → isb_behind before steps ≡ true → (begun o steps).plain ≡ 0
 none_plain before o [] none e = none e
 none_plain before o (s ∷ steps) none e = none_plain (is_isb s.kind) (grown o s) steps (λ isb. simp (p0_isb s.kind isb)) e
 
@@ -192,12 +192,12 @@ retires_so image r n is =
 
 -- ---- a cancel
 
-pc_back : (image : Image) (o : Begun) (context : Ctx) (pc : ℕ) (gone : List RunStep) → AreSteps image o context gone
+pc_back : (image : Image) (o : BegunBlock) (context : Ctx) (pc : ℕ) (gone : List RunStep) → AreSteps image o context gone
     → pc ≡ behind (begun o gone).start (begun o gone).plain → pc_at pc gone ≡ behind o.start o.plain
 pc_back image o context pc [] are e = e
 pc_back image o context pc (s ∷ gone) are e = are.0.there
 
-ctx_back : (image : Image) (o : Begun) (context ctx : Ctx) (gone : List RunStep) → AreSteps image o context gone
+ctx_back : (image : Image) (o : BegunBlock) (context ctx : Ctx) (gone : List RunStep) → AreSteps image o context gone
     → (0 < (begun o gone).plain → ctx ≡ context_behind context gone) → 0 < o.plain → ctx_at ctx gone ≡ context
 ctx_back image o context ctx [] are e some = e some
 ctx_back image o context ctx (s ∷ gone) are e some = are.0.same some
@@ -214,9 +214,9 @@ cancels_so image r n is =
     let rest = steps_rest image f is.first all gone are in
     let ends : begun f (r.retired ++ r.held) ≡ begun (begun f all) gone = ap (begun f) same ∙ begun-append f all gone in
     let pc : r.pc ≡ behind (begun (begun f all) gone).start (begun (begun f all) gone).plain =
-    subst (λ (b : Begun). r.pc ≡ behind b.start b.plain) ends is.pc in
+    subst (λ (b : BegunBlock). r.pc ≡ behind b.start b.plain) ends is.pc in
     let ctx : 0 < (begun (begun f all) gone).plain → r.ctx ≡ context_behind (context_behind is.first all) gone =
-    λ some. is.ctx (subst (λ (b : Begun). 0 < b.plain) (sym ends) some) ∙ ap (context_behind is.first) same ∙ context_behind-append is.first all gone in
+    λ some. is.ctx (subst (λ (b : BegunBlock). 0 < b.plain) (sym ends) some) ∙ ap (context_behind is.first) same ∙ context_behind-append is.first all gone in
     record {
       first = is.first;
       place = is.place;
@@ -277,7 +277,7 @@ next_behind_at : (pc : ℕ) (xs : List RunStep) (s : RunStep) → next_behind pc
 next_behind_at pc [] s = refl
 next_behind_at pc (x ∷ xs) s = next_behind_at x.next xs s
 
-turns_step : (image : Image) (o : Begun) (context : Ctx) (addr : ℕ) (ctx : Ctx) (taken : Bool) (next : ℕ) (link : Bool) → IsPlace o.start
+turns_step : (image : Image) (o : BegunBlock) (context : Ctx) (addr : ℕ) (ctx : Ctx) (taken : Bool) (next : ℕ) (link : Bool) → IsPlace o.start
     → IsStep image o context (branch addr ctx taken next link) → IsStep image o context (turned image (branch addr ctx taken next link))
 turns_step image o context addr ctx true next link place is =
     let at : addr % 4 ≡ 0 = subst (λ a. a % 4 ≡ 0) (sym is.there) (behind_place o.start o.plain place.1).1 in
@@ -314,8 +314,8 @@ flips_so image r ends is =
       first = is.first;
       place = is.place;
       are = subst (AreSteps image f is.first) same (steps_joined image f is.first all (other ∷ []) front (turns, tt));
-      pc = pc ∙ at_place other.next turns.next ∙ ap (λ (b : Begun). behind b.start b.plain) (sym ends_at);
-      ctx = λ some. absurd (let lt : 0 < 0 = subst (λ (b : Begun). 0 < b.plain) ends_at some in omega (arith, lt));
+      pc = pc ∙ at_place other.next turns.next ∙ ap (λ (b : BegunBlock). behind b.start b.plain) (sym ends_at);
+      ctx = λ some. absurd (let lt : 0 < 0 = subst (λ (b : BegunBlock). 0 < b.plain) ends_at some in omega (arith, lt));
     }
 
 -- ---- tracing ends: what is retired is a stretch

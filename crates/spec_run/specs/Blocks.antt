@@ -18,27 +18,27 @@ pub record Block : Type 0 where
   pub last : RunStep
 
 -- the block that is begun: where it starts, and how many plain steps it has
-pub record Begun : Type 0 where
+pub record BegunBlock : Type 0 where
   pub start : ℕ
   pub plain : ℕ
 
 -- none of its steps was executed
-abbrev pub fresh : ℕ → Begun
+abbrev pub fresh : ℕ → BegunBlock
 fresh start = record { start = start; plain = 0 }
 
 -- the begun block behind a step, and the blocks that the step ends
-abbrev pub grown : Begun → RunStep → Begun
+abbrev pub grown : BegunBlock → RunStep → BegunBlock
 grown o s = if is_p0 s then fresh s.next else record o { plain = o.plain + 1 }
 
-abbrev pub ended : Begun → RunStep → List Block
+abbrev pub ended : BegunBlock → RunStep → List Block
 ended o s = if is_p0 s then record { start = o.start; plain = o.plain; ctx = s.ctx; last = s } ∷ [] else []
 
 -- the begun block behind steps, and the blocks that they make
-abbrev pub begun : Begun → List RunStep → Begun
+abbrev pub begun : BegunBlock → List RunStep → BegunBlock
 begun o [] = o
 begun o (s ∷ steps) = begun (grown o s) steps
 
-abbrev pub blocks : Begun → List RunStep → List Block
+abbrev pub blocks : BegunBlock → List RunStep → List Block
 blocks o [] = []
 blocks o (s ∷ steps) = ended o s ++ blocks (grown o s) steps
 

@@ -5,7 +5,7 @@ use Rattle.a64_branches.specs.declared.class.Class.TheVariants as class
 use Rattle.etm_types.specs.declared.context.Ctx.{Ctx}
 use Rattle.program_image.specs.Blocks.{behind, class_at}
 use Rattle.program_image.specs.declared.image.Image.{Image}
-use Rattle.spec_run.specs.Blocks.{Begun, begun, fresh, grown}
+use Rattle.spec_run.specs.Blocks.{BegunBlock, begun, fresh, grown}
 use Rattle.spec_run.specs.Runs.{Closing, Running}
 use Rattle.spec_run.specs.declared.step.RunStep.{RunStep}
 use Rattle.spec_run.specs.declared.step.StepKind.{StepKind}
@@ -27,13 +27,13 @@ abbrev pub IsPlace : ℕ → Type 0
 IsPlace address = (address < 2 ^ 64) × (address % 4 ≡ 0)
 
 -- The step goes on the begun block: it stands behind its plain steps, in their context where there are any.
-pub record IsStep (image : Image) (o : Begun) (context : Ctx) (s : RunStep) : Type 0 where
+pub record IsStep (image : Image) (o : BegunBlock) (context : Ctx) (s : RunStep) : Type 0 where
   pub there : s.addr ≡ behind o.start o.plain
   pub same : 0 < o.plain → s.ctx ≡ context
   pub does : Executes image s.kind s
   pub next : IsPlace s.next
 
-abbrev pub AreSteps : Image → Begun → Ctx → List RunStep → Type 0
+abbrev pub AreSteps : Image → BegunBlock → Ctx → List RunStep → Type 0
 AreSteps image o context [] = ⊤
 AreSteps image o context (s ∷ steps) = IsStep image o context s × AreSteps image (grown o s) s.ctx steps
 

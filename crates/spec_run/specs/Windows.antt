@@ -89,6 +89,6 @@ place_after image depth place effect.Overflowed = None
 place_after image depth place effect.Stopped = None
 
 -- there is room for a step that an effect holds
-abbrev pub HasRoom : Effect → List RunStep → Type 0
-HasRoom (effect.Ran s ctx) held = length held < window
-HasRoom e held = ⊤
+abbrev pub RoomInWindow : Effect → List RunStep → Type 0
+RoomInWindow (effect.Ran s ctx) held = length held < window
+RoomInWindow e held = ⊤

@@ -5,7 +5,7 @@ ghost use Rattle.etm_types.specs.declared.context.Ctx.{Ctx};
 ghost use Rattle.etm_types.specs.declared.item.Item.{Item};
 ghost use Rattle.program_image.specs.Blocks.{HasGap};
 ghost use Rattle.program_image.specs.declared.image.Image.{Image};
-ghost use Rattle.spec_run.specs.Blocks.{Begun, begun, blocks, fresh, items_of_blocks};
+ghost use Rattle.spec_run.specs.Blocks.{BegunBlock, begun, blocks, fresh, items_of_blocks};
 ghost use Rattle.spec_run.specs.Checks.{effect_of};
 ghost use Rattle.spec_run.specs.Executed.{AreSteps, AreStretches, IsPlace, IsRunningBy};
 ghost use Rattle.spec_run.specs.RetiredItems.{added_by, items_behind, path_of_steps, retired_of, stretch_items};
@@ -27,7 +27,7 @@ pub fn paths_go_by_blocks()
     ensures items { (image : Image) (start : ℕ) (first : Ctx) (steps : List RunStep) → IsPlace start
         → AreSteps image (fresh start) first steps
         → path_of_steps steps ≡ items_of_blocks (blocks (fresh start) steps) }
-    ensures joined { (o : Begun) (steps more : List RunStep)
+    ensures joined { (o : BegunBlock) (steps more : List RunStep)
         → blocks o (steps ++ more) ≡ blocks o steps ++ blocks (begun o steps) more }
 {}
 

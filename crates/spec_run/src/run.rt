@@ -10,7 +10,7 @@ ghost use Rattle.spec_run.specs.ManySteps.{AllPass, IsStepCount, place_after_all
 ghost use Rattle.spec_run.specs.RunAfter.{run_after};
 ghost use Rattle.spec_run.specs.Runs.{done_of, other_next, turned};
 ghost use Rattle.spec_run.specs.Steps.{ends_in_cond, isb_behind, newest, p0s};
-ghost use Rattle.spec_run.specs.Windows.{HasRoom, place_after, place_begun, place_cancelled, place_contexted, place_flipped};
+ghost use Rattle.spec_run.specs.Windows.{RoomInWindow, place_after, place_begun, place_cancelled, place_contexted, place_flipped};
 ghost use Rattle.spec_run.specs.Windows.{place_of_standing, place_ran, place_retired, place_stepped_all, planned, planned_by};
 ghost use Rattle.spec_run.specs.Stands.{StandsAt, held_at, refused_by};
 
@@ -308,7 +308,7 @@ impl Run {
 
     /// Does what an event does by its plan, and says what was done. The plan is of the run as it stands.
     pub fn take(&mut self, image: &Image, effect: &Effect) -> Done
-        requires room { HasRoom effect.now (held_at self.old.place) }
+        requires room { RoomInWindow effect.now (held_at self.old.place) }
         ensures place { self.new.place ≡ place_after image.now self.old.depth self.old.place effect.now }
         ensures done { result ≡ done_of (held_at self.old.place) effect.now }
         ensures depth { self.new.depth ≡ self.old.depth }

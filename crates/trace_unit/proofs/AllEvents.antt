@@ -29,7 +29,7 @@ use Rattle.trace_unit.proofs.RunBlocks.{AreRunBlocks, blocks_of_run}
 use Rattle.trace_unit.proofs.Shown.{stretch_shows}
 use Rattle.trace_unit.proofs.Walked.{led_walks}
 use Rattle.trace_unit.specs.Orders.{orders, orders_from, orders_on, places_from}
-use Rattle.trace_unit.specs.Places.{Places, no_places, placed}
+use Rattle.trace_unit.specs.Places.{Places, no_places, places_after}
 use Rattle.trace_unit.specs.Told.{all_told}
 
 -- a run, what its unit keeps and its reader stand together
@@ -47,7 +47,7 @@ all_events image gap s most x p r n [] y le at given e =
 all_events image gap s most x p r n (event ∷ events) y le at given e =
     let does = effect_of image (place_in x) event in
     let next = after_event image s.depth x event in
-    let places = placed image s.depth most x p does in
+    let places = places_after image s.depth most x p does in
     let f = passed (check image s.depth (place_in x) event) n (run_from image s.depth next (n + 1) events) y e in
     let ok = allowed image s.depth s x.current event at.execution.running given.0 f.0 in
     let one = one_event image gap s.depth most x.closed x.current p r does le at.execution ok (room_for image s.depth x.current event f.0) at.matching in

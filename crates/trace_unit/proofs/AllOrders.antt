@@ -8,9 +8,9 @@ use Rattle.trace_unit.proofs.Out.{Waits}
 use Rattle.trace_unit.specs.Orders.{Order, Settle}
 use Rattle.trace_unit.specs.Taken.{CanTakeAll}
 use Rattle.trace_unit.specs.Told.{all_told, told}
-use Rattle.trace_unit.specs.Whole.{Waiting, nothing_waits, waits, waits_all, whole, whole_all, whole_settled}
+use Rattle.trace_unit.specs.Whole.{PutOff, nothing_waits, waits, waits_all, whole, whole_all, whole_settled}
 
-pub all_orders : (depth : ℕ) (u : Waiting) (rw rp : Resolved) (orders : List Order) → Waits depth u rw rp → CanTakeAll depth rp orders
+pub all_orders : (depth : ℕ) (u : PutOff) (rw rp : Resolved) (orders : List Order) → Waits depth u rw rp → CanTakeAll depth rp orders
     → (np : Resolved) × (nw : Resolved) × (resolve_all depth rp (all_told orders) ≡ Ok np) × (resolve_all depth rw (whole_all depth u orders) ≡ Ok nw)
     × Waits depth (waits_all depth u orders) nw np
 all_orders depth u rw rp [] b ask = (rp, rw, refl, refl, b)

@@ -26,14 +26,14 @@ use Rattle.trace_unit.proofs.Telling.{Tells, tells_on}
 use Rattle.trace_unit.specs.Fitting.{FitsOrder, FitsPlaces, FitsRun, IsCounted, IsShared}
 use Rattle.trace_unit.specs.Orders.{Order, Sync, Tell, orders, orders_from, orders_on}
 use Rattle.trace_unit.specs.Packets.{Shared, nothing_shared, packets_all, packets_of, settle_packets, shared_after, shared_all}
-use Rattle.trace_unit.specs.Places.{Places, no_places, placed}
+use Rattle.trace_unit.specs.Places.{Places, no_places, places_after}
 use Rattle.trace_unit.specs.Taken.{CanTakeAll}
 use Rattle.trace_unit.specs.Telling.{told_with}
-use Rattle.trace_unit.specs.Whole.{Waiting, nothing_waits, settle_elements, waits, waits_all, whole, whole_all, whole_settled}
+use Rattle.trace_unit.specs.Whole.{PutOff, nothing_waits, settle_elements, waits, waits_all, whole, whole_all, whole_settled}
 
 -- ---- elements
 
-pub orders_tell : (s : Sizes) (depth : ℕ) (u : Waiting) (shared : Shared) (orders : List Order) → All (FitsOrder s) orders
+pub orders_tell : (s : Sizes) (depth : ℕ) (u : PutOff) (shared : Shared) (orders : List Order) → All (FitsOrder s) orders
     → Tells (told_with shared) (packets_all depth u shared orders) (whole_all depth u orders) (told_with (shared_all shared orders))
 orders_tell s depth u shared [] fit = refl
 orders_tell s depth u shared (order ∷ orders) fit =
@@ -67,7 +67,7 @@ settled_tell s depth n orders more is fit =
 
 -- ---- spellings
 
-orders_spelled : (s : Sizes) → AreSettings s → (u : Waiting) (shared : Shared) (rw rp : Resolved) (orders : List Order) → Waits s.depth u rw rp
+orders_spelled : (s : Sizes) → AreSettings s → (u : PutOff) (shared : Shared) (rw rp : Resolved) (orders : List Order) → Waits s.depth u rw rp
     → length u.atoms ≤ 23 → CanTakeAll s.depth rp orders → All (FitsOrder s) orders → IsShared s shared
     → All (HasSpelling s) (packets_all s.depth u shared orders) × IsCounted (waits_all s.depth u orders)
 orders_spelled s settings u shared rw rp [] b few can fit is =
@@ -97,7 +97,7 @@ events_fit image s most x p n [] y fits places given e = All-nil (FitsOrder s)
 events_fit image s most x p n (event ∷ events) y fits places given e =
     let does = effect_of image (place_in x) event in
     let next = after_event image s.depth x event in
-    let behind = placed image s.depth most x p does in
+    let behind = places_after image s.depth most x p does in
     let f = passed (check image s.depth (place_in x) event) n (run_from image s.depth next (n + 1) events) y e in
     let one = event_fits image s.depth most s x p event given.0 f.0 fits places in
     All-append (FitsOrder s) (orders_on x.current p does) (orders_from image s.depth most next behind events) one.0

@@ -28,10 +28,10 @@ use Rattle.trace_unit.proofs.RunOrders.{Suits, run_suits, same_ok}
 use Rattle.trace_unit.proofs.StepOrders.{in_both}
 use Rattle.trace_unit.specs.Orders.{Branch, Cancel, Close, Exception, ExceptionAtTarget, Flip, Order, Retire, Settle, Sync, Tell}
 use Rattle.trace_unit.specs.Orders.{missing, orders, orders_from, orders_on, p0_order, step_orders}
-use Rattle.trace_unit.specs.Places.{Places, no_places, placed}
+use Rattle.trace_unit.specs.Places.{Places, no_places, places_after}
 use Rattle.trace_unit.specs.Taken.{AllMeet, Announces}
 use Rattle.trace_unit.specs.Told.{all_told, closing_element, told}
-use Rattle.trace_unit.specs.Whole.{Waiting, nothing_waits, out_elements, settle_elements, waits, waits_all, whole, whole_all}
+use Rattle.trace_unit.specs.Whole.{PutOff, nothing_waits, out_elements, settle_elements, waits, waits_all, whole, whole_all}
 
 -- ---- where nothing waits
 
@@ -162,26 +162,26 @@ run_syncs image depth most x p [] = tt
 run_syncs image depth most x p (e ∷ events) =
     let does = effect_of image (place_in x) e in
     let next = after_event image depth x e in
-    let rest = run_syncs image depth most next (placed image depth most x p does) events in
-    syncs_joined (is_off x.current) (orders_on x.current p does) (orders_from image depth most next (placed image depth most x p does) events)
+    let rest = run_syncs image depth most next (places_after image depth most x p does) events in
+    syncs_joined (is_off x.current) (orders_on x.current p does) (orders_from image depth most next (places_after image depth most x p does) events)
     (event_syncs x.current p does)
-    (subst (λ b. SyncsSettled b (orders_from image depth most next (placed image depth most x p does) events))
+    (subst (λ b. SyncsSettled b (orders_from image depth most next (places_after image depth most x p does) events))
     (sym (event_ends image depth x.closed x.current p does)) rest)
 
 -- ---- both readers where nothing waits
 
-record AreAlike (u : Waiting) (rw rp : Resolved) : Type 0 where
+record AreAlike (u : PutOff) (rw rp : Resolved) : Type 0 where
   pub atoms : u.atoms ≡ []
   pub cancels : u.cancels ≡ 0
   pub readers : rw ≡ rp
 
-closes_alike : (depth : ℕ) (u : Waiting) (rw rp np nw : Resolved) (closing : Closing) → Waits depth u rw rp
+closes_alike : (depth : ℕ) (u : PutOff) (rw rp np nw : Resolved) (closing : Closing) → Waits depth u rw rp
     → resolve_all depth rp (closing_element closing ∷ []) ≡ Ok np
     → resolve_all depth rw (settle_elements depth u ++ closing_element closing ∷ []) ≡ Ok nw → nw ≡ np
 closes_alike depth u rw rp np nw closing b e f =
     same_ok nw np (sym f ∙ goes_on depth rw rp (settle_elements depth u) (closing_element closing ∷ []) (settles depth u rw rp b).0 ∙ e)
 
-settles_alike : (depth : ℕ) (u : Waiting) (rw rp np nw : Resolved) (order : Order) → Waits depth u rw rp → settling order ≡ true
+settles_alike : (depth : ℕ) (u : PutOff) (rw rp np nw : Resolved) (order : Order) → Waits depth u rw rp → settling order ≡ true
     → resolve_all depth rp (told order) ≡ Ok np → resolve_all depth rw (whole depth u order) ≡ Ok nw → AreAlike (waits depth u order) nw np
 settles_alike depth u rw rp np nw Settle b is e f =
     record {
@@ -200,7 +200,7 @@ settles_alike depth u rw rp np nw (Cancel n) b is e f = absurd cc
 settles_alike depth u rw rp np nw Flip b is e f = absurd cc
 
 -- the two readers before an order
-record Before (depth : ℕ) (before : Bool) (u : Waiting) (rw rp : Resolved) (front : List Order) (order : Order) : Type 0 where
+record Before (depth : ℕ) (before : Bool) (u : PutOff) (rw rp : Resolved) (front : List Order) (order : Order) : Type 0 where
   pub np : Resolved
   pub nw : Resolved
   pub at_once : resolve_all depth rp (all_told front) ≡ Ok np
@@ -210,7 +210,7 @@ record Before (depth : ℕ) (before : Bool) (u : Waiting) (rw rp : Resolved) (fr
   pub syncs : SyncsThen (settled_behind before front) order
   pub alike : settled_behind before front ≡ true → AreAlike (waits_all depth u front) nw np
 
-before_order : (depth : ℕ) (before : Bool) (u : Waiting) (rw rp : Resolved) (front : List Order) (order : Order) (rest : List Order) → Waits depth u rw rp
+before_order : (depth : ℕ) (before : Bool) (u : PutOff) (rw rp : Resolved) (front : List Order) (order : Order) (rest : List Order) → Waits depth u rw rp
     → AllMeet (Suits depth) depth rp (front ++ order ∷ rest) → SyncsSettled before (front ++ order ∷ rest) → (before ≡ true → AreAlike u rw rp)
     → Before depth before u rw rp front order
 before_order depth before u rw rp [] order rest b suit syncs alike =
@@ -230,7 +230,7 @@ before_order depth before u rw rp (x ∷ front) order rest b suit syncs alike =
       alike = more.alike;
     }
 
-nothing_goes_out : (u : Waiting) → u.atoms ≡ [] → u.cancels ≡ 0 → out_elements u ≡ []
+nothing_goes_out : (u : PutOff) → u.atoms ≡ [] → u.cancels ≡ 0 → out_elements u ≡ []
 nothing_goes_out u atoms cancels = simp (atoms, cancels)
 
 pub announced : (image : Image) (s : Sizes) (most : ℕ) (events : List Event) (x : Execution) (front rest : List Order) (n : ℕ) → HasGap image

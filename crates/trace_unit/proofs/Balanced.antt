@@ -10,19 +10,19 @@ use Rattle.trace_unit.specs.Ordered.{Allows, unretired_by}
 use Rattle.trace_unit.specs.Orders.{Branch, Cancel, Close, Exception, ExceptionAtTarget, Flip, Order, Retire, Settle, Tell}
 use Rattle.trace_unit.specs.Packing.{longest}
 use Rattle.trace_unit.specs.Small.{Small}
-use Rattle.trace_unit.specs.Whole.{Waiting, at_once, cancelled_out, flipped, is_full, out, some_out, spilled, waits, with_atom, wrote}
+use Rattle.trace_unit.specs.Whole.{PutOff, at_once, cancelled_out, flipped, is_full, out, some_out, spilled, waits, with_atom, wrote}
 
 -- the numbers tell so many P0 steps that are not retired, and none is too great
-pub record Balanced (depth n : ℕ) (u : Waiting) : Type 0 where
+pub record Balanced (depth n : ℕ) (u : PutOff) : Type 0 where
   pub held : u.held ≤ depth
   pub cancels : u.cancels ≤ u.held
   pub balance : u.held + length u.atoms ≡ u.commits + n + u.cancels
 
-pub balanced : (depth n : ℕ) (u : Waiting) → Small depth n u → Balanced depth n u
+pub balanced : (depth n : ℕ) (u : PutOff) → Small depth n u → Balanced depth n u
 balanced depth n u small = record { held = small.held; cancels = small.cancels; balance = small.balance }
 
 -- what is to be cancelled goes out, and so many of the oldest atoms
-some_balanced : (depth n k : ℕ) (u : Waiting) → n ≤ depth → Balanced depth n u → Balanced depth n (some_out depth k u)
+some_balanced : (depth n k : ℕ) (u : PutOff) → n ≤ depth → Balanced depth n u → Balanced depth n (some_out depth k u)
 some_balanced depth n k u le b =
     let taken = length-take k u.atoms in
     let left = length-drop k u.atoms in
@@ -37,13 +37,13 @@ some_balanced depth n k u le b =
 
 -- ---- all but what is to be committed
 
-pub record Outside (depth n : ℕ) (v : Waiting) : Type 0 where
+pub record Outside (depth n : ℕ) (v : PutOff) : Type 0 where
   pub held : v.held ≤ depth
   pub cancels : v.cancels ≡ 0
   pub atoms : length v.atoms ≡ 0
   pub balance : v.held ≡ v.commits + n
 
-pub out_balanced : (depth n : ℕ) (u : Waiting) → n ≤ depth → Balanced depth n u → Outside depth n (out depth u)
+pub out_balanced : (depth n : ℕ) (u : PutOff) → n ≤ depth → Balanced depth n u → Outside depth n (out depth u)
 out_balanced depth n u le b =
     let some = some_balanced depth n (length u.atoms) u le b in
     let gone = none_out depth (length u.atoms) u in
@@ -56,11 +56,11 @@ one_at_once : (depth : ℕ) → at_once depth ≤ 1
 one_at_once zero = omega arith
 one_at_once (suc depth) = omega arith
 
-spilled_balanced : (depth n : ℕ) (full : Bool) (u : Waiting) → n ≤ depth → Balanced depth n u → Balanced depth n (spilled full depth u)
+spilled_balanced : (depth n : ℕ) (full : Bool) (u : PutOff) → n ≤ depth → Balanced depth n u → Balanced depth n (spilled full depth u)
 spilled_balanced depth n true u le b = some_balanced depth n (longest u.atoms) u le b
 spilled_balanced depth n false u le b = b
 
-atom_balanced : (depth n : ℕ) (u : Waiting) (taken : Bool) → n + 1 ≤ depth + at_once depth → Balanced depth n u
+atom_balanced : (depth n : ℕ) (u : PutOff) (taken : Bool) → n + 1 ≤ depth + at_once depth → Balanced depth n u
     → Balanced depth (n + 1 - at_once depth) (with_atom depth u taken)
 atom_balanced depth n u taken le b =
     let more = length-append u.atoms (taken ∷ []) in
@@ -68,10 +68,10 @@ atom_balanced depth n u taken le b =
     record { held = b.held; cancels = b.cancels; balance = omega (arith, more, one, b.balance) }
 
 -- an exception, behind all that goes out before it
-excepted : (depth n : ℕ) (u : Waiting) → n + 1 ≤ depth + at_once depth → Outside depth n u
+excepted : (depth n : ℕ) (u : PutOff) → n + 1 ≤ depth + at_once depth → Outside depth n u
     → Balanced depth (n + 1 - at_once depth) (wrote depth (record u { commits = u.commits + at_once depth }))
 excepted depth n u le o =
-    let v : Waiting = record u { commits = u.commits + at_once depth } in
+    let v : PutOff = record u { commits = u.commits + at_once depth } in
     let one = one_at_once depth in
     let w = wrote_one depth v o.held (omega (arith, le, o.balance)) in
     let atoms = ap length (wrote_atoms depth v) in
@@ -82,12 +82,12 @@ excepted depth n u le o =
       balance = omega (arith, w.balance, cancels, atoms, o.atoms, o.cancels, o.balance, one);
     }
 
-flip_balanced : (depth n : ℕ) (u : Waiting) (atoms : List Bool) → length atoms ≡ length u.atoms → Balanced depth n u → Balanced depth n (flipped u atoms)
+flip_balanced : (depth n : ℕ) (u : PutOff) (atoms : List Bool) → length atoms ≡ length u.atoms → Balanced depth n u → Balanced depth n (flipped u atoms)
 flip_balanced depth n u [] e b = record { held = omega (arith, b.held); cancels = omega arith; balance = omega (arith, b.cancels, b.balance) }
 flip_balanced depth n u (a ∷ atoms) e b =
     let same = turn_many (a ∷ atoms) in record { held = b.held; cancels = b.cancels; balance = omega (arith, same, e, b.balance) }
 
-order_balanced : (depth n : ℕ) (u : Waiting) (order : Order) → n ≤ depth → Allows depth n order → Balanced depth n u
+order_balanced : (depth n : ℕ) (u : PutOff) (order : Order) → n ≤ depth → Allows depth n order → Balanced depth n u
     → Balanced depth (unretired_by depth n order) (waits depth u order)
 order_balanced depth n u (Tell notice) le can b =
     let o = out_balanced depth n u le b in
@@ -112,7 +112,7 @@ order_balanced depth n u (Close closing) le can b =
     let o = out_balanced depth n u le b in
     record { held = omega arith; cancels = omega (arith, o.cancels); balance = omega (arith, o.balance, o.atoms, o.cancels) }
 
-pub small_kept : (depth n : ℕ) (u : Waiting) (order : Order) → n ≤ depth → Allows depth n order → Small depth n u
+pub small_kept : (depth n : ℕ) (u : PutOff) (order : Order) → n ≤ depth → Allows depth n order → Small depth n u
     → Small depth (unretired_by depth n order) (waits depth u order)
 small_kept depth n u order le can small =
     let b = order_balanced depth n u order le can (balanced depth n u small) in

@@ -29,7 +29,7 @@ use Rattle.trace_unit.specs.Packets.{flip_packet, flip_packets, front_packet}
 use Rattle.trace_unit.specs.Packets.{form_of, long_form, notice_packets, out_packets, packed, packed_within, packets_of}
 use Rattle.trace_unit.specs.Packets.{settle_packets, spilled_packets, target_packets, with_context}
 use Rattle.trace_unit.specs.Packing.{longest}
-use Rattle.trace_unit.specs.Whole.{Waiting, at_once, flipped, is_full, out, some_out, spilled, waits, with_atom, wrote}
+use Rattle.trace_unit.specs.Whole.{PutOff, at_once, flipped, is_full, out, some_out, spilled, waits, with_atom, wrote}
 use Rattle.trace_unit.specs.Written.{spelled}
 use Rattle.trace_unit.specs.declared.teller.Teller.{Teller}
 
@@ -68,7 +68,7 @@ abbrev pub weight_of : ℕ → ℕ
 weight_of zero = 0
 weight_of (suc n) = 6
 
-abbrev pub weight : Waiting → ℕ
+abbrev pub weight : PutOff → ℕ
 weight u = weight_of u.cancels + length u.atoms
 
 abbrev pub notice_size : Notice → ℕ
@@ -151,10 +151,10 @@ module _ (s : Sizes) (are : AreSettings s) where
       let rest = packed_within n (drop (longest (a ∷ atoms)) (a ∷ atoms)) in
       omega (arith, spelled_with (front_packet (a ∷ atoms)) rest, packed_few n (drop (longest (a ∷ atoms)) (a ∷ atoms)))
 
-  out_few : (u : Waiting) → length (spelled s (out_packets u)) ≤ weight u
+  out_few : (u : PutOff) → length (spelled s (out_packets u)) ≤ weight u
   out_few u = omega (arith, spelled_both (cancel_packets u.cancels) (packed u.atoms), cancel_few u.cancels, packed_few (length u.atoms) u.atoms)
 
-  settle_few : (depth : ℕ) (u : Waiting) → length (spelled s (settle_packets depth u)) ≤ weight u + 6
+  settle_few : (depth : ℕ) (u : PutOff) → length (spelled s (settle_packets depth u)) ≤ weight u + 6
   settle_few depth u =
       omega (arith, spelled_both (out_packets u) (commit_packets (out depth u).commits), out_few u, commit_few (out depth u).commits)
 
@@ -204,12 +204,12 @@ module _ (s : Sizes) (are : AreSettings s) where
       by true = omega arith
       by false = omega (arith, number_long 4 (suc (suc n)))
 
-  flips_few : (u : Waiting) (atoms : List Bool) → length atoms ≡ length u.atoms
+  flips_few : (u : PutOff) (atoms : List Bool) → length atoms ≡ length u.atoms
       → length (spelled s (flip_packets u atoms)) + weight (flipped u atoms) ≤ weight u + 6
   flips_few u [] e = omega (arith, spelled_alone (flip_packet u.cancels), flip_packet_few u.cancels, e)
   flips_few u (a ∷ atoms) e = omega (arith, turn_many (a ∷ atoms), e)
 
-  spills_few : (depth : ℕ) (full : Bool) (u : Waiting) → (full ≡ true → 1 ≤ length u.atoms)
+  spills_few : (depth : ℕ) (full : Bool) (u : PutOff) → (full ≡ true → 1 ≤ length u.atoms)
       → length (spelled s (spilled_packets full u)) + weight (spilled full depth u) ≤ weight u
   spills_few depth true u some =
       let one = some refl in
@@ -227,13 +227,13 @@ module _ (s : Sizes) (are : AreSettings s) where
       )
   spills_few depth false u some = omega arith
 
-  nothing_out : (depth : ℕ) (u : Waiting) → weight (out depth u) ≡ 0
+  nothing_out : (depth : ℕ) (u : PutOff) → weight (out depth u) ≡ 0
   nothing_out depth u =
       let cancels : weight_of (out depth u).cancels ≡ 0 = ap weight_of (none_out depth (length u.atoms) u) in
       let atoms : length (out depth u).atoms ≡ 0 = ap length (none_left u) in
       omega (arith, cancels, atoms)
 
-  nothing_wrote : (depth : ℕ) (u : Waiting) → weight u ≡ 0 → weight (wrote depth u) ≡ 0
+  nothing_wrote : (depth : ℕ) (u : PutOff) → weight u ≡ 0 → weight (wrote depth u) ≡ 0
   nothing_wrote depth u none = by (nat_le (u.held + 1) depth)
     where
       by : (b : Bool) → weight (if b then record u { held = u.held + 1 } else record u { commits = u.commits - 1 }) ≡ 0
@@ -250,7 +250,7 @@ module _ (s : Sizes) (are : AreSettings s) where
       by : (n m : ℕ) → weight_of m ≤ weight_of n + 6
       by n m = omega (arith, most m)
 
-  order_few : (depth : ℕ) (u : Waiting) (shared : Shared) (order : Order)
+  order_few : (depth : ℕ) (u : PutOff) (shared : Shared) (order : Order)
       → length (spelled s (packets_of depth u shared order)) + weight (waits depth u order) ≤ weight u + order_size order
   order_few depth u shared (Tell notice) =
       omega (arith, spelled_both (out_packets u) (notice_packets shared notice), out_few u, notice_few shared notice, nothing_out depth u)

@@ -9,7 +9,7 @@ use Rattle.trace_unit.specs.Fitting.{FitsNotice}
 use Rattle.trace_unit.specs.Ordered.{CanTell, IsReady}
 use Rattle.trace_unit.specs.Orders.{Exception, ExceptionAtTarget, Notice, Tell}
 use Rattle.trace_unit.specs.Packets.{notice_packets}
-use Rattle.trace_unit.specs.Whole.{Waiting, at_once, out}
+use Rattle.trace_unit.specs.Whole.{PutOff, at_once, out}
 use Rattle.trace_unit.specs.declared.teller.Teller.{Teller}
 
 pub notice_can_by : (t : Teller) (notice : Notice) (n : ℕ) → IsReady n t → FitsNotice t.settings notice
@@ -20,20 +20,20 @@ pub notice_can : (t : Teller) (notice : Notice) → CanTell t (Tell notice) → 
 notice_can t notice can = notice_can_by t notice can.unretired can.ready can.fits
 
 -- one more is written behind all that goes out before it
-abbrev TakesOne : ℕ → Waiting → Type 0
+abbrev TakesOne : ℕ → PutOff → Type 0
 TakesOne depth v = (v.commits + 1 < 2 ^ 32) × (v.held + 1 ≤ depth + v.commits + at_once depth)
 
-takes_one : (t : Teller) (n : ℕ) (v : Waiting) → v ≡ out t.settings.depth t.waiting → IsReady n t → n + 1 ≤ t.settings.depth + at_once t.settings.depth
+takes_one : (t : Teller) (n : ℕ) (v : PutOff) → v ≡ out t.settings.depth t.waiting → IsReady n t → n + 1 ≤ t.settings.depth + at_once t.settings.depth
     → TakesOne t.settings.depth v
 takes_one t n v e ready allows =
     let depth = t.settings.depth in
     let o = out_balanced depth n t.waiting ready.few (balanced depth n t.waiting ready.small) in
     rw e (omega (arith, o.held, o.balance, ready.settings.depth), omega (arith, o.balance, allows))
 
-pub except_can : (t : Teller) (kind ret : ℕ) (v : Waiting) → v ≡ out t.settings.depth t.waiting → CanTell t (Exception kind ret)
+pub except_can : (t : Teller) (kind ret : ℕ) (v : PutOff) → v ≡ out t.settings.depth t.waiting → CanTell t (Exception kind ret)
     → TakesOne t.settings.depth v
 except_can t kind ret v e can = takes_one t can.unretired v e can.ready can.allows
 
-pub target_can : (t : Teller) (context : Option Ctx) (kind addr : ℕ) (v : Waiting) → v ≡ out t.settings.depth t.waiting
+pub target_can : (t : Teller) (context : Option Ctx) (kind addr : ℕ) (v : PutOff) → v ≡ out t.settings.depth t.waiting
     → CanTell t (ExceptionAtTarget context kind addr) → TakesOne t.settings.depth v
 target_can t context kind addr v e can = takes_one t can.unretired v e can.ready can.allows

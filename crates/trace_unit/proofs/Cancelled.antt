@@ -10,7 +10,7 @@ use Rattle.path_walker.specs.State.{State}
 use Rattle.element_queue.specs.Pending.{Pending, pre_of}
 use Rattle.element_queue.specs.Resolved.{Resolved, resolve_all}
 use Rattle.spec_run.proofs.StepLists.{begun-append, blocks-append}
-use Rattle.spec_run.specs.Blocks.{Begun, begun, blocks, fresh}
+use Rattle.spec_run.specs.Blocks.{BegunBlock, begun, blocks, fresh}
 use Rattle.spec_run.specs.Runs.{Closing, Running}
 use Rattle.spec_run.specs.Steps.{kept, newest, p0s}
 use Rattle.spec_run.specs.declared.step.RunStep.{RunStep}
@@ -62,7 +62,7 @@ record Back (first : Bool) (w : State) (p : Places) (pre : Pre) (start : ℕ) : 
   pub there : p.start ≡ start
   pub pends : Pends p.needs first w pre p.start p.reader_context p.stack
 
-back : (p : Places) (r : Resolved) (q : ℕ) (w : State) (first : Bool) (o : Begun) (gone : List RunStep) (rows : List Row) (vs : List Saved)
+back : (p : Places) (r : Resolved) (q : ℕ) (w : State) (first : Bool) (o : BegunBlock) (gone : List RunStep) (rows : List Row) (vs : List Saved)
     → vs ≡ map saved_of rows → newest q r.pending.held ≡ map thing_of rows → length rows ≡ q → map block_of rows ≡ blocks o gone → Led first w rows
     → p.start ≡ (begun o gone).start → Pends p.needs (first_behind first rows) (after_all w rows) r.pending.pre p.start p.reader_context p.stack
     → Back first w (back_by p vs) (pre_behind q r) o.start
@@ -95,7 +95,7 @@ cancelled_so image depth most closed s p r n o =
     let led : Led true o.before (stays ++ cut.right) = subst (Led true o.before) rows o.led in
     let steps : begun (fresh s.start) (s.retired ++ keep) ≡ begun o₁ keep = begun-append (fresh s.start) s.retired keep in
     let at : p.start ≡ (begun (begun o₁ keep) gone).start =
-    o.start ∙ ap (λ (b : Begun). b.start) (ap (λ l. begun (fresh s.start) (s.retired ++ l)) (sym parts)
+    o.start ∙ ap (λ (b : BegunBlock). b.start) (ap (λ l. begun (fresh s.start) (s.retired ++ l)) (sym parts)
     ∙ begun-append (fresh s.start) s.retired (keep ++ gone) ∙ begun-append o₁ keep gone) in
     let pends : Pends p.needs (first_behind (first_behind true stays) cut.right)
     (after_all (after_all o.before stays) cut.right) r.pending.pre p.start p.reader_context p.stack =
@@ -122,7 +122,7 @@ cancelled_so image depth most closed s p r n o =
         retired = o.retired;
         unretired = cut.lefts;
         led = led_fronts true o.before stays cut.right led;
-        start = now.there ∙ ap (λ (b : Begun). b.start) (sym steps);
+        start = now.there ∙ ap (λ (b : BegunBlock). b.start) (sym steps);
         pends = now.pends;
       },
     )

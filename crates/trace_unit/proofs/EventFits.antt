@@ -35,7 +35,7 @@ use Rattle.trace_unit.proofs.StepOrders.{in_both}
 use Rattle.trace_unit.specs.Fitting.{FitsOrder, FitsPlaces, FitsRun, FitsRunning, FitsStep}
 use Rattle.trace_unit.specs.Orders.{Address, Cancel, Close, Context, ExceptionAtTarget, Flip, On, Order, Place, Retire, Settle, Start, Sync, Tell}
 use Rattle.trace_unit.specs.Orders.{before, lacked, missing, orders_on, p0_order, step_orders}
-use Rattle.trace_unit.specs.Places.{Places, Saved, back_by, placed, placed_behind, placed_on, saves, without_stack}
+use Rattle.trace_unit.specs.Places.{Places, Saved, back_by, places_after, placed_behind, places_on, saves, without_stack}
 
 -- ---- checks
 
@@ -340,7 +340,7 @@ module _ (s : Sizes) where
       All-cons StartFits (without_stack v) (map without_stack saved) (All-head StartFits v saved all) (emptied_fit saved (All-tail StartFits v saved all))
 
   places_fit : (image : Image) (depth most : ℕ) (current : Option Running) (p : Places) (e : Effect) → FitsRun s current → FitsPlaces p → Brings s current e
-      → FitsPlaces (placed_on image depth most current p e)
+      → FitsPlaces (places_on image depth most current p e)
   places_fit image depth most None p (effect.Began addr ctx) fits places brings = record { start = brings.0; saved = All-nil StartFits }
   places_fit image depth most None p (effect.Ran t ctx) fits places brings = places
   places_fit image depth most None p (effect.Contexted ctx) fits places brings = places
@@ -372,7 +372,7 @@ module _ (s : Sizes) where
 pub event_fits : (image : Image) (depth most : ℕ) (s : Sizes) (x : Execution) (p : Places) (e : Event) → IsEvent s e
     → check image depth (place_in x) e ≡ None → FitsRun s x.current → FitsPlaces p
     → All (FitsOrder s) (orders_on x.current p (effect_of image (place_in x) e)) × FitsRun s (after_event image depth x e).current
-    × FitsPlaces (placed image depth most x p (effect_of image (place_in x) e))
+    × FitsPlaces (places_after image depth most x p (effect_of image (place_in x) e))
 event_fits image depth most s x p e given f fits places =
     let does = effect_of image (place_in x) e in
     let brings = event_brings image depth s x.current e fits given f in (

@@ -30,7 +30,7 @@ use Rattle.trace_unit.specs.Followed.{windowed_cancelled, windowed_lost, windowe
 use Rattle.trace_unit.specs.Kept.{counts_by, counts_lost, counts_made}
 use Rattle.trace_unit.specs.Ordered.{Allows, told_all, unretired_by}
 use Rattle.trace_unit.specs.Orders.{Order, missing, orders_on, p0_order, step_orders, sync_orders}
-use Rattle.trace_unit.specs.Places.{Places, Saved, back_by, placed_behind, placed_on, placed_synced, saves, without_stack}
+use Rattle.trace_unit.specs.Places.{Places, Saved, back_by, placed_behind, places_on, placed_synced, saves, without_stack}
 use Rattle.trace_unit.specs.Whole.{at_once}
 use Rattle.trace_unit.specs.WindowKept.{WindowKept, pushed, turn_newest_p0}
 use Rattle.trace_unit.specs.declared.follower.Follower.{Follower}
@@ -129,7 +129,7 @@ back_saved p (v ∷ gone) = refl
 
 pub saved_many : (image : Image) (depth most : ℕ) (current : Option Running) (p : Places) (w : WindowKept) (e : Effect) → Suits depth current e
     → w.room ≡ depth → length p.saved ≡ length w.p0s → length w.p0s ≡ p0s (held_by current)
-    → length (placed_on image depth most current p e).saved ≡ length (windowed_on current w e).p0s
+    → length (places_on image depth most current p e).saved ≡ length (windowed_on current w e).p0s
 saved_many image depth most None p w (effect.Began addr ctx) suits room e many = sym many
 saved_many image depth most (Some r) p w (effect.Ran s ctx) suits room e many = by (is_p0 s)
   where
@@ -287,7 +287,7 @@ synced_with f n ctx = record f {
 -- as the event's effect says
 abbrev pub followed_on : Image → Option Running → Follower → Effect → Follower
 followed_on image current f e = record {
-  places = with_places f.places (placed_on image f.places.room f.places.stack_depth current f.places.places e);
+  places = with_places f.places (places_on image f.places.room f.places.stack_depth current f.places.places e);
   window = windowed_on current f.window e;
   teller = told_all f.teller (orders_on current f.places.places e);
 }

@@ -17,7 +17,7 @@ use Rattle.trace_unit.specs.Fitting.{FitsOrder, IsCounted, IsShared}
 use Rattle.trace_unit.specs.Orders.{Order, Settle, Tell, missing, orders_on, p0_order, step_orders}
 use Rattle.trace_unit.specs.Packets.{Shared, packets_all, packets_of, shared_after, shared_all}
 use Rattle.trace_unit.specs.Places.{Places}
-use Rattle.trace_unit.specs.Whole.{Waiting, waits}
+use Rattle.trace_unit.specs.Whole.{PutOff, waits}
 
 -- each order but the last only tells, or settles
 abbrev OneLast : List Order → Type 0
@@ -28,10 +28,10 @@ OneLast (Settle ∷ next ∷ orders) = OneLast (next ∷ orders)
 OneLast (order ∷ next ∷ orders) = ⊥
 
 module _ (s : Sizes) (depth : ℕ) where
-  abbrev AreSpelled : Waiting → Shared → List Order → Type 0
+  abbrev AreSpelled : PutOff → Shared → List Order → Type 0
   AreSpelled u shared orders = All (HasSpelling s) (packets_all depth u shared orders) × IsShared s (shared_all shared orders)
 
-  then_spelled : (u : Waiting) (shared : Shared) (order : Order) (orders : List Order) → IsCounted u → All (FitsOrder s) (order ∷ orders) → IsShared s shared
+  then_spelled : (u : PutOff) (shared : Shared) (order : Order) (orders : List Order) → IsCounted u → All (FitsOrder s) (order ∷ orders) → IsShared s shared
       → (IsShared s (shared_after shared order) → AreSpelled (waits depth u order) (shared_after shared order) orders)
       → AreSpelled u shared (order ∷ orders)
   then_spelled u shared order orders counted fit is later =
@@ -41,7 +41,7 @@ module _ (s : Sizes) (depth : ℕ) where
         rest.1,
       )
 
-  all_spelled : (u : Waiting) (shared : Shared) (orders : List Order) → OneLast orders → IsCounted u → All (FitsOrder s) orders → IsShared s shared
+  all_spelled : (u : PutOff) (shared : Shared) (orders : List Order) → OneLast orders → IsCounted u → All (FitsOrder s) orders → IsShared s shared
       → AreSpelled u shared orders
   all_spelled u shared [] one counted fit is = (All-nil (HasSpelling s), is)
   all_spelled u shared (order ∷ []) one counted fit is = then_spelled u shared order [] counted fit is (λ is. (All-nil (HasSpelling s), is))
@@ -87,7 +87,7 @@ one_last (Some r) p effect.Synced = tt
 one_last (Some r) p effect.Overflowed = tt
 one_last (Some r) p effect.Stopped = tt
 
-pub event_spelled : (s : Sizes) (depth : ℕ) (u : Waiting) (shared : Shared) (current : Option Running) (p : Places) (e : Effect) → IsCounted u
+pub event_spelled : (s : Sizes) (depth : ℕ) (u : PutOff) (shared : Shared) (current : Option Running) (p : Places) (e : Effect) → IsCounted u
     → All (FitsOrder s) (orders_on current p e) → IsShared s shared
     → All (HasSpelling s) (packets_all depth u shared (orders_on current p e)) × IsShared s (shared_all shared (orders_on current p e))
 event_spelled s depth u shared current p e counted fit is = all_spelled s depth u shared (orders_on current p e) (one_last current p e) counted fit is

@@ -14,7 +14,7 @@ use Rattle.path_walker.specs.State.{State}
 use Rattle.element_queue.specs.Pending.{Pending, flip_newest, flip_thing, is_unseen, pre_behind}
 use Rattle.element_queue.specs.Resolved.{Resolved, resolve_all}
 use Rattle.spec_run.proofs.StepLists.{begun-append, blocks-append}
-use Rattle.spec_run.specs.Blocks.{Begun, Block, begun, blocks, fresh}
+use Rattle.spec_run.specs.Blocks.{BegunBlock, Block, begun, blocks, fresh}
 use Rattle.spec_run.specs.Kinds.{is_cond}
 use Rattle.spec_run.specs.Runs.{Closing, Running, flips, turn_newest, turned}
 use Rattle.spec_run.specs.Steps.{ends_in_cond, next_behind}
@@ -136,7 +136,7 @@ is_later false w pre start context stack p = later pre p.on (p.lost refl)
 abbrev pub row : Block → Pre → List ℕ → Row
 row b pre stack = record { block = b; pre = pre; stack = stack }
 
-abbrev block_with : Begun → Ctx → RunStep → Block
+abbrev block_with : BegunBlock → Ctx → RunStep → Block
 block_with o ctx last = record { start = o.start; plain = o.plain; ctx = ctx; last = last }
 
 one_row : (rows : List Row) (b : Block) → map block_of rows ≡ b ∷ [] → (pre : Pre) × (stack : List ℕ) × (rows ≡ row b pre stack ∷ [])
@@ -218,7 +218,7 @@ flipped_by image depth most closed s p r o others addr ctx taken next link left 
             ∙ sym (ap (blocks o₁) turns ∙ blocks-append o₁ others (other ∷ []));
         led = subst (Led true o.before) (sym (joined y)) (led_joined true o.before stays (y ∷ []) (led_fronts true o.before stays (x ∷ []) led)
             ((led_rests true o.before stays (x ∷ []) led).0, tt));
-        start = pc ∙ sym (ap (λ (b : Begun). b.start) (ap (λ l. begun (fresh s.start) (s.retired ++ l)) turns
+        start = pc ∙ sym (ap (λ (b : BegunBlock). b.start) (ap (λ l. begun (fresh s.start) (s.retired ++ l)) turns
             ∙ begun-append (fresh s.start) s.retired (others ++ other ∷ []) ∙ begun-append o₁ others (other ∷ [])));
         pends = ready';
       },

@@ -13,8 +13,8 @@ use Rattle.spec_run.specs.declared.event.Event.{Event}
 use Rattle.trace_unit.specs.Growing.{orders_of_one, places_behind, shared_behind, waiting_behind, written_for_one}
 use Rattle.trace_unit.specs.Orders.{Order, orders, orders_from, orders_on, places_from}
 use Rattle.trace_unit.specs.Packets.{Shared, nothing_shared, packets_all, packets_of, shared_after, shared_all}
-use Rattle.trace_unit.specs.Places.{Places, no_places, placed}
-use Rattle.trace_unit.specs.Whole.{Waiting, nothing_waits, waits, waits_all}
+use Rattle.trace_unit.specs.Places.{Places, no_places, places_after}
+use Rattle.trace_unit.specs.Whole.{PutOff, nothing_waits, waits, waits_all}
 use Rattle.trace_unit.specs.Written.{spelled, written}
 
 -- ---- events of joined lists
@@ -27,7 +27,7 @@ orders_joined image depth most x p n [] more y e = ap (λ z. orders_from image d
 orders_joined image depth most x p n (event ∷ events) more y e =
     let does = effect_of image (place_in x) event in
     let next = after_event image depth x event in
-    let places = placed image depth most x p does in
+    let places = places_after image depth most x p does in
     let f = passed (check image depth (place_in x) event) n (run_from image depth next (n + 1) events) y e in
     let here = orders_on x.current p does in
     let last = places_from image depth most next places events in
@@ -41,11 +41,11 @@ places_joined image depth most x p n [] more y e = ap (λ z. places_from image d
 places_joined image depth most x p n (event ∷ events) more y e =
     let next = after_event image depth x event in
     let f = passed (check image depth (place_in x) event) n (run_from image depth next (n + 1) events) y e in
-    places_joined image depth most next (placed image depth most x p (effect_of image (place_in x) event)) (n + 1) events more y f.1
+    places_joined image depth most next (places_after image depth most x p (effect_of image (place_in x) event)) (n + 1) events more y f.1
 
 -- ---- orders of joined lists
 
-pub waits_joined : (depth : ℕ) (u : Waiting) (xs ys : List Order) → waits_all depth u (xs ++ ys) ≡ waits_all depth (waits_all depth u xs) ys
+pub waits_joined : (depth : ℕ) (u : PutOff) (xs ys : List Order) → waits_all depth u (xs ++ ys) ≡ waits_all depth (waits_all depth u xs) ys
 waits_joined depth u [] ys = refl
 waits_joined depth u (x ∷ xs) ys = waits_joined depth (waits depth u x) xs ys
 
@@ -53,7 +53,7 @@ pub shared_joined : (shared : Shared) (xs ys : List Order) → shared_all shared
 shared_joined shared [] ys = refl
 shared_joined shared (x ∷ xs) ys = shared_joined (shared_after shared x) xs ys
 
-pub packets_joined : (depth : ℕ) (u : Waiting) (shared : Shared) (xs ys : List Order)
+pub packets_joined : (depth : ℕ) (u : PutOff) (shared : Shared) (xs ys : List Order)
     → packets_all depth u shared (xs ++ ys) ≡ packets_all depth u shared xs ++ packets_all depth (waits_all depth u xs) (shared_all shared xs) ys
 packets_joined depth u shared [] ys = refl
 packets_joined depth u shared (x ∷ xs) ys =
@@ -75,7 +75,7 @@ orders_grow image s most events x e ran =
     ∙ ap (λ l. orders image s most events ++ l) (append-nil (orders_of_one image s most events x e))
 
 pub places_grow : (image : Image) (s : Sizes) (most : ℕ) (events : List Event) (x : Execution) (e : Event) → run_after image s.depth events ≡ Ok x
-    → places_behind image s most (events ++ e ∷ []) ≡ placed image s.depth most x (places_behind image s most events) (effect_of image (place_in x) e)
+    → places_behind image s most (events ++ e ∷ []) ≡ places_after image s.depth most x (places_behind image s most events) (effect_of image (place_in x) e)
 places_grow image s most events x e ran = places_joined image s.depth most at_first no_places 0 events (e ∷ []) x ran
 
 pub waiting_grows : (image : Image) (s : Sizes) (most : ℕ) (events : List Event) (x : Execution) (e : Event) → run_after image s.depth events ≡ Ok x

@@ -17,7 +17,7 @@ use Rattle.spec_run.specs.declared.effect.Effect.{Effect}
 use Rattle.spec_run.specs.declared.step.RunStep.{RunStep}
 use Rattle.trace_unit.proofs.Rows.{IsFront, Led, Ready, Row, after_all, block_of, first_behind, saved_of, thing_of}
 use Rattle.trace_unit.specs.Orders.{orders_on}
-use Rattle.trace_unit.specs.Places.{Places, placed}
+use Rattle.trace_unit.specs.Places.{Places, places_after}
 use Rattle.trace_unit.specs.Told.{all_told}
 
 -- The block needs an address: the walk waits for one and none was told.
@@ -72,4 +72,4 @@ Matches image x p r = MatchesBy image x.closed x.current p r
 abbrev pub Keeps : Image → ℕ → ℕ → Execution → Places → Resolved → Effect → Type 0
 Keeps image depth most x p r e =
     (next : Resolved) × (resolve_all depth r (all_told (orders_on x.current p e)) ≡ Ok next)
-    × Matches image (applied image depth x e) (placed image depth most x p e) next
+    × Matches image (applied image depth x e) (places_after image depth most x p e) next

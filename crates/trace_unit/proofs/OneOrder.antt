@@ -4,12 +4,12 @@ use Rattle.element_queue.specs.Resolved.{Resolved}
 use Rattle.trace_unit.proofs.Out.{Waits}
 use Rattle.trace_unit.specs.Orders.{Branch, Cancel, Close, Exception, ExceptionAtTarget, Flip, Order, Retire, Settle, Tell}
 use Rattle.trace_unit.specs.Taken.{CanTake}
-use Rattle.trace_unit.specs.Whole.{Waiting}
+use Rattle.trace_unit.specs.Whole.{PutOff}
 use Rattle.trace_unit.proofs.OrderTold.{KeepsBoth, branch_order, close_order, exception_order, retire_order, settle_order, target_order, told_order}
 use Rattle.trace_unit.proofs.OrderCancelled.{cancel_order}
 use Rattle.trace_unit.proofs.OrderFlipped.{flip_by}
 
-pub one_order : (depth : ℕ) (u : Waiting) (rw rp : Resolved) (o : Order) → Waits depth u rw rp → CanTake depth rp.pending o → KeepsBoth depth u rw rp o
+pub one_order : (depth : ℕ) (u : PutOff) (rw rp : Resolved) (o : Order) → Waits depth u rw rp → CanTake depth rp.pending o → KeepsBoth depth u rw rp o
 one_order depth u rw rp (Tell notice) b asks = told_order depth u rw rp notice b asks
 one_order depth u rw rp (Branch taken) b asks = branch_order depth u rw rp taken b asks
 one_order depth u rw rp (Exception kind ret) b asks = exception_order depth u rw rp kind ret b asks

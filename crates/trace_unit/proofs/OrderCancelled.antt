@@ -15,7 +15,7 @@ use Rattle.trace_unit.proofs.Behind.{Behind, back, entries, entries-append, leng
 use Rattle.trace_unit.proofs.Cancelled.{cancelled, cancels_them, pre_behind}
 use Rattle.trace_unit.proofs.Out.{Waits, p0s_of}
 use Rattle.trace_unit.specs.Orders.{Cancel}
-use Rattle.trace_unit.specs.Whole.{Waiting}
+use Rattle.trace_unit.specs.Whole.{PutOff}
 use Rattle.trace_unit.proofs.OrderTold.{KeepsBoth}
 
 two_parts : {X : Type 0} (n : ℕ) (xs : List X) → kept n xs ++ newest n xs ≡ xs
@@ -43,7 +43,7 @@ first_back (Unseen ∷ g) es gone pre pre' lt = refl
 first_back (Gap ∷ g) es gone pre pre' lt = refl
 first_back (Stop ∷ g) es gone pre pre' lt = refl
 
-pub cancel_order : (depth : ℕ) (u : Waiting) (rw rp : Resolved) (n : ℕ) → Waits depth u rw rp → n ≤ length rp.pending.held → KeepsBoth depth u rw rp (Cancel n)
+pub cancel_order : (depth : ℕ) (u : PutOff) (rw rp : Resolved) (n : ℕ) → Waits depth u rw rp → n ≤ length rp.pending.held → KeepsBoth depth u rw rp (Cancel n)
 cancel_order depth u rw rp n b asks = elim (cases_lt (length u.atoms) n) [ inl lt ↦ further lt | inr le ↦ within le ] where
   pre : Pre
   pre = back b.gone rw.pending.pre

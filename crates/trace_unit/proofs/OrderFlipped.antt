@@ -21,7 +21,7 @@ use Rattle.trace_unit.proofs.OneEvent.{goes_on}
 use Rattle.trace_unit.proofs.Out.{cancel_out, p0s_of}
 use Rattle.trace_unit.specs.Orders.{Flip}
 use Rattle.trace_unit.specs.Told.{cancels_of}
-use Rattle.trace_unit.specs.Whole.{Waiting}
+use Rattle.trace_unit.specs.Whole.{PutOff}
 use Rattle.trace_unit.specs.Whole.{turn_last}
 use Rattle.trace_unit.proofs.OrderTold.{Beside, KeepsBoth, behind_by, beside}
 
@@ -112,7 +112,7 @@ flip_out depth c h rw rp held b e =
     )
 
 -- an atom is held: it is the newest thing of the reader that is told at once
-flip_held : (depth : ℕ) (u : Waiting) (rw rp : Resolved) (a : Bool) (atoms : List Bool) (held : List Thing)
+flip_held : (depth : ℕ) (u : PutOff) (rw rp : Resolved) (a : Bool) (atoms : List Bool) (held : List Thing)
     → Behind depth (p0s_of (a ∷ atoms)) u.cancels u.commits u.held rw rp → flip_newest rp.pending.held ≡ Some held
     → (np : Resolved) × (resolve_all depth rp (elem.Flip ∷ []) ≡ Ok np) × Behind depth (p0s_of (turn_last (a ∷ atoms))) u.cancels u.commits u.held rw np
 flip_held depth u rw rp a atoms held b e =

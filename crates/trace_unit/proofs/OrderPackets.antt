@@ -16,7 +16,7 @@ use Rattle.etm_types.specs.declared.element.Elem.TheVariants as elem
 use Rattle.etm_types.specs.declared.element.P0.TheVariants as p0
 use Rattle.packet_grammar.specs.declared.packet.Packet.{Packet}
 use Rattle.packet_grammar.specs.declared.packet.Packet.TheVariants as packet
-use Rattle.path_elements.specs.Elements.{atoms, placed, untold}
+use Rattle.path_elements.specs.Elements.{atoms, with_offset, untold}
 use Rattle.spec_run.specs.Runs.{ByOff, ByOverflow, Closing}
 use Rattle.trace_unit.proofs.Chosen.{context_back, form_gives, long_gives}
 use Rattle.trace_unit.proofs.Packed.{bits_are, longest_front}
@@ -30,7 +30,7 @@ use Rattle.trace_unit.specs.Packets.{run_of, settle_packets, shared_after, share
 use Rattle.trace_unit.specs.Packing.{longest}
 use Rattle.trace_unit.specs.Telling.{told_with}
 use Rattle.trace_unit.specs.Told.{atom_element, cancels_of, closing_element, commits_of, notice_elements, target_elements}
-use Rattle.trace_unit.specs.Whole.{Waiting, flip_elements, is_full, out, out_elements, settle_elements, spilled_elements, whole, with_atom}
+use Rattle.trace_unit.specs.Whole.{PutOff, flip_elements, is_full, out, out_elements, settle_elements, spilled_elements, whole, with_atom}
 
 -- the reader's own state stays as it is
 abbrev Adds : Shared → List Packet → List Elem → Type 0
@@ -51,7 +51,7 @@ cancels_tell shared (suc n) = refl
 
 run_tells : (shared : Shared) (l : List Bool) → Adds shared (packet.Atoms (run_of l) ∷ []) (map atom_element l)
 run_tells shared l =
-    ap (λ k. record { elements = k; awaited = None; told = told_with shared }) (append-nil (placed 0 (atoms (atoms_in (run_of l)))))
+    ap (λ k. record { elements = k; awaited = None; told = told_with shared }) (append-nil (with_offset 0 (atoms (atoms_in (run_of l)))))
     ∙ ap (λ k. gained (atoms k) (told_with shared)) (bits_are l)
 
 within_tells : (shared : Shared) (n : ℕ) (l : List Bool) → length l ≤ n → Adds shared (packed_within n l) (map atom_element l)
@@ -67,18 +67,18 @@ within_tells shared (suc n) (a ∷ l) le =
     (adds_on shared (front_packet (a ∷ l) ∷ []) (packed_within n rest) (map atom_element front) (map atom_element rest) (run_tells shared front)
     (within_tells shared n rest less))
 
-out_tells : (shared : Shared) (u : Waiting) → Adds shared (out_packets u) (out_elements u)
+out_tells : (shared : Shared) (u : PutOff) → Adds shared (out_packets u) (out_elements u)
 out_tells shared u =
     subst (λ l. Adds shared (out_packets u) (cancels_of u.cancels ++ map atom_element l)) (sym (take_all (length u.atoms) u.atoms (omega arith)))
     (adds_on shared (cancel_packets u.cancels) (packed u.atoms) (cancels_of u.cancels) (map atom_element u.atoms) (cancels_tell shared u.cancels)
     (within_tells shared (length u.atoms) u.atoms (omega arith)))
 
-pub settle_tells : (depth : ℕ) (u : Waiting) (shared : Shared) → Tells (told_with shared) (settle_packets depth u) (settle_elements depth u) (told_with shared)
+pub settle_tells : (depth : ℕ) (u : PutOff) (shared : Shared) → Tells (told_with shared) (settle_packets depth u) (settle_elements depth u) (told_with shared)
 settle_tells depth u shared =
     adds_on shared (out_packets u) (commit_packets (out depth u).commits) (out_elements u) (commits_of (out depth u).commits) (out_tells shared u)
     (commits_tell shared (out depth u).commits)
 
-spill_tells : (shared : Shared) (full : Bool) (u : Waiting) → Adds shared (spilled_packets full u) (spilled_elements full u)
+spill_tells : (shared : Shared) (full : Bool) (u : PutOff) → Adds shared (spilled_packets full u) (spilled_elements full u)
 spill_tells shared true u =
     adds_on shared (cancel_packets u.cancels) (front_packet u.atoms ∷ []) (cancels_of u.cancels) (map atom_element (take (longest u.atoms) u.atoms))
     (cancels_tell shared u.cancels) (run_tells shared (take (longest u.atoms) u.atoms))
@@ -94,7 +94,7 @@ mispredict_tells shared (suc (suc n)) = by (nat_le (suc (suc n)) 5)
     by true = refl
     by false = refl
 
-flip_tells : (shared : Shared) (u : Waiting) (l : List Bool) → Adds shared (flip_packets u l) (flip_elements u l)
+flip_tells : (shared : Shared) (u : PutOff) (l : List Bool) → Adds shared (flip_packets u l) (flip_elements u l)
 flip_tells shared u [] = mispredict_tells shared u.cancels
 flip_tells shared u (a ∷ l) = refl
 
@@ -168,18 +168,18 @@ target_tells s shared (Some ctx) kind addr fits = target_place_tells shared ctx 
 
 -- ---- an order
 
-out_then : (shared next : Shared) (u : Waiting) (packets : List Packet) (elements : List Elem)
+out_then : (shared next : Shared) (u : PutOff) (packets : List Packet) (elements : List Elem)
     → Tells (told_with shared) packets elements (told_with next)
     → Tells (told_with shared) (out_packets u ++ packets) (out_elements u ++ elements) (told_with next)
 out_then shared next u packets elements tells =
     tells_on (told_with shared) (told_with shared) (told_with next) (out_packets u) packets (out_elements u) elements (out_tells shared u) tells
 
-pub order_tells : (s : Sizes) (depth : ℕ) (u : Waiting) (shared : Shared) (order : Order) → FitsOrder s order
+pub order_tells : (s : Sizes) (depth : ℕ) (u : PutOff) (shared : Shared) (order : Order) → FitsOrder s order
     → Tells (told_with shared) (packets_of depth u shared order) (whole depth u order) (told_with (shared_after shared order))
 order_tells s depth u shared (Tell notice) fits =
     out_then shared (shared_by shared notice) u (notice_packets shared notice) (notice_elements notice) (notice_tells s shared notice fits)
 order_tells s depth u shared (Branch taken) fits =
-    let v : Waiting = with_atom depth u taken in spill_tells shared (is_full v) v
+    let v : PutOff = with_atom depth u taken in spill_tells shared (is_full v) v
 order_tells s depth u shared (Exception kind ret) fits =
     out_then shared (with_address shared ret) u (exception_packets shared kind ret) (elem.P0 (p0.Exc kind ret) ∷ [])
     (exception_tells shared kind ret (form_gives shared.history ret fits.1.1))

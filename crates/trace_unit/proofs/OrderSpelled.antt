@@ -25,25 +25,25 @@ use Rattle.trace_unit.specs.Packets.{Shared, announced, cancel_packets, closing_
 use Rattle.trace_unit.specs.Packets.{flip_packets, form_of, front_packet, long_form, no_atoms, nothing_shared, notice_packets, out_packets, packed, packets_of}
 use Rattle.trace_unit.specs.Packets.{settle_packets, shared_after, shared_by, spilled_packets, target_packets, with_context}
 use Rattle.trace_unit.specs.Small.{Small}
-use Rattle.trace_unit.specs.Whole.{Waiting, cancelled_out, is_full, out, waits, with_atom, wrote, wrote_all}
+use Rattle.trace_unit.specs.Whole.{PutOff, cancelled_out, is_full, out, waits, with_atom, wrote, wrote_all}
 
 -- ---- what is counted, where it goes out too
 
-wrote_fewer : (depth : ℕ) (u : Waiting) → (wrote depth u).commits ≤ u.commits
+wrote_fewer : (depth : ℕ) (u : PutOff) → (wrote depth u).commits ≤ u.commits
 wrote_fewer depth u = by (nat_le (u.held + 1) depth)
   where
-    by : (b : Bool) → let after : Waiting = if b then record u { held = u.held + 1 } else record u { commits = u.commits - 1 } in after.commits ≤ u.commits
+    by : (b : Bool) → let after : PutOff = if b then record u { held = u.held + 1 } else record u { commits = u.commits - 1 } in after.commits ≤ u.commits
     by true = omega arith
     by false = omega arith
 
-wrote_same : (depth : ℕ) (u : Waiting) → (wrote depth u).cancels ≡ u.cancels
+wrote_same : (depth : ℕ) (u : PutOff) → (wrote depth u).cancels ≡ u.cancels
 wrote_same depth u = by (nat_le (u.held + 1) depth)
   where
-    by : (b : Bool) → let after : Waiting = if b then record u { held = u.held + 1 } else record u { commits = u.commits - 1 } in after.cancels ≡ u.cancels
+    by : (b : Bool) → let after : PutOff = if b then record u { held = u.held + 1 } else record u { commits = u.commits - 1 } in after.cancels ≡ u.cancels
     by true = refl
     by false = refl
 
-all_wrote : (depth : ℕ) (atoms : List Bool) (u : Waiting) → IsCounted u → IsCounted (wrote_all depth atoms u)
+all_wrote : (depth : ℕ) (atoms : List Bool) (u : PutOff) → IsCounted u → IsCounted (wrote_all depth atoms u)
 all_wrote depth [] u counted = counted
 all_wrote depth (a ∷ atoms) u counted =
     all_wrote depth atoms (wrote depth u) (record {
@@ -51,20 +51,20 @@ all_wrote depth (a ∷ atoms) u counted =
       commits = omega (arith, counted.commits, wrote_fewer depth u);
     })
 
-pub out_counted : (depth : ℕ) (u : Waiting) → IsCounted u → IsCounted (out depth u)
+pub out_counted : (depth : ℕ) (u : PutOff) → IsCounted u → IsCounted (out depth u)
 out_counted depth u counted =
     let v = wrote_all depth (take (length u.atoms) u.atoms) (cancelled_out u) in
     let is = all_wrote depth (take (length u.atoms) u.atoms) (cancelled_out u) (record { cancels = omega arith; commits = counted.commits }) in
     record { cancels = is.cancels; commits = is.commits }
 
 -- so it is between the orders of one event, of which only the last is another one
-pub told_counted : (depth : ℕ) (u : Waiting) (notice : Notice) → IsCounted u → IsCounted (waits depth u (Tell notice))
+pub told_counted : (depth : ℕ) (u : PutOff) (notice : Notice) → IsCounted u → IsCounted (waits depth u (Tell notice))
 told_counted depth u notice counted = out_counted depth u counted
 
-pub settled_counted : (depth : ℕ) (u : Waiting) → IsCounted u → IsCounted (waits depth u Settle)
+pub settled_counted : (depth : ℕ) (u : PutOff) → IsCounted u → IsCounted (waits depth u Settle)
 settled_counted depth u counted = record { cancels = (out_counted depth u counted).cancels; commits = omega arith }
 
-pub small_counted : (s : Sizes) (unretired : ℕ) (u : Waiting) → AreSettings s → Small s.depth unretired u → IsCounted u
+pub small_counted : (s : Sizes) (unretired : ℕ) (u : PutOff) → AreSettings s → Small s.depth unretired u → IsCounted u
 small_counted s unretired u settings small =
     record { cancels = omega (arith, small.cancels, small.held, settings.depth); commits = omega (arith, small.commits, settings.depth) }
 
@@ -100,7 +100,7 @@ module _ (s : Sizes) where
   cancels_spelled zero less = All-nil (HasSpelling s)
   cancels_spelled (suc n) less = alone (packet.Cancel (suc n) false) (by_values (packet.Cancel (suc n) false) (less, tt))
 
-  out_spelled : (u : Waiting) → IsCounted u → AreSpelled (out_packets u)
+  out_spelled : (u : PutOff) → IsCounted u → AreSpelled (out_packets u)
   out_spelled u counted = joined (cancel_packets u.cancels) (packed u.atoms) (cancels_spelled u.cancels counted.cancels) (packed_spelled s u.atoms)
 
   flip_spelled : (n : ℕ) → n < 2 ^ 32 → HasSpelling s (flip_packet n)
@@ -112,11 +112,11 @@ module _ (s : Sizes) where
       by true few = let le = few refl in by_values (packet.Cancel3 false (suc (suc n))) ((omega arith, le), tt)
       by false few = by_values (packet.Cancel (suc (suc n)) true) (less, tt)
 
-  flips_spelled : (u : Waiting) (atoms : List Bool) → IsCounted u → AreSpelled (flip_packets u atoms)
+  flips_spelled : (u : PutOff) (atoms : List Bool) → IsCounted u → AreSpelled (flip_packets u atoms)
   flips_spelled u [] counted = alone (flip_packet u.cancels) (flip_spelled u.cancels counted.cancels)
   flips_spelled u (a ∷ atoms) counted = All-nil (HasSpelling s)
 
-  spills_spelled : (full : Bool) (u : Waiting) → (full ≡ true → 1 ≤ length u.atoms) → u.cancels < 2 ^ 32 → AreSpelled (spilled_packets full u)
+  spills_spelled : (full : Bool) (u : PutOff) → (full ≡ true → 1 ≤ length u.atoms) → u.cancels < 2 ^ 32 → AreSpelled (spilled_packets full u)
   spills_spelled true u some less =
       joined (cancel_packets u.cancels) (front_packet u.atoms ∷ []) (cancels_spelled u.cancels less)
       (alone (front_packet u.atoms) (front_spelled s u.atoms (some refl)))
@@ -202,17 +202,17 @@ module _ (s : Sizes) where
 
   -- ---- an order
 
-  pub settle_spelled : (depth : ℕ) (u : Waiting) → IsCounted u → AreSpelled (settle_packets depth u)
+  pub settle_spelled : (depth : ℕ) (u : PutOff) → IsCounted u → AreSpelled (settle_packets depth u)
   settle_spelled depth u counted =
       joined (out_packets u) (commit_packets (out depth u).commits) (out_spelled u counted)
       (commits_spelled (out depth u).commits (out_counted depth u counted).commits)
 
-  packets_spelled : (depth : ℕ) (u : Waiting) (shared : Shared) (order : Order) → FitsOrder s order → IsShared s shared → IsCounted u
+  packets_spelled : (depth : ℕ) (u : PutOff) (shared : Shared) (order : Order) → FitsOrder s order → IsShared s shared → IsCounted u
       → AreSpelled (packets_of depth u shared order)
   packets_spelled depth u shared (Tell notice) fits is counted =
       joined (out_packets u) (notice_packets shared notice) (out_spelled u counted) (notice_spelled shared notice is fits)
   packets_spelled depth u shared (Branch taken) fits is counted =
-      let v : Waiting = with_atom depth u taken in
+      let v : PutOff = with_atom depth u taken in
       spills_spelled (is_full v) v (λ t. let full = eqb-true (length v.atoms) 24 t in omega (arith, full)) counted.cancels
   packets_spelled depth u shared (Exception kind ret) fits is counted =
       joined (out_packets u) (exception_packets shared kind ret) (out_spelled u counted) (exception_spelled shared kind ret fits.0 fits.1)
@@ -226,6 +226,6 @@ module _ (s : Sizes) where
   packets_spelled depth u shared (Close closing) fits is counted =
       joined (settle_packets depth u) (closing_packet closing ∷ []) (settle_spelled depth u counted) (closing_spelled closing)
 
-  pub order_spelled : (depth : ℕ) (u : Waiting) (shared : Shared) (order : Order) → FitsOrder s order → IsShared s shared → IsCounted u
+  pub order_spelled : (depth : ℕ) (u : PutOff) (shared : Shared) (order : Order) → FitsOrder s order → IsShared s shared → IsCounted u
       → AreSpelled (packets_of depth u shared order) × IsShared s (shared_after shared order)
   order_spelled depth u shared order fits is counted = (packets_spelled depth u shared order fits is counted, order_shared shared order is fits)

@@ -25,11 +25,11 @@ use Rattle.trace_unit.specs.Orders.{Sync, Tell, target_notice}
 use Rattle.trace_unit.specs.Packing.{longest}
 use Rattle.trace_unit.specs.Taken.{CanHear}
 use Rattle.trace_unit.specs.Told.{commits_of, notice_elements, told}
-use Rattle.trace_unit.specs.Whole.{Waiting, at_once, is_full, out, out_elements, settle_elements, settled, some_elements, some_out, spilled}
+use Rattle.trace_unit.specs.Whole.{PutOff, at_once, is_full, out, out_elements, settle_elements, settled, some_elements, some_out, spilled}
 use Rattle.trace_unit.specs.Whole.{spilled_elements, waits, whole, with_atom, with_exception, wrote}
 
 -- what an order keeps
-abbrev pub KeepsBoth : ℕ → Waiting → Resolved → Resolved → Order → Type 0
+abbrev pub KeepsBoth : ℕ → PutOff → Resolved → Resolved → Order → Type 0
 KeepsBoth depth u rw rp o =
     (np : Resolved) × (nw : Resolved) × (resolve_all depth rp (told o) ≡ Ok np) × (resolve_all depth rw (whole depth u o) ≡ Ok nw)
     × Waits depth (waits depth u o) nw np
@@ -81,7 +81,7 @@ behind_by depth c h rw rp b =
     }
 
 -- nothing waits in a unit that has written all
-waits_none : (depth : ℕ) (u : Waiting) (rw rp : Resolved) → u.atoms ≡ [] → u.cancels ≡ 0 → Behind depth [] 0 u.commits u.held rw rp → Waits depth u rw rp
+waits_none : (depth : ℕ) (u : PutOff) (rw rp : Resolved) → u.atoms ≡ [] → u.cancels ≡ 0 → Behind depth [] 0 u.commits u.held rw rp → Waits depth u rw rp
 waits_none depth u rw rp atoms cancels b = subst (λ l. Behind depth (p0s_of l) u.cancels u.commits u.held rw rp) (sym atoms)
     (subst (λ q. Behind depth [] q u.commits u.held rw rp) (sym cancels) b)
 
@@ -174,7 +174,7 @@ tells depth c h (e ∷ es) rw rp told b =
       rest.5,
     )
 
-pub told_order : (depth : ℕ) (u : Waiting) (rw rp : Resolved) (notice : Notice) → Waits depth u rw rp → CanHear rp.pending.informed notice
+pub told_order : (depth : ℕ) (u : PutOff) (rw rp : Resolved) (notice : Notice) → Waits depth u rw rp → CanHear rp.pending.informed notice
     → KeepsBoth depth u rw rp (Tell notice)
 told_order depth u rw rp notice b can =
     let es = notice_elements notice in
@@ -192,7 +192,7 @@ told_order depth u rw rp notice b can =
 -- ---- Branch, Exception, ExceptionAtTarget
 
 -- so many of the oldest atoms go out
-some_go : (depth : ℕ) (u : Waiting) (rw rp : Resolved) (n : ℕ) → Waits depth u rw rp
+some_go : (depth : ℕ) (u : PutOff) (rw rp : Resolved) (n : ℕ) → Waits depth u rw rp
     → (nw : Resolved) × (resolve_all depth rw (some_elements n u) ≡ Ok nw) × Waits depth (some_out depth n u) nw rp
 some_go depth u rw rp n b =
     let w = writes_some depth n u rw rp b in (
@@ -201,36 +201,36 @@ some_go depth u rw rp n b =
       subst (λ q. Behind depth (p0s_of (drop n u.atoms)) q (some_out depth n u).commits (some_out depth n u).held w.0 rp) (sym (none_out depth n u)) w.2,
     )
 
-spills : (depth : ℕ) (full : Bool) (u : Waiting) (rw rp : Resolved) → Waits depth u rw rp
+spills : (depth : ℕ) (full : Bool) (u : PutOff) (rw rp : Resolved) → Waits depth u rw rp
     → (nw : Resolved) × (resolve_all depth rw (spilled_elements full u) ≡ Ok nw) × Waits depth (spilled full depth u) nw rp
 spills depth true u rw rp b = some_go depth u rw rp (longest u.atoms) b
 spills depth false u rw rp b = (rw, refl, b)
 
-pub branch_order : (depth : ℕ) (u : Waiting) (rw rp : Resolved) (taken : Bool) → Waits depth u rw rp → length rp.pending.held + 1 ≤ depth + at_once depth
+pub branch_order : (depth : ℕ) (u : PutOff) (rw rp : Resolved) (taken : Bool) → Waits depth u rw rp → length rp.pending.held + 1 ≤ depth + at_once depth
     → KeepsBoth depth u rw rp (Branch taken)
 branch_order depth u rw rp taken b asks =
     let np = put depth rp (Atom taken) in
     let next = pushed_on depth (p0s_of u.atoms) u.cancels u.commits u.held rw rp (Atom taken) b asks in
-    let v : Waiting = with_atom depth u taken in
+    let v : PutOff = with_atom depth u taken in
     let held : Waits depth v rw np =
     subst (λ l. Behind depth l u.cancels (u.commits + at_once depth) u.held rw np) (sym (map-append (λ a. Atom a) u.atoms (taken ∷ []))) next in
     let s = spills depth (is_full v) v rw np held in
     (np, s.0, refl, s.1, s.2)
 
-pub wrote_atoms : (depth : ℕ) (u : Waiting) → (wrote depth u).atoms ≡ u.atoms
+pub wrote_atoms : (depth : ℕ) (u : PutOff) → (wrote depth u).atoms ≡ u.atoms
 wrote_atoms depth u = elim (cases_Bool (nat_le (u.held + 1) depth)) [ inl t ↦ simp t | inr f ↦ simp f ]
 
 -- where all went out an exception is one more for both
-exception_waits : (depth : ℕ) (u : Waiting) (rw rp : Resolved) (x : P0) → Behind depth [] 0 (out depth u).commits (out depth u).held rw rp
+exception_waits : (depth : ℕ) (u : PutOff) (rw rp : Resolved) (x : P0) → Behind depth [] 0 (out depth u).commits (out depth u).held rw rp
     → length rp.pending.held + 1 ≤ depth + at_once depth → Waits depth (with_exception depth u) (put depth rw x) (put depth rp x)
 exception_waits depth u rw rp x b asks =
-    let v : Waiting = record (out depth u) { commits = (out depth u).commits + at_once depth } in
+    let v : PutOff = record (out depth u) { commits = (out depth u).commits + at_once depth } in
     let more = pushed_on depth [] 0 (out depth u).commits (out depth u).held rw rp x b asks in
     let one = wrote_one depth x [] v rw (put depth rp x) more in
     waits_none depth (wrote depth v) (put depth rw x) (put depth rp x) (wrote_atoms depth v ∙ none_left u)
     (none_wrote depth v ∙ none_out depth (length u.atoms) u) one
 
-pub exception_order : (depth : ℕ) (u : Waiting) (rw rp : Resolved) (kind ret : ℕ) → Waits depth u rw rp → length rp.pending.held + 1 ≤ depth + at_once depth
+pub exception_order : (depth : ℕ) (u : PutOff) (rw rp : Resolved) (kind ret : ℕ) → Waits depth u rw rp → length rp.pending.held + 1 ≤ depth + at_once depth
     → KeepsBoth depth u rw rp (Exception kind ret)
 exception_order depth u rw rp kind ret b asks =
     let x = Exc kind ret in
@@ -246,7 +246,7 @@ target_heard : (informed : Bool) (context : Option Ctx) (addr : ℕ) → CanHear
 target_heard informed None addr = tt
 target_heard informed (Some ctx) addr = tt
 
-pub target_order : (depth : ℕ) (u : Waiting) (rw rp : Resolved) (context : Option Ctx) (kind addr : ℕ) → Waits depth u rw rp
+pub target_order : (depth : ℕ) (u : PutOff) (rw rp : Resolved) (context : Option Ctx) (kind addr : ℕ) → Waits depth u rw rp
     → length rp.pending.held + 1 ≤ depth + at_once depth → KeepsBoth depth u rw rp (ExceptionAtTarget context kind addr)
 target_order depth u rw rp context kind addr b asks =
     let x = Exc kind addr in
@@ -266,7 +266,7 @@ target_order depth u rw rp context kind addr b asks =
 
 -- ---- Retire
 
-pub retire_order : (depth : ℕ) (u : Waiting) (rw rp : Resolved) (n : ℕ) → Waits depth u rw rp → n ≤ length rp.pending.held → KeepsBoth depth u rw rp (Retire n)
+pub retire_order : (depth : ℕ) (u : PutOff) (rw rp : Resolved) (n : ℕ) → Waits depth u rw rp → n ≤ length rp.pending.held → KeepsBoth depth u rw rp (Retire n)
 retire_order depth u rw rp n b asks =
     let now = take n rp.pending.held in
     let rest = drop n rp.pending.held in (
@@ -310,7 +310,7 @@ same_readers depth c h rw rp b =
       omega (arith, b.many, size),
     )
 
-pub settles : (depth : ℕ) (u : Waiting) (rw rp : Resolved) → Waits depth u rw rp
+pub settles : (depth : ℕ) (u : PutOff) (rw rp : Resolved) → Waits depth u rw rp
     → (resolve_all depth rw (out_elements u ++ commits_of (out depth u).commits) ≡ Ok rp)
     × ((out depth u).held - (out depth u).commits ≡ length rp.pending.held)
 settles depth u rw rp b =
@@ -334,7 +334,7 @@ same depth h r many fits =
       fits = fits;
     })
 
-pub settle_order : (depth : ℕ) (u : Waiting) (rw rp : Resolved) → Waits depth u rw rp → KeepsBoth depth u rw rp Settle
+pub settle_order : (depth : ℕ) (u : PutOff) (rw rp : Resolved) → Waits depth u rw rp → KeepsBoth depth u rw rp Settle
 settle_order depth u rw rp b =
     let s = settles depth u rw rp b in
     (rp, rp, refl, s.0, waits_none depth (settled (out depth u)) rp rp (none_left u) (none_out depth (length u.atoms) u) (same depth _ rp s.1 b.fits))
@@ -342,13 +342,13 @@ settle_order depth u rw rp b =
 abbrev pub closed : Resolved → Thing → Resolved
 closed r mark = record { done = r.done ++ mark ∷ []; pending = record { held = []; pre = trace_missing; informed = r.pending.informed } }
 
-closed_waits : (depth : ℕ) (u : Waiting) (rp : Resolved) (mark : Thing)
+closed_waits : (depth : ℕ) (u : PutOff) (rp : Resolved) (mark : Thing)
     → Waits depth (record (settled (out depth u)) { held = 0 }) (closed rp mark) (closed rp mark)
 closed_waits depth u rp mark =
     waits_none depth (record (settled (out depth u)) { held = 0 }) (closed rp mark) (closed rp mark) (none_left u) (none_out depth (length u.atoms) u)
     (same depth 0 (closed rp mark) refl (omega arith))
 
-pub close_order : (depth : ℕ) (u : Waiting) (rw rp : Resolved) (closing : Closing) → Waits depth u rw rp → KeepsBoth depth u rw rp (Close closing)
+pub close_order : (depth : ℕ) (u : PutOff) (rw rp : Resolved) (closing : Closing) → Waits depth u rw rp → KeepsBoth depth u rw rp (Close closing)
 close_order depth u rw rp ByOverflow b = (
   closed rp Gap,
   closed rp Gap,

@@ -16,14 +16,14 @@ use Rattle.trace_unit.proofs.Cancelled.{cancelled, cancels_them, pre_behind}
 use Rattle.trace_unit.proofs.Lists.{kept_at, newest_at}
 use Rattle.trace_unit.proofs.OneEvent.{goes_on}
 use Rattle.trace_unit.specs.Told.{atom_element, cancels_of}
-use Rattle.trace_unit.specs.Whole.{Waiting, cancelled_out, out, out_elements, some_elements, some_out, wrote, wrote_all}
+use Rattle.trace_unit.specs.Whole.{PutOff, cancelled_out, out, out_elements, some_elements, some_out, wrote, wrote_all}
 
 -- the atoms as P0 elements
 abbrev pub p0s_of : List Bool → List P0
 p0s_of atoms = map (λ a. Atom a) atoms
 
 -- the readers stand so by what a unit keeps
-abbrev pub Waits : ℕ → Waiting → Resolved → Resolved → Type 0
+abbrev pub Waits : ℕ → PutOff → Resolved → Resolved → Type 0
 Waits depth u rw rp = Behind depth (p0s_of u.atoms) u.cancels u.commits u.held rw rp
 
 -- ---- what is to be cancelled
@@ -61,7 +61,7 @@ cancel_out depth xs q c h rw rp b =
 
 -- ---- the atoms
 
-wrote_is : (depth : ℕ) (u : Waiting) → u.held ≤ depth → wrote depth u
+wrote_is : (depth : ℕ) (u : PutOff) → u.held ≤ depth → wrote depth u
     ≡ record u { held = u.held + 1 - (u.held + 1 - depth); commits = u.commits - (u.held + 1 - depth) }
 wrote_is depth u room = elim (cases_Bool (nat_le (u.held + 1) depth)) [
   | inl t ↦
@@ -76,27 +76,27 @@ wrote_is depth u room = elim (cases_Bool (nat_le (u.held + 1) depth)) [
       simp f (ap (λ n. record u { commits = n }) c ∙ ap (λ n. record u { held = n; commits = u.commits - (u.held + 1 - depth) }) h)
 ]
 
-pub wrote_one : (depth : ℕ) (x : P0) (xs : List P0) (u : Waiting) (rw rp : Resolved) → Behind depth (x ∷ xs) 0 u.commits u.held rw rp
+pub wrote_one : (depth : ℕ) (x : P0) (xs : List P0) (u : PutOff) (rw rp : Resolved) → Behind depth (x ∷ xs) 0 u.commits u.held rw rp
     → Behind depth xs 0 (wrote depth u).commits (wrote depth u).held (put depth rw x) rp
 wrote_one depth x xs u rw rp b =
-    subst (λ (v : Waiting). Behind depth xs 0 v.commits v.held (put depth rw x) rp) (sym (wrote_is depth u b.room))
+    subst (λ (v : PutOff). Behind depth xs 0 v.commits v.held (put depth rw x) rp) (sym (wrote_is depth u b.room))
     (put_out depth x xs u.commits u.held rw rp b)
 
-pub wrote_some : (depth : ℕ) (us vs : List Bool) (u : Waiting) (rw rp : Resolved) → Behind depth (p0s_of (us ++ vs)) 0 u.commits u.held rw rp
+pub wrote_some : (depth : ℕ) (us vs : List Bool) (u : PutOff) (rw rp : Resolved) → Behind depth (p0s_of (us ++ vs)) 0 u.commits u.held rw rp
     → (next : Resolved) × (resolve_all depth rw (map atom_element us) ≡ Ok next)
     × Behind depth (p0s_of vs) 0 (wrote_all depth us u).commits (wrote_all depth us u).held next rp
 wrote_some depth [] vs u rw rp b = (rw, refl, b)
 wrote_some depth (a ∷ us) vs u rw rp b = wrote_some depth us vs (wrote depth u) (put depth rw (Atom a)) rp
     (wrote_one depth (Atom a) (p0s_of (us ++ vs)) u rw rp b)
 
-pub none_wrote : (depth : ℕ) (u : Waiting) → (wrote depth u).cancels ≡ u.cancels
+pub none_wrote : (depth : ℕ) (u : PutOff) → (wrote depth u).cancels ≡ u.cancels
 none_wrote depth u = elim (cases_Bool (nat_le (u.held + 1) depth)) [ inl t ↦ simp t | inr f ↦ simp f ]
 
-none_cancels : (depth : ℕ) (us : List Bool) (u : Waiting) → (wrote_all depth us u).cancels ≡ u.cancels
+none_cancels : (depth : ℕ) (us : List Bool) (u : PutOff) → (wrote_all depth us u).cancels ≡ u.cancels
 none_cancels depth [] u = refl
 none_cancels depth (a ∷ us) u = none_cancels depth us (wrote depth u) ∙ none_wrote depth u
 
-pub writes_some : (depth n : ℕ) (u : Waiting) (rw rp : Resolved) → Waits depth u rw rp
+pub writes_some : (depth n : ℕ) (u : PutOff) (rw rp : Resolved) → Waits depth u rw rp
     → (next : Resolved) × (resolve_all depth rw (some_elements n u) ≡ Ok next)
     × Behind depth (p0s_of (drop n u.atoms)) 0 (some_out depth n u).commits (some_out depth n u).held next rp
 writes_some depth n u rw rp b =
@@ -111,14 +111,14 @@ writes_some depth n u rw rp b =
     )
 
 -- all of them
-pub writes_all : (depth : ℕ) (u : Waiting) (rw rp : Resolved) → Waits depth u rw rp
+pub writes_all : (depth : ℕ) (u : PutOff) (rw rp : Resolved) → Waits depth u rw rp
     → (next : Resolved) × (resolve_all depth rw (out_elements u) ≡ Ok next) × Behind depth [] 0 (out depth u).commits (out depth u).held next rp
 writes_all depth u rw rp b =
     let w = writes_some depth (length u.atoms) u rw rp b in
     (w.0, w.1, subst (λ l. Behind depth (p0s_of l) 0 (out depth u).commits (out depth u).held w.0 rp) (drop_all (length u.atoms) u.atoms (omega arith)) w.2)
 
-pub none_out : (depth n : ℕ) (u : Waiting) → (some_out depth n u).cancels ≡ 0
+pub none_out : (depth n : ℕ) (u : PutOff) → (some_out depth n u).cancels ≡ 0
 none_out depth n u = none_cancels depth (take n u.atoms) (cancelled_out u)
 
-pub none_left : (u : Waiting) → drop (length u.atoms) u.atoms ≡ []
+pub none_left : (u : PutOff) → drop (length u.atoms) u.atoms ≡ []
 none_left u = drop_all (length u.atoms) u.atoms (omega arith)

@@ -25,7 +25,7 @@ use Rattle.trace_unit.proofs.Matching.{MatchesBy}
 use Rattle.trace_unit.proofs.RowLists.{length-rows}
 use Rattle.trace_unit.proofs.Rows.{saved_of}
 use Rattle.trace_unit.specs.Orders.{places_from}
-use Rattle.trace_unit.specs.Places.{Left, Places, Saved, back_by, left_by, link_after, no_places, placed, placed_behind, placed_on}
+use Rattle.trace_unit.specs.Places.{Left, Places, Saved, back_by, left_by, link_after, no_places, places_after, placed_behind, places_on}
 use Rattle.trace_unit.specs.Places.{popped, pushed_by, saves, without_stack}
 use Rattle.trace_unit.specs.Small.{IsWithin, unretired}
 
@@ -88,7 +88,7 @@ emptied_few most [] = All-nil (IsShallow most)
 emptied_few most (v ∷ saved) = All-cons (IsShallow most) (without_stack v) (map without_stack saved) (omega arith) (emptied_few most saved)
 
 event_few : (image : Image) (depth most : ℕ) (current : Option Running) (p : Places) (e : Effect) → AreShallow most p
-    → AreShallow most (placed_on image depth most current p e)
+    → AreShallow most (places_on image depth most current p e)
 event_few image depth most None p (effect.Began addr ctx) few = record { stack = omega arith; stacks = All-nil (IsShallow most) }
 event_few image depth most None p (effect.Ran s ctx) few = few
 event_few image depth most None p (effect.Contexted ctx) few = few
@@ -119,7 +119,7 @@ events_few : (image : Image) (depth most : ℕ) (x : Execution) (p : Places) (ev
 events_few image depth most x p [] few = few
 events_few image depth most x p (e ∷ events) few =
     let does = effect_of image (place_in x) e in
-    events_few image depth most (after_event image depth x e) (placed image depth most x p does) events (event_few image depth most x.current p does few)
+    events_few image depth most (after_event image depth x e) (places_after image depth most x p does) events (event_few image depth most x.current p does few)
 
 -- ---- what is saved
 

@@ -16,7 +16,7 @@ use Rattle.path_walker.specs.Start.{start_of}
 use Rattle.path_walker.specs.Steps.{linked}
 use Rattle.element_queue.specs.Resolved.{Resolved, resolve}
 use Rattle.spec_run.proofs.StepLists.{begun-append, blocks-append}
-use Rattle.spec_run.specs.Blocks.{Begun, begun, blocks, fresh}
+use Rattle.spec_run.specs.Blocks.{BegunBlock, begun, blocks, fresh}
 use Rattle.spec_run.specs.Executed.{Executes}
 use Rattle.spec_run.proofs.StepsKept.{CanRun, IsFlat}
 use Rattle.spec_run.specs.Runs.{Closing, Running, runs}
@@ -32,11 +32,11 @@ use Rattle.trace_unit.specs.Places.{Places, left, link_after, placed_behind}
 -- ---- a plain step
 
 -- a step that ends no block
-no_block : (o : Begun) (t : RunStep) (xs : List RunStep) → is_p0 t ≡ false → blocks o (xs ++ t ∷ []) ≡ blocks o xs
+no_block : (o : BegunBlock) (t : RunStep) (xs : List RunStep) → is_p0 t ≡ false → blocks o (xs ++ t ∷ []) ≡ blocks o xs
 no_block o t xs p = blocks-append o xs (t ∷ []) ∙ ap (λ l. blocks o xs ++ l) (simp p) ∙ append-nil (blocks o xs)
 
-same_start : (o : Begun) (t : RunStep) (xs : List RunStep) → is_p0 t ≡ false → (begun o (xs ++ t ∷ [])).start ≡ (begun o xs).start
-same_start o t xs p = ap (λ (b : Begun). b.start) (begun-append o xs (t ∷ [])) ∙ simp p
+same_start : (o : BegunBlock) (t : RunStep) (xs : List RunStep) → is_p0 t ≡ false → (begun o (xs ++ t ∷ [])).start ≡ (begun o xs).start
+same_start o t xs p = ap (λ (b : BegunBlock). b.start) (begun-append o xs (t ∷ [])) ∙ simp p
 
 -- at depth 0 the step goes behind the retired ones, else behind those that are held
 pub plain_step : (image : Image) (depth : ℕ) (closed : List (List RunStep × Closing)) (s : Running) (p : Places) (r : Resolved) (t : RunStep) (ctx : Ctx)
@@ -111,12 +111,12 @@ enters (suc depth) r pre p0 room =
     (append-nil r.done))
 
 -- a step that ends a block
-one_block : (o : Begun) (t : RunStep) (xs : List RunStep) → is_p0 t ≡ true
+one_block : (o : BegunBlock) (t : RunStep) (xs : List RunStep) → is_p0 t ≡ true
     → blocks o (xs ++ t ∷ []) ≡ blocks o xs ++ record { start = (begun o xs).start; plain = (begun o xs).plain; ctx = t.ctx; last = t } ∷ []
 one_block o t xs p = blocks-append o xs (t ∷ []) ∙ ap (λ l. blocks o xs ++ l) (simp p)
 
-fresh_start : (o : Begun) (t : RunStep) (xs : List RunStep) → is_p0 t ≡ true → (begun o (xs ++ t ∷ [])).start ≡ t.next
-fresh_start o t xs p = ap (λ (b : Begun). b.start) (begun-append o xs (t ∷ [])) ∙ simp p
+fresh_start : (o : BegunBlock) (t : RunStep) (xs : List RunStep) → is_p0 t ≡ true → (begun o (xs ++ t ∷ [])).start ≡ t.next
+fresh_start o t xs p = ap (λ (b : BegunBlock). b.start) (begun-append o xs (t ∷ [])) ∙ simp p
 
 -- the rows behind one more
 pends_on : (image : Image) (most : ℕ) (before : State) (rows : List Row) (x : Row) (p : Places) (t : RunStep) → most ≤ 15 → Executes image t.kind t
@@ -218,7 +218,7 @@ p0_step image (suc depth) most closed s p r t ctx pre le fits can p0 o ready =
           ∙ sym (map-append saved_of o.late (x ∷ []));
       retired = o.retired;
       unretired = map-append block_of o.late (x ∷ []) ∙ ap (λ l. l ++ x.block ∷ []) o.unretired
-          ∙ ap (λ (b : Begun). blocks (begun f s.retired) s.held ++ record { start = b.start; plain = b.plain; ctx = t.ctx; last = t } ∷ [])
+          ∙ ap (λ (b : BegunBlock). blocks (begun f s.retired) s.held ++ record { start = b.start; plain = b.plain; ctx = t.ctx; last = t } ∷ [])
           (begun-append f s.retired s.held)
           ∙ sym (one_block (begun f s.retired) t s.held p0);
       led = subst (Led true o.before) joined (led_on s p t pre o.before rows o.start o.led ready);

@@ -4,7 +4,7 @@ use Rattle.std.proofs.lemmas.List.{length-map}
 use Rattle.std.specs.Prelude.{map}
 use Rattle.path_walker.specs.State.{State}
 use Rattle.spec_run.proofs.StepLists.{bools}
-use Rattle.spec_run.specs.Blocks.{Begun, Block, begun, blocks, ended, grown}
+use Rattle.spec_run.specs.Blocks.{BegunBlock, Block, begun, blocks, ended, grown}
 use Rattle.spec_run.specs.Steps.{is_p0, p0s}
 use Rattle.spec_run.specs.declared.step.RunStep.{RunStep}
 use Rattle.trace_unit.proofs.Lists.{heads}
@@ -16,24 +16,24 @@ ended_one : (b : Bool) (x : Block) → length (if b then x ∷ [] else []) ≡ (
 ended_one true x = refl
 ended_one false x = refl
 
-pub length-blocks : (o : Begun) (xs : List RunStep) → length (blocks o xs) ≡ p0s xs
+pub length-blocks : (o : BegunBlock) (xs : List RunStep) → length (blocks o xs) ≡ p0s xs
 length-blocks o [] = refl
 length-blocks o (x ∷ xs) =
     length-append (ended o x) (blocks (grown o x) xs) ∙ ap (λ n. n + length (blocks (grown o x) xs)) (ended_one (is_p0 x) _)
     ∙ ap (λ n. (if is_p0 x then 1 else 0) + n) (length-blocks (grown o x) xs)
 
-pub length-rows : (o : Begun) (rows : List Row) (xs : List RunStep) → map block_of rows ≡ blocks o xs → length rows ≡ p0s xs
+pub length-rows : (o : BegunBlock) (rows : List Row) (xs : List RunStep) → map block_of rows ≡ blocks o xs → length rows ≡ p0s xs
 length-rows o rows xs e = sym (length-map rows block_of) ∙ ap length e ∙ length-blocks o xs
 
 -- a block that was begun goes on where no P0 step comes, and is the first of the blocks behind it
-pub none_ended : (o : Begun) (xs : List RunStep) → blocks o xs ≡ [] → (begun o xs).start ≡ o.start
+pub none_ended : (o : BegunBlock) (xs : List RunStep) → blocks o xs ≡ [] → (begun o xs).start ≡ o.start
 none_ended o [] e = refl
 none_ended o (x ∷ xs) e = elim (bools (is_p0 x)) [
   | inl p ↦ absurd (let f = simp p at e in cc)
   | inr p ↦ simp p (none_ended (record o { plain = o.plain + 1 }) xs (simp p at e))
 ]
 
-pub first_start : (o : Begun) (xs : List RunStep) (b : Block) (bs : List Block) → blocks o xs ≡ b ∷ bs → b.start ≡ o.start
+pub first_start : (o : BegunBlock) (xs : List RunStep) (b : Block) (bs : List Block) → blocks o xs ≡ b ∷ bs → b.start ≡ o.start
 first_start o [] b bs e = absurd cc
 first_start o (x ∷ xs) b bs e = elim (bools (is_p0 x)) [
   | inl p ↦ let h = heads _ b _ bs (simp p at e) in ap (λ (c : Block). c.start) (sym h.0)

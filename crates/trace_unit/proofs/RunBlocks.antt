@@ -8,7 +8,7 @@ use Rattle.program_image.specs.declared.image.Image.{Image}
 use Rattle.etm_types.specs.declared.context.Ctx.{Ctx}
 use Rattle.path_walker.proofs.Gap.{run_short}
 use Rattle.spec_run.proofs.StepLists.{bools, plain_kind}
-use Rattle.spec_run.specs.Blocks.{Begun, Block, blocks, fresh}
+use Rattle.spec_run.specs.Blocks.{BegunBlock, Block, blocks, fresh}
 use Rattle.spec_run.specs.Executed.{AreSteps, Executes, IsPlace}
 use Rattle.spec_run.specs.Kinds.{is_p0_kind}
 use Rattle.spec_run.specs.Steps.{is_p0}
@@ -47,7 +47,7 @@ grows_run image start n run here k lt = elim (cases_lt k n) [
 no_run : (image : Image) (start : ℕ) → IsPlainRun image start 0
 no_run image start k lt = absurd (omega (arith, lt))
 
-pub run_blocks : (image : Image) → HasGap image → (o : Begun) (context : Ctx) (steps : List RunStep) → IsPlace o.start → IsPlainRun image o.start o.plain
+pub run_blocks : (image : Image) → HasGap image → (o : BegunBlock) (context : Ctx) (steps : List RunStep) → IsPlace o.start → IsPlainRun image o.start o.plain
     → AreSteps image o context steps → AreRunBlocks image (blocks o steps)
 run_blocks image gap o context [] place run are = tt
 run_blocks image gap o context (s ∷ steps) place run are = elim (bools (is_p0 s)) [
@@ -58,7 +58,7 @@ run_blocks image gap o context (s ∷ steps) place run are = elim (bools (is_p0 
         run_blocks image gap (fresh s.next) s.ctx steps are.0.next (no_run image s.next) rest,
       )
   | inr p ↦
-      let o' : Begun = record o { plain = o.plain + 1 } in
+      let o' : BegunBlock = record o { plain = o.plain + 1 } in
       let rest : AreSteps image o' s.ctx steps = simp p at are.1 in
       let does : Executes image Plain s = subst (λ k. Executes image k s) (plain_kind s.kind p) are.0.does in
       let here : class_at image (behind o.start o.plain) ≡ Some class.Plain = subst (λ a. class_at image a ≡ Some class.Plain) are.0.there does.0 in

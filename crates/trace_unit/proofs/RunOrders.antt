@@ -45,7 +45,7 @@ use Rattle.trace_unit.proofs.RowLists.{length-rows}
 use Rattle.trace_unit.proofs.Rows.{thing_of}
 use Rattle.trace_unit.proofs.StepOrders.{in_both}
 use Rattle.trace_unit.specs.Orders.{Order, Sync, Tell, before, missing, orders, orders_from, orders_on, p0_order, step_orders}
-use Rattle.trace_unit.specs.Places.{Places, no_places, placed}
+use Rattle.trace_unit.specs.Places.{Places, no_places, places_after}
 use Rattle.trace_unit.specs.Taken.{AllMeet, CanTake, CanTakeAll}
 use Rattle.trace_unit.specs.Told.{all_told, told}
 use Rattle.trace_unit.specs.Whole.{at_once, whole_settled}
@@ -184,7 +184,7 @@ all_take image gap s most x p r n [] y le at given e = tt
 all_take image gap s most x p r n (event ∷ events) y le at given e =
     let does = effect_of image (place_in x) event in
     let next = after_event image s.depth x event in
-    let places = placed image s.depth most x p does in
+    let places = places_after image s.depth most x p does in
     let f = passed (check image s.depth (place_in x) event) n (run_from image s.depth next (n + 1) events) y e in
     let can = allowed image s.depth s x.current event at.execution.running given.0 f.0 in
     let room = room_for image s.depth x.current event f.0 in

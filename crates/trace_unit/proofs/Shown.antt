@@ -13,7 +13,7 @@ use Rattle.path_walker.specs.State.{State}
 use Rattle.path_walker.specs.Walk.{mark_of}
 use Rattle.spec_run.proofs.Shown.{blocks_show, instructions_grow}
 use Rattle.spec_run.proofs.StepLists.{bools}
-use Rattle.spec_run.specs.Blocks.{Begun, Block, block_items, blocks, fresh, items_of_blocks, last_item}
+use Rattle.spec_run.specs.Blocks.{BegunBlock, Block, block_items, blocks, fresh, items_of_blocks, last_item}
 use Rattle.spec_run.specs.Executed.{AreSteps, IsPlace}
 use Rattle.spec_run.specs.Kinds.{is_p0_kind, took_of}
 use Rattle.spec_run.specs.RetiredItems.{has_p0, stretch_items}
@@ -72,7 +72,7 @@ ends (Cond taken) s start n lt at p = last s start n taken lt at
 ends (Ind link) s start n lt at p = last s start n false lt at
 ends Eret s start n lt at p = last s start n false lt at
 
-blocks_walked : (image : Image) (o : Begun) (context : Ctx) (steps : List RunStep) → o.start < 2 ^ 64 → AreSteps image o context steps
+blocks_walked : (image : Image) (o : BegunBlock) (context : Ctx) (steps : List RunStep) → o.start < 2 ^ 64 → AreSteps image o context steps
     → flat_map walked_items (blocks o steps) ≡ items_of_blocks (blocks o steps)
 blocks_walked image o context [] lt are = refl
 blocks_walked image o context (s ∷ steps) lt are = elim (bools (is_p0 s)) [
@@ -82,19 +82,19 @@ blocks_walked image o context (s ∷ steps) lt are = elim (bools (is_p0 s)) [
       simp p (ap (λ l. l ++ flat_map walked_items (blocks (fresh s.next) steps)) (ends s.kind s o.start o.plain lt are.0.there p)
       ∙ ap (λ l. block_items b ++ l) (blocks_walked image (fresh s.next) s.ctx steps are.0.next.0 rest))
   | inr p ↦
-      let o' : Begun = record o { plain = o.plain + 1 } in
+      let o' : BegunBlock = record o { plain = o.plain + 1 } in
       let rest : AreSteps image o' s.ctx steps = simp p at are.1 in
       simp p (blocks_walked image o' s.ctx steps lt rest)
 ]
 
-no_block : (o : Begun) (steps : List RunStep) → has_p0 steps ≡ false → blocks o steps ≡ []
+no_block : (o : BegunBlock) (steps : List RunStep) → has_p0 steps ≡ false → blocks o steps ≡ []
 no_block o [] e = refl
 no_block o (s ∷ steps) e = elim (bools (is_p0 s)) [
   | inl p ↦ absurd (let f = simp p at e in cc)
   | inr p ↦ simp p (no_block (record o { plain = o.plain + 1 }) steps (simp p at e))
 ]
 
-some_block : (o : Begun) (steps : List RunStep) → has_p0 steps ≡ true → (b : Block) × (bs : List Block) × (blocks o steps ≡ b ∷ bs)
+some_block : (o : BegunBlock) (steps : List RunStep) → has_p0 steps ≡ true → (b : Block) × (bs : List Block) × (blocks o steps ≡ b ∷ bs)
 some_block o [] e = absurd cc
 some_block o (s ∷ steps) e = elim (bools (is_p0 s)) [
   | inl p ↦ (record { start = o.start; plain = o.plain; ctx = s.ctx; last = s }, blocks (fresh s.next) steps, simp p)

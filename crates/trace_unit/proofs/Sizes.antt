@@ -29,7 +29,7 @@ use Rattle.trace_unit.specs.Orders.{Branch, Cancel, Close, Exception, ExceptionA
 use Rattle.trace_unit.specs.Packing.{longest, longest_within}
 use Rattle.trace_unit.specs.Places.{Places, no_places}
 use Rattle.trace_unit.specs.Small.{Small, unretired}
-use Rattle.trace_unit.specs.Whole.{Waiting, at_once, flipped, is_full, nothing_waits, out, spilled, turn_last, waits, waits_all, with_atom}
+use Rattle.trace_unit.specs.Whole.{PutOff, at_once, flipped, is_full, nothing_waits, out, spilled, turn_last, waits, waits_all, with_atom}
 use Rattle.trace_unit.specs.Whole.{with_exception}
 
 -- ---- the atoms
@@ -47,10 +47,10 @@ turn_many [] = refl
 turn_many (a ∷ []) = refl
 turn_many (a ∷ b ∷ atoms) = ap (λ n. suc n) (turn_many (b ∷ atoms))
 
-none_stay : (u : Waiting) → length (drop (length u.atoms) u.atoms) ≤ 23
+none_stay : (u : PutOff) → length (drop (length u.atoms) u.atoms) ≤ 23
 none_stay u = let e = ap length (none_left u) in omega (arith, e)
 
-spill_few : (depth : ℕ) (full : Bool) (u : Waiting) → length u.atoms ≤ 24 → (full ≡ false → length u.atoms ≡ 24 → ⊥) → length (spilled full depth u).atoms ≤ 23
+spill_few : (depth : ℕ) (full : Bool) (u : PutOff) → length u.atoms ≤ 24 → (full ≡ false → length u.atoms ≡ 24 → ⊥) → length (spilled full depth u).atoms ≤ 23
 spill_few depth true u le differs =
     let some = some_front 23 u.atoms in
     omega (arith, le, some, length-drop (longest u.atoms) u.atoms)
@@ -59,18 +59,18 @@ spill_few depth false u le differs = elim (cases_Bool (nat_le (length u.atoms) 2
   | inr f ↦ absurd (differs refl (let gt : 23 < length u.atoms = grind (arith, nat_tests, f) in omega (arith, gt, le)))
 ]
 
-flip_few : (u : Waiting) (atoms : List Bool) → length atoms ≤ 23 → u.atoms ≡ atoms → length (flipped u atoms).atoms ≤ 23
+flip_few : (u : PutOff) (atoms : List Bool) → length atoms ≤ 23 → u.atoms ≡ atoms → length (flipped u atoms).atoms ≤ 23
 flip_few u [] le e = omega (arith, le, ap length e)
 flip_few u (a ∷ atoms) le e = omega (arith, le, turn_many (a ∷ atoms))
 
-exception_few : (depth : ℕ) (u : Waiting) → length (with_exception depth u).atoms ≤ 23
+exception_few : (depth : ℕ) (u : PutOff) → length (with_exception depth u).atoms ≤ 23
 exception_few depth u =
     omega (arith, ap length (wrote_atoms depth (record (out depth u) { commits = (out depth u).commits + at_once depth })), none_stay u)
 
-pub few_atoms : (depth : ℕ) (u : Waiting) (order : Order) → length u.atoms ≤ 23 → length (waits depth u order).atoms ≤ 23
+pub few_atoms : (depth : ℕ) (u : PutOff) (order : Order) → length u.atoms ≤ 23 → length (waits depth u order).atoms ≤ 23
 few_atoms depth u (Tell notice) le = none_stay u
 few_atoms depth u (Branch taken) le =
-    let v : Waiting = with_atom depth u taken in
+    let v : PutOff = with_atom depth u taken in
     spill_few depth (is_full v) v (omega (arith, le, length-append u.atoms (taken ∷ []))) (λ f. eqb-false (length v.atoms) 24 f)
 few_atoms depth u (Exception kind ret) le = exception_few depth u
 few_atoms depth u (ExceptionAtTarget context kind addr) le = exception_few depth u
@@ -80,13 +80,13 @@ few_atoms depth u Flip le = flip_few u u.atoms le refl
 few_atoms depth u Settle le = none_stay u
 few_atoms depth u (Close closing) le = none_stay u
 
-always_few : (depth : ℕ) (u : Waiting) (orders : List Order) → length u.atoms ≤ 23 → length (waits_all depth u orders).atoms ≤ 23
+always_few : (depth : ℕ) (u : PutOff) (orders : List Order) → length u.atoms ≤ 23 → length (waits_all depth u orders).atoms ≤ 23
 always_few depth u [] le = le
 always_few depth u (order ∷ orders) le = always_few depth (waits depth u order) orders (few_atoms depth u order le)
 
 -- ---- the numbers
 
-pub small : (depth : ℕ) (u : Waiting) (rw rp : Resolved) → Waits depth u rw rp → length u.atoms ≤ 23 → Small depth (length rp.pending.held) u
+pub small : (depth : ℕ) (u : PutOff) (rw rp : Resolved) → Waits depth u rw rp → length u.atoms ≤ 23 → Small depth (length rp.pending.held) u
 small depth u rw rp b few =
     let es = entries (back b.gone rw.pending.pre) (p0s_of u.atoms) in
     let many : length es ≡ length u.atoms = length-entries (back b.gone rw.pending.pre) (p0s_of u.atoms) ∙ length-map u.atoms (λ a. Atom a) in

@@ -4,7 +4,7 @@ use Rattle.std.specs.Prelude.{is_some}
 use Rattle.std.proofs.lemmas.List.{map-append}
 use Rattle.etm_types.specs.declared.element.Elem.{Elem}
 use Rattle.packet_grammar.specs.declared.packet.Packet.{Packet}
-use Rattle.path_elements.specs.Elements.{Gained, Told, all_elements, placed, with_gained}
+use Rattle.path_elements.specs.Elements.{Gained, Told, all_elements, with_offset, with_gained}
 use Rattle.path_elements.specs.Path.{unplaced}
 use Rattle.path_elements.specs.PathLaws.{packets_alone}
 use Rattle.path_elements.proofs.Joined.{elements_join, offsets_do_not_count}
@@ -15,7 +15,7 @@ abbrev pub at_zero : List Packet → List (ℕ × Packet)
 at_zero packets = map (λ p. (0, p)) packets
 
 abbrev pub gained : List Elem → Told → Gained
-gained elements told = record { elements = placed 0 elements; awaited = None; told = told }
+gained elements told = record { elements = with_offset 0 elements; awaited = None; told = told }
 
 -- the packets gain these elements, and leave this told
 abbrev pub Tells : Told → List Packet → List Elem → Told → Type 0
@@ -30,7 +30,7 @@ tells_on told next last xs ys es fs a b =
     ap (all_elements told) (map-append (λ (p : Packet). (0, p)) xs ys)
     ∙ elements_join told (at_zero xs) (at_zero ys) (ap (λ (g : Gained). g.awaited) a)
     ∙ ap (λ (g : Gained). with_gained g.elements (all_elements g.told (at_zero ys))) a
-    ∙ ap (with_gained (placed 0 es)) b
+    ∙ ap (with_gained (with_offset 0 es)) b
     ∙ ap (λ l. record { elements = l; awaited = None; told = last }) (sym (map-append (λ (e : Elem). (0, e)) es fs))
 
 -- ---- wherever they stand
@@ -39,7 +39,7 @@ packets_at_zero : (packets : List Packet) → packets_alone (at_zero packets) �
 packets_at_zero [] = refl
 packets_at_zero (p ∷ packets) = ap (λ l. p ∷ l) (packets_at_zero packets)
 
-elements_at_zero : (elements : List Elem) → unplaced (placed 0 elements) ≡ elements
+elements_at_zero : (elements : List Elem) → unplaced (with_offset 0 elements) ≡ elements
 elements_at_zero [] = refl
 elements_at_zero (e ∷ elements) = ap (λ l. e ∷ l) (elements_at_zero elements)
 

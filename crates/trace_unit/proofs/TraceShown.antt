@@ -10,7 +10,7 @@ use Rattle.packet_grammar.specs.declared.end.End.TheVariants as end
 use Rattle.packet_grammar.specs.declared.packet.Packet.{Packet}
 use Rattle.packet_grammar.specs.declared.packet.Packet.TheVariants as packet
 use Rattle.packet_writer.specs.Fitting.{HasSpelling}
-use Rattle.packet_writer.specs.Laws.{placed}
+use Rattle.packet_writer.specs.Laws.{with_offsets}
 use Rattle.packet_writer.specs.Spelling.{spelling}
 use Rattle.packet_writer.proofs.Streams.{written_is_read}
 use Rattle.path_elements.specs.Elements.{Told, all_elements, untold}
@@ -43,14 +43,14 @@ use Rattle.trace_unit.specs.Written.{settled, spelled}
 
 -- ---- what a stream shows
 
-placed_alone : (s : Sizes) (at : ℕ) (packets : List Packet) → packets_alone (placed s at packets) ≡ packets
+placed_alone : (s : Sizes) (at : ℕ) (packets : List Packet) → packets_alone (with_offsets s at packets) ≡ packets
 placed_alone s at [] = refl
 placed_alone s at (p ∷ packets) = ap (λ l. p ∷ l) (placed_alone s (at + length (spelling s p)) packets)
 
 stream_is : (s : Sizes) (packets more : List Packet) → packets ≡ packet.Async ∷ more → All (HasSpelling s) packets
-    → IsStream s (spelled s packets) (placed s 0 packets) clean
+    → IsStream s (spelled s packets) (with_offsets s 0 packets) clean
 stream_is s packets more is have =
-    subst (λ l. IsStream s (spelled s l) (placed s 0 l) clean) (sym is)
+    subst (λ l. IsStream s (spelled s l) (with_offsets s 0 l) clean) (sym is)
     (written_is_read s more (All-tail (HasSpelling s) packet.Async more (subst (All (HasSpelling s)) is have)))
 
 pub packets_show : (image : Image) (s : Sizes) (packets more : List Packet) (run : List Order) (next : Told) (items : List Item) (r : Resolved) (w : State)
@@ -58,7 +58,7 @@ pub packets_show : (image : Image) (s : Sizes) (packets more : List Packet) (run
     → resolve_all s.depth unresolved (whole_settled s.depth run) ≡ Ok r → Walks image first_state r.done items (Ok w)
     → IsPath image s (spelled s packets) items end.Clean
 packets_show image s packets more run next items r w is have told resolves walks =
-    let at = placed s 0 packets in
+    let at = with_offsets s 0 packets in
     let g = told at (placed_alone s 0 packets) in
     let walked : WalksAll image s.depth (all_elements untold at).elements items =
     record { resolved = r; after = w; commits = ap (resolve_all s.depth unresolved) g.are ∙ resolves; walks = walks } in

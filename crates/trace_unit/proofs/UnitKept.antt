@@ -28,7 +28,7 @@ use Rattle.trace_unit.specs.Followed.{CanFollow, followed, orders_done, stepped}
 use Rattle.trace_unit.specs.Ordered.{CanTellAll, IsReady, bytes_all, bytes_of, told_all}
 use Rattle.trace_unit.specs.Orders.{Order, Settle, orders_on, step_orders}
 use Rattle.trace_unit.specs.Packets.{shared_all}
-use Rattle.trace_unit.specs.Places.{placed_on}
+use Rattle.trace_unit.specs.Places.{places_on}
 use Rattle.trace_unit.specs.Whole.{waits_all}
 use Rattle.trace_unit.specs.declared.follower.Follower.{Follower}
 use Rattle.trace_unit.specs.declared.teller.Teller.{Teller}
@@ -115,12 +115,12 @@ follows_by image current f e acc =
       places_room = agree.places_room;
       window_room = window_room current f.window does ∙ agree.window_room;
       elements = elements;
-      saved = ap (λ room. length (placed_on image room f.places.stack_depth current p does).saved) agree.places_room
+      saved = ap (λ room. length (places_on image room f.places.stack_depth current p does).saved) agree.places_room
           ∙ saved_many image s.depth f.places.stack_depth current p f.window does suits agree.window_room (agree.saved ∙ sym many) many ∙ left;
       ready = subst (λ (t : Teller). IsReady (p0s steps) t) (told_all_is t orders)
           (subst (λ n. IsReady n (told_all t orders)) (orders_behind image s.depth current p f.window does suits agree.window_room many ∙ left) told.1);
       fits = subst (λ place. FitsRun s (running_by place)) there (fits_there s (after_event image s.depth x e).current fit.1);
-      starts = subst (λ room. FitsPlaces (placed_on image room f.places.stack_depth current p does)) (sym agree.places_room) fit.2;
+      starts = subst (λ room. FitsPlaces (places_on image room f.places.stack_depth current p does)) (sym agree.places_room) fit.2;
     } in
     record {
       can = follow_can image s.depth current f does suits agree.places_room agree.window_room agree.saved agree.elements

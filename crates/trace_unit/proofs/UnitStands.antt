@@ -25,9 +25,9 @@ use Rattle.trace_unit.specs.Kept.{Kept, StandsAt, counts_by, counts_from, counts
 use Rattle.trace_unit.specs.Ordered.{bytes_all, bytes_of}
 use Rattle.trace_unit.specs.Orders.{Order, Settle, orders_on}
 use Rattle.trace_unit.specs.Packets.{Shared, packets_all, settle_packets, shared_all}
-use Rattle.trace_unit.specs.Places.{Places, placed_on}
+use Rattle.trace_unit.specs.Places.{Places, places_on}
 use Rattle.trace_unit.specs.Small.{unretired}
-use Rattle.trace_unit.specs.Whole.{Waiting, waits_all}
+use Rattle.trace_unit.specs.Whole.{PutOff, waits_all}
 use Rattle.trace_unit.specs.Written.{pending, spelled, written}
 use Rattle.trace_unit.specs.declared.follower.Follower.{Follower}
 
@@ -81,12 +81,12 @@ grows_by image x f events e now acc ran st stands =
         most = st.most;
         run = stands;
         places =
-            ap (λ room. placed_on image room most x.current p does) agree.places_room
-            ∙ ap (λ (p : Places). placed_on image s.depth most x.current p does) st.places
+            ap (λ room. places_on image room most x.current p does) agree.places_room
+            ∙ ap (λ (p : Places). places_on image s.depth most x.current p does) st.places
             ∙ sym (places_grow image s most events x e ran);
         waiting =
             ap (λ (p : Places). waits_all s.depth t.waiting (ordered p)) st.places
-            ∙ ap (λ (u : Waiting). waits_all s.depth u (ordered (places_behind image s most events))) st.waiting
+            ∙ ap (λ (u : PutOff). waits_all s.depth u (ordered (places_behind image s most events))) st.waiting
             ∙ sym (waiting_grows image s most events x e ran);
         shared =
             ap (λ (p : Places). shared_all t.shared (ordered p)) st.places
@@ -103,7 +103,7 @@ grows_by image x f events e now acc ran st stands =
           (sym (ap (bytes_all t) (orders_so image s.depth x.current f does suits many)
           ∙ bytes_all_are t (ordered p)
           ∙ ap (λ (p : Places). spelled s (packets_all s.depth t.waiting t.shared (ordered p))) st.places
-          ∙ ap (λ (u : Waiting). spelled s (packets_all s.depth u t.shared told)) st.waiting
+          ∙ ap (λ (u : PutOff). spelled s (packets_all s.depth u t.shared told)) st.waiting
           ∙ ap (λ (h : Shared). spelled s (packets_all s.depth (waiting_behind image s most events) h told)) st.shared));
     }
 
@@ -155,4 +155,4 @@ pub settles : (image : Image) (run : RunKept) (f : Follower) (k : Kept) (events 
     → bytes_of f.teller Settle ≡ pending image k.settings k.stack_depth events
 settles image run f k events same =
     subst (λ (k : Kept). StandsAt image k events → bytes_of f.teller Settle ≡ pending image k.settings k.stack_depth events) same
-    (λ st. ap (λ (u : Waiting). spelled f.teller.settings (settle_packets f.teller.settings.depth u)) st.waiting)
+    (λ st. ap (λ (u : PutOff). spelled f.teller.settings (settle_packets f.teller.settings.depth u)) st.waiting)

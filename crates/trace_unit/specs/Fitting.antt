@@ -9,7 +9,7 @@ use Rattle.spec_run.specs.declared.step.RunStep.{RunStep}
 use Rattle.trace_unit.specs.Orders.{Address, Context, Exception, ExceptionAtTarget, Notice, On, Order, Place, Start, Sync, Tell, target_notice}
 use Rattle.trace_unit.specs.Packets.{Shared}
 use Rattle.trace_unit.specs.Places.{Places, Saved}
-use Rattle.trace_unit.specs.Whole.{Waiting}
+use Rattle.trace_unit.specs.Whole.{PutOff}
 
 -- a trace info announces a number of 32 bits, addresses are those of instructions, and contexts fit the sizes
 abbrev pub FitsNotice : Sizes → Notice → Type 0
@@ -33,7 +33,7 @@ pub record IsShared (s : Sizes) (shared : Shared) : Type 0 where
   pub context : FitsSettings s shared.context
 
 -- what is to be cancelled and committed are numbers of 32 bits
-pub record IsCounted (u : Waiting) : Type 0 where
+pub record IsCounted (u : PutOff) : Type 0 where
   pub cancels : u.cancels < 2 ^ 32
   pub commits : u.commits < 2 ^ 32
 

@@ -9,14 +9,14 @@ use Rattle.spec_run.specs.declared.event.Event.{Event}
 use Rattle.trace_unit.specs.Orders.{Order, orders, orders_on, places_from}
 use Rattle.trace_unit.specs.Packets.{Shared, nothing_shared, packets_all, shared_all}
 use Rattle.trace_unit.specs.Places.{Places, no_places}
-use Rattle.trace_unit.specs.Whole.{Waiting, nothing_waits, waits_all}
+use Rattle.trace_unit.specs.Whole.{PutOff, nothing_waits, waits_all}
 use Rattle.trace_unit.specs.Written.{spelled}
 
 -- the places, what waits, and what both ends have, behind the events
 abbrev pub places_behind : Image → Sizes → ℕ → List Event → Places
 places_behind image s most events = places_from image s.depth most at_first no_places events
 
-abbrev pub waiting_behind : Image → Sizes → ℕ → List Event → Waiting
+abbrev pub waiting_behind : Image → Sizes → ℕ → List Event → PutOff
 waiting_behind image s most events = waits_all s.depth nothing_waits (orders image s most events)
 
 abbrev pub shared_behind : Image → Sizes → ℕ → List Event → Shared

@@ -16,7 +16,7 @@ use Rattle.spec_run.specs.declared.event.Event.{Event}
 use Rattle.trace_unit.specs.Orders.{orders, places_from}
 use Rattle.trace_unit.specs.Packets.{Shared, nothing_shared, shared_all}
 use Rattle.trace_unit.specs.Places.{Places, no_places}
-use Rattle.trace_unit.specs.Whole.{Waiting, nothing_waits, waits_all}
+use Rattle.trace_unit.specs.Whole.{PutOff, nothing_waits, waits_all}
 
 -- ---- what became of the P0 steps
 
@@ -54,7 +54,7 @@ pub record Kept : Type 0 where
   pub stack_depth : ℕ
   pub run : RunKept
   pub places : Places
-  pub waiting : Waiting
+  pub waiting : PutOff
   pub shared : Shared
   pub counts : Counts
 

@@ -15,7 +15,7 @@ use Rattle.spec_run.specs.declared.event.Event.{Event}
 use Rattle.spec_run.specs.declared.step.RunStep.{RunStep}
 use Rattle.spec_run.specs.declared.step.StepKind.{StepKind}
 use Rattle.spec_run.specs.declared.step.StepKind.TheVariants.{Cond, Exc}
-use Rattle.trace_unit.specs.Places.{Places, no_places, placed}
+use Rattle.trace_unit.specs.Places.{Places, no_places, places_after}
 
 -- What leaves the P0 elements as they are. Sync: synchronisation, with a trace info that announces so many P0 elements. On: tracing
 -- begins. Start: the address and the context of the begun block, in full. Place: the same before a P0 step, in the form that is wanted
@@ -112,13 +112,13 @@ abbrev pub orders_from : Image → ℕ → ℕ → Execution → Places → List
 orders_from image depth most x p [] = []
 orders_from image depth most x p (e ∷ events) =
     orders_on x.current p (effect_of image (place_in x) e)
-    ++ orders_from image depth most (after_event image depth x e) (placed image depth most x p (effect_of image (place_in x) e)) events
+    ++ orders_from image depth most (after_event image depth x e) (places_after image depth most x p (effect_of image (place_in x) e)) events
 
 -- what is kept behind them
 abbrev pub places_from : Image → ℕ → ℕ → Execution → Places → List Event → Places
 places_from image depth most x p [] = p
 places_from image depth most x p (e ∷ events) =
-    places_from image depth most (after_event image depth x e) (placed image depth most x p (effect_of image (place_in x) e)) events
+    places_from image depth most (after_event image depth x e) (places_after image depth most x p (effect_of image (place_in x) e)) events
 
 -- the orders of all events, with a return stack of so many addresses
 abbrev pub orders : Image → Sizes → ℕ → List Event → List Order

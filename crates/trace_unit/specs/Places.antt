@@ -103,16 +103,16 @@ placed_closed p = record p { saved = [] }
 
 -- ---- what an event changes
 
-abbrev pub placed_on : Image → ℕ → ℕ → Option Running → Places → Effect → Places
-placed_on image depth most None p (effect.Began addr ctx) = placed_begun addr ctx
-placed_on image depth most (Some r) p (effect.Ran s ctx) = if is_p0 s then placed_behind depth most p s else p
-placed_on image depth most (Some r) p (effect.Retired n) = record p { saved = drop (p0s (take n r.held)) p.saved }
-placed_on image depth most (Some r) p (effect.Cancelled n) = placed_back p (p0s (newest n r.held))
-placed_on image depth most (Some r) p effect.Flipped = placed_flipped p (flips image r).pc
-placed_on image depth most (Some r) p effect.Synced = placed_synced p r.ctx
-placed_on image depth most (Some r) p effect.Overflowed = placed_closed p
-placed_on image depth most (Some r) p effect.Stopped = placed_closed p
-placed_on image depth most current p e = p
+abbrev pub places_on : Image → ℕ → ℕ → Option Running → Places → Effect → Places
+places_on image depth most None p (effect.Began addr ctx) = placed_begun addr ctx
+places_on image depth most (Some r) p (effect.Ran s ctx) = if is_p0 s then placed_behind depth most p s else p
+places_on image depth most (Some r) p (effect.Retired n) = record p { saved = drop (p0s (take n r.held)) p.saved }
+places_on image depth most (Some r) p (effect.Cancelled n) = placed_back p (p0s (newest n r.held))
+places_on image depth most (Some r) p effect.Flipped = placed_flipped p (flips image r).pc
+places_on image depth most (Some r) p effect.Synced = placed_synced p r.ctx
+places_on image depth most (Some r) p effect.Overflowed = placed_closed p
+places_on image depth most (Some r) p effect.Stopped = placed_closed p
+places_on image depth most current p e = p
 
-abbrev pub placed : Image → ℕ → ℕ → Execution → Places → Effect → Places
-placed image depth most x p e = placed_on image depth most x.current p e
+abbrev pub places_after : Image → ℕ → ℕ → Execution → Places → Effect → Places
+places_after image depth most x p e = places_on image depth most x.current p e

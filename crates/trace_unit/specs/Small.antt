@@ -3,7 +3,7 @@ use Rattle.std.specs.Prelude.{◌≡◌, ℕ, ◌+◌, ◌≤◌, All, length, O
 use Rattle.spec_run.specs.Runs.{Running}
 use Rattle.spec_run.specs.Steps.{p0s}
 use Rattle.trace_unit.specs.Places.{Places, Saved}
-use Rattle.trace_unit.specs.Whole.{Waiting}
+use Rattle.trace_unit.specs.Whole.{PutOff}
 
 -- the P0 steps that are not retired
 abbrev pub unretired : Option Running → ℕ
@@ -11,7 +11,7 @@ unretired None = 0
 unretired (Some r) = p0s r.held
 
 -- Each number of what waits is small, and together they tell the same P0 steps as the run does.
-pub record Small (depth unretired : ℕ) (u : Waiting) : Type 0 where
+pub record Small (depth unretired : ℕ) (u : PutOff) : Type 0 where
   pub held : u.held ≤ depth
   pub cancels : u.cancels ≤ u.held
   pub atoms : length u.atoms ≤ 23

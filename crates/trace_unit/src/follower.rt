@@ -15,7 +15,7 @@ ghost use Rattle.trace_unit.specs.Followed.{flipped, followed, orders_done, reti
 ghost use Rattle.trace_unit.specs.Ordered.{CanTell, CanTellAll, bytes_all, bytes_of, told_all, told_by};
 ghost use Rattle.trace_unit.specs.Orders.{Cancel, Close, Flip, Retire, before, begin_orders, lacked, p0_order, step_orders};
 ghost use Rattle.trace_unit.specs.Orders.{sync_orders};
-ghost use Rattle.trace_unit.specs.Room.{HasRoom};
+ghost use Rattle.trace_unit.specs.Room.{RoomForBytes};
 
 use crate::places::Places;
 use crate::teller::Teller;
@@ -57,7 +57,7 @@ impl Follower {
     pub fn follow(&mut self, done: &Done, run: &Run, bytes: &mut Vec<u8>)
         requires can { CanFollow done.now run.now.place self.old }
         requires tells { CanTellAll self.old.teller (orders_done done.now run.now.place self.old) }
-        requires room { HasRoom bytes.old (bytes_all self.old.teller (orders_done done.now run.now.place self.old)) }
+        requires room { RoomForBytes bytes.old (bytes_all self.old.teller (orders_done done.now run.now.place self.old)) }
         ensures follower { self.new ≡ followed done.now run.now.place self.old }
         ensures bytes { bytes.new.items
             ≡ bytes.old.items ++ bytes_all self.old.teller (orders_done done.now run.now.place self.old) }
@@ -104,7 +104,7 @@ impl Follower {
     /// Tracing begins.
     fn begin(&mut self, addr: u64, ctx: Ctx, bytes: &mut Vec<u8>)
         requires tells { CanTellAll self.old.teller (begin_orders addr ctx) }
-        requires room { HasRoom bytes.old (bytes_all self.old.teller (begin_orders addr ctx)) }
+        requires room { RoomForBytes bytes.old (bytes_all self.old.teller (begin_orders addr ctx)) }
         ensures follower { self.new ≡ begun self.old addr ctx }
         ensures bytes { bytes.new.items ≡ bytes.old.items ++ bytes_all self.old.teller (begin_orders addr ctx) }
     {
@@ -119,7 +119,7 @@ impl Follower {
         requires places { HasRoomFor self.old.places.room self.old.places.places.saved }
         requires window { HasRoomFor self.old.window.room self.old.window.p0s }
         requires tells { CanTellAll self.old.teller (step_orders self.old.places.places step.now) }
-        requires room { HasRoom bytes.old (bytes_all self.old.teller (step_orders self.old.places.places step.now)) }
+        requires room { RoomForBytes bytes.old (bytes_all self.old.teller (step_orders self.old.places.places step.now)) }
         ensures follower { self.new ≡ stepped self.old step.now }
         ensures bytes { bytes.new.items
             ≡ bytes.old.items ++ bytes_all self.old.teller (step_orders self.old.places.places step.now) }
@@ -132,7 +132,7 @@ impl Follower {
     /// Tells what the reader lacks of the block, and a P0 step; of an exception at its target both in one.
     fn tell(&mut self, step: &RunStep, bytes: &mut Vec<u8>)
         requires tells { CanTellAll self.old.teller (step_orders self.old.places.places step.now) }
-        requires room { HasRoom bytes.old (bytes_all self.old.teller (step_orders self.old.places.places step.now)) }
+        requires room { RoomForBytes bytes.old (bytes_all self.old.teller (step_orders self.old.places.places step.now)) }
         ensures follower { self.new
             ≡ record (self.old) { teller = told_all self.old.teller (step_orders self.old.places.places step.now) } }
         ensures bytes { bytes.new.items
@@ -160,7 +160,7 @@ impl Follower {
     /// Tells what the reader lacks of the address and the context of the block.
     fn tell_missing(&mut self, ctx: Ctx, bytes: &mut Vec<u8>)
         requires tells { CanTellAll self.old.teller (before self.old.places.places ctx) }
-        requires room { HasRoom bytes.old (bytes_all self.old.teller (before self.old.places.places ctx)) }
+        requires room { RoomForBytes bytes.old (bytes_all self.old.teller (before self.old.places.places ctx)) }
         ensures follower { self.new
             ≡ record (self.old) { teller = told_all self.old.teller (before self.old.places.places ctx) } }
         ensures bytes { bytes.new.items ≡ bytes.old.items ++ bytes_all self.old.teller (before self.old.places.places ctx) }
@@ -178,7 +178,7 @@ impl Follower {
     /// Tells a P0 step.
     fn tell_step(&mut self, step: &RunStep, bytes: &mut Vec<u8>)
         requires can { CanTell self.old.teller (p0_order step.now.kind step.now.addr) }
-        requires room { HasRoom bytes.old (bytes_of self.old.teller (p0_order step.now.kind step.now.addr)) }
+        requires room { RoomForBytes bytes.old (bytes_of self.old.teller (p0_order step.now.kind step.now.addr)) }
         ensures follower { self.new
             ≡ record (self.old) { teller = told_by self.old.teller (p0_order step.now.kind step.now.addr) } }
         ensures bytes { bytes.new.items ≡ bytes.old.items ++ bytes_of self.old.teller (p0_order step.now.kind step.now.addr) }
@@ -217,7 +217,7 @@ impl Follower {
     fn flip(&mut self, pc: u64, bytes: &mut Vec<u8>)
         requires newest { (p0s : List Element) × (taken : Bool) × (self.old.window.p0s ≡ p0s ++ Atom taken ∷ []) }
         requires can { CanTell self.old.teller Flip }
-        requires room { HasRoom bytes.old (bytes_of self.old.teller Flip) }
+        requires room { RoomForBytes bytes.old (bytes_of self.old.teller Flip) }
         ensures follower { self.new ≡ flipped self.old pc }
         ensures bytes { bytes.new.items ≡ bytes.old.items ++ bytes_of self.old.teller Flip }
     {
@@ -230,7 +230,7 @@ impl Follower {
     fn sync(&mut self, ctx: Ctx, bytes: &mut Vec<u8>)
         requires few { length self.old.window.p0s < 2 ^ 32 }
         requires tells { CanTellAll self.old.teller (sync_orders (length self.old.window.p0s) self.old.places.places.start ctx) }
-        requires room { HasRoom bytes.old
+        requires room { RoomForBytes bytes.old
             (bytes_all self.old.teller (sync_orders (length self.old.window.p0s) self.old.places.places.start ctx)) }
         ensures follower { self.new ≡ synced self.old ctx }
         ensures bytes { bytes.new.items ≡ bytes.old.items
@@ -246,7 +246,7 @@ impl Follower {
     /// Tracing ends, by an overflow.
     fn overflow(&mut self, bytes: &mut Vec<u8>)
         requires can { CanTell self.old.teller (Close ByOverflow) }
-        requires room { HasRoom bytes.old (bytes_of self.old.teller (Close ByOverflow)) }
+        requires room { RoomForBytes bytes.old (bytes_of self.old.teller (Close ByOverflow)) }
         ensures follower { self.new ≡ closed self.old ByOverflow }
         ensures bytes { bytes.new.items ≡ bytes.old.items ++ bytes_of self.old.teller (Close ByOverflow) }
     {
@@ -258,7 +258,7 @@ impl Follower {
     /// Tracing ends.
     fn stop(&mut self, bytes: &mut Vec<u8>)
         requires can { CanTell self.old.teller (Close ByOff) }
-        requires room { HasRoom bytes.old (bytes_of self.old.teller (Close ByOff)) }
+        requires room { RoomForBytes bytes.old (bytes_of self.old.teller (Close ByOff)) }
         ensures follower { self.new ≡ closed self.old ByOff }
         ensures bytes { bytes.new.items ≡ bytes.old.items ++ bytes_of self.old.teller (Close ByOff) }
     {

@@ -22,12 +22,12 @@ ghost use Rattle.trace_unit.specs.Growing.{orders_of_one, places_behind, shared_
 ghost use Rattle.trace_unit.specs.Orders.{Order, Sync, Tell, orders, orders_on, places_from};
 ghost use Rattle.trace_unit.specs.Packets.{Shared, nothing_shared, packets_all, packets_of, settle_packets, shared_after};
 ghost use Rattle.trace_unit.specs.Packets.{shared_all};
-ghost use Rattle.trace_unit.specs.Places.{Places, no_places, placed};
+ghost use Rattle.trace_unit.specs.Places.{Places, no_places, places_after};
 ghost use Rattle.trace_unit.specs.Small.{IsWithin, Small, unretired};
 ghost use Rattle.trace_unit.specs.Taken.{Announces, CanTakeAll};
 ghost use Rattle.trace_unit.specs.Telling.{AreTold, told_with};
 ghost use Rattle.trace_unit.specs.Told.{all_told};
-ghost use Rattle.trace_unit.specs.Whole.{Waiting, nothing_waits, out_elements, settle_elements, waits_all, whole, whole_all};
+ghost use Rattle.trace_unit.specs.Whole.{PutOff, nothing_waits, out_elements, settle_elements, waits_all, whole, whole_all};
 ghost use Rattle.trace_unit.specs.Whole.{whole_settled};
 ghost use Rattle.trace_unit.specs.Written.{settled, written};
 
@@ -87,10 +87,10 @@ pub fn a_unit_keeps_little()
 /// both ends the same. So do those that settle what waits; and so do all packets of a run, of which a trace info is the first
 /// that counts.
 pub fn packets_tell_the_whole_form()
-    ensures order { (s : Sizes) (depth : ℕ) (u : Waiting) (shared : Shared) (order : Order) → FitsOrder s order
+    ensures order { (s : Sizes) (depth : ℕ) (u : PutOff) (shared : Shared) (order : Order) → FitsOrder s order
         → AreTold (told_with shared) (packets_of depth u shared order) (whole depth u order)
         (told_with (shared_after shared order)) }
-    ensures settles { (depth : ℕ) (u : Waiting) (shared : Shared)
+    ensures settles { (depth : ℕ) (u : PutOff) (shared : Shared)
         → AreTold (told_with shared) (settle_packets depth u) (settle_elements depth u) (told_with shared) }
     ensures first { (depth n : ℕ) → AreTold untold (packets_of depth nothing_waits nothing_shared (Tell (Sync n)))
         (whole depth nothing_waits (Tell (Sync n))) (told_with nothing_shared) }
@@ -108,11 +108,11 @@ pub fn each_packet_is_spelled()
         → check image depth (place_in x) e ≡ None → FitsRun s x.current → FitsPlaces p
         → All (FitsOrder s) (orders_on x.current p (effect_of image (place_in x) e))
         × FitsRun s (after_event image depth x e).current
-        × FitsPlaces (placed image depth most x p (effect_of image (place_in x) e)) }
-    ensures order { (s : Sizes) (depth : ℕ) (u : Waiting) (shared : Shared) (order : Order) → FitsOrder s order
+        × FitsPlaces (places_after image depth most x p (effect_of image (place_in x) e)) }
+    ensures order { (s : Sizes) (depth : ℕ) (u : PutOff) (shared : Shared) (order : Order) → FitsOrder s order
         → IsShared s shared → IsCounted u
         → All (HasSpelling s) (packets_of depth u shared order) × IsShared s (shared_after shared order) }
-    ensures settles { (s : Sizes) (depth : ℕ) (u : Waiting) → IsCounted u → All (HasSpelling s) (settle_packets depth u) }
+    ensures settles { (s : Sizes) (depth : ℕ) (u : PutOff) → IsCounted u → All (HasSpelling s) (settle_packets depth u) }
     ensures run { (image : Image) (s : Sizes) (most : ℕ) (events : List Event) (x : Execution) → HasGap image → AreSettings s
         → most ≤ most_addresses → AreEvents s events → run_after image s.depth events ≡ Ok x
         → All (HasSpelling s) (packets_all s.depth nothing_waits nothing_shared (orders image s most events))
@@ -141,5 +141,5 @@ pub fn a_trace_grows_event_by_event()
         × (shared_behind image s most (events ++ e ∷ [])
         ≡ shared_all (shared_behind image s most events) (orders_of_one image s most events x e))
         × (places_behind image s most (events ++ e ∷ [])
-        ≡ placed image s.depth most x (places_behind image s most events) (effect_of image (place_in x) e)) }
+        ≡ places_after image s.depth most x (places_behind image s most events) (effect_of image (place_in x) e)) }
 {}

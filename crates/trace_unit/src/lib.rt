@@ -12,10 +12,10 @@ mod follower;
 mod laws;
 mod packets;
 mod places;
+mod put_off;
 mod shared;
 mod teller;
 mod unit;
-mod waiting;
 mod window;
 
 pub use laws::{

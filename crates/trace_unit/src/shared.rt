@@ -6,7 +6,7 @@ ghost use Rattle.packet_writer.specs.Spelling.{spelling};
 ghost use Rattle.trace_unit.specs.Orders.{Address, Context, Place, Start, Sync, target_notice};
 ghost use Rattle.trace_unit.specs.Packets.{context_packet, exception_packets, long_form, notice_packets};
 ghost use Rattle.trace_unit.specs.Packets.{nothing_shared, shared_by, target_packets, with_address, with_context};
-ghost use Rattle.trace_unit.specs.Room.{HasRoom};
+ghost use Rattle.trace_unit.specs.Room.{RoomForBytes};
 ghost use Rattle.trace_unit.specs.Written.{spelled};
 
 use crate::packets::put;
@@ -45,7 +45,7 @@ impl Shared {
 
     /// Synchronisation, with a trace info that announces so many P0 elements.
     pub fn sync(&mut self, announced: u32, settings: &Settings, bytes: &mut Vec<u8>)
-        requires room { HasRoom bytes.old (spelled settings.now (notice_packets self.old (Sync announced))) }
+        requires room { RoomForBytes bytes.old (spelled settings.now (notice_packets self.old (Sync announced))) }
         ensures shared { self.new ≡ shared_by self.old (Sync announced) }
         ensures bytes { bytes.new.items ≡ bytes.old.items ++ spelled settings.now (notice_packets self.old (Sync announced)) }
         ensures capacity { vec_capacity bytes.new ≡ vec_capacity bytes.old }
@@ -67,7 +67,7 @@ impl Shared {
     /// The address and the context of the begun block, in full.
     pub fn start(&mut self, addr: u64, ctx: Ctx, settings: &Settings, bytes: &mut Vec<u8>)
         requires spelled { All (HasSpelling settings.now) (notice_packets self.old (Start addr ctx)) }
-        requires room { HasRoom bytes.old (spelled settings.now (notice_packets self.old (Start addr ctx))) }
+        requires room { RoomForBytes bytes.old (spelled settings.now (notice_packets self.old (Start addr ctx))) }
         ensures shared { self.new ≡ shared_by self.old (Start addr ctx) }
         ensures bytes { bytes.new.items ≡ bytes.old.items ++ spelled settings.now (notice_packets self.old (Start addr ctx)) }
         ensures capacity { vec_capacity bytes.new ≡ vec_capacity bytes.old }
@@ -78,7 +78,7 @@ impl Shared {
     /// The address and the context of a block before its P0 step.
     pub fn place(&mut self, addr: u64, ctx: Ctx, settings: &Settings, bytes: &mut Vec<u8>)
         requires spelled { All (HasSpelling settings.now) (notice_packets self.old (Place addr ctx)) }
-        requires room { HasRoom bytes.old (spelled settings.now (notice_packets self.old (Place addr ctx))) }
+        requires room { RoomForBytes bytes.old (spelled settings.now (notice_packets self.old (Place addr ctx))) }
         ensures shared { self.new ≡ shared_by self.old (Place addr ctx) }
         ensures bytes { bytes.new.items ≡ bytes.old.items ++ spelled settings.now (notice_packets self.old (Place addr ctx)) }
         ensures capacity { vec_capacity bytes.new ≡ vec_capacity bytes.old }
@@ -101,7 +101,7 @@ impl Shared {
     /// An address alone, in the form that is chosen for it.
     pub fn address(&mut self, addr: u64, settings: &Settings, bytes: &mut Vec<u8>)
         requires whole { addr % 4 ≡ 0 }
-        requires room { HasRoom bytes.old (spelled settings.now (notice_packets self.old (Address addr))) }
+        requires room { RoomForBytes bytes.old (spelled settings.now (notice_packets self.old (Address addr))) }
         ensures shared { self.new ≡ shared_by self.old (Address addr) }
         ensures bytes { bytes.new.items ≡ bytes.old.items ++ spelled settings.now (notice_packets self.old (Address addr)) }
         ensures capacity { vec_capacity bytes.new ≡ vec_capacity bytes.old }
@@ -114,7 +114,7 @@ impl Shared {
     /// A context alone.
     pub fn context(&mut self, ctx: Ctx, settings: &Settings, bytes: &mut Vec<u8>)
         requires spelled { All (HasSpelling settings.now) (notice_packets self.old (Context ctx)) }
-        requires room { HasRoom bytes.old (spelled settings.now (notice_packets self.old (Context ctx))) }
+        requires room { RoomForBytes bytes.old (spelled settings.now (notice_packets self.old (Context ctx))) }
         ensures shared { self.new ≡ shared_by self.old (Context ctx) }
         ensures bytes { bytes.new.items ≡ bytes.old.items ++ spelled settings.now (notice_packets self.old (Context ctx)) }
         ensures capacity { vec_capacity bytes.new ≡ vec_capacity bytes.old }
@@ -138,7 +138,7 @@ impl Shared {
     pub fn exception(&mut self, kind: u8, ret: u64, settings: &Settings, bytes: &mut Vec<u8>)
         requires kind { kind < 32 }
         requires whole { ret % 4 ≡ 0 }
-        requires room { HasRoom bytes.old (spelled settings.now (exception_packets self.old kind ret)) }
+        requires room { RoomForBytes bytes.old (spelled settings.now (exception_packets self.old kind ret)) }
         ensures shared { self.new ≡ with_address self.old ret }
         ensures bytes { bytes.new.items ≡ bytes.old.items ++ spelled settings.now (exception_packets self.old kind ret) }
         ensures capacity { vec_capacity bytes.new ≡ vec_capacity bytes.old }
@@ -163,7 +163,7 @@ impl Shared {
         requires kind { kind < 32 }
         requires spelled { All (HasSpelling settings.now) (notice_packets self.old (target_notice ctx addr)) }
         requires whole { addr % 4 ≡ 0 }
-        requires room { HasRoom bytes.old (spelled settings.now (target_packets self.old ctx kind addr)) }
+        requires room { RoomForBytes bytes.old (spelled settings.now (target_packets self.old ctx kind addr)) }
         ensures shared { self.new ≡ shared_by self.old (target_notice ctx addr) }
         ensures bytes { bytes.new.items ≡ bytes.old.items ++ spelled settings.now (target_packets self.old ctx kind addr) }
         ensures capacity { vec_capacity bytes.new ≡ vec_capacity bytes.old }
@@ -186,7 +186,7 @@ impl Shared {
         bytes: &mut Vec<u8>,
     )
         requires spelled { HasSpelling settings.now (with_context self.old form ctx) }
-        requires room { HasRoom bytes.old (spelling settings.now (with_context self.old form ctx)) }
+        requires room { RoomForBytes bytes.old (spelling settings.now (with_context self.old form ctx)) }
         ensures shared { self.new ≡ record (with_address self.old addr) { context = ctx } }
         ensures bytes { bytes.new.items ≡ bytes.old.items ++ spelling settings.now (with_context self.old form ctx) }
         ensures capacity { vec_capacity bytes.new ≡ vec_capacity bytes.old }

@@ -5,13 +5,13 @@ ghost use Rattle.trace_unit.specs.Ordered.{CanTell, bytes_of, told_by};
 ghost use Rattle.trace_unit.specs.Orders.{Address, Branch, Cancel, Close, Context, Exception, ExceptionAtTarget, Flip, On};
 ghost use Rattle.trace_unit.specs.Orders.{Place, Retire, Settle, Start, Sync, Tell};
 ghost use Rattle.trace_unit.specs.Packets.{nothing_shared};
-ghost use Rattle.trace_unit.specs.Room.{HasRoom};
+ghost use Rattle.trace_unit.specs.Room.{RoomForBytes};
 ghost use Rattle.trace_unit.specs.Whole.{nothing_waits};
 ghost use Rattle.spec_run.specs.Runs.{ByOff, ByOverflow};
 
 use crate::packets::put;
+use crate::put_off::PutOff;
 use crate::shared::Shared;
-use crate::waiting::Waiting;
 use etm_types::{Ctx, Settings};
 use packet_grammar::Packet;
 
@@ -19,7 +19,7 @@ use packet_grammar::Packet;
 #[derive(Drop)]
 pub struct Teller {
     pub settings: Settings,
-    pub waiting: Waiting,
+    pub waiting: PutOff,
     pub shared: Shared,
 }
 
@@ -30,7 +30,7 @@ impl Teller {
     {
         Teller {
             settings: *settings,
-            waiting: Waiting::new(),
+            waiting: PutOff::new(),
             shared: Shared::new(),
         }
     }
@@ -38,7 +38,7 @@ impl Teller {
     /// Synchronisation, with a trace info that announces so many P0 elements.
     pub fn sync(&mut self, announced: u32, bytes: &mut Vec<u8>)
         requires can { CanTell self.old (Tell (Sync announced)) }
-        requires room { HasRoom bytes.old (bytes_of self.old (Tell (Sync announced))) }
+        requires room { RoomForBytes bytes.old (bytes_of self.old (Tell (Sync announced))) }
         ensures teller { self.new ≡ told_by self.old (Tell (Sync announced)) }
         ensures bytes { bytes.new.items ≡ bytes.old.items ++ bytes_of self.old (Tell (Sync announced)) }
         ensures capacity { vec_capacity bytes.new ≡ vec_capacity bytes.old }
@@ -50,7 +50,7 @@ impl Teller {
     /// Tracing begins.
     pub fn on(&mut self, bytes: &mut Vec<u8>)
         requires can { CanTell self.old (Tell On) }
-        requires room { HasRoom bytes.old (bytes_of self.old (Tell On)) }
+        requires room { RoomForBytes bytes.old (bytes_of self.old (Tell On)) }
         ensures teller { self.new ≡ told_by self.old (Tell On) }
         ensures bytes { bytes.new.items ≡ bytes.old.items ++ bytes_of self.old (Tell On) }
         ensures capacity { vec_capacity bytes.new ≡ vec_capacity bytes.old }
@@ -62,7 +62,7 @@ impl Teller {
     /// The address and the context of the begun block, in full.
     pub fn start(&mut self, addr: u64, ctx: Ctx, bytes: &mut Vec<u8>)
         requires can { CanTell self.old (Tell (Start addr ctx)) }
-        requires room { HasRoom bytes.old (bytes_of self.old (Tell (Start addr ctx))) }
+        requires room { RoomForBytes bytes.old (bytes_of self.old (Tell (Start addr ctx))) }
         ensures teller { self.new ≡ told_by self.old (Tell (Start addr ctx)) }
         ensures bytes { bytes.new.items ≡ bytes.old.items ++ bytes_of self.old (Tell (Start addr ctx)) }
         ensures capacity { vec_capacity bytes.new ≡ vec_capacity bytes.old }
@@ -74,7 +74,7 @@ impl Teller {
     /// The address and the context of a block before its P0 step.
     pub fn place(&mut self, addr: u64, ctx: Ctx, bytes: &mut Vec<u8>)
         requires can { CanTell self.old (Tell (Place addr ctx)) }
-        requires room { HasRoom bytes.old (bytes_of self.old (Tell (Place addr ctx))) }
+        requires room { RoomForBytes bytes.old (bytes_of self.old (Tell (Place addr ctx))) }
         ensures teller { self.new ≡ told_by self.old (Tell (Place addr ctx)) }
         ensures bytes { bytes.new.items ≡ bytes.old.items ++ bytes_of self.old (Tell (Place addr ctx)) }
         ensures capacity { vec_capacity bytes.new ≡ vec_capacity bytes.old }
@@ -86,7 +86,7 @@ impl Teller {
     /// An address alone.
     pub fn address(&mut self, addr: u64, bytes: &mut Vec<u8>)
         requires can { CanTell self.old (Tell (Address addr)) }
-        requires room { HasRoom bytes.old (bytes_of self.old (Tell (Address addr))) }
+        requires room { RoomForBytes bytes.old (bytes_of self.old (Tell (Address addr))) }
         ensures teller { self.new ≡ told_by self.old (Tell (Address addr)) }
         ensures bytes { bytes.new.items ≡ bytes.old.items ++ bytes_of self.old (Tell (Address addr)) }
         ensures capacity { vec_capacity bytes.new ≡ vec_capacity bytes.old }
@@ -98,7 +98,7 @@ impl Teller {
     /// A context alone.
     pub fn context(&mut self, ctx: Ctx, bytes: &mut Vec<u8>)
         requires can { CanTell self.old (Tell (Context ctx)) }
-        requires room { HasRoom bytes.old (bytes_of self.old (Tell (Context ctx))) }
+        requires room { RoomForBytes bytes.old (bytes_of self.old (Tell (Context ctx))) }
         ensures teller { self.new ≡ told_by self.old (Tell (Context ctx)) }
         ensures bytes { bytes.new.items ≡ bytes.old.items ++ bytes_of self.old (Tell (Context ctx)) }
         ensures capacity { vec_capacity bytes.new ≡ vec_capacity bytes.old }
@@ -110,7 +110,7 @@ impl Teller {
     /// An atom.
     pub fn branch(&mut self, taken: bool, bytes: &mut Vec<u8>)
         requires can { CanTell self.old (Branch taken) }
-        requires room { HasRoom bytes.old (bytes_of self.old (Branch taken)) }
+        requires room { RoomForBytes bytes.old (bytes_of self.old (Branch taken)) }
         ensures teller { self.new ≡ told_by self.old (Branch taken) }
         ensures bytes { bytes.new.items ≡ bytes.old.items ++ bytes_of self.old (Branch taken) }
         ensures capacity { vec_capacity bytes.new ≡ vec_capacity bytes.old }
@@ -121,7 +121,7 @@ impl Teller {
     /// An exception with its return address.
     pub fn exception(&mut self, kind: u8, ret: u64, bytes: &mut Vec<u8>)
         requires can { CanTell self.old (Exception kind ret) }
-        requires room { HasRoom bytes.old (bytes_of self.old (Exception kind ret)) }
+        requires room { RoomForBytes bytes.old (bytes_of self.old (Exception kind ret)) }
         ensures teller { self.new ≡ told_by self.old (Exception kind ret) }
         ensures bytes { bytes.new.items ≡ bytes.old.items ++ bytes_of self.old (Exception kind ret) }
         ensures capacity { vec_capacity bytes.new ≡ vec_capacity bytes.old }
@@ -140,7 +140,7 @@ impl Teller {
         bytes: &mut Vec<u8>,
     )
         requires can { CanTell self.old (ExceptionAtTarget ctx kind addr) }
-        requires room { HasRoom bytes.old (bytes_of self.old (ExceptionAtTarget ctx kind addr)) }
+        requires room { RoomForBytes bytes.old (bytes_of self.old (ExceptionAtTarget ctx kind addr)) }
         ensures teller { self.new ≡ told_by self.old (ExceptionAtTarget ctx kind addr) }
         ensures bytes { bytes.new.items ≡ bytes.old.items ++ bytes_of self.old (ExceptionAtTarget ctx kind addr) }
         ensures capacity { vec_capacity bytes.new ≡ vec_capacity bytes.old }
@@ -170,7 +170,7 @@ impl Teller {
     /// The newest atom is the other one.
     pub fn flip(&mut self, bytes: &mut Vec<u8>)
         requires can { CanTell self.old Flip }
-        requires room { HasRoom bytes.old (bytes_of self.old Flip) }
+        requires room { RoomForBytes bytes.old (bytes_of self.old Flip) }
         ensures teller { self.new ≡ told_by self.old Flip }
         ensures bytes { bytes.new.items ≡ bytes.old.items ++ bytes_of self.old Flip }
         ensures capacity { vec_capacity bytes.new ≡ vec_capacity bytes.old }
@@ -181,7 +181,7 @@ impl Teller {
     /// All that was put off is written.
     pub fn settle(&mut self, bytes: &mut Vec<u8>)
         requires can { CanTell self.old Settle }
-        requires room { HasRoom bytes.old (bytes_of self.old Settle) }
+        requires room { RoomForBytes bytes.old (bytes_of self.old Settle) }
         ensures teller { self.new ≡ told_by self.old Settle }
         ensures bytes { bytes.new.items ≡ bytes.old.items ++ bytes_of self.old Settle }
         ensures capacity { vec_capacity bytes.new ≡ vec_capacity bytes.old }
@@ -192,7 +192,7 @@ impl Teller {
     /// Tracing ends, by an overflow.
     pub fn overflow(&mut self, bytes: &mut Vec<u8>)
         requires can { CanTell self.old (Close ByOverflow) }
-        requires room { HasRoom bytes.old (bytes_of self.old (Close ByOverflow)) }
+        requires room { RoomForBytes bytes.old (bytes_of self.old (Close ByOverflow)) }
         ensures teller { self.new ≡ told_by self.old (Close ByOverflow) }
         ensures bytes { bytes.new.items ≡ bytes.old.items ++ bytes_of self.old (Close ByOverflow) }
     {
@@ -204,7 +204,7 @@ impl Teller {
     /// Tracing ends.
     pub fn stop(&mut self, bytes: &mut Vec<u8>)
         requires can { CanTell self.old (Close ByOff) }
-        requires room { HasRoom bytes.old (bytes_of self.old (Close ByOff)) }
+        requires room { RoomForBytes bytes.old (bytes_of self.old (Close ByOff)) }
         ensures teller { self.new ≡ told_by self.old (Close ByOff) }
         ensures bytes { bytes.new.items ≡ bytes.old.items ++ bytes_of self.old (Close ByOff) }
     {

@@ -1,4 +1,5 @@
 pub mod LastFrames
+mod RunFileExamples
 mod SelftestExamples
 pub mod SelftestLines
 pub mod SelftestTexts

@@ -1,5 +1,5 @@
 -- What `selftest` prints of a number.
-use Rattle.std.specs.Prelude.{◌≡◌, ◌⊎◌, ℕ, ◌<◌, ◌≤◌, ◌==◌, Bool, List, [], length, take, count_by, Option, Some, None, Result, Ok, Err}
+use Rattle.std.specs.Prelude.{◌≡◌, ◌⊎◌, ℕ, ◌+◌, ◌%◌, ◌<◌, ◌≤◌, ◌==◌, Bool, List, [], length, take, count_by, Option, Some, None, Result, Ok, Err}
 use Rattle.bench_gen.specs.Bench.{generated}
 use Rattle.bench_text.specs.Parts.{BenchParts}
 use Rattle.bench_text.specs.Refusals.{bench_of}
@@ -41,6 +41,10 @@ HasBadBench n line why text =
     × (text ≡ bench_line line why)
 
 -- ---- what is read of their frames
+
+-- so many bytes of them are read at once: 1 to 1000
+abbrev pub piece_of : ℕ → ℕ
+piece_of n = 1 + n % 1000
 
 -- the first bytes, or all
 abbrev pub kept_of : Option ℕ → List ℕ → List ℕ

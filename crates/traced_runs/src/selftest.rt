@@ -10,7 +10,7 @@ ghost use Rattle.program_image.specs.Part.{IsImage};
 ghost use Rattle.program_image.specs.declared.image.Image.{Image as Parts};
 ghost use Rattle.stream_demux.specs.Texts.{Printed};
 ghost use Rattle.input_pieces.specs.Listed.{most_input};
-ghost use Rattle.traced_runs.specs.Selftest.{AreGood, HasLines, IsTooLong, TestsSo, kept_of, line_feeds};
+ghost use Rattle.traced_runs.specs.Selftest.{AreGood, HasLines, IsTooLong, TestsSo, kept_of, line_feeds, piece_of};
 ghost use Rattle.traced_runs.specs.Traced.{table_of, trace_frames};
 ghost use Rattle.trace_io.specs.Bytes.{ShowsAsBefore};
 ghost use Rattle.trace_io.specs.Causes.{HasCause};
@@ -52,6 +52,13 @@ fn source_of(alloc: Global, bytes: &[u8], piece: usize) -> Result<SafeSource, Al
     let mut copy = Vec::new(alloc);
     copy.extend_from_slice(bytes)?;
     Ok(SafeSource::new(copy, piece))
+}
+
+/// A source of the frames of a number's traces. Numbers differ in how many bytes are read at once.
+fn frames_source(alloc: Global, frames: &[u8], number: u32) -> Result<SafeSource, AllocError>
+    ensures { IfOk result (λ s. (s.left ≡ frames.now) × (s.piece ≡ piece_of number)) }
+{
+    source_of(alloc, frames, 1 + (number % 1000) as usize)
 }
 
 /// The image of a text.
@@ -134,21 +141,20 @@ fn table_of(bench: &Bench) -> SettingsTable
     table
 }
 
-/// The number of lines of the paths in frames, which are read by pieces.
+/// The number of lines of the paths in frames of a number's traces.
 fn count_lines(
     alloc: Global,
     image: &Image,
     bench: &Bench,
     frames: &[u8],
-    piece: usize,
+    number: u32,
 ) -> Result<usize, AllocError>
     requires bench { IsBench bench.now }
     requires image { IsImage image.now }
     requires few { length frames.now ≤ most_input }
-    requires piece { 0 < piece }
     ensures { IfOk result (λ count. (lines : List Printed) × HasLines image.now bench.now frames.now lines × (count ≡ length lines)) }
 {
-    let mut source = source_of(alloc, frames, piece)?;
+    let mut source = frames_source(alloc, frames, number)?;
     let demux = Demux::<StreamDecoder>::new(alloc, image, &table_of(bench))?;
     let mut text = MemSink::new(alloc, Vec::new(alloc));
     // No read fails, and there are not too many bytes: where no write failed, all of them were read.
@@ -192,9 +198,7 @@ fn tested(
         return Err(Untested::TooLong);
     }
     let read = kept(frames.written(), cut);
-    // Numbers differ in how many bytes are read at once: 1 to 1000.
-    let piece = 1 + (number % 1000) as usize;
-    count_lines(alloc, &image, &bench, read, piece).map_err(|_| Untested::Memory)
+    count_lines(alloc, &image, &bench, read, number).map_err(|_| Untested::Memory)
 }
 
 /// Tries both ends on the run file of a number, and writes the summary, or why there is none. Of its frames the first `cut` bytes are

@@ -17,7 +17,7 @@ use Rattle.trace_unit.specs.Packets.{front_packet, notice_packets, nothing_share
 use Rattle.trace_unit.specs.Packets.{settle_packets}
 use Rattle.trace_unit.specs.Packets.{shared_after, spilled_packets, target_packets}
 use Rattle.trace_unit.specs.Packing.{longest}
-use Rattle.trace_unit.specs.Whole.{Waiting, is_full, out, waits, waits_all, with_atom}
+use Rattle.trace_unit.specs.Whole.{PutOff, is_full, out, waits, waits_all, with_atom}
 use Rattle.wrapped_capture.proofs.Lists.{heads}
 use Rattle.wrapped_capture.specs.LastBytes.{info}
 
@@ -70,13 +70,13 @@ packed_none zero atoms = tt
 packed_none (suc n) [] = tt
 packed_none (suc n) (a ∷ atoms) = (refl, packed_none n (drop (longest (a ∷ atoms)) (a ∷ atoms)))
 
-out_none : (u : Waiting) → NoAsync (out_packets u)
+out_none : (u : PutOff) → NoAsync (out_packets u)
 out_none u = none_joined (cancel_packets u.cancels) (packed u.atoms) (cancel_none u.cancels) (packed_none (length u.atoms) u.atoms)
 
-pub settle_none : (depth : ℕ) (u : Waiting) → NoAsync (settle_packets depth u)
+pub settle_none : (depth : ℕ) (u : PutOff) → NoAsync (settle_packets depth u)
 settle_none depth u = none_joined (out_packets u) (commit_packets (out depth u).commits) (out_none u) (commit_none (out depth u).commits)
 
-spilled_none : (full : Bool) (u : Waiting) → NoAsync (spilled_packets full u)
+spilled_none : (full : Bool) (u : PutOff) → NoAsync (spilled_packets full u)
 spilled_none true u = none_joined (cancel_packets u.cancels) (front_packet u.atoms ∷ []) (cancel_none u.cancels) (refl, tt)
 spilled_none false u = tt
 
@@ -94,7 +94,7 @@ flip_none (suc (suc n)) = by (nat_le (suc (suc n)) 5)
     by true = refl
     by false = refl
 
-flips_none : (u : Waiting) (atoms : List Bool) → NoAsync (flip_packets u atoms)
+flips_none : (u : PutOff) (atoms : List Bool) → NoAsync (flip_packets u atoms)
 flips_none u [] = (flip_none u.cancels, tt)
 flips_none u (a ∷ atoms) = tt
 
@@ -107,20 +107,20 @@ target_none shared None addr = (refl, tt)
 target_none shared (Some ctx) addr = (refl, tt)
 
 -- an A-sync in the packets of an order is that of a synchronisation
-record AtSync (u : Waiting) (order : Order) (front rest : List Packet) : Type 0 where
+record AtSync (u : PutOff) (order : Order) (front rest : List Packet) : Type 0 where
   pub count : ℕ
   pub is : order ≡ Tell (Sync count)
   pub before : front ≡ out_packets u
   pub behind : rest ≡ info count ∷ []
 
-none_at : (u : Waiting) (order : Order) (packets front rest : List Packet) → NoAsync packets → packets ≡ front ++ packet.Async ∷ rest
+none_at : (u : PutOff) (order : Order) (packets front rest : List Packet) → NoAsync packets → packets ≡ front ++ packet.Async ∷ rest
     → AtSync u order front rest
 none_at u order packets front rest bare e = absurd (never packets front rest bare e)
 
-behind_out : (u : Waiting) (p : Packet) → is_async p ≡ false → NoAsync (out_packets u ++ p ∷ [])
+behind_out : (u : PutOff) (p : Packet) → is_async p ≡ false → NoAsync (out_packets u ++ p ∷ [])
 behind_out u p bare = none_joined (out_packets u) (p ∷ []) (out_none u) (bare, tt)
 
-at_sync : (depth : ℕ) (u : Waiting) (shared : Shared) (order : Order) (front rest : List Packet)
+at_sync : (depth : ℕ) (u : PutOff) (shared : Shared) (order : Order) (front rest : List Packet)
     → packets_of depth u shared order ≡ front ++ packet.Async ∷ rest → AtSync u order front rest
 at_sync depth u shared (Tell (Sync n)) front rest e =
     let r = only (out_packets u) (info n ∷ []) front rest (out_none u) (refl, tt) e in
@@ -169,7 +169,7 @@ two (x ∷ xs) ys (f ∷ front) rest a e =
     ]
 
 -- what stands before and behind an A-sync among the packets of orders, behind which others follow
-pub record SyncedAt (depth : ℕ) (u : Waiting) (shared : Shared) (orders : List Order) (last front rest : List Packet) : Type 0 where
+pub record SyncedAt (depth : ℕ) (u : PutOff) (shared : Shared) (orders : List Order) (last front rest : List Packet) : Type 0 where
   pub early : List Order
   pub count : ℕ
   pub late : List Order
@@ -177,7 +177,7 @@ pub record SyncedAt (depth : ℕ) (u : Waiting) (shared : Shared) (orders : List
   pub before : front ≡ packets_all depth u shared early ++ out_packets (waits_all depth u early)
   pub behind : rest ≡ info count ∷ (packets_all depth (waits depth (waits_all depth u early) (Tell (Sync count))) nothing_shared late ++ last)
 
-pub synced_at : (depth : ℕ) (u : Waiting) (shared : Shared) (orders : List Order) (last front rest : List Packet) → NoAsync last
+pub synced_at : (depth : ℕ) (u : PutOff) (shared : Shared) (orders : List Order) (last front rest : List Packet) → NoAsync last
     → packets_all depth u shared orders ++ last ≡ front ++ packet.Async ∷ rest → SyncedAt depth u shared orders last front rest
 synced_at depth u shared [] last front rest bare e = absurd (never last front rest bare e)
 synced_at depth u shared (order ∷ orders) last front rest bare e =

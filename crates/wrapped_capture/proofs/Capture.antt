@@ -13,7 +13,7 @@ use Rattle.packet_grammar.specs.declared.end.End.TheVariants as end
 use Rattle.packet_grammar.specs.declared.packet.Packet.{Packet}
 use Rattle.packet_grammar.specs.declared.packet.Packet.TheVariants as packet
 use Rattle.packet_writer.specs.Fitting.{HasSpelling}
-use Rattle.packet_writer.specs.Laws.{placed}
+use Rattle.packet_writer.specs.Laws.{with_offsets}
 use Rattle.packet_writer.specs.Spelling.{spelling}
 use Rattle.packet_writer.proofs.Streams.{written_is_read}
 use Rattle.path_elements.specs.Elements.{Told, all_elements, untold}
@@ -41,7 +41,7 @@ use Rattle.trace_unit.specs.Orders.{Order, Sync, Tell, orders}
 use Rattle.trace_unit.specs.Packets.{cancel_packets, nothing_shared, notice_packets, out_packets, packed, packets_all, settle_packets, shared_all}
 use Rattle.trace_unit.specs.Telling.{told_with}
 use Rattle.trace_unit.specs.Told.{atom_element, cancels_of}
-use Rattle.trace_unit.specs.Whole.{Waiting, nothing_waits, out_elements, settle_elements, waits, waits_all, whole, whole_all, whole_settled}
+use Rattle.trace_unit.specs.Whole.{PutOff, nothing_waits, out_elements, settle_elements, waits, waits_all, whole, whole_all, whole_settled}
 use Rattle.trace_unit.specs.Written.{settled, spelled}
 use Rattle.etm_types.specs.declared.item.Item.{Item}
 use Rattle.wrapped_capture.specs.Part.{ShowsPart}
@@ -62,14 +62,14 @@ alone_earlier : (k : ℕ) (xs : List (ℕ × Packet)) → packets_alone (earlier
 alone_earlier k [] = refl
 alone_earlier k (x ∷ xs) = ap (λ l. x.1 ∷ l) (alone_earlier k xs)
 
-placed_alone : (s : Sizes) (at : ℕ) (packets : List Packet) → packets_alone (placed s at packets) ≡ packets
+placed_alone : (s : Sizes) (at : ℕ) (packets : List Packet) → packets_alone (with_offsets s at packets) ≡ packets
 placed_alone s at [] = refl
 placed_alone s at (p ∷ packets) = ap (λ l. p ∷ l) (placed_alone s (at + length (spelling s p)) packets)
 
 stream_is : (s : Sizes) (packets more : List Packet) → packets ≡ packet.Async ∷ more → All (HasSpelling s) packets
-    → IsStream s (spelled s packets) (placed s 0 packets) clean
+    → IsStream s (spelled s packets) (with_offsets s 0 packets) clean
 stream_is s packets more is have =
-    subst (λ l. IsStream s (spelled s l) (placed s 0 l) clean) (sym is)
+    subst (λ l. IsStream s (spelled s l) (with_offsets s 0 l) clean) (sym is)
     (written_is_read s more (All-tail (HasSpelling s) packet.Async more (subst (All (HasSpelling s)) is have)))
 
 -- the bytes of orders, and of what waits behind them
@@ -79,7 +79,7 @@ trace_of s run =
 
 -- ---- elements before and behind a trace info
 
-whole_at : (depth : ℕ) (u : Waiting) (early late : List Order) (order : Order)
+whole_at : (depth : ℕ) (u : PutOff) (early late : List Order) (order : Order)
     → whole_all depth u (early ++ order ∷ late)
     ≡ whole_all depth u early ++ (whole depth (waits_all depth u early) order ++ whole_all depth (waits depth (waits_all depth u early) order) late)
 whole_at depth u [] late order = refl
@@ -90,7 +90,7 @@ whole_at depth u (x ∷ early) late order =
     (whole depth (waits_all depth v early) order ++ whole_all depth (waits depth (waits_all depth v early) order) late))
 
 -- the elements behind a trace info, with those of what waits in the end
-abbrev late_elements : ℕ → Waiting → List Order → List Elem
+abbrev late_elements : ℕ → PutOff → List Order → List Elem
 late_elements depth v late = whole_all depth v late ++ settle_elements depth (waits_all depth v late)
 
 settled_at : (depth n : ℕ) (early late : List Order) → out_elements (waits_all depth nothing_waits early) ≡ []
@@ -108,7 +108,7 @@ settled_at depth n early late none =
     ∙ ap (λ l. front ++ (((l ++ elem.Info n ∷ []) ++ whole_all depth v late) ++ settle_elements depth (waits_all depth v late))) none
 
 -- what is told by the packets from a trace info on
-late_tells : (s : Sizes) (n : ℕ) (v : Waiting) (late : List Order) → All (FitsOrder s) late
+late_tells : (s : Sizes) (n : ℕ) (v : PutOff) (late : List Order) → All (FitsOrder s) late
     → Tells untold (packet.Async ∷ info n ∷ (packets_all s.depth v nothing_shared late ++ settle_packets s.depth (waits_all s.depth v late)))
     (elem.Info n ∷ late_elements s.depth v late) (told_with (shared_all nothing_shared late))
 late_tells s n v late fit =
@@ -129,7 +129,7 @@ none_held : (atoms : List Bool) → map atom_element atoms ≡ [] → atoms ≡ 
 none_held [] e = refl
 none_held (a ∷ atoms) e = absurd cc
 
-nothing_out : (u : Waiting) → out_elements u ≡ [] → out_packets u ≡ []
+nothing_out : (u : PutOff) → out_elements u ≡ [] → out_packets u ≡ []
 nothing_out u e =
     let parts = none_cancelled u.cancels (map atom_element (take (length u.atoms) u.atoms)) e in
     let atoms = none_held u.atoms (ap (map atom_element) (sym (take_all (length u.atoms) u.atoms (omega arith))) ∙ parts.1) in
@@ -193,7 +193,7 @@ packed_run s run more missing offset settings begins have first =
     let last = settle_packets s.depth waiting in
     let all : List Packet = front ++ last in
     let bytes = trace_of s run in
-    let ps : List (ℕ × Packet) = placed s 0 all in
+    let ps : List (ℕ × Packet) = with_offsets s 0 all in
     let stream : IsStream s bytes ps clean =
     subst (λ b. IsStream s b ps clean) (spelled_joined s front last)
     (stream_is s all _ (ap (λ l. packets_all s.depth nothing_waits nothing_shared l ++ last) begins)
@@ -226,7 +226,7 @@ path_behind image s run missing offset bytes p at whole items fit shows =
     let v = waits s.depth (waits_all s.depth nothing_waits early) (Tell (Sync n)) in
     let async : ℕ × Packet = (missing + offset, packet.Async) in
     let later : List (ℕ × Packet) = earlier missing (async ∷ p.enters.rest) in
-    let all : Waiting → List Packet = λ w. packet.Async ∷ info n ∷ (packets_all s.depth v nothing_shared late ++ settle_packets s.depth w) in
+    let all : PutOff → List Packet = λ w. packet.Async ∷ info n ∷ (packets_all s.depth v nothing_shared late ++ settle_packets s.depth w) in
     let settles : waits_all s.depth nothing_waits run ≡ waits_all s.depth v late =
     ap (waits_all s.depth nothing_waits) p.at.orders_are ∙ waits_joined s.depth nothing_waits early (Tell (Sync n) ∷ late) in
     let later_are : packets_alone later ≡ all (waits_all s.depth v late) =

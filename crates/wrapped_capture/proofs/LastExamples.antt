@@ -24,7 +24,7 @@ use Rattle.packet_grammar.specs.declared.packet.Packet.TheVariants as packet
 use Rattle.packet_grammar.specs.declared.packet.Packet.{Packet}
 use Rattle.packet_writer.proofs.Streams.{written_is_read}
 use Rattle.packet_writer.specs.Fitting.{HasSpelling}
-use Rattle.packet_writer.specs.Laws.{placed}
+use Rattle.packet_writer.specs.Laws.{with_offsets}
 use Rattle.path_elements.proofs.BytePaths.{one_path}
 use Rattle.path_elements.specs.Elements.{all_elements, untold}
 use Rattle.path_elements.specs.Path.{IsPath, WalksAll}
@@ -133,7 +133,7 @@ it_is_unknown = record {
 last_show : All (HasSpelling (sizes 4)) last_packets → IsPath code (sizes 4) last_bytes (item.Unknown ∷ []) end.Clean
 unfolding atom_formats byte_of
 last_show have =
-    let at = placed (sizes 4) 0 last_packets in
+    let at = with_offsets (sizes 4) 0 last_packets in
     let stream : IsStream (sizes 4) last_bytes at clean = written_is_read (sizes 4) behind_sync (All-tail (HasSpelling (sizes 4)) packet.Async behind_sync have) in
     let walked : WalksAll code 4 (all_elements untold at).elements (item.Unknown ∷ []) = record {
       resolved = resolved;
@@ -243,7 +243,7 @@ alone_earlier missing (p ∷ packets) = ap (λ l. p.1 ∷ l) (alone_earlier miss
 pub one_is_announced : (shown : LastBytesShow code (sizes 4) 15 events run.0 27 0) → (shown.count ≡ 1) × (length shown.before.pending.held ≡ 1)
 unfolding atom_formats byte_of
 one_is_announced shown =
-    let at = placed (sizes 4) 0 last_packets in
+    let at = with_offsets (sizes 4) 0 last_packets in
     let stream : IsStream (sizes 4) last_bytes at clean =
     written_is_read (sizes 4) behind_sync (All-tail (HasSpelling (sizes 4)) packet.Async behind_sync (they_are_spelled run.0 run.1)) in
     let async : ℕ × Packet = (27 + 0, packet.Async) in

@@ -33,6 +33,3 @@ pub use laws::{
 };
 pub use unwrap::{MOST_FRAMES, Unwrap};
 pub use wrapped::WrappedDemux;
-
-#[cfg(test)]
-mod tests;

@@ -53,8 +53,8 @@ loop-count-preserved g c =
       shows = c.print_piece.ensures.shows ∙ i.shows;
     }
 
-pub returns-in-Stop-clause-took : goal.returns-in-Stop-clause-took
-returns-in-Stop-clause-took g c t given =
+pub returns-in-Ended-clause-took : goal.returns-in-Ended-clause-took
+returns-in-Ended-clause-took g c t given =
     let input = g.J.Source.state in let out = g.K.Sink.state in let i = c.loop-count.invariant in
     let so_far = i.so_far t given in (
       input c.loop-count.input,
@@ -65,12 +65,12 @@ returns-in-Stop-clause-took g c t given =
       so_far.3,
       body_printed (g.P.Printer.laid (g.P.Printer.frames c.args.printer.now)) (g.met.P.Printer.is_laid (g.P.Printer.frames c.args.printer.now)) (g.P.Printer.listing c.args.shared.now t) so_far.0
           (out c.args.out.now) (out c.loop-count.out) so_far.4,
-      subst (λ n. StopsSo (input c.loop-count.input) (input c.read_piece.new.input) n c.in-Stop.stop) (sym so_far.1)
-          (c.in-Stop.ensures.stop c.in-Stop.stop refl),
+      subst (λ n. StopsSo (input c.loop-count.input) (input c.read_piece.new.input) n c.in-Ended.stop) (sym so_far.1)
+          (c.in-Ended.ensures.stop c.in-Ended.stop refl),
     )
 
-pub returns-in-Stop-clause-kept : goal.returns-in-Stop-clause-kept
-returns-in-Stop-clause-kept g c =
+pub returns-in-Ended-clause-kept : goal.returns-in-Ended-clause-kept
+returns-in-Ended-clause-kept g c =
     let input = g.J.Source.state in
-    stop_kept (input c.args.input.now) (input c.loop-count.input) (input c.read_piece.new.input) c.loop-count.taken c.in-Stop.stop
-    c.loop-count.invariant.input_kept (c.in-Stop.ensures.stop c.in-Stop.stop refl)
+    stop_kept (input c.args.input.now) (input c.loop-count.input) (input c.read_piece.new.input) c.loop-count.taken c.in-Ended.stop
+    c.loop-count.invariant.input_kept (c.in-Ended.ensures.stop c.in-Ended.stop refl)

@@ -2,7 +2,7 @@ use Rattle.std.proofs.Common.{◌++◌, [], length}
 use Rattle.trace_unit.proofs.RoomLeft.{room_first, room_left}
 use Rattle.trace_unit.specs.Ordered.{bytes_of, told_by}
 use Rattle.trace_unit.specs.Orders.{Settle, Start, Sync, Tell}
-use Rattle.trace_unit.specs.Room.{HasRoom}
+use Rattle.trace_unit.specs.Room.{RoomForBytes}
 use Rattle.trace_unit.proofs.follower.Follower.sync.Goals as goal
 use Rattle.trace_unit.proofs.follower.Follower.sync.Goals.{After-held-announced}
 
@@ -10,7 +10,7 @@ use Rattle.trace_unit.proofs.follower.Follower.sync.Goals.{After-held-announced}
 behind_settle : (c : After-held-announced)
     → let n = length c.args.self.now.window.p0s in
     let settled = told_by c.args.self.now.teller Settle in
-    HasRoom c.settle.new.bytes (bytes_of settled (Tell (Sync n))
+    RoomForBytes c.settle.new.bytes (bytes_of settled (Tell (Sync n))
     ++ (bytes_of (told_by settled (Tell (Sync n))) (Tell (Start c.args.self.now.places.places.start c.args.ctx)) ++ []))
 behind_settle c =
     let old = c.args.bytes.now in

@@ -4,7 +4,7 @@ use Rattle.trace_unit.proofs.RoomLeft.{room_first, room_left}
 use Rattle.trace_unit.proofs.StepOrders.{IsApart, apart_by_kind, apart_elsewhere}
 use Rattle.trace_unit.specs.Ordered.{CanTell, CanTellAll, bytes_all, bytes_of, told_all, told_by}
 use Rattle.trace_unit.specs.Orders.{before, p0_order}
-use Rattle.trace_unit.specs.Room.{HasRoom}
+use Rattle.trace_unit.specs.Room.{RoomForBytes}
 use Rattle.trace_unit.specs.declared.follower.Follower.{Follower}
 use Rattle.trace_unit.specs.declared.teller.Teller.{Teller}
 use Rattle.trace_unit.proofs.follower.Follower.tell.Goals as goal
@@ -23,14 +23,14 @@ can_both : (c : In_default) → CanTellAll c.args.self.now.teller (before c.args
     ++ p0_order c.args.step.now.kind c.args.step.now.addr ∷ [])
 can_both c = subst (CanTellAll c.args.self.now.teller) (apart c) c.requires.tells
 
-room_for_both : (c : In_default) → HasRoom c.args.bytes.now (bytes_all c.args.self.now.teller (before c.args.self.now.places.places c.args.step.now.ctx)
+room_for_both : (c : In_default) → RoomForBytes c.args.bytes.now (bytes_all c.args.self.now.teller (before c.args.self.now.places.places c.args.step.now.ctx)
     ++ bytes_all (told_all c.args.self.now.teller (before c.args.self.now.places.places c.args.step.now.ctx))
     (p0_order c.args.step.now.kind c.args.step.now.addr ∷ []))
 room_for_both c =
     let t = c.args.self.now.teller in
     let s = c.args.step.now in
     let order = p0_order s.kind s.addr in
-    subst (HasRoom c.args.bytes.now) (ap (bytes_all t) (apart c) ∙ bytes_joined t (before c.args.self.now.places.places s.ctx) (order ∷ [])) c.requires.room
+    subst (RoomForBytes c.args.bytes.now) (ap (bytes_all t) (apart c) ∙ bytes_joined t (before c.args.self.now.places.places s.ctx) (order ∷ [])) c.requires.room
 
 pub tell_missing-requires-clause-tells : goal.tell_missing-requires-clause-tells
 tell_missing-requires-clause-tells c =
@@ -64,7 +64,7 @@ tell_step-requires-clause-room c =
     let order = p0_order s.kind s.addr in
     let lacks = before c.args.self.now.places.places s.ctx in
     let told = missing_told (goal.at.tell_step-requires-clause-room c).After-tell_missing in
-    subst (λ (t : Teller). HasRoom new (bytes_of t order)) (sym told)
+    subst (λ (t : Teller). RoomForBytes new (bytes_of t order)) (sym told)
     (room_first new (bytes_of (told_all t lacks) order) []
     (room_left old new (bytes_all t lacks) _ c.tell_missing.ensures.bytes c.tell_missing.ensures.capacity
     (room_for_both (goal.at.tell_step-requires-clause-room c).In_default)))

@@ -5,7 +5,7 @@ use Rattle.spec_run.specs.Checks.{check, effect_of}
 use Rattle.spec_run.specs.RunAfter.{IsEvent}
 use Rattle.spec_run.specs.Runs.{done_of}
 use Rattle.spec_run.specs.Stands.{held_at}
-use Rattle.spec_run.specs.Windows.{HasRoom, place_after}
+use Rattle.spec_run.specs.Windows.{RoomInWindow, place_after}
 use Rattle.spec_run.specs.declared.effect.Effect.{Effect}
 use Rattle.spec_run.specs.declared.event.Event.{Event}
 use Rattle.trace_unit.proofs.TraceShown.{trace_shows}
@@ -26,7 +26,7 @@ take-done-requires c =
     let run = c.self.inside.run in
     let here = as_planned _ c.plan.result c.in_ok-effect.effect _ _ _ c.in_ok-effect.ensures.cases c.in_ok-effect.ensures.variant c.plan.ensures in
     record {
-      room = subst (λ (does : Effect). HasRoom does (held_at run.place)) (sym here.1) (room_for c.args.image.now run.depth run.place c.args.event.now here.0);
+      room = subst (λ (does : Effect). RoomInWindow does (held_at run.place)) (sym here.1) (room_for c.args.image.now run.depth run.place c.args.event.now here.0);
     }
 
 -- the event passes its checks, and the plan is what it does
