@@ -201,7 +201,7 @@ IsPathLine words program intake = IsWalkLine words program intake false
 abbrev pub IsCountsLine : List (List ℕ) → Program → Intake → Type 0
 IsCountsLine words program intake = IsWalkLine words program intake true
 
--- `packets`, with no positional; no packet depends on the depth, which is the default
+-- `packets`, with no positional; no packet depends on the depth, which is the default, or for an ID of LIST its own
 pub record IsPacketsLine (words : List (List ℕ)) (intake : Intake) : Type 0 where
   pub line : IsLine (codes "packets") packets_options words []
   pub taken : IsTakenBy line.pieces intake

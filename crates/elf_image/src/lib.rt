@@ -25,6 +25,3 @@ pub use fault::{ElfFault, ElfImageFault, ElfWhy};
 pub use laws::{a_refusal_is_the_first, the_text_is_an_image};
 pub use read::read_elf;
 pub use text::text_of;
-
-#[cfg(test)]
-mod tests;

@@ -23,6 +23,3 @@ pub use laws::{framed_pairs_come_back, unframing_goes_on};
 pub use reader::FrameReader;
 pub use unpacked::{FrameBytes, unpack};
 pub use writer::FrameWriter;
-
-#[cfg(test)]
-mod tests;

@@ -18,8 +18,8 @@
 //!   each front of the input, and the lines of a source are those of its own bytes, whatever other streams hold.
 //!
 //! All memory is taken by `new`: no more P0 elements of a stream are held than the depth that its sizes give, and each call says so.
-//! Code without `unsafe` can't forget a `Demux` or a `RawStream`: each ends by `finish` or `abandon`, and so do the streams
-//! in it. Only `spend_ring` has any `unsafe`.
+//! Code without `unsafe` can't forget a `Demux` or a `RawStream`: each ends by `finish`, `close` or `abandon`, and the
+//! streams in it by `finish` or `abandon`. Only `spend_ring` has any `unsafe`.
 #![tactic(auto)]
 
 mod demux;

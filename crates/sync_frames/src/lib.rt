@@ -31,6 +31,3 @@ pub use laws::{
 pub use synced::SyncedDemux;
 pub use unsync::Unsync;
 pub use write::write_synced;
-
-#[cfg(test)]
-mod tests;
