@@ -9,7 +9,8 @@ ghost use Rattle.etm_types.specs.declared.queue_fault.QueueFault.{QueueFault};
 ghost use Rattle.element_queue.specs.Counting.{AreCounts, Balances, counts_after, no_counts};
 ghost use Rattle.element_queue.specs.Packed.{pre_of_packed};
 ghost use Rattle.element_queue.specs.Pending.{cancelling, committing, flip_newest, losing, nothing_gone, taken};
-ghost use Rattle.element_queue.specs.Queued.{IsQueued, Refuses, Takes, TakesInfo, TakesPre, committed_by, entry_of, given_since, noted, passed, pending_of, things_of};
+ghost use Rattle.element_queue.specs.Queued.{IsQueued, Refuses, Takes, TakesInfo, TakesPre};
+ghost use Rattle.element_queue.specs.Queued.{committed_by, entry_of, given_since, noted, passed, pending_of, things_of};
 ghost use Rattle.element_queue.specs.declared.queue.AtomEntry.{AtomEntry};
 
 use crate::ledger::{Counts, Ledger};

@@ -1,5 +1,6 @@
 //! The image of a program: the parts of a core's memory that hold it.
-ghost use Rattle.std.specs.Prelude.{◌≡◌, ◌⊎◌, ℕ, ◌+◌, ◌/◌, ◌%◌, ◌^◌, ◌<◌, ◌≤◌, [], get_or, length, slice_get, Some, None, MatchOption, IfOk, IsErrOf, IsSome, IfSome};
+ghost use Rattle.std.specs.Prelude.{◌≡◌, ◌⊎◌, ℕ, ◌+◌, ◌/◌, ◌%◌, ◌^◌, ◌<◌, ◌≤◌, [], get_or, length, slice_get};
+ghost use Rattle.std.specs.Prelude.{Some, None, MatchOption, IfOk, IfSome, IsErrOf, IsSome};
 ghost use Rattle.std.specs.Str.Lines.{lines};
 ghost use Rattle.trace_io.specs.Causes.{KeepsFaults, Rose};
 ghost use Rattle.trace_io.specs.Bytes.{ShowsAsBefore, TakesAtMost};
