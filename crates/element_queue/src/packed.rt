@@ -186,18 +186,19 @@ impl Packed {
         Some(self.has_addr.then_some(self.addr))
     }
 
-    /// The entry as an atom before which nothing but an address was given, where it is one.
+    /// The entry as an atom before which nothing but an address was given, where it is one. No jump rests on which atom it is: such a jump
+    /// would often go the other way than the processor expects.
     #[inline(always)]
     pub(crate) fn atom(&self) -> Option<AtomEntry>
         ensures value { IfSome result (λ atom. unpacked self.now ≡ entry_of atom) }
         ensures some { (atom : AtomEntry) → unpacked self.now ≡ entry_of atom → IsSome result }
     {
         let addr = self.only_addr()?;
-        match self.element {
-            Element::NotTaken => Some(AtomEntry { addr, taken: false }),
-            Element::Taken => Some(AtomEntry { addr, taken: true }),
-            Element::Exception => None,
+        if matches!(self.element, Element::Exception) {
+            return None;
         }
+        let taken = matches!(self.element, Element::Taken);
+        Some(AtomEntry { addr, taken })
     }
 
     /// Whether it is an atom.
