@@ -6,7 +6,6 @@ use Rattle.std.specs.List.{list_all}
 use Rattle.std.proofs.lemmas.Bool.{both_ways, not-true}
 use Rattle.atom_formats.specs.Bytes.{byte_of, same_atoms}
 use Rattle.atom_formats.specs.Formats.{Spells, atom_formats}
-use Rattle.atom_formats.specs.Front.{SpellsFront}
 use Rattle.atom_formats.proofs.Rows.{no_other_tells}
 use Rattle.atom_formats.proofs.Table.{every_row, row_found, same_atoms-refl}
 
@@ -145,21 +144,3 @@ no_count_of_21_with_n = other_atoms 0xf5 (replicate 24 e ++ n ∷ []) refl
 -- the byte before the first one
 pub none_at_bf : (atoms : List Bool) → Spells 0xbf atoms → ⊥
 none_at_bf atoms spells = absurd (omega (arith, (no_other_tells 0xbf atoms spells).0))
-
--- ---- fronts
-
--- of EEENN the first four, and the first one, but not the first one as N, nor more atoms than there are
-pub front_of_four : SpellsFront (e ∷ e ∷ e ∷ n ∷ n ∷ []) 0xe0 4
-unfolding atom_formats
-front_of_four = (omega arith, row_found atom_formats 0xe0 (e ∷ e ∷ e ∷ n ∷ []) refl)
-
-pub front_of_one : SpellsFront (e ∷ e ∷ e ∷ n ∷ n ∷ []) 0xf7 1
-unfolding atom_formats
-front_of_one = (omega arith, row_found atom_formats 0xf7 (e ∷ []) refl)
-
-pub no_front_of_n : SpellsFront (e ∷ e ∷ e ∷ n ∷ n ∷ []) 0xf6 1 → ⊥
-unfolding atom_formats
-no_front_of_n front = other_atoms 0xf6 (e ∷ []) refl front.1
-
-pub no_longer_than_the_list : SpellsFront (e ∷ []) 0xf7 2 → ⊥
-no_longer_than_the_list front = absurd (omega (arith, front.0))

@@ -1,6 +1,5 @@
 pub mod Bytes
 pub mod Examples
-pub mod Longest
 pub mod LowBits
 pub mod Rows
 pub mod Table

@@ -36,7 +36,7 @@ runs_are_short byte atoms spells =
     (leb-true 1 (length atoms) parts.0, leb-true (length atoms) 24 parts.1)
 
 -- a test of every two rows holds of what is spelled twice
-pub every_two_rows : (test : ℕ → List Bool → ℕ → List Bool → Bool)
+every_two_rows : (test : ℕ → List Bool → ℕ → List Bool → Bool)
     → list_all (λ row. list_all (λ other. test row.0 row.1 other.0 other.1) atom_formats) atom_formats ≡ true
     → (byte other : ℕ) (atoms others : List Bool) → Spells byte atoms → Spells other others → test byte atoms other others ≡ true
 every_two_rows test all byte other atoms others spells spells_other =

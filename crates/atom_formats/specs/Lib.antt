@@ -1,4 +1,3 @@
 pub mod Formats
 pub mod Bytes
-pub mod Front
 pub mod Laws

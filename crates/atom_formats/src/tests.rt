@@ -1,4 +1,4 @@
-//! Each call once, with the bytes of the architecture's tables.
+//! Each call once, with the bytes of the architecture's tables, and then each byte.
 use super::*;
 use etm_types::AtomRun;
 
@@ -20,31 +20,54 @@ fn a_byte_tells_its_run(rt: HostRuntime) {
     runs_differ_in_their_atoms();
 }
 
-#[test]
-fn the_longest_front_is_told(rt: HostRuntime) {
-    let mut last_not = [true; 24];
-    last_not[23] = false;
-    assert_eq!(rt; longest_front(&[true; 24]), (0xd4, 24));
-    assert_eq!(rt; longest_front(&last_not), (0xf4, 24));
-    assert_eq!(rt; longest_front(&[true; 25]), (0xd4, 24));
-    assert_eq!(rt; longest_front(&[true; 3]), (0xff, 3));
-    assert_eq!(rt; longest_front(&[true, true, true, false]), (0xe0, 4));
-    assert_eq!(rt; longest_front(&[false; 5]), (0xd5, 5));
-    assert_eq!(rt; longest_front(&[false, true]), (0xda, 2));
+/// The run of so many atoms that these bits are.
+fn run(count: u8, bits: u32) -> Option<AtomRun> {
+    Some(AtomRun { count, bits })
 }
 
 #[test]
-fn the_atoms_of_each_byte_are_told_by_it(rt: HostRuntime) {
-    for byte in 0xc0..=0xffu8 {
-        let mut atoms = [false; 24];
-        let mut count = 0;
-        if let Some(run) = atoms_of(byte) {
-            for (i, atom) in atoms.iter_mut().enumerate() {
-                *atom = run.bits >> i & 1 == 1;
-            }
-            count = usize::from(run.count);
+fn bits_of_formats_1_to_3_are_atoms(rt: HostRuntime) {
+    for (first, count, last) in [(0xf6u8, 1, 0b1u8), (0xd8, 2, 0b11), (0xf8, 3, 0b111)] {
+        for bits in 0..=last {
+            assert_eq!(rt;
+                atoms_of(first | bits),
+                run(count, u32::from(bits)),
+                "at {first} {bits}"
+            );
         }
-        assert!(rt; count >= 1 && count <= atoms.len());
-        assert_eq!(rt; longest_front(&atoms[..count]), (byte, count));
+    }
+}
+
+#[test]
+fn formats_4_and_5_have_runs_of_their_own(rt: HostRuntime) {
+    for (byte, count, bits) in [
+        (0xdc, 4, 0b1110),
+        (0xdd, 4, 0b0000),
+        (0xde, 4, 0b1010),
+        (0xdf, 4, 0b0101),
+        (0xf5, 5, 0b1_1110),
+        (0xd5, 5, 0b0_0000),
+        (0xd6, 5, 0b0_1010),
+        (0xd7, 5, 0b1_0101),
+    ] {
+        assert_eq!(rt; atoms_of(byte), run(count, bits), "at {byte}");
+    }
+}
+
+#[test]
+fn format_6_counts_e_before_its_last_atom(rt: HostRuntime) {
+    for count in 0..=20u8 {
+        let taken = count + 3;
+        let bits = (1u32 << taken) - 1;
+        assert_eq!(rt;
+            atoms_of(0xe0 + count),
+            run(taken + 1, bits),
+            "{taken} E, then N"
+        );
+        assert_eq!(rt;
+            atoms_of(0xc0 + count),
+            run(taken + 1, bits + (1 << taken)),
+            "{taken} E, then E"
+        );
     }
 }

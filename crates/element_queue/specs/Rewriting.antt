@@ -1,4 +1,5 @@
--- Words of the laws by which two ways of writing the same trace are resolved alike.
+-- Words of the laws by which two ways of writing the same trace are resolved alike. These laws are this project's own: no section of
+-- Arm IHI 0064 has them, though each rests on its rules of speculation.
 use Rattle.std.specs.Prelude.{ℕ, ◌-◌, ◌+◌, ◌≤◌, ◌<◌, List, [], ◌∷◌, ◌++◌, length, map, Ok, Err, ⊤}
 use Rattle.etm_types.specs.Pre.{nothing_told}
 use Rattle.etm_types.specs.declared.element.Elem.{Elem}

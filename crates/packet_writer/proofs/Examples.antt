@@ -10,11 +10,14 @@ use Rattle.etm_types.specs.declared.context.CtxBits.{CtxBits}
 use Rattle.atom_formats.specs.Bytes.{byte_of}
 use Rattle.atom_formats.specs.Formats.{atom_formats}
 use Rattle.atom_formats.proofs.Bytes.{byte_found}
+use Rattle.atom_formats.proofs.Rows.{one_run_a_byte}
+use Rattle.atom_formats.proofs.Table.{row_found}
 use Rattle.packet_grammar.specs.Spelling.{SpellsPacket}
 use Rattle.packet_grammar.specs.declared.packet.Packet.{Packet}
 use Rattle.packet_grammar.specs.declared.packet.Packet.TheVariants.{Async, Discard, Overflow, Info, On, Ignore, Event, Time, Exc}
 use Rattle.packet_grammar.specs.declared.packet.Packet.TheVariants.{Commit, Cancel, Mispredict, Cancel2, Cancel3, CtxSame, CtxInfo, Addr, Atoms}
 use Rattle.packet_writer.specs.Fitting.{HasSpelling}
+use Rattle.packet_writer.specs.Front.{SpellsFront}
 use Rattle.packet_writer.specs.Laws.{with_offsets}
 use Rattle.packet_writer.specs.Spelling.{spelling}
 use Rattle.packet_writer.proofs.Having.{spelled_fits}
@@ -378,3 +381,23 @@ pub bytes_of_two_branches : flat_map (spelling none)
     ≡ sync ++ (0x01 ∷ 0x01 ∷ 0x00 ∷ 0x04 ∷ 0x85 ∷ 0x00 ∷ 0x08 ∷ six_zeros) ++ (0x31 ∷ 0xda ∷ 0x2d ∷ 0x02 ∷ [])
 unfolding atom_formats byte_of
 bytes_of_two_branches = refl
+
+-- ---- fronts
+
+-- of EEENN the first four, and the first one, but not the first one as N, nor more atoms than there are
+pub front_of_four : SpellsFront (true ∷ true ∷ true ∷ false ∷ false ∷ []) 0xe0 4
+unfolding atom_formats
+front_of_four = (omega arith, row_found atom_formats 0xe0 (true ∷ true ∷ true ∷ false ∷ []) refl)
+
+pub front_of_one : SpellsFront (true ∷ true ∷ true ∷ false ∷ false ∷ []) 0xf7 1
+unfolding atom_formats
+front_of_one = (omega arith, row_found atom_formats 0xf7 (true ∷ []) refl)
+
+pub no_front_of_n : SpellsFront (true ∷ true ∷ true ∷ false ∷ false ∷ []) 0xf6 1 → ⊥
+unfolding atom_formats
+no_front_of_n front =
+    let is : true ∷ [] ≡ false ∷ [] = one_run_a_byte 0xf6 (true ∷ []) (false ∷ []) front.1 (row_found atom_formats 0xf6 (false ∷ []) refl) in
+    absurd cc
+
+pub no_longer_than_the_list : SpellsFront (true ∷ []) 0xf7 2 → ⊥
+no_longer_than_the_list front = absurd (omega (arith, front.0))

@@ -11,15 +11,22 @@ use Rattle.std.proofs.Math.Seq.{take-length}
 use Rattle.std.proofs.lemmas.List.Recursion.{is_position_or_len}
 use Rattle.atom_formats.specs.Bytes.{same_atoms}
 use Rattle.atom_formats.specs.Formats.{Spells, atom_formats}
-use Rattle.atom_formats.specs.Front.{SpellsFront}
 use Rattle.atom_formats.proofs.Rows.{runs_are_short}
 use Rattle.atom_formats.proofs.Table.{each_from, every_row, has_row, row_found, same_atoms-refl}
+use Rattle.packet_writer.specs.Front.{SpellsFront}
 use Rattle.packet_writer.specs.declared.fronts.TheConstants.{ROWS}
 
 -- the byte is the packet of the first n atoms, and none is that of more
 pub record IsLongest (atoms : List Bool) (byte n : ℕ) : Type 0 where
   pub front : SpellsFront atoms byte n
   pub longest : (other m : ℕ) → SpellsFront atoms other m → m ≤ n
+
+-- a front has 1 to 24 atoms
+pub front_within : (atoms : List Bool) (byte n : ℕ) → SpellsFront atoms byte n → (1 ≤ n) × (n ≤ 24)
+front_within atoms byte n front =
+    let short = runs_are_short byte (take n atoms) front.1 in
+    let count : length (take n atoms) ≡ n = length-take-le n atoms front.0 in
+    (omega (arith, short.0, count), omega (arith, short.1, count))
 
 -- where no packet has more than k of the atoms, the others do not matter
 pub of_first : (k : ℕ) (atoms : List Bool) (byte n : ℕ) → k ≤ length atoms → ((other m : ℕ) → SpellsFront atoms other m → m ≤ k)
@@ -209,13 +216,6 @@ one_behind atoms begins other m front =
       | inr less ↦ omega (arith, less)
     ]
 
--- a packet has 24 atoms at most
-pub most_at_most : (atoms : List Bool) (other m : ℕ) → SpellsFront atoms other m → m ≤ 24
-most_at_most atoms other m front =
-    let count : length (take m atoms) ≡ m = length-take-le m atoms front.0 in
-    let short = runs_are_short other (take m atoms) front.1 in
-    omega (arith, count, short.1)
-
 all_e : (n : ℕ) → 4 ≤ n → n ≤ 24 → has_row atom_formats (0xc0 + (n - 4)) (replicate n true) ≡ true
 unfolding atom_formats
 all_e n least most = each_from 4 20 (λ k. has_row atom_formats (0xc0 + (k - 4)) (replicate k true)) refl n least most
@@ -301,7 +301,7 @@ of_front : (atoms : List Bool) (most taken byte n : ℕ) → Front24 atoms most 
 of_front atoms most taken byte n front is =
     let most_is = front.most_is in
     of_first most atoms byte n (omega (arith, most_is))
-    (λ other m spells. let few = most_at_most atoms other m spells in let within = spells.0 in omega (arith, few, within, most_is)) is
+    (λ other m spells. let few = (front_within atoms other m spells).1 in let within = spells.0 in omega (arith, few, within, most_is)) is
 
 pub by_table : (atoms : List Bool) (most taken few byte n : ℕ) → Front24 atoms most taken → few ≡ min most 5
     → (most ≤ 5) ⊎ ((5 < most) × (taken < 3)) → IsLongest (take few (take most atoms)) byte n → IsLongest atoms byte n

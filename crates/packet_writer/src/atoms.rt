@@ -21,7 +21,8 @@ pub fn few(atoms: &FewAtoms) -> u8
     }
 }
 
-/// The byte of a run of atoms that one byte tells.
+/// The byte of a run of atoms that one byte tells. It tries the 64 bytes one by one; a trace unit, which writes many, has the byte of
+/// [`crate::longest_front`].
 pub fn byte_of(run: &AtomRun) -> u8
     requires fits { IsAtomRun run.now }
     requires told { (byte : ℕ) × Spells byte (atoms_in run.now) }

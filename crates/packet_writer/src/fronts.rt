@@ -2,7 +2,7 @@
 //! packet").
 ghost use Rattle.std.specs.Prelude.{◌≡◌, ◌<◌, ◌≤◌, ℕ, length, not, position};
 ghost use Rattle.etm_types.specs.Atoms.{most_atoms};
-ghost use Rattle.atom_formats.specs.Front.{SpellsFront};
+ghost use Rattle.packet_writer.specs.Front.{SpellsFront};
 
 /// How many atoms a packet has at most.
 const MOST_ATOMS: usize = 24;

@@ -2,7 +2,7 @@
 use Rattle.std.proofs.Common.{◌≡◌, ◌≢◌, ℕ, zero, suc, ◌+◌, ◌-◌, ◌*◌, ◌/◌, ◌%◌, ◌^◌, ◌<◌, ◌≤◌, List, [], ◌∷◌, ◌++◌, length, take, drop}
 use Rattle.std.proofs.Common.{reverse, get_or, Bool, true, false, Some, None, refl, sym, ap}
 use Rattle.std.proofs.Common.{◌∙◌, subst, inl, inr, arith, cond, append_assoc, append-nil, length-append, nat_lt}
-use Rattle.std.specs.Prelude.{◌==◌, All, Contains, MatchOption, slice_get}
+use Rattle.std.specs.Prelude.{◌==◌, All, Contains, IsSome, MatchOption, slice_get}
 use Rattle.std.specs.Option.{option_map}
 use Rattle.std.proofs.lemmas.Bool.{cases_Bool, eqb-true, eqb-false, eq-eqb, le-leb, lt-ltb, ltb-true, ltb-false}
 use Rattle.std.proofs.lemmas.List.{take-append-drop}
@@ -20,6 +20,7 @@ use Rattle.program_image.proofs.Lists.{reversed_push}
 use Rattle.program_image.proofs.Runs.{ended, moved, run_steps}
 use Rattle.program_image.proofs.WordSearch.{outside}
 use Rattle.program_image.proofs.WordLaws.{word_of_part}
+use Rattle.program_image.proofs.WordsBelow.{inside}
 
 -- ---- the runs of bytes, counted from the last word on
 
@@ -317,13 +318,17 @@ run_of_word image address (suc k) (run ∷ runs) are within =
     let at : address + 4 + 4 * k ≡ address + 4 * suc k = omega arith in
     subst (λ (a : ℕ). IsRun image a (get_or runs k no_word)) at (run_of_word image (address + 4) k runs are.1 (omega (arith, within)))
 
+-- a word stands at an address, and this is the run from it on
+abbrev pub HasRun : List Part → ℕ → Run → Type 0
+HasRun image address run = IsSome (word_of image address) × IsRun image address run
+
 -- the run at an address, by the part that begins last before it
 pub run_found : (image : List Part) (table : List (List Run)) (address place : ℕ) (part : Part) (runs : List Run) → IsImage image → IsTable image image table
     → address % 4 ≡ 0
     → place < length image → part ≡ get_or image place part → runs ≡ get_or table place runs
     → word_of image address ≡ word_in (get_or image place part) address
     → (get_or image place part).start ≤ address
-    → MatchOption (slice_get runs ((address - part.start) / 4)) (class_at image address ≡ None) (IsRun image address)
+    → MatchOption (slice_get runs ((address - part.start) / 4)) (class_at image address ≡ None) (HasRun image address)
 run_found image table address place part runs is is_table aligned within there these word begun =
     let k : ℕ = (address - part.start) / 4 in
     let of =
@@ -333,10 +338,14 @@ run_found image table address place part runs is is_table aligned within there t
     let from : part.start ≤ address = omega (arith, begun, ap (λ (p : Part). p.start) there) in
     elim (cases_Bool (nat_lt k (length runs))) [
       | inl t ↦
-          let inside : k < length runs = ltb-true _ _ t in
+          let short : k < length runs = ltb-true _ _ t in
           let at : part.start + 4 * k ≡ address = omega (arith, from, aligned, is_part.aligned) in
-          rw (slice_get-get_or runs k no_word inside)
-          (subst (λ (a : ℕ). IsRun image a (get_or runs k no_word)) at (run_of_word image part.start k runs of.all inside))
+          let there_is : IsSome (word_in part address) = inside part address aligned (from, omega (arith, short, at, of.size)) in
+          let same = word ∙ ap (λ (p : Part). word_in p address) (sym there) in
+          rw (slice_get-get_or runs k no_word short) (
+            subst (λ o. IsSome o) (sym same) there_is,
+            subst (λ (a : ℕ). IsRun image a (get_or runs k no_word)) at (run_of_word image part.start k runs of.all short),
+          )
       | inr f ↦
           let past : length runs ≤ k = ltb-false _ _ f in
           let nothing : word_in part address ≡ None = outside part address (λ low high. omega (arith, high, past, of.size)) in

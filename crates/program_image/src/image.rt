@@ -146,8 +146,8 @@ impl Image {
     pub fn placed_run(&self, pc: u64) -> Option<PlacedRun>
         requires { pc % 4 ≡ 0 }
         ensures run { MatchOption result (class_at self.now pc ≡ None) (λ placed. IsRun self.now pc (run_of placed.run)) }
-        ensures place { IfSome result (λ placed. IsSome (word_of self.now pc)
-            → slice_get (word_addresses self.now) placed.place ≡ Some pc) }
+        ensures word { IfSome result (λ _. IsSome (word_of self.now pc)) }
+        ensures place { IfSome result (λ placed. slice_get (word_addresses self.now) placed.place ≡ Some pc) }
         ensures gap { HasGap self.now }
     {
         let part = part_at(&self.parts, pc)?;
@@ -200,7 +200,8 @@ impl Image {
         requires part { (d : Part) → word_of self.now addr ≡ word_in (get_or self.now part d) addr }
         requires begun { (d : Part) → (get_or self.now part d).start ≤ addr }
         requires within { part < length self.now }
-        ensures run { MatchOption result (class_at self.now addr ≡ None) (λ run. IsRun self.now addr (run_of run)) }
+        ensures run { MatchOption result (class_at self.now addr ≡ None)
+            (λ run. IsSome (word_of self.now addr) × IsRun self.now addr (run_of run)) }
     {
         let offset = addr - self.parts[part].start();
         self.table[part].kept_at((offset / INSTRUCTION_BYTES) as usize)

@@ -10,11 +10,11 @@ use Rattle.etm_types.specs.Atoms.{IsAtomRun, atoms_in, low_bits}
 use Rattle.etm_types.specs.Settings.{Sizes}
 use Rattle.atom_formats.specs.Bytes.{byte_of}
 use Rattle.atom_formats.specs.Formats.{Spells as TellsAtoms}
-use Rattle.atom_formats.specs.Front.{SpellsFront}
 use Rattle.atom_formats.proofs.Bytes.{byte_found, byte_tells, is_there, one_byte}
 use Rattle.atom_formats.proofs.Rows.{runs_are_short}
 use Rattle.packet_grammar.specs.declared.packet.Packet.TheVariants as packet
 use Rattle.packet_writer.specs.Fitting.{HasSpelling}
+use Rattle.packet_writer.specs.Front.{SpellsFront}
 use Rattle.packet_writer.specs.Spelling.{spelling}
 use Rattle.packet_writer.proofs.Having.{spelled_where_fits}
 use Rattle.packet_writer.proofs.Spelled.{byte_told}

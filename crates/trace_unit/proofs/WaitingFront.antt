@@ -1,7 +1,7 @@
 -- The front of the atoms that wait that a search found is the longest one, and its packet is the byte that was found.
 use Rattle.std.proofs.Common.{◌≡◌, ℕ, ◌<◌, ◌≤◌, Bool, List, [], ◌∷◌, length, sym, subst, arith}
 use Rattle.etm_types.specs.Settings.{Sizes}
-use Rattle.atom_formats.specs.Front.{SpellsFront}
+use Rattle.packet_writer.specs.Front.{SpellsFront}
 use Rattle.packet_writer.specs.Spelling.{spelling}
 use Rattle.trace_unit.proofs.Packed.{front_is, front_written, longest_front}
 use Rattle.trace_unit.specs.Packets.{front_packet}

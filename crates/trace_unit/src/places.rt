@@ -36,6 +36,9 @@ impl Model for Saved {
 
 /// The return addresses, what is saved of each P0 step that is held, and what the reader knows of
 /// the begun block.
+///
+/// A call costs the same whatever is held, but for `retire` and `cancel`, which look once at each P0 step that goes, and `begin` and
+/// `close`, by which all go.
 #[derive(Drop)]
 pub struct Places {
     stack: ReturnStack,

@@ -48,7 +48,7 @@ impl PutOff {
         }
     }
 
-    /// Writes all but what is to be committed.
+    /// Writes all but what is to be committed: at most a cancel and eight packets of atoms, since any three atoms have one.
     pub fn write_out(&mut self, settings: &Settings, bytes: &mut Vec<u8>)
         requires affords { Affords settings.now.depth self.old }
         requires room { RoomForBytes bytes.old (spelled settings.now (out_packets self.old)) }

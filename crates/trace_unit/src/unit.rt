@@ -42,7 +42,8 @@ pub enum UnitFault {
 
 /// A trace unit. It stands behind the events that it accepted. It has no drop: it ends by `end` or `abandon`.
 ///
-/// The image is that of all calls.
+/// The image is that of all calls. An event costs the same whatever is held, but for a retire or cancel, which costs what it takes, and the
+/// end of tracing, which costs what it loses.
 #[must_use]
 pub struct Unit {
     run: Run,

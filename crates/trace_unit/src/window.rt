@@ -13,6 +13,9 @@ use std::alloc::{AllocError, Global};
 use std::marker::Model;
 
 /// The P0 elements that are not retired, oldest first. It has no drop: `close` ends it.
+///
+/// A call costs the same whatever is held, but for `retire` and `cancel`, which take each element that goes off the ring, and `lose` and
+/// `close`, by which all go.
 #[must_use]
 pub struct Window {
     ring: SpendRing<Uncommitted>,

@@ -1,6 +1,5 @@
 use Rattle.std.proofs.Common.{take}
-use Rattle.atom_formats.proofs.Longest.{found_within}
-use Rattle.packet_writer.proofs.Longest.{by_all, by_table, by_then, front_24}
+use Rattle.packet_writer.proofs.Longest.{by_all, by_table, by_then, front_24, front_within}
 use Rattle.packet_writer.proofs.fronts.longest_front.Goals as goal
 
 pub returns-then-most-le-MOST_IN_ROW-clause-front : goal.returns-then-most-le-MOST_IN_ROW-clause-front
@@ -23,7 +22,7 @@ returns-then-most-le-MOST_IN_ROW-clause-longest c =
 
 pub returns-then-most-le-MOST_IN_ROW-clause-within : goal.returns-then-most-le-MOST_IN_ROW-clause-within
 returns-then-most-le-MOST_IN_ROW-clause-within c =
-    found_within (take c.min-few.result (take c.min-most.result c.args.atoms.now)) c.front_of_few.result.0 c.front_of_few.result.1
+    front_within (take c.min-few.result (take c.min-most.result c.args.atoms.now)) c.front_of_few.result.0 c.front_of_few.result.1
     c.front_of_few.ensures.front
 
 pub returns-then-taken-most-clause-front : goal.returns-then-taken-most-clause-front

@@ -1,5 +1,4 @@
 use Rattle.program_image.proofs.WordPlaces.{below_more, length_addresses, place_of_word, word_of_place}
-use Rattle.program_image.proofs.WordLaws.{word_fits}
 use Rattle.program_image.proofs.laws.words_have_places.Goals as goal
 
 pub returns-clause-count : goal.returns-clause-count

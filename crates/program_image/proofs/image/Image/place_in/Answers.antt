@@ -1,6 +1,6 @@
-use Rattle.std.proofs.Common.{◌≡◌, ◌∙◌, ◌<◌, ◌≤◌, ◌+◌, ◌-◌, ◌/◌, List, ℕ, Some, ap, arith, get_or, length, subst, sym}
+use Rattle.std.proofs.Common.{◌≡◌, ◌∙◌, ◌<◌, ◌+◌, ◌-◌, ◌/◌, List, ℕ, Some, ap, arith, get_or, length, subst, sym}
 use Rattle.std.specs.Prelude.{IsSome, slice_get}
-use Rattle.program_image.specs.Part.{Part, word_in, word_of}
+use Rattle.program_image.specs.Part.{word_in, word_of}
 use Rattle.program_image.specs.Places.{word_addresses, words_below}
 use Rattle.program_image.proofs.WordPlaces.{few_before, length_before, place_found, place_of_word, some_is}
 use Rattle.program_image.proofs.image.Image.place_in.Goals as goal

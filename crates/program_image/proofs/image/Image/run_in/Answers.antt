@@ -2,10 +2,10 @@ use Rattle.std.proofs.Common.{◌≡◌, ◌-◌, ◌/◌, ◌<◌, ◌≤◌, �
 use Rattle.std.specs.Prelude.{slice_get, MatchOption, None, Option, Some}
 use Rattle.program_image.specs.Part.{Part, word_in, word_of}
 use Rattle.program_image.specs.Blocks.{class_at}
-use Rattle.program_image.specs.Runs.{IsRun, run_of}
+use Rattle.program_image.specs.Runs.{run_of}
 use Rattle.program_image.specs.declared.run.Run.{Run}
 use Rattle.program_image.specs.declared.run.WordRun.{WordRun}
-use Rattle.program_image.proofs.Tables.{run_found, same_length}
+use Rattle.program_image.proofs.Tables.{HasRun, run_found, same_length}
 use Rattle.program_image.proofs.image.Image.run_in.Goals as goal
 
 pub index-requires-2 : goal.index-requires-2
@@ -35,8 +35,8 @@ returns c =
     run_found parts c.self.inside.table.items addr place part runs c.self.invariant.0 c.self.invariant.1 c.requires.aligned within
     c.index.ensures c.index-2.ensures word begun in
     let at : (addr - part.start) / 4 ≡ (addr - c.start.result) / 4 = ap (λ start. (addr - start) / 4) (sym c.start.ensures) in
-    let there = subst (λ k. MatchOption (slice_get runs k) (class_at parts addr ≡ None) (IsRun parts addr)) at found in
+    let there = subst (λ k. MatchOption (slice_get runs k) (class_at parts addr ≡ None) (HasRun parts addr)) at found in
     record {
-      run = subst (λ (l : List Part). MatchOption c.kept_at.result (class_at l addr ≡ None) (λ run. IsRun l addr (run_of run))) c.self.view_is
-          (as_kept _ c.kept_at.result (class_at parts addr ≡ None) (IsRun parts addr) there c.kept_at.ensures);
+      run = subst (λ (l : List Part). MatchOption c.kept_at.result (class_at l addr ≡ None) (λ run. HasRun l addr (run_of run))) c.self.view_is
+          (as_kept _ c.kept_at.result (class_at parts addr ≡ None) (HasRun parts addr) there c.kept_at.ensures);
     }

@@ -1,4 +1,4 @@
-use Rattle.std.proofs.Common.{◌≡◌, ◌∙◌, ◌≤◌, ◌^◌, List, ℕ, ap, arith, get_or, length, rules}
+use Rattle.std.proofs.Common.{◌≡◌, ◌∙◌, ◌^◌, List, ℕ, ap, arith, get_or, length, rules}
 use Rattle.program_image.specs.Places.{word_count, words_before}
 use Rattle.program_image.proofs.WordPlaces.{all_before, few_words, length_before}
 use Rattle.program_image.proofs.image.Image.word_count.Goals as goal
