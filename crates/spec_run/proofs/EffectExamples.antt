@@ -11,7 +11,7 @@ use Rattle.spec_run.specs.Checks.{Place, effect_of, executed}
 use Rattle.spec_run.specs.FaultNumbers.{fault_number}
 use Rattle.spec_run.specs.Kinds.{is_cond, is_isb, is_p0_kind, took_of}
 use Rattle.spec_run.specs.RetiredItems.{added_by, retired_of}
-use Rattle.spec_run.specs.Runs.{ByOff, ByOverflow, Execution, Running, applied, done_of, turned}
+use Rattle.spec_run.specs.Runs.{ByOff, ByOverflow, Closing, Execution, Running, applied, done_of, turned}
 use Rattle.spec_run.specs.Stands.{begun_behind}
 use Rattle.spec_run.specs.declared.effect.Effect.{Effect}
 use Rattle.spec_run.specs.declared.effect.Effect.TheVariants as effect
@@ -140,7 +140,7 @@ passed = record { addr = 0x2000; ctx = program; kind = kind.Cond false; next = 0
 abbrev exception : RunStep
 exception = record { addr = 0x8000; ctx = handler; kind = kind.Exc 3; next = 0x9000; link = false }
 
-abbrev earlier : List (List RunStep × _)
+abbrev earlier : List (List RunStep × Closing)
 earlier = (nop ∷ [], ByOverflow) ∷ (call ∷ [], ByOff) ∷ []
 
 abbrev behind_earlier : Running → Execution
