@@ -170,17 +170,17 @@ most_visits items many = rw many refl
 visits_wrap : (items : List Item) → times (is_at 0x1000) items ≡ 2 ^ 64 → counts_by is_at (0x1000 ∷ []) items ≡ 0 ∷ []
 visits_wrap items many = rw many refl
 
-most_times : (p : ℕ × ℕ) (pairs : List (ℕ × ℕ)) → how_many p pairs ≡ 2 ^ 64 - 1 → (entry_of pairs p).times ≡ 2 ^ 64 - 1
-most_times p pairs many = rw many refl
+most_times : (p : ℕ × ℕ) (those : List (ℕ × ℕ)) → how_many p those ≡ 2 ^ 64 - 1 → (entry_of those p).times ≡ 2 ^ 64 - 1
+most_times p those many = rw many refl
 
-times_wrap : (p : ℕ × ℕ) (pairs : List (ℕ × ℕ)) → how_many p pairs ≡ 2 ^ 64 → (entry_of pairs p).times ≡ 0
-times_wrap p pairs many = rw many refl
+times_wrap : (p : ℕ × ℕ) (those : List (ℕ × ℕ)) → how_many p those ≡ 2 ^ 64 → (entry_of those p).times ≡ 0
+times_wrap p those many = rw many refl
 
-most_others : (pairs : List (ℕ × ℕ)) → outside (kept_within 2 pairs) pairs ≡ 2 ^ 64 - 1 → (targets_within 2 pairs).more ≡ 2 ^ 64 - 1
-most_others pairs many = rw many refl
+most_others : (those : List (ℕ × ℕ)) → outside (kept_within 2 those) those ≡ 2 ^ 64 - 1 → (targets_within 2 those).more ≡ 2 ^ 64 - 1
+most_others those many = rw many refl
 
-others_wrap : (pairs : List (ℕ × ℕ)) → outside (kept_within 2 pairs) pairs ≡ 2 ^ 64 → (targets_within 2 pairs).more ≡ 0
-others_wrap pairs many = rw many refl
+others_wrap : (those : List (ℕ × ℕ)) → outside (kept_within 2 those) those ≡ 2 ^ 64 → (targets_within 2 those).more ≡ 0
+others_wrap those many = rw many refl
 
 -- from 2^63 to the highest level and over it, twice
 levels_wrap : levels_of (2 ^ 63 ∷ (2 ^ 63 - 1) ∷ 1 ∷ 2 ^ 63 ∷ []) ≡ 2 ^ 63 ∷ (2 ^ 64 - 1) ∷ 0 ∷ 2 ^ 63 ∷ []
@@ -204,8 +204,8 @@ sameness_of_pairs : by_another same_pair ≡ false ∷ false ∷ false ∷ false
 sameness_of_pairs = refl
 
 -- a table has room for 65,536 pairs
-room_of_a_table : (pairs : List (ℕ × ℕ)) → targets_of pairs ≡ targets_within 65536 pairs
-room_of_a_table pairs = refl
+room_of_a_table : (those : List (ℕ × ℕ)) → targets_of those ≡ targets_within 65536 those
+room_of_a_table those = refl
 
 -- BR and BLR with X17, and with a bit of their last field set
 odd_registers : map is_pointer_branch (0xd61f0220 ∷ 0xd63f0220 ∷ 0xd61f0201 ∷ 0xd63f0201 ∷ 0xd61f0210 ∷ 0xd63f0210 ∷ []) ≡ true ∷ true ∷ false ∷ false ∷ false ∷ false ∷ []
