@@ -1,9 +1,8 @@
 -- The values of packets at both ends of their ranges, and those out of them by one; how streams end; and a stream that is cut by one byte.
-use Rattle.std.proofs.Common.{◌≡◌, ◌<◌, ℕ, List, [], ◌∷◌, map, Bool, true, false, Option, Some, None, Ok, ap, refl, inl, inr, arith}
-use Rattle.std.specs.Prelude.{All}
+use Rattle.std.proofs.Common.{◌≡◌, ◌<◌, ℕ, [], ◌∷◌, map, Bool, true, false, Option, Some, None, Ok, ap, refl, inl, inr, arith}
 use Rattle.std.proofs.lemmas.List.Elements.{All-cons, All-nil}
 use Rattle.etm_types.specs.Settings.{Sizes}
-use Rattle.etm_types.specs.declared.address.AddrForm.TheVariants.{Match, Short1, Short2, Long32, Long64}
+use Rattle.etm_types.specs.declared.address.AddrForm.TheVariants.{Long32, Long64}
 use Rattle.etm_types.specs.declared.atoms.FewAtoms.{FewAtoms}
 use Rattle.etm_types.specs.declared.context.CtxBits.{CtxBits}
 use Rattle.packet_grammar.specs.Ends.{end_of, is_fault}

@@ -208,5 +208,7 @@ room_of_a_table : (those : List (ℕ × ℕ)) → targets_of those ≡ targets_w
 room_of_a_table those = refl
 
 -- BR and BLR with X17, and with a bit of their last field set
-odd_registers : map is_pointer_branch (0xd61f0220 ∷ 0xd63f0220 ∷ 0xd61f0201 ∷ 0xd63f0201 ∷ 0xd61f0210 ∷ 0xd63f0210 ∷ []) ≡ true ∷ true ∷ false ∷ false ∷ false ∷ false ∷ []
+odd_registers :
+    map is_pointer_branch (0xd61f0220 ∷ 0xd63f0220 ∷ 0xd61f0201 ∷ 0xd63f0201 ∷ 0xd61f0210 ∷ 0xd63f0210 ∷ [])
+    ≡ true ∷ true ∷ false ∷ false ∷ false ∷ false ∷ []
 odd_registers = refl

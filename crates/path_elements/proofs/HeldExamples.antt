@@ -2,7 +2,6 @@
 use Rattle.std.proofs.Common.{◌≡◌, ◌<◌, ◌%◌, ◌^◌, ℕ, List, [], ◌∷◌, map, true, false, Option, Some, None, refl, arith}
 use Rattle.std.proofs.lemmas.List.Elements.{All-cons, All-head, All-nil}
 use Rattle.etm_types.specs.declared.address.AddrForm.TheVariants.{Match, Long64}
-use Rattle.etm_types.specs.declared.atoms.AtomRun.{AtomRun}
 use Rattle.etm_types.specs.declared.atoms.FewAtoms.{FewAtoms}
 use Rattle.etm_types.specs.declared.context.Ctx.{Ctx}
 use Rattle.etm_types.specs.declared.context.CtxBits.{CtxBits}

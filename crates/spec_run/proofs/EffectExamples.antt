@@ -1,8 +1,7 @@
 -- What each event executes, what it does, and what that leaves of a run in which everything is set; each kind of step and each refusal once.
-use Rattle.std.proofs.Common.{◌≡◌, ℕ, Bool, true, false, List, [], ◌∷◌, map, Option, Some, None, refl}
+use Rattle.std.proofs.Common.{◌≡◌, ℕ, Bool, true, false, List, [], ◌∷◌, map, Some, None, refl}
 use Rattle.std.specs.Prelude.{neg_ℤ, pos}
 use Rattle.a64_branches.specs.Classes.{class_of}
-use Rattle.a64_branches.specs.declared.class.Class.{Class}
 use Rattle.a64_branches.specs.declared.class.Class.TheVariants as class
 use Rattle.etm_types.specs.declared.context.Ctx.{Ctx}
 use Rattle.etm_types.specs.declared.item.Item.TheVariants as item
@@ -13,10 +12,8 @@ use Rattle.spec_run.specs.Kinds.{is_cond, is_isb, is_p0_kind, took_of}
 use Rattle.spec_run.specs.RetiredItems.{added_by, retired_of}
 use Rattle.spec_run.specs.Runs.{ByOff, ByOverflow, Closing, Execution, Running, applied, done_of, turned}
 use Rattle.spec_run.specs.Stands.{begun_behind}
-use Rattle.spec_run.specs.declared.effect.Effect.{Effect}
 use Rattle.spec_run.specs.declared.effect.Effect.TheVariants as effect
 use Rattle.spec_run.specs.declared.event.Done.TheVariants as done
-use Rattle.spec_run.specs.declared.event.Event.{Event}
 use Rattle.spec_run.specs.declared.event.Event.TheVariants as event
 use Rattle.spec_run.specs.declared.run_fault.RunFault.{RunFault}
 use Rattle.spec_run.specs.declared.run_fault.RunFault.TheVariants as fault
@@ -159,7 +156,7 @@ pub left_by_each :
     (effect.Ran exception handler ∷ effect.Contexted handler ∷ effect.Retired 2 ∷ effect.Cancelled 2 ∷ effect.Flipped ∷ effect.Synced
     ∷ effect.Overflowed ∷ effect.Stopped ∷ effect.Began 0x4000 handler ∷ [])
     ≡ behind_earlier
-      (record { start = 0x1000; retired = call ∷ nop ∷ []; held = exception ∷ call ∷ branch ∷ exception ∷ []; pc = 0x9000; ctx = handler })
+    (record { start = 0x1000; retired = call ∷ nop ∷ []; held = exception ∷ call ∷ branch ∷ exception ∷ []; pc = 0x9000; ctx = handler })
     ∷ behind_earlier (record { start = 0x1000; retired = call ∷ nop ∷ []; held = exception ∷ call ∷ branch ∷ []; pc = 0x2008; ctx = handler })
     ∷ behind_earlier (record { start = 0x1000; retired = call ∷ nop ∷ exception ∷ call ∷ []; held = branch ∷ []; pc = 0x2008; ctx = program })
     ∷ behind_earlier (record { start = 0x1000; retired = call ∷ nop ∷ []; held = exception ∷ []; pc = 0x1000; ctx = handler })
@@ -175,9 +172,9 @@ left_by_each = refl
 pub retired_at_depth_0 :
     map (λ depth. applied code depth loud (effect.Ran exception handler)) (0 ∷ 1 ∷ [])
     ≡ behind_earlier
-      (record { start = 0x1000; retired = call ∷ nop ∷ exception ∷ []; held = exception ∷ call ∷ branch ∷ []; pc = 0x9000; ctx = handler })
+    (record { start = 0x1000; retired = call ∷ nop ∷ exception ∷ []; held = exception ∷ call ∷ branch ∷ []; pc = 0x9000; ctx = handler })
     ∷ behind_earlier
-      (record { start = 0x1000; retired = call ∷ nop ∷ []; held = exception ∷ call ∷ branch ∷ exception ∷ []; pc = 0x9000; ctx = handler })
+    (record { start = 0x1000; retired = call ∷ nop ∷ []; held = exception ∷ call ∷ branch ∷ exception ∷ []; pc = 0x9000; ctx = handler })
     ∷ []
 retired_at_depth_0 = refl
 
