@@ -62,6 +62,10 @@ pub input_too_long : (bytes : List ℕ) → length bytes ≡ 1073741825 → HasI
 input_too_long bytes many has =
     let same : Some bytes ≡ Some has.bytes = has.shows in let is : bytes ≡ has.bytes = cc in absurd (omega (arith, many, ap length is, has.few))
 
+-- 1 GiB
+pub longest_input : (bytes : List ℕ) → length bytes ≡ 1073741824 → HasInput (of_input (shows bytes 0))
+longest_input bytes many = record { bytes = bytes; shows = refl; few = omega (arith, many) }
+
 pub run_file_shown : HasRunFile (of_input (shows retired.good 0)) retired.code retired.good_parts
 run_file_shown = record { file = retired.good; shows = refl; accepted = retired.good_accepted }
 

@@ -3,6 +3,7 @@ mod CountExamples
 mod FrameExamples
 mod ListExamples
 pub mod ListTables
+mod SeenExamples
 mod SyncExamples
 pub mod WordAgreement
 pub mod WordEnds

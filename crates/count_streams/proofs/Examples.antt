@@ -6,7 +6,7 @@ use Rattle.etm_types.specs.declared.item.Item.{Item}
 use Rattle.etm_types.specs.declared.item.Item.TheVariants.{Exc, Gap, Instr, On, Stop, Unknown}
 use Rattle.path_text.specs.Lines.{in_base}
 use Rattle.program_image.specs.Part.{Part}
-use Rattle.count_streams.specs.Counted.{counted, marks_lines, number_lines}
+use Rattle.count_streams.specs.Counted.{counted, counts_lines, marks_lines, number_lines}
 use Rattle.count_streams.specs.Pairs.{pairs_of}
 
 -- three words from 1000 on: the second is a conditional branch
@@ -64,6 +64,26 @@ module _ (s : Sizes) where
   -- no line comes with a byte
   nothing_gained : (counted code s).gains 0x10 [] 0 []
   nothing_gained = refl
+
+-- the line of pairs that are not kept stands between words and marks
+others_between :
+    counts_lines calls (record { visits = 0 ∷ 2 ∷ []; taken = 0 ∷ 0 ∷ []; marks = 1 ∷ 0 ∷ 5 ∷ [] }) (record { entries = []; more = 3 })
+    ≡ codes "at 1004 2\n" ∷ codes "to more 3\n" ∷ codes "on 1\n" ∷ codes "gap 5\n" ∷ []
+unfolding in_base calls
+others_between = refl
+
+-- no pair begins where no word is
+none_from_nowhere : pairs_of calls ((0x10, Instr 0x2000 low false) ∷ (0x10, Instr 0x1000 low false) ∷ []) ≡ []
+unfolding calls
+none_from_nowhere = refl
+
+-- nor at another item, and a gap is entered nowhere
+of_other_items :
+    pairs_of calls ((0x10, Instr 0x1004 low false) ∷ (0x10, Unknown) ∷ (0x10, Exc 14 0x1004) ∷ (0x10, Instr 0x1004 low true) ∷ (0x10, Exc 14 0x1000)
+    ∷ (0x10, Instr 0x1004 low false) ∷ (0x10, Instr 0x1004 low false) ∷ (0x10, On) ∷ [])
+    ≡ (0x1004, 0x1000) ∷ (0x1004, 0x1004) ∷ []
+unfolding calls
+of_other_items = refl
 
 -- ---- near misses
 

@@ -1,6 +1,6 @@
 -- Small programs, worked out by hand: what they spell, or why they are refused, beside what comes close.
 use Rattle.std.proofs.Common.{◌≡◌, ℕ, ◌+◌, ◌<◌, List, [], ◌∷◌, ◌++◌, length, length-append, drop, take, false, Option, Some, None, Result, Ok, Err}
-use Rattle.std.proofs.Common.{refl, ap, ◌∙◌, arith, inl, inr}
+use Rattle.std.proofs.Common.{refl, ap, ◌∙◌, arith, inl, inr, true}
 use Rattle.std.specs.Prelude.{codes, map, replicate}
 use Rattle.std.proofs.lemmas.Bool.{le-ltb}
 use Rattle.std.specs.Fmt.{digits}
@@ -9,15 +9,15 @@ use Rattle.hex.specs.Hex.{encode_with}
 use Rattle.elf_image.specs.Answers.{TakesElf, TakesNoElf}
 use Rattle.elf_image.specs.ElfText.{elf_text}
 use Rattle.elf_image.specs.Faults.{why_number, why_text}
-use Rattle.elf_image.specs.Fields.{e_machine, e_phentsize, e_phnum, e_phoff, is_header, number_at, program_header, program_headers}
-use Rattle.elf_image.specs.FirstRefusal.{IsFirstRefusal, NoneRefused}
+use Rattle.elf_image.specs.Fields.{has_headers, e_machine, e_phentsize, e_phnum, e_phoff, is_header, number_at, program_header, program_headers}
+use Rattle.elf_image.specs.FirstRefusal.{HasHeaders, IsFirstRefusal, NoneRefused, NotRefused}
 use Rattle.elf_image.specs.Refusals.{elf_refusal, header_refusal}
 use Rattle.elf_image.specs.Words.{word_in_file}
 use Rattle.elf_image.specs.declared.fault.ElfWhy.{ElfWhy}
 use Rattle.elf_image.specs.declared.fault.ElfWhy.TheVariants.{TooLong, Header, Table, Segment, Unaligned, Wraps, Overlap, TooLarge}
 use Rattle.elf_image.specs.declared.header.ProgramHeader.{ProgramHeader}
 use Rattle.trace_io.specs.State.{IoState}
-use Rattle.elf_image.proofs.First.{too_long}
+use Rattle.elf_image.proofs.First.{none_refused, too_long}
 
 -- ---- fields
 
@@ -122,6 +122,10 @@ not_loaded : elf_text (put (put base 64 (2 ∷ [])) 80 (2 ∷ [])) ≡ nothing
 unfolding elf_text number_at encode_with
 not_loaded = refl
 
+not_used : elf_text (put (put base 64 (0 ∷ [])) 80 (2 ∷ [])) ≡ nothing
+unfolding elf_text number_at encode_with
+not_used = refl
+
 no_instruction : elf_text (put (put base 96 (3 ∷ [])) 80 (2 ∷ [])) ≡ nothing
 unfolding elf_text number_at encode_with
 no_instruction = refl
@@ -136,8 +140,8 @@ no_headers = refl
 -- the class, the order of the bytes, the machine, the size of a program header, and 63 bytes
 refused_headers : map elf_refusal
     (put base 0 (0x7e ∷ []) ∷ put base 4 (1 ∷ []) ∷ put base 5 (2 ∷ []) ∷ put base 18 (0x3e ∷ []) ∷ put base 19 (1 ∷ []) ∷ put base 54 (0x40 ∷ [])
-    ∷ put base 55 (1 ∷ []) ∷ take 63 (head 0 []) ∷ [])
-    ≡ replicate 8 (Some Header)
+    ∷ put base 54 (0x37 ∷ []) ∷ put base 55 (1 ∷ []) ∷ take 63 (head 0 []) ∷ [])
+    ≡ replicate 9 (Some Header)
 unfolding number_at
 refused_headers = refl
 
@@ -247,8 +251,8 @@ each_header_counts = refl
 abbrev words_of : List ℕ → List ℕ → List (Option ℕ)
 words_of file addresses = map (word_in_file file) addresses
 
-lowest_byte_first : words_of base (0xffc ∷ 0x1000 ∷ 0x1002 ∷ 0x1004 ∷ 0x100c ∷ 0x1010 ∷ [])
-    ≡ None ∷ Some 0xd503201f ∷ None ∷ Some 0x54000040 ∷ Some 0x17fffffd ∷ None ∷ []
+lowest_byte_first : words_of base (0xffc ∷ 0x1000 ∷ 0x1001 ∷ 0x1002 ∷ 0x1003 ∷ 0x1004 ∷ 0x100c ∷ 0x1010 ∷ [])
+    ≡ None ∷ Some 0xd503201f ∷ None ∷ None ∷ None ∷ Some 0x54000040 ∷ Some 0x17fffffd ∷ None ∷ []
 unfolding number_at
 lowest_byte_first = refl
 
@@ -307,6 +311,113 @@ not_the_table r = let header = r.1 in cc
 not_the_size : IsFirstRefusal base TooLarge → ⊥
 unfolding number_at
 not_the_size r = let large = r.2 in cc
+
+-- each is the first where it is, and a file that is not refused has none
+abbrev other_machine : List ℕ
+other_machine = put base 18 (0x3e ∷ [])
+
+header_first : IsFirstRefusal other_machine Header
+unfolding number_at
+header_first = (omega arith, refl)
+
+not_the_header : IsFirstRefusal base Header → ⊥
+unfolding number_at
+not_the_header r = let other = r.1 in cc
+
+table_first : IsFirstRefusal (put base 56 (2 ∷ [])) Table
+unfolding number_at
+table_first = (omega arith, refl, refl)
+
+no_table : IsFirstRefusal base Table → ⊥
+unfolding number_at
+no_table r = let past = r.2 in cc
+
+-- of this length, the longest that is read
+module _ (file : List ℕ) (size : length file ≡ 268435456) where
+  header_at_the_limit : is_header file ≡ false → IsFirstRefusal file Header
+  header_at_the_limit other = (omega (arith, size), other)
+
+  table_at_the_limit : is_header file ≡ true → has_headers file ≡ false → IsFirstRefusal file Table
+  table_at_the_limit is past = (omega (arith, size), is, past)
+
+  headers_at_the_limit : is_header file ≡ true → has_headers file ≡ true → HasHeaders file
+  headers_at_the_limit is has = record { short = omega (arith, size); header = is; headers = has }
+
+-- and of one more byte
+module _ (file : List ℕ) (size : length file ≡ 268435457) where
+  too_long_by_one : IsFirstRefusal file TooLong
+  too_long_by_one = omega (arith, size)
+
+  header_of_the_longest : IsFirstRefusal file Header → ⊥
+  header_of_the_longest r = absurd (omega (arith, size, r.0))
+
+  table_of_the_longest : IsFirstRefusal file Table → ⊥
+  table_of_the_longest r = absurd (omega (arith, size, r.0))
+
+  size_of_the_longest : IsFirstRefusal file TooLarge → ⊥
+  size_of_the_longest r = absurd (omega (arith, size, r.0.short))
+
+  segment_of_the_longest : (k : ℕ) → IsFirstRefusal file (Segment k) → ⊥
+  segment_of_the_longest k r = absurd (omega (arith, size, r.has.short))
+
+-- the first header is refused; and the second, behind one that is not
+unaligned_first : IsFirstRefusal twice_refused (Unaligned 0)
+unfolding number_at
+unaligned_first = record {
+  has = record { short = omega arith; header = refl; headers = refl };
+  before = [];
+  refused = record { kind = 1; flags = 5; offset = 0xb0; vaddr = 0x1002; filesz = 16 };
+  behind = record { kind = 1; flags = 5; offset = 0xff; vaddr = 0x2000; filesz = 16 } ∷ [];
+  headers_are = refl;
+  none_before = none_refused twice_refused [] refl;
+  why_is = refl;
+}
+
+abbrev second_refused : List ℕ
+second_refused = two (segment 0xb0 (low 0 0x10) 16) (segment 0xb1 (low 0 0x20) 16)
+
+second_first : IsFirstRefusal second_refused (Segment 1)
+unfolding number_at
+second_first = record {
+  has = record { short = omega arith; header = refl; headers = refl };
+  before = record { kind = 1; flags = 5; offset = 0xb0; vaddr = 0x1000; filesz = 16 } ∷ [];
+  refused = record { kind = 1; flags = 5; offset = 0xb1; vaddr = 0x2000; filesz = 16 };
+  behind = [];
+  headers_are = refl;
+  none_before = none_refused second_refused (record { kind = 1; flags = 5; offset = 0xb0; vaddr = 0x1000; filesz = 16 } ∷ []) refl;
+  why_is = refl;
+}
+
+-- no other header stands for it, nor another reason
+not_for_its_address : IsFirstRefusal second_refused (Unaligned 1) → ⊥
+unfolding number_at
+not_for_its_address r = by r.before r.refused r.behind r.headers_are r.why_is
+  where
+    by : (before : List ProgramHeader) (h : ProgramHeader) (behind : List ProgramHeader) → program_headers second_refused ≡ before ++ h ∷ behind
+        → header_refusal second_refused before h ≡ Some (Unaligned 1) → ⊥
+    by [] h behind e why =
+        let first = program_header second_refused 64 in
+        let same : first ≡ h = cc in
+        let other : header_refusal second_refused [] first ≡ Some (Unaligned 1) = ap (header_refusal second_refused []) same ∙ why in
+        cc
+    by (b ∷ []) h behind e why =
+        let first = program_header second_refused 64 in
+        let second = program_header second_refused 120 in
+        let same : first ≡ b = cc in
+        let last : second ≡ h = cc in
+        let other : header_refusal second_refused (first ∷ []) second ≡ Some (Unaligned 1) =
+        ap (λ (x : ProgramHeader). header_refusal second_refused (x ∷ []) second) same ∙ ap (header_refusal second_refused (b ∷ [])) last ∙ why in
+        cc
+    by (b ∷ c ∷ before) h behind e why = absurd (omega (arith, ap length e, length-append before (h ∷ behind)))
+
+-- a file that is not refused
+not_refused : NotRefused base
+unfolding number_at
+not_refused = record {
+  has = record { short = omega arith; header = refl; headers = refl };
+  none = none_refused base (program_headers base) refl;
+  small = refl;
+}
 
 -- ---- what a source gives
 

@@ -1,15 +1,16 @@
 -- Program headers of large programs, worked out by hand: more than the image has room for.
-use Rattle.std.proofs.Common.{◌≡◌, ℕ, ◌*◌, ◌^◌, List, [], ◌∷◌, ◌++◌, Option, Some, None, refl, sym}
+use Rattle.std.proofs.Common.{◌≡◌, ℕ, ◌*◌, ◌^◌, List, [], ◌∷◌, ◌++◌, Option, Some, None, true, false, refl, sym}
 use Rattle.std.specs.Prelude.{map, replicate}
 use Rattle.std.proofs.lemmas.Option.{none-some}
 use Rattle.std.specs.List.{range_with_len}
 use Rattle.std.specs.Option.{option_or}
 use Rattle.elf_image.specs.FirstRefusal.{NoneRefused}
-use Rattle.elf_image.specs.Refusals.{first_refusal, most_file, size_refusal}
-use Rattle.elf_image.specs.Segments.{chosen}
+use Rattle.elf_image.specs.Refusals.{first_refusal, most_file, overlap, size_refusal}
+use Rattle.elf_image.specs.Segments.{addresses_of, chosen}
 use Rattle.elf_image.specs.declared.fault.ElfWhy.{ElfWhy}
 use Rattle.elf_image.specs.declared.fault.ElfWhy.TheVariants.{Overlap, Unaligned, TooLarge}
 use Rattle.elf_image.specs.declared.header.ProgramHeader.{ProgramHeader}
+use Rattle.elf_image.specs.declared.segment.Addresses.{Addresses}
 use Rattle.elf_image.proofs.First.{none_refused}
 
 -- a segment of the first bytes of the file
@@ -66,3 +67,18 @@ passed = record { kind = 4; flags = 5; offset = 0; vaddr = 16; filesz = 4 }
 
 address_is_free : NoneRefused file (passed ∷ segments 2)
 address_is_free = none_refused file (passed ∷ segments 2) refl
+
+-- ---- addresses
+
+-- 15 bytes are three words
+addresses_of_words : (addresses_of (segment 0x1000 16) ≡ record { first = 0x1000; last = 0x100f })
+    × (addresses_of (segment 0x1000 15) ≡ record { first = 0x1000; last = 0x100b })
+addresses_of_words = (refl, refl)
+
+-- there is an address of both, or none
+abbrev from_to : ℕ → ℕ → Addresses
+from_to first last = record { first = first; last = last }
+
+overlaps : (overlap (from_to 3 8) (from_to 8 9) ≡ true) × (overlap (from_to 8 9) (from_to 3 8) ≡ true)
+    × (overlap (from_to 3 7) (from_to 8 9) ≡ false) × (overlap (from_to 8 9) (from_to 3 7) ≡ false)
+overlaps = (refl, refl, refl, refl)

@@ -111,3 +111,24 @@ goes_on = refl
 -- and not before the frame that tells it
 not_before : unframed (replicate 16 0x10 ++ mixed) ≡ carried None mixed
 not_before = refl
+
+-- ---- bytes that all differ
+
+-- fourteen of one source, odd and even ones in either place: their frame is full
+abbrev differing : List ℕ
+differing = 0x12 ∷ 0x35 ∷ 0x58 ∷ 0x7c ∷ 0x9f ∷ 0xc1 ∷ 0xe4 ∷ 0x06 ∷ 0x2b ∷ 0x4d ∷ 0x70 ∷ 0x92 ∷ 0xb7 ∷ 0xd9 ∷ []
+
+abbrev their_frame : List ℕ
+their_frame = 0x03 ∷ 0x12 ∷ 0x34 ∷ 0x58 ∷ 0x7c ∷ 0x9f ∷ 0xc0 ∷ 0xe4 ∷ 0x06 ∷ 0x2b ∷ 0x4c ∷ 0x70 ∷ 0x92 ∷ 0xb7 ∷ 0xd8 ∷ 0xaa ∷ []
+
+differing_framed : framed (run_of 1 differing) ≡ their_frame
+differing_framed = refl
+
+differing_back : unframed their_frame ≡ run_of 1 differing
+differing_back = refl
+
+-- in the second frame the next ID, and the null ID behind it, each take the place of the byte before them
+differing_behind : framed (run_of 1 (0x12 ∷ differing) ++ (0x6f, 0x55) ∷ [])
+    ≡ 0x03 ∷ 0x12 ∷ 0x12 ∷ 0x35 ∷ 0x58 ∷ 0x7c ∷ 0x9e ∷ 0xc1 ∷ 0xe4 ∷ 0x06 ∷ 0x2a ∷ 0x4d ∷ 0x70 ∷ 0x92 ∷ 0xb6 ∷ 0xa8
+    ∷ 0xdf ∷ 0xd9 ∷ 0x01 ∷ 0x55 ∷ (replicate 11 0x00 ++ 0x03 ∷ [])
+differing_behind = refl

@@ -15,6 +15,7 @@ pub mod Tame
 pub mod Found
 pub mod Examples
 pub mod PacketExamples
+pub mod RangeExamples
 pub mod FaultExamples
 pub mod StreamExamples
 pub mod EnteringExamples

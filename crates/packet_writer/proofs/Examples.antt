@@ -16,7 +16,7 @@ use Rattle.packet_grammar.specs.Spelling.{SpellsPacket}
 use Rattle.packet_grammar.specs.declared.packet.Packet.{Packet}
 use Rattle.packet_grammar.specs.declared.packet.Packet.TheVariants.{Async, Discard, Overflow, Info, On, Ignore, Event, Time, Exc}
 use Rattle.packet_grammar.specs.declared.packet.Packet.TheVariants.{Commit, Cancel, Mispredict, Cancel2, Cancel3, CtxSame, CtxInfo, Addr, Atoms}
-use Rattle.packet_writer.specs.Fitting.{HasSpelling}
+use Rattle.packet_writer.specs.Fitting.{HasForm, HasSpelling}
 use Rattle.packet_writer.specs.Front.{SpellsFront}
 use Rattle.packet_writer.specs.Laws.{with_offsets}
 use Rattle.packet_writer.specs.Spelling.{spelling}
@@ -342,6 +342,32 @@ no_time_of_15_bits has = let fits = spelled_fits none (Time 14 0x4000) has in om
 -- .. though they would be by numbers that are no bytes
 pub not_of_bytes : SpellsPacket none (Time 14 0x4000) (0x02 ∷ 0x4080 ∷ 0x00 ∷ [])
 not_of_bytes = (0x4080 ∷ 0x00 ∷ [], refl, inl (record { bits = 7; low = 0 }, 0x00 ∷ [], [], refl, refl, refl))
+
+-- ---- what a packet's values leave open
+
+-- the highest address of 64 bits, alone and with a context; and the shorter long form with one
+pub long_forms : HasForm (Addr (Long64 0xfffffffffffffffc) None) × HasForm (Addr (Long64 0xfffffffffffffffc) (Some el_1))
+    × HasForm (Addr (Long32 0xfffffffc) (Some el_1))
+long_forms = (omega arith, omega arith, tt)
+
+pub other_forms : HasForm (Addr (Match 2) None) × HasForm (Addr (Short1 4) None) × HasForm (Addr (Short2 4) None) × HasForm (Addr (Long32 4) None)
+    × HasForm Async × HasForm Discard × HasForm Overflow × HasForm (Info None None None None) × HasForm On × HasForm Ignore × HasForm (Event 0)
+    × HasForm (Time 1 2) × HasForm (Exc 99 true) × HasForm (Commit 0) × HasForm (Cancel 0 true) × HasForm (Mispredict no_atom) × HasForm (Cancel2 no_atom)
+    × HasForm (Cancel3 true 0) × HasForm CtxSame × HasForm (CtxInfo el_1)
+other_forms = (tt, tt, tt, tt, tt, tt, tt, tt, tt, tt, tt, tt, tt, tt, tt, tt, tt, tt, tt, tt)
+
+pub form_of_ne : HasForm (Atoms (record { count = 2; bits = 2 }))
+unfolding atom_formats
+form_of_ne = (0xda, row_found atom_formats 0xda (false ∷ true ∷ []) refl)
+
+pub no_address_of_65_bits : HasForm (Addr (Long64 0x10000000000000000) None) → ⊥
+no_address_of_65_bits has = omega (arith, has)
+
+pub none_of_65_bits_with_a_context : HasForm (Addr (Long64 0x10000000000000000) (Some el_1)) → ⊥
+none_of_65_bits_with_a_context has = omega (arith, has)
+
+pub no_short_form_with_a_context : HasForm (Addr (Short1 4) (Some el_1)) → ⊥
+no_short_form_with_a_context has = has
 
 -- ---- packets one after the other
 

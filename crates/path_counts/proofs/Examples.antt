@@ -1,14 +1,14 @@
 -- Counts of items that were worked out by hand, each beside what a wrong definition would say.
-use Rattle.std.proofs.Common.{◌≡◌, ℕ, ◌-◌, ◌^◌, true, false, List, [], ◌∷◌, codes, refl, ap, get_or, arith}
+use Rattle.std.proofs.Common.{◌≡◌, ℕ, ◌-◌, ◌^◌, Bool, true, false, map, List, [], ◌∷◌, codes, refl, ap, get_or, arith}
 use Rattle.etm_types.specs.declared.context.Ctx.{Ctx}
 use Rattle.etm_types.specs.declared.item.Item.{Item}
 use Rattle.etm_types.specs.declared.item.Item.TheVariants.{Exc, Gap, Instr, On, Stop, Unknown}
 use Rattle.path_text.specs.Lines.{in_base}
 use Rattle.program_image.specs.Part.{Part}
-use Rattle.path_counts.specs.Counts.{counts_of, times, took_at}
+use Rattle.path_counts.specs.Counts.{counts_by, counts_of, is_at, times, took_at}
 use Rattle.path_counts.specs.CountLines.{counts_text, items_text, number_line, words_text}
 use Rattle.path_counts.specs.declared.targets.Target.{Target}
-use Rattle.path_counts.specs.Targets.{is_pointer_branch, targets_within}
+use Rattle.path_counts.specs.Targets.{entry_of, how_many, is_pointer_branch, kept_within, outside, pair_lt, same_pair, targets_of, targets_within}
 use Rattle.path_counts.specs.Levels.{is_within, levels_of, place_behind}
 
 -- four words from 1000 on, and the last one of all addresses
@@ -150,3 +150,65 @@ not_frozen e = let two : 2 ≡ 3 = e in absurd (omega (arith, two))
 to_is_not_first : words_text (0x1004 ∷ []) (0 ∷ []) (1 ∷ []) (record { from = 0x1004; to = 0; times = 1 } ∷ []) ≡ codes "to 1004 0 1\ntaken 1004 1\n" → ⊥
 unfolding in_base
 to_is_not_first e = let second : 97 ≡ 111 = ap (λ t. get_or t 1 0) e in absurd (omega (arith, second))
+
+-- ---- the ends of each number
+
+-- what is no instruction is none of a word's, whatever its addresses are
+no_instructions : items_text code (On ∷ Unknown ∷ Gap ∷ Stop ∷ Exc 14 0x1000 ∷ []) [] ≡ codes "on 1\n? 1\ngap 1\nstop 1\nexc irq 1\n"
+unfolding in_base code
+no_instructions = refl
+
+-- the first exception, the last one that a byte has, and one behind it that is not counted
+ends_of_exceptions : items_text [] (Exc 256 0 ∷ Exc 255 0 ∷ Exc 0 0 ∷ []) [] ≡ codes "exc reset 1\nexc 255 1\n"
+unfolding in_base
+ends_of_exceptions = refl
+
+-- counts are modulo 2^64
+most_visits : (items : List Item) → times (is_at 0x1000) items ≡ 2 ^ 64 - 1 → counts_by is_at (0x1000 ∷ []) items ≡ (2 ^ 64 - 1) ∷ []
+most_visits items many = rw many refl
+
+visits_wrap : (items : List Item) → times (is_at 0x1000) items ≡ 2 ^ 64 → counts_by is_at (0x1000 ∷ []) items ≡ 0 ∷ []
+visits_wrap items many = rw many refl
+
+most_times : (p : ℕ × ℕ) (those : List (ℕ × ℕ)) → how_many p those ≡ 2 ^ 64 - 1 → (entry_of those p).times ≡ 2 ^ 64 - 1
+most_times p those many = rw many refl
+
+times_wrap : (p : ℕ × ℕ) (those : List (ℕ × ℕ)) → how_many p those ≡ 2 ^ 64 → (entry_of those p).times ≡ 0
+times_wrap p those many = rw many refl
+
+most_others : (those : List (ℕ × ℕ)) → outside (kept_within 2 those) those ≡ 2 ^ 64 - 1 → (targets_within 2 those).more ≡ 2 ^ 64 - 1
+most_others those many = rw many refl
+
+others_wrap : (those : List (ℕ × ℕ)) → outside (kept_within 2 those) those ≡ 2 ^ 64 → (targets_within 2 those).more ≡ 0
+others_wrap those many = rw many refl
+
+-- from 2^63 to the highest level and over it, twice
+levels_wrap : levels_of (2 ^ 63 ∷ (2 ^ 63 - 1) ∷ 1 ∷ 2 ^ 63 ∷ []) ≡ 2 ^ 63 ∷ (2 ^ 64 - 1) ∷ 0 ∷ 2 ^ 63 ∷ []
+levels_wrap = refl
+
+-- three places of five that do not go over the end, and none of them
+inside_the_ring : map (is_within 5 1 3) (0 ∷ 1 ∷ 2 ∷ 3 ∷ 4 ∷ []) ≡ false ∷ true ∷ true ∷ true ∷ false ∷ []
+inside_the_ring = refl
+
+no_place_of_the_ring : map (is_within 5 1 0) (0 ∷ 1 ∷ 2 ∷ 3 ∷ 4 ∷ []) ≡ false ∷ false ∷ false ∷ false ∷ false ∷ []
+no_place_of_the_ring = refl
+
+-- the same for both addresses of a pair: less, the same and more
+abbrev by_another : (ℕ × ℕ → ℕ × ℕ → Bool) → List Bool
+by_another test = map (test (5, 5)) ((6, 4) ∷ (6, 5) ∷ (6, 6) ∷ (5, 4) ∷ (5, 5) ∷ (5, 6) ∷ (4, 4) ∷ (4, 5) ∷ (4, 6) ∷ [])
+
+order_of_pairs : by_another pair_lt ≡ true ∷ true ∷ true ∷ false ∷ false ∷ true ∷ false ∷ false ∷ false ∷ []
+order_of_pairs = refl
+
+sameness_of_pairs : by_another same_pair ≡ false ∷ false ∷ false ∷ false ∷ true ∷ false ∷ false ∷ false ∷ false ∷ []
+sameness_of_pairs = refl
+
+-- a table has room for 65,536 pairs
+room_of_a_table : (those : List (ℕ × ℕ)) → targets_of those ≡ targets_within 65536 those
+room_of_a_table those = refl
+
+-- BR and BLR with X17, and with a bit of their last field set
+odd_registers :
+    map is_pointer_branch (0xd61f0220 ∷ 0xd63f0220 ∷ 0xd61f0201 ∷ 0xd63f0201 ∷ 0xd61f0210 ∷ 0xd63f0210 ∷ [])
+    ≡ true ∷ true ∷ false ∷ false ∷ false ∷ false ∷ []
+odd_registers = refl

@@ -1,5 +1,5 @@
 -- Lists of packets with their elements, worked out by hand from the standard's descriptions.
-use Rattle.std.proofs.Common.{◌≡◌, Bool, List, [], ◌∷◌, map, true, false, Some, None, refl}
+use Rattle.std.proofs.Common.{◌≡◌, Bool, List, [], ◌∷◌, map, replicate, true, false, Some, None, refl}
 use Rattle.etm_types.specs.declared.atoms.FewAtoms.{FewAtoms}
 use Rattle.etm_types.specs.declared.context.Ctx.{Ctx}
 use Rattle.etm_types.specs.declared.context.CtxBits.{CtxBits}
@@ -8,7 +8,7 @@ use Rattle.etm_types.specs.declared.element.Elem.TheVariants as elem
 use Rattle.etm_types.specs.declared.element.P0.TheVariants as p0
 use Rattle.packet_grammar.specs.declared.packet.Packet.{Packet}
 use Rattle.packet_grammar.specs.declared.packet.Packet.TheVariants as packet
-use Rattle.path_elements.specs.Elements.{Told, untold, all_elements, elements_of, is_misplaced, tells, told_after}
+use Rattle.path_elements.specs.Elements.{Told, untold, all_elements, elements_of, is_misplaced, tells, told_after, told_by}
 
 abbrev secure : Ctx
 secure = record { el = 0; ns = false; vmid = 0; cid = 0 }
@@ -195,8 +195,87 @@ pub their_elements :
     ≡ (elem.Overflow ∷ []) ∷ (elem.Discard ∷ []) ∷ (elem.Info 0 ∷ []) ∷ (elem.Info 3 ∷ []) ∷ []
 their_elements = refl
 
--- an atom, a commit, a cancel and a context packet without an info byte leave all as it was
-pub left_as_it_was :
-    map (told_after under_way) (packet.Atoms (record { count = 1; bits = 1 }) ∷ packet.Commit 1 ∷ packet.Cancel 1 true ∷ packet.CtxSame ∷ [])
-    ≡ under_way ∷ under_way ∷ under_way ∷ under_way ∷ []
+-- ---- what each packet leaves of all that is told, and of it while no trace info came
+
+abbrev quiet : Told
+quiet = record { history = 0x3000 ∷ 0x2000 ∷ 0x1000 ∷ []; context = handler; informed = false; awaiting = None }
+
+-- these leave all as it was
+abbrev idle : List Packet
+idle =
+    packet.Async ∷ packet.On ∷ packet.Ignore ∷ packet.Event 1 ∷ packet.Time 7 1 ∷ packet.Commit 1 ∷ packet.Cancel 1 true ∷ packet.Mispredict no_atom
+    ∷ packet.Cancel2 no_atom ∷ packet.Cancel3 true 2 ∷ packet.CtxSame ∷ packet.Atoms (record { count = 1; bits = 1 }) ∷ []
+
+pub left_as_it_was : map (told_by under_way) idle ≡ replicate 12 under_way
 left_as_it_was = refl
+
+pub left_untold : map (told_by quiet) idle ≡ replicate 12 quiet
+left_untold = refl
+
+-- each of the others changes what it tells of, and nothing else
+abbrev telling : List Packet
+telling =
+    packet.Discard ∷ packet.Overflow ∷ packet.Exc 9 true ∷ packet.Exc 9 false
+    ∷ packet.CtxInfo (record { el = 2; ns = false; vmid = None; cid = Some 8 }) ∷ packet.Addr (Short1 0x10) None
+    ∷ packet.Addr (Match 2) (Some (record { el = 3; ns = false; vmid = Some 6; cid = None })) ∷ info ∷ []
+
+pub one_thing_changes :
+    map (told_by under_way) telling
+    ≡ record { history = 0x3000 ∷ 0x2000 ∷ 0x1000 ∷ []; context = handler; informed = true; awaiting = None }
+    ∷ record { history = 0x3000 ∷ 0x2000 ∷ 0x1000 ∷ []; context = handler; informed = true; awaiting = None }
+    ∷ record { history = 0x3000 ∷ 0x2000 ∷ 0x1000 ∷ []; context = handler; informed = true; awaiting = Some (record { kind = 9; target = true }) }
+    ∷ record { history = 0x3000 ∷ 0x2000 ∷ 0x1000 ∷ []; context = handler; informed = true; awaiting = Some (record { kind = 9; target = false }) }
+    ∷ record {
+      history = 0x3000 ∷ 0x2000 ∷ 0x1000 ∷ [];
+      context = record { el = 2; ns = false; vmid = 5; cid = 8 };
+      informed = true;
+      awaiting = Some (record { kind = 3; target = true });
+    }
+    ∷ record { history = 0x3010 ∷ 0x3000 ∷ 0x2000 ∷ []; context = handler; informed = true; awaiting = None }
+    ∷ record {
+      history = 0x1000 ∷ 0x3000 ∷ 0x2000 ∷ [];
+      context = record { el = 3; ns = false; vmid = 6; cid = 7 };
+      informed = true;
+      awaiting = None;
+    }
+    ∷ record { history = 0 ∷ 0 ∷ 0 ∷ []; context = secure; informed = true; awaiting = Some (record { kind = 3; target = true }) } ∷ []
+one_thing_changes = refl
+
+pub one_thing_changes_of_nothing_told :
+    map (told_by quiet) telling
+    ≡ quiet ∷ quiet
+    ∷ record { history = 0x3000 ∷ 0x2000 ∷ 0x1000 ∷ []; context = handler; informed = false; awaiting = Some (record { kind = 9; target = true }) }
+    ∷ record { history = 0x3000 ∷ 0x2000 ∷ 0x1000 ∷ []; context = handler; informed = false; awaiting = Some (record { kind = 9; target = false }) }
+    ∷ record {
+      history = 0x3000 ∷ 0x2000 ∷ 0x1000 ∷ [];
+      context = record { el = 2; ns = false; vmid = 5; cid = 8 };
+      informed = false;
+      awaiting = None;
+    }
+    ∷ record { history = 0x3010 ∷ 0x3000 ∷ 0x2000 ∷ []; context = handler; informed = false; awaiting = None }
+    ∷ record {
+      history = 0x1000 ∷ 0x3000 ∷ 0x2000 ∷ [];
+      context = record { el = 3; ns = false; vmid = 6; cid = 7 };
+      informed = false;
+      awaiting = None;
+    }
+    ∷ begun ∷ []
+one_thing_changes_of_nothing_told = refl
+
+pub told_at_first : untold ≡ record { history = 0 ∷ 0 ∷ 0 ∷ []; context = secure; informed = false; awaiting = None }
+told_at_first = refl
+
+-- before the first trace info nothing but that is told
+pub not_told_at_first : map (told_after quiet) telling ≡ quiet ∷ quiet ∷ quiet ∷ quiet ∷ quiet ∷ quiet ∷ quiet ∷ begun ∷ []
+not_told_at_first = refl
+
+-- what was gained before a packet that may not come stays, and so does what is told there
+pub gained_in_front :
+    all_elements under_way ((7, packet.Discard) ∷ (8, packet.Exc 9 true) ∷ (10, packet.CtxSame) ∷ (11, packet.On) ∷ (12, packet.On) ∷ [])
+    ≡ record {
+      elements = (7, elem.Discard) ∷ (10, elem.Ctx handler) ∷ [];
+      awaited = Some 11;
+      told = record
+          { history = 0x3000 ∷ 0x2000 ∷ 0x1000 ∷ []; context = handler; informed = true; awaiting = Some (record { kind = 9; target = true }) };
+    }
+gained_in_front = refl

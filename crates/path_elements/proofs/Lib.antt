@@ -9,4 +9,5 @@ pub mod OnePath
 pub mod Joined
 pub mod BytePaths
 pub mod Examples
+pub mod HeldExamples
 pub mod PathExamples

@@ -1,7 +1,7 @@
 -- Walks that were worked out by hand: what is shown and where the walk goes on, or with which fault it stops.
 use Rattle.std.proofs.Common.{◌≡◌, ◌≢◌, ℕ, zero, suc, ◌+◌, Bool, true, false, List, [], ◌∷◌, ◌++◌}
 use Rattle.std.proofs.Common.{map, length, Option, Some, None, is_none, Ok, Err, refl, ap, inl, inr, arith}
-use Rattle.std.specs.Prelude.{neg_ℤ, pos, take}
+use Rattle.std.specs.Prelude.{neg_ℤ, pos, replicate, take}
 use Rattle.std.specs.Option.{unwrap_or}
 use Rattle.a64_branches.specs.Classes.{class_of}
 use Rattle.a64_branches.specs.declared.class.Class.{Class}
@@ -18,15 +18,16 @@ use Rattle.etm_types.specs.declared.item.Item.{Item}
 use Rattle.etm_types.specs.declared.item.Item.TheVariants as item
 use Rattle.etm_types.specs.declared.walked.Walked.{Walked}
 use Rattle.etm_types.specs.declared.walked.ExcMark.{ExcMark}
+use Rattle.etm_types.specs.declared.walk_fault.WalkFault.{WalkFault}
 use Rattle.etm_types.specs.declared.walk_fault.WalkFault.TheVariants as fault
 use Rattle.path_walker.specs.declared.pc.Pc.{Pc}
 use Rattle.path_walker.specs.declared.pc.Pc.TheVariants.{Known, Awaited, Lost}
 use Rattle.path_walker.specs.State.{State, first_state}
 use Rattle.path_walker.specs.declared.stretch.Stretch.{Stretch}
-use Rattle.path_walker.specs.Start.{context_of, mismatch_of, pc_before, start_of}
+use Rattle.path_walker.specs.Start.{context_of, mismatch_of, pc_before, start_by, start_of}
 use Rattle.path_walker.specs.Steps.{next_of, stack_after}
 use Rattle.path_walker.specs.Walk.{GoesOn, IsPlaced, IsRunBefore, Leads, Shows, Stops, mark_of, takes}
-use Rattle.path_walker.specs.Things.{Walks}
+use Rattle.path_walker.specs.Things.{StopsAt, Walks}
 use Rattle.path_walker.proofs.OneWalk.{Walk, one_walk}
 
 -- ---- images, and what is given before entries
@@ -162,6 +163,38 @@ stacks_after :
     ≡ (0x3004 ∷ []) ∷ (0x3004 ∷ []) ∷ (0x1004 ∷ 0x3004 ∷ []) ∷ (0x3004 ∷ []) ∷ (0x3004 ∷ []) ∷ (0x3004 ∷ []) ∷ (0x1004 ∷ 0x3004 ∷ [])
     ∷ (0x3004 ∷ []) ∷ (0x3004 ∷ []) ∷ []
 stacks_after = refl
+
+-- ---- where an entry begins
+
+abbrev marked : Bool → Bool → Pre
+marked on lost = record { flush = false; on = on; lost = lost; ctx = None; addr = None }
+
+-- trace on makes the address unknown, and so does missing trace, each by itself
+known_before :
+    map (pc_before (at (Known 0x1000) (0x3004 ∷ []) user)) (marked false false ∷ marked true false ∷ marked false true ∷ marked true true ∷ [])
+    ≡ Known 0x1000 ∷ Lost ∷ Lost ∷ Lost ∷ []
+known_before = refl
+
+-- an address above the known one is another one, as one below it is; where none is known, or none given, there is nothing to compare
+compared :
+    map (mismatch_of (Known 0x1000)) (None ∷ Some 0x1000 ∷ Some 0xffc ∷ Some 0x1004 ∷ [])
+    ≡ None ∷ None ∷ Some (fault.AddressMismatch 0x1000 0xffc) ∷ Some (fault.AddressMismatch 0x1000 0x1004) ∷ []
+compared = refl
+
+not_compared : map (λ pc. mismatch_of pc (Some 0x1000)) (Awaited true ∷ Awaited false ∷ Lost ∷ []) ≡ None ∷ None ∷ None ∷ []
+not_compared = refl
+
+-- of two return addresses the newest is taken where it may be, and both are dropped where no address is known
+started_untold :
+    map (λ pc. start_by None pc (0x3004 ∷ 0x3014 ∷ [])) (Known 0x1000 ∷ Awaited true ∷ Awaited false ∷ Lost ∷ [])
+    ≡ record { at = Some 0x1000; stack = 0x3004 ∷ 0x3014 ∷ [] } ∷ record { at = Some 0x3004; stack = 0x3014 ∷ [] }
+    ∷ record { at = None; stack = [] } ∷ record { at = None; stack = [] } ∷ []
+started_untold = refl
+
+started_told :
+    map (λ pc. start_by (Some 0x1000) pc (0x3004 ∷ 0x3014 ∷ [])) (Known 0x1000 ∷ Awaited true ∷ Awaited false ∷ Lost ∷ [])
+    ≡ replicate 4 (record { at = Some 0x1000; stack = 0x3004 ∷ 0x3014 ∷ [] })
+started_told = refl
 
 -- ---- addresses
 
@@ -464,3 +497,36 @@ interrupted =
       ),
       refl,
     )
+
+-- ---- things that are not entries
+
+-- A gap and a stop are shown, and a P0 element that was not seen is not. None of them changes where the walk is, and none stops it.
+abbrev calling : State
+calling = at (Known 0x3010) (0x3004 ∷ []) kernel
+
+passed_by : Walks calls calling (Gap ∷ Unseen ∷ Stop ∷ []) (item.Gap ∷ item.Stop ∷ []) (Ok calling)
+passed_by =
+    inl (
+      item.Gap ∷ [],
+      item.Stop ∷ [],
+      calling,
+      (refl, refl),
+      inl ([], item.Stop ∷ [], calling, (refl, refl), inl (item.Stop ∷ [], [], calling, (refl, refl), (refl, refl), refl), refl),
+      refl,
+    )
+
+no_stop_at_a_gap : (f : WalkFault) → StopsAt calls calling Gap f → ⊥
+no_stop_at_a_gap f stops = stops
+
+no_stop_at_a_stop : (f : WalkFault) → StopsAt calls calling Stop f → ⊥
+no_stop_at_a_stop f stops = stops
+
+no_stop_at_what_was_not_seen : (f : WalkFault) → StopsAt calls calling Unseen f → ⊥
+no_stop_at_what_was_not_seen f stops = stops
+
+-- nothing shows an item, and nothing stops there
+no_item_of_nothing : Walks calls calling [] (item.On ∷ []) (Ok calling) → ⊥
+no_item_of_nothing walks = cc (walks.0)
+
+no_fault_of_nothing : Walks calls calling [] [] (Err (fault.NoCode 0x3010)) → ⊥
+no_fault_of_nothing walks = cc (walks.1)

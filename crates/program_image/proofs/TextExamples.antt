@@ -3,9 +3,10 @@ use Rattle.std.proofs.Common.{◌≡◌, ℕ, List, [], ◌∷◌, ◌++◌, Ok,
 use Rattle.std.specs.Prelude.{codes, replicate, get_or, length, map, Result}
 use Rattle.std.specs.List.{concat}
 use Rattle.std.specs.Str.{chars, is_utf8}
+use Rattle.std.specs.Str.Lines.{lines}
 use Rattle.hex.specs.Hex.{decode_pairs}
 use Rattle.program_image.specs.Faults.{why_number, why_text}
-use Rattle.program_image.specs.ImageText.{image_of}
+use Rattle.program_image.specs.ImageText.{add_lines, image_of, sorted}
 use Rattle.program_image.specs.Part.{Part}
 use Rattle.program_image.specs.declared.fault.ImageWhy.{ImageWhy}
 use Rattle.program_image.specs.declared.fault.ImageWhy.TheVariants.{Syntax, Unaligned, Overlap, Wraps, TooLarge, TooLong}
@@ -53,6 +54,26 @@ not_in_the_order_of_the_text e =
 pub none_without_bytes : starts (image_of full) ≡ 0x1000 ∷ 0x2000 ∷ 0x3000 ∷ 0xfffffffffffffffc ∷ [] → ⊥
 none_without_bytes e =
     let here = ap (λ r. length (starts r)) full_text in let there = ap (λ (l : List ℕ). length l) e in absurd (omega (arith, here, there))
+
+-- a line of bytes may begin with a letter, though `@` comes before all letters
+pub letters_first : image_of (codes "@1000\nd503201f\nF0e1D2c3\n") ≡ Ok (part 0x1000 (0xd5 ∷ 0x03 ∷ 0x20 ∷ 0x1f ∷ 0xf0 ∷ 0xe1 ∷ 0xd2 ∷ 0xc3 ∷ []) ∷ [])
+unfolding image_of decode_pairs is_utf8 chars lib.Utf8.encode
+letters_first = refl
+
+-- no other sign begins a comment
+pub other_signs : map (λ line. image_of (codes "@1000\n" ++ line)) (codes "!00" ∷ codes "\"00" ∷ codes "$00" ∷ codes "#00" ∷ [])
+    ≡ Err (2, Syntax) ∷ Err (2, Syntax) ∷ Err (2, Syntax) ∷ Ok [] ∷ []
+unfolding image_of decode_pairs is_utf8 chars lib.Utf8.encode
+other_signs = refl
+
+-- a text of 64 MiB is read, and a longer one is not
+pub longest_text : (text : List ℕ) → length text ≡ 67108864 → image_of text ≡ sorted (add_lines 1 [] (lines text))
+unfolding image_of
+longest_text text long = rw long refl
+
+pub longer_text : (text : List ℕ) → length text ≡ 67108865 → image_of text ≡ Err (0, TooLong)
+unfolding image_of
+longer_text text long = rw long refl
 
 -- ---- each fault, with its line
 

@@ -1,3 +1,4 @@
+pub mod EffectExamples
 pub mod EventsJoined
 pub mod EventsKept
 pub mod Examples

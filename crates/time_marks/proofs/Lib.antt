@@ -17,6 +17,7 @@ pub mod Runs
 pub mod StampFits
 pub mod Stamped
 pub mod Standing
+pub mod StateExamples
 pub mod Steps
 pub mod Tallies
 pub mod Texts

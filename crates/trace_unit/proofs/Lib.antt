@@ -27,6 +27,8 @@ pub mod OneOrder
 pub mod AllOrders
 pub mod RunOrders
 pub mod Examples
+pub mod BoundExamples
+pub mod StateExamples
 pub mod PlainExamples
 pub mod Announced
 pub mod Sizes

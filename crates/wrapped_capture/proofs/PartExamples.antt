@@ -2,7 +2,9 @@
 use Rattle.std.proofs.Common.{◌≡◌, ℕ, Bool, true, false, List, [], ◌∷◌, map, length, Option, Some, None, ◌+◌}
 use Rattle.std.proofs.Common.{refl, sym, ap, ◌∙◌, inl, inr, arith, length-append}
 use Rattle.std.proofs.lemmas.List.{length-map}
-use Rattle.std.specs.Prelude.{get_or}
+use Rattle.std.specs.Prelude.{get_or, pos}
+use Rattle.a64_branches.specs.Classes.{class_of}
+use Rattle.a64_branches.specs.declared.class.Class.TheVariants.{Jump}
 use Rattle.element_queue.specs.Resolved.{Resolved}
 use Rattle.etm_types.specs.Pre.{nothing_told, trace_missing}
 use Rattle.etm_types.specs.declared.context.Ctx.{Ctx}
@@ -17,10 +19,12 @@ use Rattle.etm_types.specs.declared.element.Thing.TheVariants.{Gap, Seen, Stop, 
 use Rattle.etm_types.specs.declared.element.Thing.{Thing}
 use Rattle.etm_types.specs.declared.walked.Walked.{Walked}
 use Rattle.path_walker.specs.State.{State, first_state}
-use Rattle.path_walker.specs.declared.pc.Pc.TheVariants.{Awaited}
+use Rattle.path_walker.specs.Start.{context_of, mismatch_of, pc_before, start_of}
+use Rattle.path_walker.specs.Walk.{Shows}
+use Rattle.path_walker.specs.declared.pc.Pc.TheVariants.{Awaited, Known, Lost}
 use Rattle.program_image.specs.declared.image.Image.{Image}
-use Rattle.wrapped_capture.specs.Marks.{Mark, mark, marks_at, marks_behind, old}
-use Rattle.wrapped_capture.specs.Rows.{AreAlike, BehindEntry, BehindGap, NoneSeen, PreAt, Row, late_of, whole_of}
+use Rattle.wrapped_capture.specs.Marks.{Mark, Marks, mark, marked, marks_at, marks_behind, old}
+use Rattle.wrapped_capture.specs.Rows.{AreAlike, BehindEntry, BehindGap, NoneSeen, Place, PreAt, Row, late_of, whole_of}
 use Rattle.wrapped_capture.specs.Part.{ShowsPart}
 use Rattle.wrapped_capture.specs.Walked.{EntryWalks, IsCause, Standing, WalkAlike, context_where, told_by}
 
@@ -66,6 +70,59 @@ on_at k marks = (get_or marks k old).on
 pub on_is_gone : (marks_behind 4 there (marks_at there) (elem.On ∷ elem.P0 (Atom true) ∷ elem.Cancel 1 ∷ elem.P0 (Atom false) ∷ [])).all
     ≡ old ∷ old ∷ mark true false ∷ [] → ⊥
 on_is_gone e = let x = ap (on_at 2) e in absurd cc
+
+-- behind each element: two things are done, and two are held, of which the older one has an On; and one was told since, or not
+abbrev four_marks : List Mark
+four_marks = old ∷ mark true false ∷ mark true true ∷ mark true false ∷ []
+
+abbrev marks : Bool → Marks
+marks on = record { all = four_marks; on = on }
+
+abbrev two_and_two : Resolved
+two_and_two = record {
+  done = seen nothing_told (Atom true) ∷ Gap ∷ [];
+  pending = record { held = seen nothing_told (Atom true) ∷ seen nothing_told (Atom false) ∷ []; pre = nothing_told; informed = true };
+}
+
+abbrev each_element : List Elem
+each_element =
+    elem.Info 2 ∷ elem.On ∷ elem.Ctx kernel ∷ elem.Addr 0x1000 ∷ elem.P0 (Atom true) ∷ elem.P0 (Exc 3 0x1000) ∷ elem.Commit 1 ∷ elem.Cancel 0
+    ∷ elem.Cancel 1 ∷ elem.Cancel 2 ∷ elem.Flip ∷ elem.Overflow ∷ elem.Discard ∷ []
+
+abbrev marked_as : List Mark → Bool → Marks
+marked_as all on = record { all = all; on = on }
+
+pub marked_where_on :
+    map (marked two_and_two (marks true)) each_element
+    ≡ marks true ∷ marks true ∷ marks true ∷ marks true ∷ marked_as (old ∷ mark true false ∷ mark true true ∷ mark true false ∷ mark true true ∷ []) false
+    ∷ marked_as (old ∷ mark true false ∷ mark true true ∷ mark true false ∷ mark true true ∷ []) false ∷ marks true ∷ marks true
+    ∷ marked_as (old ∷ mark true false ∷ mark true true ∷ []) false ∷ marked_as (old ∷ mark true false ∷ []) true ∷ marks true
+    ∷ marked_as (old ∷ mark true false ∷ mark true false ∷ []) false ∷ marked_as (old ∷ mark true false ∷ mark true false ∷ []) false ∷ []
+marked_where_on = refl
+
+pub marked_where_off :
+    map (marked two_and_two (marks false)) each_element
+    ≡ marks false ∷ marks true ∷ marks false ∷ marks false
+    ∷ marked_as (old ∷ mark true false ∷ mark true true ∷ mark true false ∷ mark true false ∷ []) false
+    ∷ marked_as (old ∷ mark true false ∷ mark true true ∷ mark true false ∷ mark true false ∷ []) false ∷ marks false ∷ marks false
+    ∷ marked_as (old ∷ mark true false ∷ mark true true ∷ []) false ∷ marked_as (old ∷ mark true false ∷ []) true ∷ marks false
+    ∷ marked_as (old ∷ mark true false ∷ mark true false ∷ []) false ∷ marked_as (old ∷ mark true false ∷ mark true false ∷ []) false ∷ []
+marked_where_off = refl
+
+-- at the info all things are old, and the marks are written out
+pub old_at_first :
+    marks_at two_and_two
+    ≡ record {
+      all = record { made = false; on = false } ∷ record { made = false; on = false } ∷ record { made = false; on = false }
+          ∷ record { made = false; on = false } ∷ [];
+      on = false;
+    }
+old_at_first = refl
+
+pub each_mark :
+    mark false true ∷ mark true false ∷ mark true true ∷ []
+    ≡ record { made = false; on = true } ∷ record { made = true; on = false } ∷ record { made = true; on = true } ∷ []
+each_mark = refl
 
 -- an overflow puts its own mark in the place of what is held
 pub marked_gap : (marks_behind 4 there (marks_at there) (elem.P0 (Atom true) ∷ elem.Overflow ∷ [])).all ≡ old ∷ mark true false ∷ []
@@ -185,6 +242,27 @@ one_to_take image (inl follows) = let e = follows.shown in let f = follows.unkno
 one_to_take image (inr (inl first)) = let e = first.0 in absurd cc
 one_to_take image (inr (inr pops)) = let e = pops.empty in absurd cc
 
+-- at 1000: RET; B to itself
+abbrev returning : Image
+returning = record { start = 0x1000; bytes = 0xc0 ∷ 0x03 ∷ 0x5f ∷ 0xd6 ∷ 0x00 ∷ 0x00 ∷ 0x00 ∷ 0x14 ∷ [] } ∷ []
+
+pub one_missing : IsCause returning (behind_known (awaiting (0x3004 ∷ [])) (awaiting [])) nothing_told nothing_told
+unfolding class_of
+one_missing =
+    inr (
+      inr (record {
+        walked = known;
+        shown = refl;
+        ends = record { known = refl; before = 0; counted = refl; returns = refl };
+        addr = refl;
+        awaited = refl;
+        newest = 0x3004;
+        more = [];
+        pops = refl;
+        empty = refl;
+      }),
+    )
+
 -- nor because trace is missing, where it is not the first
 abbrev missing : Pre
 missing = record nothing_told { lost = true }
@@ -200,6 +278,163 @@ pub behind_a_gap : (image : Image)
 behind_a_gap image (inl follows) = let e = follows.shown in absurd cc
 behind_a_gap image (inr (inl first)) = let e = first.0 in absurd cc
 behind_a_gap image (inr (inr pops)) = let e = pops.shown in absurd cc
+
+-- ---- an entry of each kind: B at 1004, which the late reader does not know at first, and then does; and one that it shows nothing of
+
+abbrev there_with : List ℕ → Ctx → State
+there_with stack ctx = record { pc = Known 0x1004; stack = stack; ctx = ctx }
+
+abbrev jumped : Ctx → Walked
+jumped ctx = record { on = false; unknown = false; ctx = ctx; start = 0x1004; count = 1; took = false; exc = None }
+
+abbrev first_context : Ctx
+first_context = record { el = 0; ns = false; vmid = 0; cid = 0 }
+
+jump_shown : (stack : List ℕ) (at : State) (pre : Pre) → start_of at pre ≡ record { at = Some 0x1004; stack = stack }
+    → mismatch_of (pc_before at pre) pre.addr ≡ None → pre.on ≡ false
+    → Shows returning at (record { pre = pre; p0 = Atom true }) (jumped (context_of at pre)) (there_with stack (context_of at pre))
+unfolding class_of
+jump_shown stack at pre starts agrees off = record {
+  agrees = agrees;
+  leads = rw starts (record {
+    plain = 0;
+    class = Jump (pos 0) false;
+    run = λ k below. absurd (omega (arith, below));
+    there = refl;
+    next = refl;
+    counted = refl;
+    kept = refl;
+  });
+  on = sym off;
+  unknown = rw starts refl;
+  start = rw starts refl;
+  ctx = refl;
+  kept = refl;
+  exc = refl;
+  took = rw starts refl;
+}
+
+unknown_shown : (image : Image) → Shows image first_state (record { pre = trace_missing; p0 = Atom true }) (record unknown { ctx = first_context })
+    (record { pc = Lost; stack = []; ctx = first_context })
+unknown_shown image =
+    record
+        { agrees = refl; leads = (refl, refl, refl); on = refl; unknown = refl; start = refl; ctx = refl; kept = refl; exc = refl; took = refl }
+
+-- the whole is told the address and the context, before the info, and the late reader neither
+abbrev told_before : Pre
+told_before = record nothing_told { addr = Some 0x1004; ctx = Some kernel }
+
+abbrev entered : State → Standing
+entered whole = record { place = NoneSeen; told = false; last = None; whole = whole; late = first_state }
+
+pub unknown_at_first :
+    EntryWalks returning (entered (record { pc = Lost; stack = 0x3004 ∷ []; ctx = first_context })) (record {
+      place = BehindEntry;
+      told = false;
+      last = Some (record unknown { ctx = first_context });
+      whole = there_with (0x3004 ∷ []) kernel;
+      late = record { pc = Lost; stack = []; ctx = first_context };
+    })
+    told_before trace_missing (Atom true) (mark true false) (jumped kernel) (record unknown { ctx = first_context })
+unfolding class_of
+unknown_at_first = record {
+  shows = jump_shown (0x3004 ∷ []) (record { pc = Lost; stack = 0x3004 ∷ []; ctx = first_context }) told_before refl refl refl;
+  shown = unknown_shown returning;
+  on = refl;
+  exc = refl;
+  same = inl refl;
+  ctx = refl;
+  untold = λ e. refl;
+  cause = λ e. inr (inl (refl, refl));
+  front = (0x3004 ∷ [], refl);
+  left = (0x3004 ∷ [], refl);
+  place = refl;
+  told = refl;
+  last = refl;
+}
+
+-- both are told the address, and the late reader the context too
+abbrev found : Standing
+found = record { place = BehindEntry; told = true; last = Some (jumped kernel); whole = there_with (0x3004 ∷ []) kernel; late = there_with [] kernel }
+
+pub known_behind : EntryWalks returning found found nothing_told nothing_told (Atom true) (mark true false) (jumped kernel) (jumped kernel)
+unfolding class_of
+known_behind = record {
+  shows = jump_shown (0x3004 ∷ []) (there_with (0x3004 ∷ []) kernel) nothing_told refl refl refl;
+  shown = jump_shown [] (there_with [] kernel) nothing_told refl refl refl;
+  on = refl;
+  exc = refl;
+  same = inr (record { known = refl; start = refl; count = refl; took = refl });
+  ctx = refl;
+  untold = λ e. absurd cc;
+  cause = λ e. absurd cc;
+  front = (0x3004 ∷ [], refl);
+  left = (0x3004 ∷ [], refl);
+  place = refl;
+  told = refl;
+  last = refl;
+}
+
+-- an unseen thing in the place of that entry, a gap and a stop; then all of them one after the other
+abbrev standing : Place → Option Walked → Standing
+standing place last = record { place = place; told = true; last = last; whole = there_with (0x3004 ∷ []) kernel; late = there_with [] kernel }
+
+abbrev their_rows : List Row
+their_rows =
+    row (seen nothing_told (Atom true)) old Unseen ∷ row (seen nothing_told (Atom true)) (mark true false) (seen nothing_told (Atom true))
+    ∷ row Gap (mark true false) Gap ∷ row Stop (mark true false) Stop ∷ []
+
+abbrev a_jump : Item
+a_jump = item.Instr 0x1004 kernel false
+
+jump_given : Shows returning (there_with (0x3004 ∷ []) kernel) (record { pre = nothing_told; p0 = Atom true }) (jumped kernel) (there_with (0x3004 ∷ []) kernel)
+jump_given = jump_shown (0x3004 ∷ []) (there_with (0x3004 ∷ []) kernel) nothing_told refl refl refl
+
+pub walked_alike :
+    WalkAlike returning (standing BehindEntry (Some (jumped kernel))) their_rows (a_jump ∷ a_jump ∷ item.Gap ∷ item.Stop ∷ [])
+    (a_jump ∷ item.Gap ∷ item.Stop ∷ [])
+walked_alike = (
+  standing BehindEntry (Some (jumped kernel)),
+  a_jump ∷ [],
+  a_jump ∷ item.Gap ∷ item.Stop ∷ [],
+  [],
+  a_jump ∷ item.Gap ∷ item.Stop ∷ [],
+  record { gives = (jumped kernel, jump_given, refl); none = refl; stays = refl },
+  (
+    standing BehindEntry (Some (jumped kernel)),
+    a_jump ∷ [],
+    item.Gap ∷ item.Stop ∷ [],
+    a_jump ∷ [],
+    item.Gap ∷ item.Stop ∷ [],
+    record
+        { pre = nothing_told; same = refl; whole = jumped kernel; late = jumped kernel; walks = known_behind; items_are = refl; others_are = refl },
+    (
+      standing BehindGap None,
+      item.Gap ∷ [],
+      item.Stop ∷ [],
+      item.Gap ∷ [],
+      item.Stop ∷ [],
+      record { items_are = refl; others_are = refl; stays = refl },
+      (
+        standing BehindGap None,
+        item.Stop ∷ [],
+        [],
+        item.Stop ∷ [],
+        [],
+        record { items_are = refl; others_are = refl; stays = refl },
+        (refl, refl),
+        refl,
+        refl,
+      ),
+      refl,
+      refl,
+    ),
+    refl,
+    refl,
+  ),
+  refl,
+  refl,
+)
 
 -- ---- an entry: what does not stand for what the whole shows of it
 
