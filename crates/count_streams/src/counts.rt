@@ -12,8 +12,7 @@ ghost use Rattle.program_image.specs.Part.{IsImage};
 ghost use Rattle.program_image.specs.Places.{word_count};
 ghost use Rattle.program_image.specs.declared.image.Image.{Image};
 ghost use Rattle.stream_decoder.specs.Follows.{AreStretchesOfWords};
-ghost use Rattle.trace_io.specs.Bytes.{ShowsAsBefore};
-ghost use Rattle.trace_io.specs.Causes.{HasCause};
+ghost use Rattle.trace_io.specs.Calls.{Serves};
 
 use crate::branches::Branches;
 use etm_types::{Ctx, Id, Walked};
@@ -55,8 +54,7 @@ impl PathCounts {
     pub fn write<K: Sink>(self, image: &Image, sink: &mut K) -> Result<(), Failed>
         ensures text { (items : List (ℕ × Item)) → CountsAre image.now self items
             → Writes (K.state sink.old) (K.state sink.new) result (items_text image.now (items_alone items) (pairs_of image.now items)) }
-        ensures cause { HasCause (K.state sink.old) (K.state sink.new) result }
-        ensures shows { ShowsAsBefore (K.state sink.old) (K.state sink.new) }
+        ensures serves { Serves (K.state sink.old) (K.state sink.new) result }
     {
         let PathCounts { counter, branches } = self;
         if counter.fits(image) {

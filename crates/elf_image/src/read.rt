@@ -1,7 +1,8 @@
 //! Programs that sources give.
 ghost use Rattle.std.specs.Prelude.{◌≡◌, ◌⊎◌, ◌+◌, ◌≤◌, IfOk, IsErrOf};
 ghost use Rattle.trace_io.specs.Causes.{KeepsFaults, Rose};
-ghost use Rattle.trace_io.specs.Bytes.{ShowsAsBefore, TakesAtMost};
+ghost use Rattle.trace_io.specs.Bytes.{TakesAtMost};
+ghost use Rattle.trace_io.specs.Calls.{Lasts};
 ghost use Rattle.program_image.specs.Part.{IsImage};
 ghost use Rattle.elf_image.specs.Answers.{TakesElf, TakesNoElf};
 ghost use Rattle.elf_image.specs.Refusals.{most_file};
@@ -25,8 +26,7 @@ pub fn read_elf<S: Source>(alloc: Global, source: &mut S) -> Result<Image, ElfIm
         → Rose (S.state source.old) (S.state source.new) }
     ensures kept { IsErrOf result ElfImageFault.ReadFault
         ⊎ KeepsFaults (S.state source.old) (S.state source.new) }
-    ensures shows { ShowsAsBefore (S.state source.old) (S.state source.new) }
-    ensures later { (S.state source.old).faults ≤ (S.state source.new).faults }
+    ensures lasts { Lasts (S.state source.old) (S.state source.new) }
     ensures taken { TakesAtMost (S.state source.old) (S.state source.new) (most_file + 1) }
 {
     let file = match read_all(alloc, source, MOST_FILE) {

@@ -1,10 +1,10 @@
 //! Frames put together.
 ghost use Rattle.std.specs.Prelude.{◌≡◌, ℕ, List, [], ◌∷◌, ◌++◌, false, Some, OnOk, is_err};
-ghost use Rattle.trace_io.specs.Causes.{HasCause};
-ghost use Rattle.trace_io.specs.Bytes.{ShowsAsBefore};
+
 ghost use Rattle.formatter_frames.specs.Symbols.{told};
 ghost use Rattle.formatter_frames.specs.Framed.{frames_of, whole_frames, framed};
 ghost use Rattle.formatter_frames.specs.Writer.{StandsAt, AppendsGrowth, Puts};
+ghost use Rattle.trace_io.specs.Calls.{Serves};
 
 use crate::frame::{SYMBOLS, frame_of};
 use crate::symbol::{FrameId, Symbol};
@@ -58,8 +58,7 @@ impl FrameWriter {
             (whole_frames pairs) (whole_frames (pairs ++ (id, byte) ∷ [])) result }
         ensures idle { (pairs : List (ℕ × ℕ)) → StandsAt self.old pairs
             → whole_frames (pairs ++ (id, byte) ∷ []) ≡ whole_frames pairs → sink.new ≡ sink.old }
-        ensures shows { ShowsAsBefore (K.state sink.old) (K.state sink.new) }
-        ensures cause { HasCause (K.state sink.old) (K.state sink.new) result }
+        ensures serves { Serves (K.state sink.old) (K.state sink.new) result }
     {
         self.tell(id, sink)?;
         self.put(Symbol::Data(byte), sink)
@@ -73,8 +72,7 @@ impl FrameWriter {
             (whole_frames pairs) (framed pairs) result }
         ensures idle { (pairs : List (ℕ × ℕ)) → StandsAt self pairs
             → framed pairs ≡ whole_frames pairs → sink.new ≡ sink.old }
-        ensures shows { ShowsAsBefore (K.state sink.old) (K.state sink.new) }
-        ensures cause { HasCause (K.state sink.old) (K.state sink.new) result }
+        ensures serves { Serves (K.state sink.old) (K.state sink.new) result }
     {
         if self.begun == 0 {
             return Ok(());
@@ -93,8 +91,7 @@ impl FrameWriter {
         ensures puts { Puts self.old self.new (told self.old.current id) (K.state sink.old) (K.state sink.new) result }
         ensures current { OnOk result (self.new.current ≡ Some id) }
         ensures idle { frames_of (self.old.symbols ++ told self.old.current id) ≡ [] → sink.new ≡ sink.old }
-        ensures shows { ShowsAsBefore (K.state sink.old) (K.state sink.new) }
-        ensures cause { HasCause (K.state sink.old) (K.state sink.new) result }
+        ensures serves { Serves (K.state sink.old) (K.state sink.new) result }
     {
         if self.current == Some(id) {
             return Ok(());
@@ -109,8 +106,7 @@ impl FrameWriter {
         ensures puts { Puts self.old self.new (symbol ∷ []) (K.state sink.old) (K.state sink.new) result }
         ensures current { self.new.current ≡ self.old.current }
         ensures idle { frames_of (self.old.symbols ++ symbol ∷ []) ≡ [] → sink.new ≡ sink.old }
-        ensures shows { ShowsAsBefore (K.state sink.old) (K.state sink.new) }
-        ensures cause { HasCause (K.state sink.old) (K.state sink.new) result }
+        ensures serves { Serves (K.state sink.old) (K.state sink.new) result }
     {
         self.symbols[self.begun] = symbol;
         self.begun += 1;

@@ -4,8 +4,8 @@ ghost use Rattle.etm_types.specs.Settings.{Sizes};
 ghost use Rattle.stream_demux.specs.Demuxed.{Gains};
 ghost use Rattle.input_pieces.specs.Listed.{Listed, most_input};
 ghost use Rattle.input_pieces.specs.Reading.{Closes, GivesBytes, StopsSo, Took};
-ghost use Rattle.trace_io.specs.Bytes.{ShowsAsBefore};
-ghost use Rattle.trace_io.specs.Causes.{HasCause, KeepsFaults};
+ghost use Rattle.trace_io.specs.Causes.{KeepsFaults};
+ghost use Rattle.trace_io.specs.Calls.{Serves, Lasts};
 
 use answer_lines::Status;
 use stream_demux::Printer;
@@ -43,8 +43,7 @@ fn read_piece<J: Source>(input: &mut J, taken: usize, buffer: &mut [u8; MOST_AT_
     requires { taken ≤ most_input }
     ensures bytes { (count : ℕ) → result ≡ Piece.Bytes count → GivesBytes (J.state input.old) (J.state input.new) taken count buffer.new }
     ensures stop { (stop : InputEnd) → result ≡ Piece.Ended stop → StopsSo (J.state input.old) (J.state input.new) taken stop }
-    ensures shows { ShowsAsBefore (J.state input.old) (J.state input.new) }
-    ensures later { (J.state input.old).faults ≤ (J.state input.new).faults }
+    ensures lasts { Lasts (J.state input.old) (J.state input.new) }
 {
     let left = MOST_INPUT - taken;
     let room = left.clamp(1, MOST_AT_ONCE);
@@ -70,10 +69,8 @@ fn take_input<P: Printer, J: Source, K: Sink>(
     ensures whole { (stop : InputEnd) → result ≡ Ok stop → (P.broken printer.new ≡ false) × (P.taken printer.new ≤ most_input) }
     ensures frames { P.frames printer.new ≡ P.frames printer.old }
     ensures kept { (result ≡ Ok InputEnd.ReadFault) ⊎ KeepsFaults (J.state input.old) (J.state input.new) }
-    ensures cause { HasCause (K.state out.old) (K.state out.new) result }
-    ensures shows { ShowsAsBefore (K.state out.old) (K.state out.new) }
-    ensures input_shows { ShowsAsBefore (J.state input.old) (J.state input.new) }
-    ensures input_later { (J.state input.old).faults ≤ (J.state input.new).faults }
+    ensures serves { Serves (K.state out.old) (K.state out.new) result }
+    ensures input_lasts { Lasts (J.state input.old) (J.state input.new) }
 {
     let mut buffer = [0; MOST_AT_ONCE];
     let mut taken = 0;
@@ -99,10 +96,8 @@ pub fn print_input<P: Printer, J: Source, K: Sink>(
     ensures answer { (t : ℕ → Sizes) → P.stands shared.now t printer [] → Listed (P.laid (P.frames printer)) (P.listing shared.now t)
         (J.state input.old) (J.state input.new) (K.state out.old) (K.state out.new) result }
     ensures kept { (result ≡ Ok Status.ReadFault) ⊎ IsErr result ⊎ KeepsFaults (J.state input.old) (J.state input.new) }
-    ensures cause { HasCause (K.state out.old) (K.state out.new) result }
-    ensures shows { ShowsAsBefore (K.state out.old) (K.state out.new) }
-    ensures input_shows { ShowsAsBefore (J.state input.old) (J.state input.new) }
-    ensures input_later { (J.state input.old).faults ≤ (J.state input.new).faults }
+    ensures serves { Serves (K.state out.old) (K.state out.new) result }
+    ensures input_lasts { Lasts (J.state input.old) (J.state input.new) }
 {
     match take_input(&mut printer, shared, input, out) {
         Ok(InputEnd::End) => print_end(printer, shared, out),
@@ -131,8 +126,7 @@ fn print_end<P: Printer, K: Sink>(
     requires few { P.taken printer ≤ 2 ^ 30 }
     ensures closes { (t : ℕ → Sizes) (bytes : List ℕ) → P.stands shared.now t printer bytes
         → Closes (P.laid (P.frames printer)) (P.listing shared.now t) bytes (K.state out.old) (K.state out.new) result }
-    ensures cause { HasCause (K.state out.old) (K.state out.new) result }
-    ensures shows { ShowsAsBefore (K.state out.old) (K.state out.new) }
+    ensures serves { Serves (K.state out.old) (K.state out.new) result }
 {
     if let Err(failed) = printer.take_rest(shared, out) {
         printer.abandon();
@@ -158,8 +152,7 @@ fn print_piece<P: Printer, K: Sink>(
         → P.stands shared.now t printer.new (bytes ++ piece.now) }
     ensures gains { (t : ℕ → Sizes) (bytes : List ℕ) → P.stands shared.now t printer.old bytes
         → Gains (P.laid (P.frames printer.old)).carried (P.listing shared.now t) bytes piece.now (K.state out.old) (K.state out.new) result }
-    ensures cause { HasCause (K.state out.old) (K.state out.new) result }
-    ensures shows { ShowsAsBefore (K.state out.old) (K.state out.new) }
+    ensures serves { Serves (K.state out.old) (K.state out.new) result }
     ensures whole { IsOk result → P.broken printer.new ≡ false }
     ensures taken { IsOk result → P.taken printer.new ≡ P.taken printer.old + length piece.now }
     ensures frames { P.frames printer.new ≡ P.frames printer.old }

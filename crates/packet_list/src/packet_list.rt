@@ -8,8 +8,7 @@ ghost use Rattle.path_text.specs.PacketLines.{HasText, packet_line};
 ghost use Rattle.path_text.specs.Writing.{Writes};
 ghost use Rattle.stream_demux.specs.Streams.{RunAdds};
 ghost use Rattle.packet_list.specs.PacketList.{HasRead, IsReading, PacketGains, TakesFront, packet_lines, packet_lists};
-ghost use Rattle.trace_io.specs.Bytes.{ShowsAsBefore};
-ghost use Rattle.trace_io.specs.Causes.{HasCause};
+ghost use Rattle.trace_io.specs.Calls.{Serves};
 
 use element_queue::{Counts, Ledger};
 use etm_types::{Id, Settings};
@@ -201,8 +200,7 @@ fn take_byte<K: Sink>(
     ensures gains { (bytes : List ℕ) → HasRead reader.old fault.old bytes
         → (lines : List (List ℕ)) × PacketGains reader.old.settings line.old bytes byte lines
         × Writes (K.state sink.old) (K.state sink.new) result (concat lines) }
-    ensures cause { HasCause (K.state sink.old) (K.state sink.new) result }
-    ensures shows { ShowsAsBefore (K.state sink.old) (K.state sink.new) }
+    ensures serves { Serves (K.state sink.old) (K.state sink.new) result }
 {
     if let Some((at, run)) = reader.take_atoms(byte) {
         return line.write_atoms(at, &run, sink);
@@ -228,8 +226,7 @@ fn take_bytes<K: Sink>(
     ensures read { IsOk result → (bytes : List ℕ) → HasRead reader.old fault.old bytes → HasRead reader.new fault.new (bytes ++ run.now) }
     ensures gains { (bytes : List ℕ) → HasRead reader.old fault.old bytes
         → RunAdds (packet_lists reader.old.settings) line.old bytes run.now (K.state sink.old) (K.state sink.new) result }
-    ensures cause { HasCause (K.state sink.old) (K.state sink.new) result }
-    ensures shows { ShowsAsBefore (K.state sink.old) (K.state sink.new) }
+    ensures serves { Serves (K.state sink.old) (K.state sink.new) result }
 {
     let mut rest = run;
     while let Some((byte, later)) = rest.split_first() {

@@ -3,7 +3,8 @@ ghost use Rattle.std.specs.Prelude.{◌≡◌, ◌⊎◌, ℕ, ◌+◌, ◌/◌,
 ghost use Rattle.std.specs.Prelude.{Some, None, MatchOption, IfOk, IfSome, IsErrOf, IsSome};
 ghost use Rattle.std.specs.Str.Lines.{lines};
 ghost use Rattle.trace_io.specs.Causes.{KeepsFaults, Rose};
-ghost use Rattle.trace_io.specs.Bytes.{ShowsAsBefore, TakesAtMost};
+ghost use Rattle.trace_io.specs.Bytes.{TakesAtMost};
+ghost use Rattle.trace_io.specs.Calls.{Lasts};
 ghost use Rattle.program_image.specs.Part.{IsImage, Part, most_bytes, word_in, word_of};
 ghost use Rattle.program_image.specs.Places.{word_addresses, word_count};
 ghost use Rattle.program_image.specs.ImageText.{add_lines, image_of, most_text};
@@ -72,8 +73,7 @@ impl Image {
             → Rose (S.state source.old) (S.state source.new) }
         ensures kept { IsErrOf result ImageFault.ReadFault
             ⊎ KeepsFaults (S.state source.old) (S.state source.new) }
-        ensures shows { ShowsAsBefore (S.state source.old) (S.state source.new) }
-        ensures later { (S.state source.old).faults ≤ (S.state source.new).faults }
+        ensures lasts { Lasts (S.state source.old) (S.state source.new) }
         ensures taken { TakesAtMost (S.state source.old) (S.state source.new) (most_text + 1) }
     {
         let text = match read_all(alloc, source, MOST_TEXT) {

@@ -5,8 +5,9 @@ ghost use Rattle.bench_text.specs.Refusals.{most_text};
 ghost use Rattle.path_text.specs.Writing.{Writes};
 ghost use Rattle.retired_paths.specs.Retired.{TakesBench, TakesNoBench};
 ghost use Rattle.answer_lines.specs.BenchLine.{bench_line};
-ghost use Rattle.trace_io.specs.Bytes.{ShowsAsBefore, TakesAtMost};
+ghost use Rattle.trace_io.specs.Bytes.{TakesAtMost};
 ghost use Rattle.trace_io.specs.Causes.{KeepsFaults, Rose};
+ghost use Rattle.trace_io.specs.Calls.{Lasts};
 
 use answer_lines::{Status, write_bench_bad};
 use bench_text::{Bench, BenchFault, BenchWhy};
@@ -40,8 +41,7 @@ pub fn read_bench<'a, J: Source>(
     ensures taken { TakesAtMost (J.state input.old) (J.state input.new) (most_text + 1) }
     ensures kept { IsErrOf result Unread.ReadFault ⊎ KeepsFaults (J.state input.old) (J.state input.new) }
     ensures failed { IsErrOf result Unread.ReadFault → Rose (J.state input.old) (J.state input.new) }
-    ensures shows { ShowsAsBefore (J.state input.old) (J.state input.new) }
-    ensures later { (J.state input.old).faults ≤ (J.state input.new).faults }
+    ensures lasts { Lasts (J.state input.old) (J.state input.new) }
 {
     *text = match read_all(alloc, input, MOST_TEXT) {
         Ok(text) => text,

@@ -8,8 +8,9 @@ ghost use Rattle.program_image.specs.Blocks.{HasGap};
 ghost use Rattle.spec_run.specs.Stands.{StandsAt};
 ghost use Rattle.retired_paths.specs.Retired.{RetiresSo, retired_text, stream_text};
 ghost use Rattle.retired_paths.specs.Retiring.{CanGoOn, RefusesLine, events_with, bad_line};
-ghost use Rattle.trace_io.specs.Bytes.{ShowsAsBefore, TakesAtMost};
-ghost use Rattle.trace_io.specs.Causes.{HasCause, KeepsFaults};
+ghost use Rattle.trace_io.specs.Bytes.{TakesAtMost};
+ghost use Rattle.trace_io.specs.Causes.{KeepsFaults};
+ghost use Rattle.trace_io.specs.Calls.{Serves, Lasts};
 
 use crate::bench_input::{Unread, read_bench, refuse};
 use crate::retiring::Retiring;
@@ -136,10 +137,8 @@ pub fn retire_input<J: Source, K: Sink>(
     ensures answer { RetiresSo image.now (J.state input.old) (J.state input.new) (K.state out.old) (K.state out.new) result }
     ensures few { TakesAtMost (J.state input.old) (J.state input.new) (most_text + 1) }
     ensures kept { (result ≡ Ok Status.ReadFault) ⊎ KeepsFaults (J.state input.old) (J.state input.new) }
-    ensures input_shows { ShowsAsBefore (J.state input.old) (J.state input.new) }
-    ensures input_later { (J.state input.old).faults ≤ (J.state input.new).faults }
-    ensures cause { HasCause (K.state out.old) (K.state out.new) result }
-    ensures shows { ShowsAsBefore (K.state out.old) (K.state out.new) }
+    ensures input_lasts { Lasts (J.state input.old) (J.state input.new) }
+    ensures serves { Serves (K.state out.old) (K.state out.new) result }
 {
     let mut text = Vec::new(alloc);
     let bench = match read_bench(alloc, input, &mut text) {

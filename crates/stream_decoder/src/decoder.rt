@@ -21,8 +21,7 @@ ghost use Rattle.stream_decoder.specs.Decoding.{AtRest, IsDecoding};
 ghost use Rattle.stream_decoder.specs.Yields.{Goes, Prints, items_of_found, left};
 ghost use Rattle.stream_decoder.specs.StretchLines.{stretch_lines};
 ghost use Rattle.stream_decoder.specs.Stands.{Grows, GrowsAlong, RunsAlong, StandsAt, shows_walk_fault};
-ghost use Rattle.trace_io.specs.Bytes.{ShowsAsBefore};
-ghost use Rattle.trace_io.specs.Causes.{HasCause};
+ghost use Rattle.trace_io.specs.Calls.{Serves};
 
 use crate::decoding::Decoding;
 use crate::ending::finish;
@@ -100,8 +99,7 @@ impl StreamDecoder {
         ensures stopped { self.old.decoding.fault ≢ None
             → (result ≡ Ok tt) × (sink.new ≡ sink.old)
             × (self.new ≡ record (self.old) { decoding = record (self.old.decoding) { reader = self.new.decoding.reader } }) }
-        ensures cause { HasCause (K.state sink.old) (K.state sink.new) result }
-        ensures shows { ShowsAsBefore (K.state sink.old) (K.state sink.new) }
+        ensures serves { Serves (K.state sink.old) (K.state sink.new) result }
         ensures broken { IsTrue self.new.broken ↔ IsErr result }
         ensures taken { self.new.decoding.reader.taken ≡ self.old.decoding.reader.taken + 1 }
         ensures settings { self.new.decoding.reader.settings ≡ self.old.decoding.reader.settings }
@@ -145,8 +143,7 @@ impl StreamDecoder {
         ensures stopped { self.old.decoding.fault ≢ None
             → (result ≡ Ok tt) × (sink.new ≡ sink.old)
             × (self.new ≡ record (self.old) { decoding = record (self.old.decoding) { reader = self.new.decoding.reader } }) }
-        ensures cause { HasCause (K.state sink.old) (K.state sink.new) result }
-        ensures shows { ShowsAsBefore (K.state sink.old) (K.state sink.new) }
+        ensures serves { Serves (K.state sink.old) (K.state sink.new) result }
         ensures broken { IsTrue self.new.broken ↔ IsErr result }
         ensures taken { IsOk result → self.new.decoding.reader.taken ≡ self.old.decoding.reader.taken + length run.now }
         ensures between { (self.old.decoding.reader.taken ≤ self.new.decoding.reader.taken)
@@ -210,8 +207,7 @@ impl StreamDecoder {
             → Writes (K.state sink.old) (K.state sink.new) result (if length bytes == 0 then [] else end_line id last)
             × IfOk result (λ whole. whole ≡ not (is_fault last)) }
         ensures nothing { self.decoding.reader.taken ≡ 0 → IfOk result (λ whole. whole ≡ true) }
-        ensures cause { HasCause (K.state sink.old) (K.state sink.new) result }
-        ensures shows { ShowsAsBefore (K.state sink.old) (K.state sink.new) }
+        ensures serves { Serves (K.state sink.old) (K.state sink.new) result }
     {
         let StreamDecoder {
             decoding,
@@ -297,8 +293,7 @@ fn write_rest<K: Sink>(
         → Prints image.now line.old.id decoding.old shown.old decoding.new shown.new (K.state sink.old) (K.state sink.new) result }
     ensures stopped { AtRest decoding.old → (result ≡ Ok tt) × (decoding.new ≡ decoding.old) × (shown.new ≡ shown.old) × (sink.new ≡ sink.old) }
     ensures rest { IsOk result → AtRest decoding.new }
-    ensures cause { HasCause (K.state sink.old) (K.state sink.new) result }
-    ensures shows { ShowsAsBefore (K.state sink.old) (K.state sink.new) }
+    ensures serves { Serves (K.state sink.old) (K.state sink.new) result }
     ensures reader { decoding.new.reader ≡ decoding.old.reader }
     ensures id { line.new.id ≡ line.old.id }
     ensures holds { IsDecoding decoding.new }
@@ -325,8 +320,7 @@ fn write_some<K: Sink>(
         → Prints image.now line.old.id decoding.old shown.old decoding.new shown.new (K.state sink.old) (K.state sink.new) result }
     ensures stopped { AtRest decoding.old → (result ≡ Ok tt) × (decoding.new ≡ decoding.old) × (shown.new ≡ shown.old) × (sink.new ≡ sink.old) }
     ensures rest { IsOk result → AtRest decoding.new }
-    ensures cause { HasCause (K.state sink.old) (K.state sink.new) result }
-    ensures shows { ShowsAsBefore (K.state sink.old) (K.state sink.new) }
+    ensures serves { Serves (K.state sink.old) (K.state sink.new) result }
     ensures reader { decoding.new.reader ≡ decoding.old.reader }
     ensures id { line.new.id ≡ line.old.id }
     ensures holds { IsDecoding decoding.new }
@@ -367,8 +361,7 @@ fn write_atoms<K: Sink>(
         × IfOk result (λ done. shown.new ≡ shown_after_all shown.old items) }
     ensures fewer { left decoding.new ≤ left decoding.old }
     ensures stopped { AtRest decoding.old → (result ≡ Ok tt) × (decoding.new ≡ decoding.old) × (shown.new ≡ shown.old) × (sink.new ≡ sink.old) }
-    ensures cause { HasCause (K.state sink.old) (K.state sink.new) result }
-    ensures shows { ShowsAsBefore (K.state sink.old) (K.state sink.new) }
+    ensures serves { Serves (K.state sink.old) (K.state sink.new) result }
     ensures reader { decoding.new.reader ≡ decoding.old.reader }
     ensures id { line.new.id ≡ line.old.id }
     ensures holds { IsDecoding decoding.new }

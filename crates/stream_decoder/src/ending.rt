@@ -9,8 +9,7 @@ ghost use Rattle.path_text.specs.Writing.{Writes};
 ghost use Rattle.program_image.specs.declared.image.Image.{Image};
 ghost use Rattle.stream_decoder.specs.Decoding.{IsDecoding};
 ghost use Rattle.stream_decoder.specs.Follows.{CameTo};
-ghost use Rattle.trace_io.specs.Bytes.{ShowsAsBefore};
-ghost use Rattle.trace_io.specs.Causes.{HasCause};
+ghost use Rattle.trace_io.specs.Calls.{Serves};
 
 use crate::decoding::Decoding;
 use etm_types::Id;
@@ -27,8 +26,7 @@ pub fn finish<K: Sink>(decoding: Decoding, id: Id, sink: &mut K) -> Result<bool,
         → Writes (K.state sink.old) (K.state sink.new) result (if length bytes == 0 then [] else end_line id last)
         × IfOk result (λ whole. whole ≡ not (is_fault last)) }
     ensures nothing { decoding.reader.taken ≡ 0 → IfOk result (λ whole. whole ≡ true) }
-    ensures cause { HasCause (K.state sink.old) (K.state sink.new) result }
-    ensures shows { ShowsAsBefore (K.state sink.old) (K.state sink.new) }
+    ensures serves { Serves (K.state sink.old) (K.state sink.new) result }
 {
     let taken = decoding.taken();
     let end = decoding.end();

@@ -15,8 +15,7 @@ ghost use Rattle.program_image.specs.declared.image.Image.{Image};
 ghost use Rattle.stream_decoder.specs.Decoding.{AtRest, IsDecoding};
 ghost use Rattle.stream_decoder.specs.Follows.{CameTo, FollowsRun, GrowsBy, GrowsByEach, TakesMore, items_under};
 ghost use Rattle.stream_decoder.specs.Stands.{shows_walk_fault};
-ghost use Rattle.trace_io.specs.Bytes.{ShowsAsBefore};
-ghost use Rattle.trace_io.specs.Causes.{HasCause};
+ghost use Rattle.trace_io.specs.Calls.{Serves};
 
 use crate::decoding::Decoding;
 use crate::ending::finish;
@@ -136,8 +135,7 @@ impl FollowedStream {
             → Writes (K.state sink.old) (K.state sink.new) result (if length bytes == 0 then [] else end_line id last)
             × IfOk result (λ whole. whole ≡ not (is_fault last)) }
         ensures nothing { self.reader.taken ≡ 0 → IfOk result (λ whole. whole ≡ true) }
-        ensures cause { HasCause (K.state sink.old) (K.state sink.new) result }
-        ensures shows { ShowsAsBefore (K.state sink.old) (K.state sink.new) }
+        ensures serves { Serves (K.state sink.old) (K.state sink.new) result }
     {
         let FollowedStream { decoding, run: _ } = self;
         finish(decoding, id, sink)

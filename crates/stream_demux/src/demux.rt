@@ -9,8 +9,7 @@ ghost use Rattle.path_text.specs.Writing.{Writes};
 ghost use Rattle.stream_demux.specs.Demuxed.{Gains, StandsAt};
 ghost use Rattle.stream_demux.specs.Streams.{Adds, AllStand, AllTallied, HoldsToDepth, IsReady, total};
 ghost use Rattle.stream_demux.specs.Texts.{IsEnding, IsSum, Printed, by_sizes, text_of};
-ghost use Rattle.trace_io.specs.Bytes.{ShowsAsBefore};
-ghost use Rattle.trace_io.specs.Causes.{HasCause};
+ghost use Rattle.trace_io.specs.Calls.{Serves};
 
 use crate::sources::Sources;
 use crate::stream::Stream;
@@ -87,8 +86,7 @@ impl<S: Stream> Demux<S> {
         ensures gains { (t : ℕ → Sizes) (bytes : List ℕ)
             → StandsAt (S.stands shared.now) S.sizes (S.sums shared.now) (S.listing shared.now) t self.old bytes
             → Gains unframed (by_sizes (S.listing shared.now) t) bytes piece.now (K.state sink.old) (K.state sink.new) result }
-        ensures cause { HasCause (K.state sink.old) (K.state sink.new) result }
-        ensures shows { ShowsAsBefore (K.state sink.old) (K.state sink.new) }
+        ensures serves { Serves (K.state sink.old) (K.state sink.new) result }
         ensures broken { IsTrue self.new.broken ↔ IsErr result }
         ensures taken { IsOk result → self.new.taken ≡ self.old.taken + length piece.now }
         ensures between { (self.old.taken ≤ self.new.taken) × (self.new.taken ≤ self.old.taken + length piece.now) }
@@ -155,8 +153,7 @@ impl<S: Stream> Demux<S> {
             → (lines : List Printed) × (faulty : Bool)
             × IsEnding (by_sizes (S.listing shared.now) t) (unframed bytes) (length (begun_frame bytes)) lines faulty
             × Writes (K.state sink.old) (K.state sink.new) result (text_of lines) × IfOk result (λ whole. whole ≡ not faulty) }
-        ensures cause { HasCause (K.state sink.old) (K.state sink.new) result }
-        ensures shows { ShowsAsBefore (K.state sink.old) (K.state sink.new) }
+        ensures serves { Serves (K.state sink.old) (K.state sink.new) result }
     {
         let Demux {
             frames,
@@ -179,8 +176,7 @@ impl<S: Stream> Demux<S> {
             → StandsAt (S.stands shared.now) S.sizes (S.sums shared.now) (S.listing shared.now) t self bytes
             → (sums : List Printed) × IsSum (by_sizes (S.listing shared.now) t) (unframed bytes) sums
             × Writes (K.state sink.old) (K.state sink.new) result (text_of sums) }
-        ensures cause { HasCause (K.state sink.old) (K.state sink.new) result }
-        ensures shows { ShowsAsBefore (K.state sink.old) (K.state sink.new) }
+        ensures serves { Serves (K.state sink.old) (K.state sink.new) result }
     {
         let Demux {
             frames: _,
@@ -225,8 +221,7 @@ fn take_front<S: Stream, K: Sink>(
         → AllStand (S.stands shared.now) S.sizes (S.sums shared.now) (S.listing shared.now) t sources.old (unframed bytes)
         → (n : ℕ) × Gains unframed (by_sizes (S.listing shared.now) t) bytes (take n piece.now) (K.state sink.old) (K.state sink.new) result
         × IfOk result (λ count. count ≡ n) }
-    ensures cause { HasCause (K.state sink.old) (K.state sink.new) result }
-    ensures shows { ShowsAsBefore (K.state sink.old) (K.state sink.new) }
+    ensures serves { Serves (K.state sink.old) (K.state sink.new) result }
     ensures ready { (most : ℕ) → All (IsReady S.broken S.taken most) sources.old.streams → IsOk result
         → All (IsReady S.broken S.taken (most + 15)) sources.new.streams }
     ensures sizes { map S.sizes sources.new.streams ≡ map S.sizes sources.old.streams }
@@ -254,8 +249,7 @@ fn take_frame<S: Stream, K: Sink>(
     ensures adds { (t : ℕ → Sizes) (pairs : List (ℕ × ℕ))
         → AllStand (S.stands shared.now) S.sizes (S.sums shared.now) (S.listing shared.now) t sources.old pairs
         → Adds (by_sizes (S.listing shared.now) t) pairs frame.now (K.state sink.old) (K.state sink.new) result }
-    ensures cause { HasCause (K.state sink.old) (K.state sink.new) result }
-    ensures shows { ShowsAsBefore (K.state sink.old) (K.state sink.new) }
+    ensures serves { Serves (K.state sink.old) (K.state sink.new) result }
     ensures ready { (most : ℕ) → All (IsReady S.broken S.taken most) sources.old.streams → IsOk result
         → All (IsReady S.broken S.taken (most + 15)) sources.new.streams }
     ensures sizes { map S.sizes sources.new.streams ≡ map S.sizes sources.old.streams }

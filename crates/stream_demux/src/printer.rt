@@ -6,8 +6,7 @@ ghost use Rattle.path_text.specs.Writing.{Writes};
 ghost use Rattle.stream_demux.specs.Demuxed.{Gains};
 ghost use Rattle.stream_demux.specs.Laid.{IsLaid, Laid, Rests};
 ghost use Rattle.stream_demux.specs.Texts.{IsEnding, IsSum, Listing, Printed, text_of};
-ghost use Rattle.trace_io.specs.Bytes.{ShowsAsBefore};
-ghost use Rattle.trace_io.specs.Causes.{HasCause};
+ghost use Rattle.trace_io.specs.Calls.{Serves};
 
 use crate::demux::Demux;
 use crate::raw::RawStream;
@@ -54,8 +53,7 @@ pub trait Printer {
             → stands shared.now t self.new (bytes ++ piece.now) }
         ensures gains { (t : ℕ → Sizes) (bytes : List ℕ) → stands shared.now t self.old bytes
             → Gains (laid (frames self.old)).carried (listing shared.now t) bytes piece.now (K.state sink.old) (K.state sink.new) result }
-        ensures cause { HasCause (K.state sink.old) (K.state sink.new) result }
-        ensures shows { ShowsAsBefore (K.state sink.old) (K.state sink.new) }
+        ensures serves { Serves (K.state sink.old) (K.state sink.new) result }
         ensures broken { IsTrue (broken self.new) ↔ IsErr result }
         ensures taken { IsOk result → taken self.new ≡ taken self.old + length piece.now }
         ensures frames { frames self.new ≡ frames self.old };
@@ -68,8 +66,7 @@ pub trait Printer {
             → ended shared.now t self.new bytes }
         ensures rests { (t : ℕ → Sizes) (bytes : List ℕ) → stands shared.now t self.old bytes
             → Rests (laid (frames self.old)) (listing shared.now t) bytes (K.state sink.old) (K.state sink.new) result }
-        ensures cause { HasCause (K.state sink.old) (K.state sink.new) result }
-        ensures shows { ShowsAsBefore (K.state sink.old) (K.state sink.new) }
+        ensures serves { Serves (K.state sink.old) (K.state sink.new) result }
         ensures broken { IsTrue (broken self.new) ↔ IsErr result }
         ensures frames { frames self.new ≡ frames self.old };
 
@@ -80,16 +77,14 @@ pub trait Printer {
             → (lines : List Printed) × (faulty : Bool)
             × IsEnding (listing shared.now t) ((laid (frames self)).whole bytes) ((laid (frames self)).left bytes) lines faulty
             × Writes (K.state sink.old) (K.state sink.new) result (text_of lines) × IfOk result (λ whole. whole ≡ not faulty) }
-        ensures cause { HasCause (K.state sink.old) (K.state sink.new) result }
-        ensures shows { ShowsAsBefore (K.state sink.old) (K.state sink.new) };
+        ensures serves { Serves (K.state sink.old) (K.state sink.new) result };
 
     /// Writes the lines of the sum of what was taken, and ends it without more.
     fn close<K: Sink>(self, shared: &Self::Shared, sink: &mut K) -> Result<(), Failed>
         ensures sum { (t : ℕ → Sizes) (bytes : List ℕ) → stands shared.now t self bytes
             → (sums : List Printed) × IsSum (listing shared.now t) ((laid (frames self)).carried bytes) sums
             × Writes (K.state sink.old) (K.state sink.new) result (text_of sums) }
-        ensures cause { HasCause (K.state sink.old) (K.state sink.new) result }
-        ensures shows { ShowsAsBefore (K.state sink.old) (K.state sink.new) };
+        ensures serves { Serves (K.state sink.old) (K.state sink.new) result };
 
     /// Ends it without a line.
     fn abandon(self);

@@ -7,8 +7,7 @@ ghost use Rattle.path_text.specs.Writing.{Writes};
 ghost use Rattle.stream_demux.specs.Demuxed.{Gains, RawStandsAt, raw_id, raw_pairs};
 ghost use Rattle.stream_demux.specs.Streams.{HoldsToDepth};
 ghost use Rattle.stream_demux.specs.Texts.{IsEnding, IsSum, Printed, by_sizes, text_of};
-ghost use Rattle.trace_io.specs.Bytes.{ShowsAsBefore};
-ghost use Rattle.trace_io.specs.Causes.{HasCause};
+ghost use Rattle.trace_io.specs.Calls.{Serves};
 
 use crate::stream::Stream;
 use element_queue::Ledger;
@@ -73,8 +72,7 @@ impl<S: Stream> RawStream<S> {
         ensures gains { (t : ℕ → Sizes) (bytes : List ℕ)
             → RawStandsAt (S.stands shared.now) S.sizes S.broken S.taken (S.sums shared.now) (S.listing shared.now) t self.old bytes
             → Gains raw_pairs (by_sizes (S.listing shared.now) t) bytes piece.now (K.state sink.old) (K.state sink.new) result }
-        ensures cause { HasCause (K.state sink.old) (K.state sink.new) result }
-        ensures shows { ShowsAsBefore (K.state sink.old) (K.state sink.new) }
+        ensures serves { Serves (K.state sink.old) (K.state sink.new) result }
         ensures broken { IsTrue (S.broken self.new.stream) ↔ IsErr result }
         ensures taken { IsOk result → S.taken self.new.stream ≡ S.taken self.old.stream + length piece.now }
         ensures between { (S.taken self.old.stream ≤ S.taken self.new.stream)
@@ -93,8 +91,7 @@ impl<S: Stream> RawStream<S> {
             → RawStandsAt (S.stands shared.now) S.sizes S.broken S.taken (S.sums shared.now) (S.listing shared.now) t self bytes
             → (lines : List Printed) × (faulty : Bool) × IsEnding (by_sizes (S.listing shared.now) t) (raw_pairs bytes) 0 lines faulty
             × Writes (K.state sink.old) (K.state sink.new) result (text_of lines) × IfOk result (λ whole. whole ≡ not faulty) }
-        ensures cause { HasCause (K.state sink.old) (K.state sink.new) result }
-        ensures shows { ShowsAsBefore (K.state sink.old) (K.state sink.new) }
+        ensures serves { Serves (K.state sink.old) (K.state sink.new) result }
     {
         let RawStream { stream, sum } = self;
         if let Err(failed) = S::write_sum(sum, shared, sink) {
@@ -110,8 +107,7 @@ impl<S: Stream> RawStream<S> {
             → RawStandsAt (S.stands shared.now) S.sizes S.broken S.taken (S.sums shared.now) (S.listing shared.now) t self bytes
             → (sums : List Printed) × IsSum (by_sizes (S.listing shared.now) t) (raw_pairs bytes) sums
             × Writes (K.state sink.old) (K.state sink.new) result (text_of sums) }
-        ensures cause { HasCause (K.state sink.old) (K.state sink.new) result }
-        ensures shows { ShowsAsBefore (K.state sink.old) (K.state sink.new) }
+        ensures serves { Serves (K.state sink.old) (K.state sink.new) result }
     {
         let RawStream { stream, sum } = self;
         stream.abandon();

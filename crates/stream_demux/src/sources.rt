@@ -8,8 +8,7 @@ ghost use Rattle.std.specs.List.{range_with_len};
 ghost use Rattle.path_text.specs.Writing.{Writes};
 ghost use Rattle.stream_demux.specs.Streams.{Adds, AllStand, AllTallied, HoldsToDepth, IsReady, StandFrom, source_count, total};
 ghost use Rattle.stream_demux.specs.Texts.{EndsOf, IsSum, Printed, by_sizes, sources, text_of};
-ghost use Rattle.trace_io.specs.Bytes.{ShowsAsBefore};
-ghost use Rattle.trace_io.specs.Causes.{HasCause};
+ghost use Rattle.trace_io.specs.Calls.{Serves};
 
 use crate::stream::Stream;
 use element_queue::{Counts, Ledger};
@@ -84,8 +83,7 @@ impl<S: Stream> Sources<S> {
         ensures adds { (t : ℕ → Sizes) (pairs : List (ℕ × ℕ))
             → AllStand (S.stands shared.now) S.sizes (S.sums shared.now) (S.listing shared.now) t self.old pairs
             → Adds (by_sizes (S.listing shared.now) t) pairs (run_of id run.now) (K.state sink.old) (K.state sink.new) result }
-        ensures cause { HasCause (K.state sink.old) (K.state sink.new) result }
-        ensures shows { ShowsAsBefore (K.state sink.old) (K.state sink.new) }
+        ensures serves { Serves (K.state sink.old) (K.state sink.new) result }
         ensures ready { (most : ℕ) → All (IsReady S.broken S.taken most) self.old.streams → IsOk result
             → All (IsReady S.broken S.taken (most + length run.now)) self.new.streams }
         ensures sizes { map S.sizes self.new.streams ≡ map S.sizes self.old.streams }
@@ -108,8 +106,7 @@ impl<S: Stream> Sources<S> {
             → (sums : List Printed) × IsSum (by_sizes (S.listing shared.now) t) pairs sums
             × (lines : List Printed) × (faulty : Bool) × EndsOf (by_sizes (S.listing shared.now) t) pairs sources lines faulty
             × Writes (K.state sink.old) (K.state sink.new) result (text_of (sums ++ lines)) × IfOk result (λ whole. whole ≡ not faulty) }
-        ensures cause { HasCause (K.state sink.old) (K.state sink.new) result }
-        ensures shows { ShowsAsBefore (K.state sink.old) (K.state sink.new) }
+        ensures serves { Serves (K.state sink.old) (K.state sink.new) result }
     {
         let Sources { ring, sum } = self;
         if let Err(failed) = S::write_sum(sum, shared, sink) {
@@ -125,8 +122,7 @@ impl<S: Stream> Sources<S> {
             → AllStand (S.stands shared.now) S.sizes (S.sums shared.now) (S.listing shared.now) t self pairs
             → (sums : List Printed) × IsSum (by_sizes (S.listing shared.now) t) pairs sums
             × Writes (K.state sink.old) (K.state sink.new) result (text_of sums) }
-        ensures cause { HasCause (K.state sink.old) (K.state sink.new) result }
-        ensures shows { ShowsAsBefore (K.state sink.old) (K.state sink.new) }
+        ensures serves { Serves (K.state sink.old) (K.state sink.new) result }
     {
         let Sources { ring, sum } = self;
         abandon_all(ring);
@@ -187,8 +183,7 @@ fn finish_all<S: Stream, K: Sink>(mut ring: SpendRing<S>, sink: &mut K) -> Resul
     ensures ends { (shared : S.Shared) (t : ℕ → Sizes) (pairs : List (ℕ × ℕ)) → StandFrom (S.stands shared) S.sizes t 1 ring.items pairs
         → (lines : List Printed) × (faulty : Bool) × EndsOf (by_sizes (S.listing shared) t) pairs sources lines faulty
         × Writes (K.state sink.old) (K.state sink.new) result (text_of lines) × IfOk result (λ whole. whole ≡ not faulty) }
-    ensures cause { HasCause (K.state sink.old) (K.state sink.new) result }
-    ensures shows { ShowsAsBefore (K.state sink.old) (K.state sink.new) }
+    ensures serves { Serves (K.state sink.old) (K.state sink.new) result }
 {
     let mut id = 1;
     let mut whole = true;

@@ -8,8 +8,7 @@ ghost use Rattle.etm_types.specs.declared.item.Item.{Item};
 ghost use Rattle.path_text.specs.Writing.{Writes};
 ghost use Rattle.stream_demux.specs.Streams.{HoldsToDepth, RunAdds, SettlesBut, SumAdds, SumGains};
 ghost use Rattle.stream_demux.specs.Texts.{Listing, Printed, StreamEnds, text_of};
-ghost use Rattle.trace_io.specs.Bytes.{ShowsAsBefore};
-ghost use Rattle.trace_io.specs.Causes.{HasCause};
+ghost use Rattle.trace_io.specs.Calls.{Serves};
 
 use element_queue::{Counts, Ledger};
 use etm_types::{Id, Settings};
@@ -85,8 +84,7 @@ pub trait Stream {
             × Writes (K.state sink.old) (K.state sink.new) result (concat lines) }
         ensures adds { IsOk result → (bytes : List ℕ) → stands shared.now self.old bytes
             → SumGains (sums shared.now) (listing shared.now (sizes self.old)) id bytes byte sum.old sum.new }
-        ensures cause { HasCause (K.state sink.old) (K.state sink.new) result }
-        ensures shows { ShowsAsBefore (K.state sink.old) (K.state sink.new) }
+        ensures serves { Serves (K.state sink.old) (K.state sink.new) result }
         ensures broken { IsTrue (broken self.new) ↔ IsErr result }
         ensures taken { taken self.new ≡ taken self.old + 1 }
         ensures sizes { sizes self.new ≡ sizes self.old }
@@ -109,8 +107,7 @@ pub trait Stream {
             → RunAdds (listing shared.now (sizes self.old)) id bytes run.now (K.state sink.old) (K.state sink.new) result }
         ensures adds { IsOk result → (bytes : List ℕ) → stands shared.now self.old bytes
             → SumAdds (sums shared.now) (listing shared.now (sizes self.old)) id bytes run.now sum.old sum.new }
-        ensures cause { HasCause (K.state sink.old) (K.state sink.new) result }
-        ensures shows { ShowsAsBefore (K.state sink.old) (K.state sink.new) }
+        ensures serves { Serves (K.state sink.old) (K.state sink.new) result }
         ensures broken { IsTrue (broken self.new) ↔ IsErr result }
         ensures taken { IsOk result → taken self.new ≡ taken self.old + length run.now }
         ensures between { (taken self.old ≤ taken self.new) × (taken self.new ≤ taken self.old + length run.now) }
@@ -136,15 +133,13 @@ pub trait Stream {
         ensures ends { (shared : Self.Shared) (bytes : List ℕ) → stands shared self bytes
             → (lines : List Printed) × (faulty : Bool) × StreamEnds (listing shared (sizes self)) id bytes lines faulty
             × Writes (K.state sink.old) (K.state sink.new) result (text_of lines) × IfOk result (λ whole. whole ≡ not faulty) }
-        ensures cause { HasCause (K.state sink.old) (K.state sink.new) result }
-        ensures shows { ShowsAsBefore (K.state sink.old) (K.state sink.new) };
+        ensures serves { Serves (K.state sink.old) (K.state sink.new) result };
 
     /// Writes the lines of a sum.
     fn write_sum<K: Sink>(sum: Self::Sum, shared: &Self::Shared, sink: &mut K) -> Result<(), Failed>
         ensures lines { (s : Sizes) (items : List (ℕ × Item)) → sums shared.now sum items
             → Writes (K.state sink.old) (K.state sink.new) result (concat ((listing shared.now s).sums items)) }
-        ensures cause { HasCause (K.state sink.old) (K.state sink.new) result }
-        ensures shows { ShowsAsBefore (K.state sink.old) (K.state sink.new) };
+        ensures serves { Serves (K.state sink.old) (K.state sink.new) result };
 
     /// Ends it without a line. It would have had one, by the bytes that it took.
     fn abandon(self) -> Ledger

@@ -6,8 +6,7 @@ ghost use Rattle.stream_demux.specs.Demuxed.{Gains};
 ghost use Rattle.stream_demux.specs.Texts.{by_sizes};
 ghost use Rattle.sync_frames.specs.Laid.{synced_pairs};
 ghost use Rattle.sync_frames.specs.Synchronised.{HaveTaken, IsAfter};
-ghost use Rattle.trace_io.specs.Bytes.{ShowsAsBefore};
-ghost use Rattle.trace_io.specs.Causes.{HasCause};
+ghost use Rattle.trace_io.specs.Calls.{Serves};
 
 use crate::unsync::Unsync;
 use etm_types::SettingsTable;
@@ -92,8 +91,7 @@ fn take_front<S: Stream, K: Sink>(
     ensures gains { (t : ℕ → Sizes) (bytes : List ℕ)
         → HaveTaken (S.stands shared.now) S.sizes (S.sums shared.now) (S.listing shared.now) t unsync.old demux.old bytes
         → Gains synced_pairs (by_sizes (S.listing shared.now) t) bytes (take result.0 piece.now) (K.state sink.old) (K.state sink.new) result.1 }
-    ensures cause { HasCause (K.state sink.old) (K.state sink.new) result.1 }
-    ensures shows { ShowsAsBefore (K.state sink.old) (K.state sink.new) }
+    ensures serves { Serves (K.state sink.old) (K.state sink.new) result.1 }
     ensures broken { IsTrue demux.new.broken ↔ IsErr result.1 }
     ensures good { IsOk result.1 → demux.new.broken ≡ false }
     ensures count { (0 < result.0) × (result.0 ≤ length piece.now) }
@@ -123,8 +121,7 @@ fn take_bytes<S: Stream, K: Sink>(
     ensures gains { (t : ℕ → Sizes) (bytes : List ℕ)
         → HaveTaken (S.stands shared.now) S.sizes (S.sums shared.now) (S.listing shared.now) t unsync.old demux.old bytes
         → Gains synced_pairs (by_sizes (S.listing shared.now) t) bytes piece.now (K.state sink.old) (K.state sink.new) result }
-    ensures cause { HasCause (K.state sink.old) (K.state sink.new) result }
-    ensures shows { ShowsAsBefore (K.state sink.old) (K.state sink.new) }
+    ensures serves { Serves (K.state sink.old) (K.state sink.new) result }
     ensures broken { IsTrue demux.new.broken ↔ IsErr result }
     ensures room { demux.new.taken + length unsync.new.held ≤ demux.old.taken + length unsync.old.held + length piece.now }
 {

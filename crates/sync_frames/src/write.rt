@@ -2,8 +2,8 @@
 ghost use Rattle.std.specs.Prelude.{◌≡◌, ◌<◌, ◌%◌, length, OnOk, OnErr};
 ghost use Rattle.formatter_frames.specs.Sizes.{frame_bytes};
 ghost use Rattle.sync_frames.specs.Synced.{synced_every, synced_frame};
-ghost use Rattle.trace_io.specs.Bytes.{AppendsAll, AppendsShorter, ShowsAsBefore};
-ghost use Rattle.trace_io.specs.Causes.{HasCause};
+ghost use Rattle.trace_io.specs.Bytes.{AppendsAll, AppendsShorter};
+ghost use Rattle.trace_io.specs.Calls.{Serves};
 
 use formatter_frames::FRAME_BYTES;
 use trace_io::{Failed, Sink, write_all};
@@ -18,8 +18,7 @@ pub fn write_synced<K: Sink>(frames: &[u8], every: u32, sink: &mut K) -> Result<
     requires some { 0 < every }
     ensures ok { OnOk result (AppendsAll (K.state sink.old) (K.state sink.new) (synced_every every frames.now)) }
     ensures failed { OnErr result (AppendsShorter (K.state sink.old) (K.state sink.new) (synced_every every frames.now)) }
-    ensures shows { ShowsAsBefore (K.state sink.old) (K.state sink.new) }
-    ensures cause { HasCause (K.state sink.old) (K.state sink.new) result }
+    ensures serves { Serves (K.state sink.old) (K.state sink.new) result }
 {
     let count = frames.len() / FRAME_BYTES;
     let mut k = 0;
@@ -35,8 +34,7 @@ pub fn write_synced<K: Sink>(frames: &[u8], every: u32, sink: &mut K) -> Result<
 fn write_frame<K: Sink>(frame: &[u8], is_synced: bool, sink: &mut K) -> Result<(), Failed>
     ensures ok { OnOk result (AppendsAll (K.state sink.old) (K.state sink.new) (synced_frame is_synced frame.now)) }
     ensures failed { OnErr result (AppendsShorter (K.state sink.old) (K.state sink.new) (synced_frame is_synced frame.now)) }
-    ensures shows { ShowsAsBefore (K.state sink.old) (K.state sink.new) }
-    ensures cause { HasCause (K.state sink.old) (K.state sink.new) result }
+    ensures serves { Serves (K.state sink.old) (K.state sink.new) result }
 {
     if is_synced {
         write_all(sink, &FULL_SYNC)?;

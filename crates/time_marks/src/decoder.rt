@@ -15,8 +15,7 @@ ghost use Rattle.time_marks.specs.Frequent.{IsReady, packet_of};
 ghost use Rattle.time_marks.specs.Timed.{StandsAt};
 ghost use Rattle.time_marks.specs.TimeList.{IsTimes, TimesGains, TimesTallies};
 ghost use Rattle.time_marks.specs.Times.{Times};
-ghost use Rattle.trace_io.specs.Bytes.{ShowsAsBefore};
-ghost use Rattle.trace_io.specs.Causes.{HasCause};
+ghost use Rattle.trace_io.specs.Calls.{Serves};
 
 use crate::frequent::{Frequent, take_frequent};
 use crate::timing::Timing;
@@ -80,8 +79,7 @@ impl TimedDecoder {
             × Writes (K.state sink.old) (K.state sink.new) result (concat lines) }
         ensures stopped { (stop : ℕ × Fault) → self.old.timing.line.fault ≡ Some stop
             → (result ≡ Ok tt) × (sink.new ≡ sink.old) × (self.new ≡ record (self.old) { reader = self.new.reader }) }
-        ensures cause { HasCause (K.state sink.old) (K.state sink.new) result }
-        ensures shows { ShowsAsBefore (K.state sink.old) (K.state sink.new) }
+        ensures serves { Serves (K.state sink.old) (K.state sink.new) result }
         ensures broken { IsTrue self.new.broken ↔ IsErr result }
         ensures taken { self.new.reader.taken ≡ self.old.reader.taken + 1 }
         ensures settings { self.new.reader.settings ≡ self.old.reader.settings }
@@ -111,8 +109,7 @@ impl TimedDecoder {
             × Writes (K.state sink.old) (K.state sink.new) result (concat lines) }
         ensures stopped { (stop : ℕ × Fault) → self.old.timing.line.fault ≡ Some stop
             → (result ≡ Ok tt) × (sink.new ≡ sink.old) × (self.new ≡ record (self.old) { reader = self.new.reader }) }
-        ensures cause { HasCause (K.state sink.old) (K.state sink.new) result }
-        ensures shows { ShowsAsBefore (K.state sink.old) (K.state sink.new) }
+        ensures serves { Serves (K.state sink.old) (K.state sink.new) result }
         ensures broken { IsTrue self.new.broken ↔ IsErr result }
         ensures taken { self.new.reader.taken ≡ self.old.reader.taken + 1 }
         ensures settings { self.new.reader.settings ≡ self.old.reader.settings }
@@ -166,8 +163,7 @@ impl TimedDecoder {
         ensures line { (bytes : List ℕ) (t : Times) (last : End) → StandsAt self bytes → IsTimes self.reader.settings bytes t last
             → Writes (K.state sink.old) (K.state sink.new) result (if length bytes == 0 then [] else end_line id last)
             × IfOk result (λ whole. whole ≡ not (is_fault last)) }
-        ensures cause { HasCause (K.state sink.old) (K.state sink.new) result }
-        ensures shows { ShowsAsBefore (K.state sink.old) (K.state sink.new) }
+        ensures serves { Serves (K.state sink.old) (K.state sink.new) result }
     {
         let taken = self.reader.taken();
         let end = self.end();

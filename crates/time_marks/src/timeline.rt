@@ -10,8 +10,7 @@ ghost use Rattle.time_marks.specs.Stamps.{Stamp};
 ghost use Rattle.time_marks.specs.Timed.{IsAt, Prints};
 ghost use Rattle.time_marks.specs.TimeLines.{mark_line, mark_lines, shown_of, time_lines};
 ghost use Rattle.time_marks.specs.Times.{Times, after_element, after_elements};
-ghost use Rattle.trace_io.specs.Bytes.{ShowsAsBefore};
-ghost use Rattle.trace_io.specs.Causes.{HasCause};
+ghost use Rattle.trace_io.specs.Calls.{Serves};
 
 use crate::marked::MarkedQueue;
 use crate::shown::Shown;
@@ -71,8 +70,7 @@ impl Timeline {
         ensures informs { (spec : ℕ) → elems.now ≡ elem.Info spec ∷ [] → IsOk result → self.new.fault ≡ None → self.new.queue.pending.informed ≡ true }
         ensures depth { self.new.queue.depth ≡ self.old.queue.depth }
         ensures holds { IsMarked self.old.queue → IsMarked self.new.queue }
-        ensures cause { HasCause (K.state sink.old) (K.state sink.new) result }
-        ensures shows { ShowsAsBefore (K.state sink.old) (K.state sink.new) }
+        ensures serves { Serves (K.state sink.old) (K.state sink.new) result }
     {
         for next in 0..elems.len() {
             let Some(elem) = elems.get(next) else {
@@ -104,8 +102,7 @@ impl Timeline {
         ensures stays { self.new.queue.pending.informed ≡ true }
         ensures depth { self.new.queue.depth ≡ self.old.queue.depth }
         ensures holds { IsMarked self.old.queue → IsMarked self.new.queue }
-        ensures cause { HasCause (K.state sink.old) (K.state sink.new) result }
-        ensures shows { ShowsAsBefore (K.state sink.old) (K.state sink.new) }
+        ensures serves { Serves (K.state sink.old) (K.state sink.new) result }
     {
         for next in 0..u32::from(run.count) {
             let taken = (run.bits >> next) % 2 == 1;
@@ -130,8 +127,7 @@ impl Timeline {
         ensures informs { IsInfo elem.now → self.new.fault ≡ None → self.new.queue.pending.informed ≡ true }
         ensures depth { self.new.queue.depth ≡ self.old.queue.depth }
         ensures holds { IsMarked self.new.queue }
-        ensures cause { HasCause (K.state sink.old) (K.state sink.new) result }
-        ensures shows { ShowsAsBefore (K.state sink.old) (K.state sink.new) }
+        ensures serves { Serves (K.state sink.old) (K.state sink.new) result }
     {
         match *elem {
             Elem::P0(p0) => self.push(place, p0, sink),
@@ -157,8 +153,7 @@ impl Timeline {
         ensures stays { self.new.queue.pending.informed ≡ true }
         ensures depth { self.new.queue.depth ≡ self.old.queue.depth }
         ensures holds { IsMarked self.new.queue }
-        ensures cause { HasCause (K.state sink.old) (K.state sink.new) result }
-        ensures shows { ShowsAsBefore (K.state sink.old) (K.state sink.new) }
+        ensures serves { Serves (K.state sink.old) (K.state sink.new) result }
     {
         match self.queue.push(p0, place.stamp) {
             Some(mark) => show(&mut self.shown, place.id, mark, sink),
@@ -175,8 +170,7 @@ impl Timeline {
         ensures stays { self.new.queue.pending.informed ≡ self.old.queue.pending.informed }
         ensures depth { self.new.queue.depth ≡ self.old.queue.depth }
         ensures holds { IsMarked self.new.queue }
-        ensures cause { HasCause (K.state sink.old) (K.state sink.new) result }
-        ensures shows { ShowsAsBefore (K.state sink.old) (K.state sink.new) }
+        ensures serves { Serves (K.state sink.old) (K.state sink.new) result }
     {
         if let Err(fault) = self.queue.check_commit(n) {
             self.fault = Some((place.at, Fault::Queue(fault)));
@@ -202,8 +196,7 @@ fn commit_oldest<K: Sink>(
     ensures informed { queue.new.pending.informed ≡ queue.old.pending.informed }
     ensures depth { queue.new.depth ≡ queue.old.depth }
     ensures holds { IsMarked queue.new }
-    ensures cause { HasCause (K.state sink.old) (K.state sink.new) result }
-    ensures shows { ShowsAsBefore (K.state sink.old) (K.state sink.new) }
+    ensures serves { Serves (K.state sink.old) (K.state sink.new) result }
 {
     for _ in 0..n {
         commit_one(queue, shown, id, sink)?;
@@ -223,8 +216,7 @@ fn commit_one<K: Sink>(
     ensures rest { queue.new ≡ less queue.old 1 }
     ensures shown { (done : List Stamp) → shown.old ≡ shown_of done → shown.new ≡ shown_of (done ++ out_first queue.old 1) }
     ensures holds { IsMarked queue.new }
-    ensures cause { HasCause (K.state sink.old) (K.state sink.new) result }
-    ensures shows { ShowsAsBefore (K.state sink.old) (K.state sink.new) }
+    ensures serves { Serves (K.state sink.old) (K.state sink.new) result }
 {
     match queue.commit_one() {
         Some(mark) => show(shown, id, mark, sink),

@@ -13,8 +13,7 @@ ghost use Rattle.time_marks.specs.Stamps.{HasStamp};
 ghost use Rattle.time_marks.specs.Timed.{HasTimes, IsInformed, Prints, fault_behind};
 ghost use Rattle.time_marks.specs.TimeLines.{shown_of, time_lines};
 ghost use Rattle.time_marks.specs.Times.{Times, after_good, after_packets, event_lines};
-ghost use Rattle.trace_io.specs.Bytes.{ShowsAsBefore};
-ghost use Rattle.trace_io.specs.Causes.{HasCause};
+ghost use Rattle.trace_io.specs.Calls.{Serves};
 
 use crate::frequent::Frequent;
 use crate::stamp::stamp_after;
@@ -67,8 +66,7 @@ impl Timing {
         ensures informed { IsOk result → IsInformed self.new }
         ensures depth { self.new.line.queue.depth ≡ self.old.line.queue.depth }
         ensures holds { IsMarked self.old.line.queue → IsMarked self.new.line.queue }
-        ensures cause { HasCause (K.state sink.old) (K.state sink.new) result }
-        ensures shows { ShowsAsBefore (K.state sink.old) (K.state sink.new) }
+        ensures serves { Serves (K.state sink.old) (K.state sink.new) result }
     {
         match step {
             Step::Whole { at, packet } => self.take_packet(id, *at, packet, sink),
@@ -107,8 +105,7 @@ impl Timing {
         ensures informed { IsOk result → IsInformed self.new }
         ensures depth { self.new.line.queue.depth ≡ self.old.line.queue.depth }
         ensures holds { IsMarked self.old.line.queue → IsMarked self.new.line.queue }
-        ensures cause { HasCause (K.state sink.old) (K.state sink.new) result }
-        ensures shows { ShowsAsBefore (K.state sink.old) (K.state sink.new) }
+        ensures serves { Serves (K.state sink.old) (K.state sink.new) result }
     {
         let place = Place {
             id,
@@ -140,8 +137,7 @@ impl Timing {
         ensures informed { IsOk result → IsInformed self.new }
         ensures depth { self.new.line.queue.depth ≡ self.old.line.queue.depth }
         ensures holds { IsMarked self.old.line.queue → IsMarked self.new.line.queue }
-        ensures cause { HasCause (K.state sink.old) (K.state sink.new) result }
-        ensures shows { ShowsAsBefore (K.state sink.old) (K.state sink.new) }
+        ensures serves { Serves (K.state sink.old) (K.state sink.new) result }
     {
         let informed = self.line.queue.informed();
         let Ok(elems) = self.maker.take(packet) else {

@@ -2,8 +2,9 @@
 ghost use Rattle.std.specs.Prelude.{◌≡◌, ◌⊎◌, ℕ, ◌+◌, ◌≤◌, ◌<◌, false, List, [], None, Some, Ok, Err, IfOk, IfSome, IsErr, IsTrue};
 ghost use Rattle.bench_text.specs.Refusals.{most_text};
 ghost use Rattle.trace_io.specs.Bytes.{ShowsAsBefore, TakesAtMost};
-ghost use Rattle.trace_io.specs.Causes.{HasCause, KeepsFaults};
+ghost use Rattle.trace_io.specs.Causes.{KeepsFaults};
 ghost use Rattle.trace_io.specs.State.{IoState};
+ghost use Rattle.trace_io.specs.Calls.{Serves, Lasts};
 ghost use Rattle.program_image.specs.Part.{Part};
 ghost use Rattle.command_words.specs.Words.{Counts, Path, Retired, Trace, meaning, texts};
 ghost use Rattle.path_text.specs.Writing.{Writes};
@@ -47,10 +48,8 @@ fn print_by<P: Printer, J: Source, K: Sink>(
         → ((result ≡ Ok Status.NoMemory) × (input.new ≡ input.old) × (out.new ≡ out.old))
         ⊎ Listed laid (P.listing shared.now t) (J.state input.old) (J.state input.new) (K.state out.old) (K.state out.new) result }
     ensures kept { (result ≡ Ok Status.ReadFault) ⊎ IsErr result ⊎ KeepsFaults (J.state input.old) (J.state input.new) }
-    ensures cause { HasCause (K.state out.old) (K.state out.new) result }
-    ensures shows { ShowsAsBefore (K.state out.old) (K.state out.new) }
-    ensures input_shows { ShowsAsBefore (J.state input.old) (J.state input.new) }
-    ensures input_later { (J.state input.old).faults ≤ (J.state input.new).faults }
+    ensures serves { Serves (K.state out.old) (K.state out.new) result }
+    ensures input_lasts { Lasts (J.state input.old) (J.state input.new) }
 {
     match made {
         Ok(printer) => print_input(printer, shared, input, out),
@@ -71,10 +70,8 @@ fn print_streams<S: Stream, J: Source, K: Sink>(
         ⊎ Listed (laid_in intake.now.layout) (by_sizes (S.listing shared.now) (sizes_by (said_intake intake.now)))
         (J.state input.old) (J.state input.new) (K.state out.old) (K.state out.new) result }
     ensures kept { (result ≡ Ok Status.ReadFault) ⊎ IsErr result ⊎ KeepsFaults (J.state input.old) (J.state input.new) }
-    ensures cause { HasCause (K.state out.old) (K.state out.new) result }
-    ensures shows { ShowsAsBefore (K.state out.old) (K.state out.new) }
-    ensures input_shows { ShowsAsBefore (J.state input.old) (J.state input.new) }
-    ensures input_later { (J.state input.old).faults ≤ (J.state input.new).faults }
+    ensures serves { Serves (K.state out.old) (K.state out.new) result }
+    ensures input_lasts { Lasts (J.state input.old) (J.state input.new) }
 {
     let table = &intake.settings;
     match intake.layout {
@@ -114,10 +111,8 @@ fn read_text<I: Source, K: Sink>(
         → IsWriteFault (call words (I.state image.old) (I.state image.new) input input) (K.state out.old) (K.state out.new) }
     ensures taken { TakesAtMost (I.state image.old) (I.state image.new) (most_of (said_program program.now) + 1) }
     ensures kept { (result ≡ Ok (Err Status.ReadFault)) ⊎ KeepsFaults (I.state image.old) (I.state image.new) }
-    ensures shows { ShowsAsBefore (I.state image.old) (I.state image.new) }
-    ensures later { (I.state image.old).faults ≤ (I.state image.new).faults }
-    ensures cause { HasCause (K.state out.old) (K.state out.new) result }
-    ensures out_shows { ShowsAsBefore (K.state out.old) (K.state out.new) }
+    ensures lasts { Lasts (I.state image.old) (I.state image.new) }
+    ensures serves { Serves (K.state out.old) (K.state out.new) result }
 {
     match Image::read(alloc, image) {
         Ok(image) => Ok(Ok(image)),
@@ -147,10 +142,8 @@ fn read_file<I: Source, K: Sink>(
         → IsWriteFault (call words (I.state image.old) (I.state image.new) input input) (K.state out.old) (K.state out.new) }
     ensures taken { TakesAtMost (I.state image.old) (I.state image.new) (most_of (said_program program.now) + 1) }
     ensures kept { (result ≡ Ok (Err Status.ReadFault)) ⊎ KeepsFaults (I.state image.old) (I.state image.new) }
-    ensures shows { ShowsAsBefore (I.state image.old) (I.state image.new) }
-    ensures later { (I.state image.old).faults ≤ (I.state image.new).faults }
-    ensures cause { HasCause (K.state out.old) (K.state out.new) result }
-    ensures out_shows { ShowsAsBefore (K.state out.old) (K.state out.new) }
+    ensures lasts { Lasts (I.state image.old) (I.state image.new) }
+    ensures serves { Serves (K.state out.old) (K.state out.new) result }
 {
     match read_elf(alloc, image) {
         Ok(image) => Ok(Ok(image)),
@@ -179,10 +172,8 @@ fn read_image<I: Source, K: Sink>(
         → IsWriteFault (call words (I.state image.old) (I.state image.new) input input) (K.state out.old) (K.state out.new) }
     ensures taken { TakesAtMost (I.state image.old) (I.state image.new) (most_of (said_program program.now) + 1) }
     ensures kept { (result ≡ Ok (Err Status.ReadFault)) ⊎ KeepsFaults (I.state image.old) (I.state image.new) }
-    ensures shows { ShowsAsBefore (I.state image.old) (I.state image.new) }
-    ensures later { (I.state image.old).faults ≤ (I.state image.new).faults }
-    ensures cause { HasCause (K.state out.old) (K.state out.new) result }
-    ensures out_shows { ShowsAsBefore (K.state out.old) (K.state out.new) }
+    ensures lasts { Lasts (I.state image.old) (I.state image.new) }
+    ensures serves { Serves (K.state out.old) (K.state out.new) result }
 {
     match program.form {
         ProgramForm::Text => read_text(alloc, program, image, out),
@@ -212,12 +203,9 @@ fn answer_path<I: Source, J: Source, K: Sink>(
     ensures image_first { (line : ℕ) (why : ImageWhy) → result ≡ Ok (Status.ImageBad line why) → input.new ≡ input.old }
     ensures elf_first { (why : ElfWhy) → result ≡ Ok (Status.ElfBad why) → input.new ≡ input.old }
     ensures memory { result ≡ Ok Status.NoMemory → input.new ≡ input.old }
-    ensures image_shows { ShowsAsBefore (I.state image.old) (I.state image.new) }
-    ensures image_later { (I.state image.old).faults ≤ (I.state image.new).faults }
-    ensures input_shows { ShowsAsBefore (J.state input.old) (J.state input.new) }
-    ensures input_later { (J.state input.old).faults ≤ (J.state input.new).faults }
-    ensures cause { HasCause (K.state out.old) (K.state out.new) result }
-    ensures shows { ShowsAsBefore (K.state out.old) (K.state out.new) }
+    ensures image_lasts { Lasts (I.state image.old) (I.state image.new) }
+    ensures input_lasts { Lasts (J.state input.old) (J.state input.new) }
+    ensures serves { Serves (K.state out.old) (K.state out.new) result }
 {
     match read_image(alloc, program, image, out)? {
         Ok(image) => print_streams::<StreamDecoder, J, K>(alloc, intake, &image, input, out),
@@ -247,12 +235,9 @@ fn answer_counts<I: Source, J: Source, K: Sink>(
     ensures image_first { (line : ℕ) (why : ImageWhy) → result ≡ Ok (Status.ImageBad line why) → input.new ≡ input.old }
     ensures elf_first { (why : ElfWhy) → result ≡ Ok (Status.ElfBad why) → input.new ≡ input.old }
     ensures memory { result ≡ Ok Status.NoMemory → input.new ≡ input.old }
-    ensures image_shows { ShowsAsBefore (I.state image.old) (I.state image.new) }
-    ensures image_later { (I.state image.old).faults ≤ (I.state image.new).faults }
-    ensures input_shows { ShowsAsBefore (J.state input.old) (J.state input.new) }
-    ensures input_later { (J.state input.old).faults ≤ (J.state input.new).faults }
-    ensures cause { HasCause (K.state out.old) (K.state out.new) result }
-    ensures shows { ShowsAsBefore (K.state out.old) (K.state out.new) }
+    ensures image_lasts { Lasts (I.state image.old) (I.state image.new) }
+    ensures input_lasts { Lasts (J.state input.old) (J.state input.new) }
+    ensures serves { Serves (K.state out.old) (K.state out.new) result }
 {
     match read_image(alloc, program, image, out)? {
         Ok(image) => print_streams::<CountStream, J, K>(alloc, intake, &image, input, out),
@@ -280,12 +265,9 @@ fn answer_retired<I: Source, J: Source, K: Sink>(
     ensures image_failed { KeepsFaults (I.state image.old) (I.state image.new) ⊎ (input.new ≡ input.old) }
     ensures image_first { (line : ℕ) (why : ImageWhy) → result ≡ Ok (Status.ImageBad line why) → input.new ≡ input.old }
     ensures elf_first { (why : ElfWhy) → result ≡ Ok (Status.ElfBad why) → input.new ≡ input.old }
-    ensures image_shows { ShowsAsBefore (I.state image.old) (I.state image.new) }
-    ensures image_later { (I.state image.old).faults ≤ (I.state image.new).faults }
-    ensures input_shows { ShowsAsBefore (J.state input.old) (J.state input.new) }
-    ensures input_later { (J.state input.old).faults ≤ (J.state input.new).faults }
-    ensures cause { HasCause (K.state out.old) (K.state out.new) result }
-    ensures shows { ShowsAsBefore (K.state out.old) (K.state out.new) }
+    ensures image_lasts { Lasts (I.state image.old) (I.state image.new) }
+    ensures input_lasts { Lasts (J.state input.old) (J.state input.new) }
+    ensures serves { Serves (K.state out.old) (K.state out.new) result }
 {
     match read_image(alloc, program, image, out)? {
         Ok(image) => retire_input(alloc, &image, input, out),
@@ -317,12 +299,9 @@ fn answer_trace<I: Source, J: Source, K: Sink>(
     ensures image_failed { KeepsFaults (I.state image.old) (I.state image.new) ⊎ (input.new ≡ input.old) }
     ensures image_first { (line : ℕ) (why : ImageWhy) → result ≡ Ok (Status.ImageBad line why) → input.new ≡ input.old }
     ensures elf_first { (why : ElfWhy) → result ≡ Ok (Status.ElfBad why) → input.new ≡ input.old }
-    ensures image_shows { ShowsAsBefore (I.state image.old) (I.state image.new) }
-    ensures image_later { (I.state image.old).faults ≤ (I.state image.new).faults }
-    ensures input_shows { ShowsAsBefore (J.state input.old) (J.state input.new) }
-    ensures input_later { (J.state input.old).faults ≤ (J.state input.new).faults }
-    ensures cause { HasCause (K.state out.old) (K.state out.new) result }
-    ensures shows { ShowsAsBefore (K.state out.old) (K.state out.new) }
+    ensures image_lasts { Lasts (I.state image.old) (I.state image.new) }
+    ensures input_lasts { Lasts (J.state input.old) (J.state input.new) }
+    ensures serves { Serves (K.state out.old) (K.state out.new) result }
 {
     match read_image(alloc, program, image, out)? {
         Ok(image) => trace_input(alloc, &image, last, every, input, out),
@@ -361,12 +340,9 @@ fn answer_words<I: Source, J: Source, K: Sink>(
     ensures image_first { (line : ℕ) (why : ImageWhy) → result ≡ Ok (Status.ImageBad line why) → input.new ≡ input.old }
     ensures elf_first { (why : ElfWhy) → result ≡ Ok (Status.ElfBad why) → input.new ≡ input.old }
     ensures memory { result ≡ Ok Status.NoMemory → (input.new ≡ input.old) ⊎ IsRunFileCall (texts words.now) }
-    ensures image_shows { ShowsAsBefore (I.state image.old) (I.state image.new) }
-    ensures image_later { (I.state image.old).faults ≤ (I.state image.new).faults }
-    ensures input_shows { ShowsAsBefore (J.state input.old) (J.state input.new) }
-    ensures input_later { (J.state input.old).faults ≤ (J.state input.new).faults }
-    ensures cause { HasCause (K.state out.old) (K.state out.new) result }
-    ensures shows { ShowsAsBefore (K.state out.old) (K.state out.new) }
+    ensures image_lasts { Lasts (I.state image.old) (I.state image.new) }
+    ensures input_lasts { Lasts (J.state input.old) (J.state input.new) }
+    ensures serves { Serves (K.state out.old) (K.state out.new) result }
 {
     let command = match command_of(alloc, words) {
         Ok(Some(command)) => command,

@@ -5,10 +5,11 @@
 ghost use Rattle.std.specs.Prelude.{◌≡◌, ◌+◌, ◌-◌, ◌^◌, ◌<◌, ◌≤◌, ◌++◌, true, false, [], length, take, drop, None, IsTrue, IfOk, OnOk, OnErr};
 ghost use Rattle.std.specs.Io.{WritesAtMost};
 ghost use Rattle.std.specs.Io.KnownBytes.{WriteAppends, Appends, Keeps};
-ghost use Rattle.trace_io.specs.Causes.{HasCause, Counts};
-ghost use Rattle.trace_io.specs.Bytes.{KeepsBytes, ShowsAsBefore};
+ghost use Rattle.trace_io.specs.Causes.{Counts, HasCause};
+ghost use Rattle.trace_io.specs.Bytes.{KeepsBytes};
 ghost use Rattle.trace_io.specs.Memory.{hidden_state};
 ghost use Rattle.trace_io.specs.OverStd.{buffer_size, bytes_of, is_flushed};
+ghost use Rattle.trace_io.specs.Calls.{Serves};
 
 use crate::faults::counted;
 use crate::{Failed, Sink};
@@ -166,8 +167,7 @@ impl<W: Write> Sink for BufferedSink<W> {
         ensures bound { WritesAtMost result bytes.now }
         ensures progress { 0 < length bytes.now → IfOk result (λ n. 0 < n) }
         ensures bytes { WriteAppends None None result bytes.now }
-        ensures shows { ShowsAsBefore (hidden_state self.old.faults) (hidden_state self.new.faults) }
-        ensures cause { HasCause (hidden_state self.old.faults) (hidden_state self.new.faults) result }
+        ensures serves { Serves (hidden_state self.old.faults) (hidden_state self.new.faults) result }
         ensures most { self.new.faults ≤ 2 ^ 64 - 1 }
         ensures counts { Counts (hidden_state self.old.faults) (hidden_state self.new.faults) result }
         ensures held { 0 < length bytes.now → is_flushed self.new ≡ false }
@@ -185,8 +185,7 @@ impl<W: Write> Sink for BufferedSink<W> {
     fn flush(&mut self) -> Result<(), Failed>
         ensures done { OnOk result (IsTrue (is_flushed self.new)) }
         ensures bytes { KeepsBytes (hidden_state self.old.faults) (hidden_state self.new.faults) }
-        ensures shows { ShowsAsBefore (hidden_state self.old.faults) (hidden_state self.new.faults) }
-        ensures cause { HasCause (hidden_state self.old.faults) (hidden_state self.new.faults) result }
+        ensures serves { Serves (hidden_state self.old.faults) (hidden_state self.new.faults) result }
         ensures most { self.new.faults ≤ 2 ^ 64 - 1 }
         ensures counts { Counts (hidden_state self.old.faults) (hidden_state self.new.faults) result }
         ensures not_done { OnErr result (is_flushed self.new ≡ is_flushed self.old) }

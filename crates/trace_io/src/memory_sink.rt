@@ -2,9 +2,10 @@
 ghost use Rattle.std.specs.Prelude.{◌≡◌, ◌⊎◌, ◌↔◌, ◌-◌, ◌^◌, ◌<◌, ◌≤◌, true, false, [], length, drop, Some, IsTrue, IsOk, IsErr, IfOk, OnOk};
 ghost use Rattle.std.specs.Io.{WritesAtMost};
 ghost use Rattle.std.specs.Io.KnownBytes.{WriteAppends};
-ghost use Rattle.trace_io.specs.Causes.{HasCause, Counts};
-ghost use Rattle.trace_io.specs.Bytes.{KeepsBytes, ShowsAsBefore};
+ghost use Rattle.trace_io.specs.Causes.{Counts};
+ghost use Rattle.trace_io.specs.Bytes.{KeepsBytes};
 ghost use Rattle.trace_io.specs.Memory.{NextFails, writing_state};
+ghost use Rattle.trace_io.specs.Calls.{Serves};
 
 use crate::faults::counted;
 use crate::script::Script;
@@ -82,8 +83,7 @@ impl Sink for MemSink {
         ensures bound { WritesAtMost result bytes.now }
         ensures progress { 0 < length bytes.now → IfOk result (λ n. 0 < n) }
         ensures bytes { WriteAppends (Some self.old.taken) (Some self.new.taken) result bytes.now }
-        ensures shows { ShowsAsBefore (writing_state self.old) (writing_state self.new) }
-        ensures cause { HasCause (writing_state self.old) (writing_state self.new) result }
+        ensures serves { Serves (writing_state self.old) (writing_state self.new) result }
         ensures most { self.new.faults ≤ 2 ^ 64 - 1 }
         ensures whole { IfOk result (λ n. n ≡ length bytes.now) }
         ensures scripted { NextFails self.old.script → IsErr result }
@@ -108,8 +108,7 @@ impl Sink for MemSink {
     fn flush(&mut self) -> Result<(), Failed>
         ensures done { OnOk result (IsTrue true) }
         ensures bytes { KeepsBytes (writing_state self.old) (writing_state self.new) }
-        ensures shows { ShowsAsBefore (writing_state self.old) (writing_state self.new) }
-        ensures cause { HasCause (writing_state self.old) (writing_state self.new) result }
+        ensures serves { Serves (writing_state self.old) (writing_state self.new) result }
         ensures most { self.new.faults ≤ 2 ^ 64 - 1 }
         ensures safe { IsOk result }
         ensures unchanged { self.new ≡ self.old }

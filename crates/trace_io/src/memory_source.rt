@@ -2,9 +2,9 @@
 ghost use Rattle.std.specs.Prelude.{◌≡◌, ◌↔◌, ◌-◌, ◌^◌, ◌<◌, ◌≤◌, [], length, take, drop, Some, IsOk, IsErr, IfOk, OnErr};
 ghost use Rattle.std.specs.Io.{ReadsAtMost};
 ghost use Rattle.std.specs.Io.KnownBytes.{ReadConsumes};
-ghost use Rattle.trace_io.specs.Causes.{HasCause, Counts};
-ghost use Rattle.trace_io.specs.Bytes.{ShowsAsBefore};
+ghost use Rattle.trace_io.specs.Causes.{Counts};
 ghost use Rattle.trace_io.specs.Memory.{NextFails, count_given, pieces_state, reading_state};
+ghost use Rattle.trace_io.specs.Calls.{Serves};
 
 use crate::faults::counted;
 use crate::script::Script;
@@ -50,8 +50,7 @@ impl Source for SafeSource {
     fn read(&mut self, buf: &mut [u8]) -> Result<usize, Failed>
         ensures bound { ReadsAtMost result buf.new }
         ensures bytes { ReadConsumes (Some self.old.left) (Some self.new.left) result buf.new }
-        ensures shows { ShowsAsBefore (pieces_state self.old) (pieces_state self.new) }
-        ensures cause { HasCause (pieces_state self.old) (pieces_state self.new) result }
+        ensures serves { Serves (pieces_state self.old) (pieces_state self.new) result }
         ensures most { 0 ≤ 2 ^ 64 - 1 }
         ensures safe { IsOk result }
         ensures gives { IfOk result
@@ -130,8 +129,7 @@ impl Source for MemSource {
     fn read(&mut self, buf: &mut [u8]) -> Result<usize, Failed>
         ensures bound { ReadsAtMost result buf.new }
         ensures bytes { ReadConsumes (Some self.old.left) (Some self.new.left) result buf.new }
-        ensures shows { ShowsAsBefore (reading_state self.old) (reading_state self.new) }
-        ensures cause { HasCause (reading_state self.old) (reading_state self.new) result }
+        ensures serves { Serves (reading_state self.old) (reading_state self.new) result }
         ensures most { self.new.faults ≤ 2 ^ 64 - 1 }
         ensures fails { IsErr result ↔ NextFails self.old.script }
         ensures gives { IfOk result

@@ -2,9 +2,10 @@
 ghost use Rattle.std.specs.Prelude.{◌≡◌, ◌-◌, ◌^◌, ◌<◌, ◌≤◌, true, length, None, Ok, IsTrue, IsErr, IsOk, IfOk, OnOk};
 ghost use Rattle.std.specs.Io.{ReadsAtMost, WritesAtMost};
 ghost use Rattle.std.specs.Io.KnownBytes.{ReadConsumes, WriteAppends};
-ghost use Rattle.trace_io.specs.Causes.{HasCause, one_more};
-ghost use Rattle.trace_io.specs.Bytes.{KeepsBytes, ShowsAsBefore};
+ghost use Rattle.trace_io.specs.Causes.{one_more};
+ghost use Rattle.trace_io.specs.Bytes.{KeepsBytes};
 ghost use Rattle.trace_io.specs.Memory.{hidden_state};
+ghost use Rattle.trace_io.specs.Calls.{Serves};
 
 use crate::faults::counted;
 use crate::{Failed, Sink, Source};
@@ -42,8 +43,7 @@ impl Source for NoSource {
     fn read(&mut self, buf: &mut [u8]) -> Result<usize, Failed>
         ensures bound { ReadsAtMost result buf.new }
         ensures bytes { ReadConsumes None None result buf.new }
-        ensures shows { ShowsAsBefore (hidden_state self.old) (hidden_state self.new) }
-        ensures cause { HasCause (hidden_state self.old) (hidden_state self.new) result }
+        ensures serves { Serves (hidden_state self.old) (hidden_state self.new) result }
         ensures most { self.new ≤ 2 ^ 64 - 1 }
         ensures fails { IsErr result }
         ensures counts { self.new ≡ one_more self.old }
@@ -74,8 +74,7 @@ impl Sink for NullSink {
         ensures bound { WritesAtMost result bytes.now }
         ensures progress { 0 < length bytes.now → IfOk result (λ n. 0 < n) }
         ensures bytes { WriteAppends None None result bytes.now }
-        ensures shows { ShowsAsBefore (hidden_state 0) (hidden_state 0) }
-        ensures cause { HasCause (hidden_state 0) (hidden_state 0) result }
+        ensures serves { Serves (hidden_state 0) (hidden_state 0) result }
         ensures most { 0 ≤ 2 ^ 64 - 1 }
         ensures whole { result ≡ Ok (length bytes.now) }
     {
@@ -85,8 +84,7 @@ impl Sink for NullSink {
     fn flush(&mut self) -> Result<(), Failed>
         ensures done { OnOk result (IsTrue true) }
         ensures bytes { KeepsBytes (hidden_state 0) (hidden_state 0) }
-        ensures shows { ShowsAsBefore (hidden_state 0) (hidden_state 0) }
-        ensures cause { HasCause (hidden_state 0) (hidden_state 0) result }
+        ensures serves { Serves (hidden_state 0) (hidden_state 0) result }
         ensures most { 0 ≤ 2 ^ 64 - 1 }
         ensures safe { IsOk result }
     {

@@ -2,9 +2,9 @@
 ghost use Rattle.std.specs.Prelude.{◌≡◌, ◌-◌, ◌^◌, ◌<◌, ◌≤◌, true, false, length, None, IsTrue, IfOk, OnOk, OnErr};
 ghost use Rattle.std.specs.Io.{ReadsAtMost, WritesAtMost};
 ghost use Rattle.std.specs.Io.KnownBytes.{ReadConsumes, WriteAppends, Keeps};
-ghost use Rattle.trace_io.specs.Causes.{HasCause, Counts};
-ghost use Rattle.trace_io.specs.Bytes.{KeepsBytes, ShowsAsBefore};
+ghost use Rattle.trace_io.specs.Causes.{Counts};
 ghost use Rattle.trace_io.specs.Memory.{hidden_state};
+ghost use Rattle.trace_io.specs.Calls.{Serves};
 
 use crate::faults::counted;
 use crate::{Failed, Sink, Source};
@@ -48,8 +48,7 @@ impl<R: Read> Source for StdSource<R> {
     fn read(&mut self, buf: &mut [u8]) -> Result<usize, Failed>
         ensures bound { ReadsAtMost result buf.new }
         ensures bytes { ReadConsumes None None result buf.new }
-        ensures shows { ShowsAsBefore (hidden_state self.old.faults) (hidden_state self.new.faults) }
-        ensures cause { HasCause (hidden_state self.old.faults) (hidden_state self.new.faults) result }
+        ensures serves { Serves (hidden_state self.old.faults) (hidden_state self.new.faults) result }
         ensures most { self.new.faults ≤ 2 ^ 64 - 1 }
         ensures counts { Counts (hidden_state self.old.faults) (hidden_state self.new.faults) result }
         ensures inner { ReadConsumes (R.remaining self.old.inner) (R.remaining self.new.inner)

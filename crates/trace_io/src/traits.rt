@@ -3,8 +3,8 @@ ghost use Rattle.std.specs.Prelude.{◌-◌, ◌^◌, ◌<◌, ◌≤◌, Bool, 
 ghost use Rattle.std.specs.Io.{ReadsAtMost, WritesAtMost};
 ghost use Rattle.std.specs.Io.KnownBytes.{ReadConsumes, WriteAppends};
 ghost use Rattle.trace_io.specs.State.{IoState};
-ghost use Rattle.trace_io.specs.Causes.{HasCause};
-ghost use Rattle.trace_io.specs.Bytes.{KeepsBytes, ShowsAsBefore};
+ghost use Rattle.trace_io.specs.Bytes.{KeepsBytes};
+ghost use Rattle.trace_io.specs.Calls.{Serves};
 
 use thiserror::Error;
 
@@ -24,8 +24,7 @@ pub trait Source {
     fn read(&mut self, buf: &mut [u8]) -> Result<usize, Failed>
         ensures bound { ReadsAtMost result buf.new }
         ensures bytes { ReadConsumes ((state self.old).bytes) ((state self.new).bytes) result buf.new }
-        ensures shows { ShowsAsBefore (state self.old) (state self.new) }
-        ensures cause { HasCause (state self.old) (state self.new) result }
+        ensures serves { Serves (state self.old) (state self.new) result }
         ensures most { (state self.new).faults ≤ 2 ^ 64 - 1 };
 }
 
@@ -43,15 +42,13 @@ pub trait Sink {
         ensures bound { WritesAtMost result bytes.now }
         ensures progress { 0 < length bytes.now → IfOk result (λ n. 0 < n) }
         ensures bytes { WriteAppends ((state self.old).bytes) ((state self.new).bytes) result bytes.now }
-        ensures shows { ShowsAsBefore (state self.old) (state self.new) }
-        ensures cause { HasCause (state self.old) (state self.new) result }
+        ensures serves { Serves (state self.old) (state self.new) result }
         ensures most { (state self.new).faults ≤ 2 ^ 64 - 1 };
 
     /// Passes on what the sink holds back. It takes nothing.
     fn flush(&mut self) -> Result<(), Failed>
         ensures done { OnOk result (IsTrue (flushed self.new)) }
         ensures bytes { KeepsBytes (state self.old) (state self.new) }
-        ensures shows { ShowsAsBefore (state self.old) (state self.new) }
-        ensures cause { HasCause (state self.old) (state self.new) result }
+        ensures serves { Serves (state self.old) (state self.new) result }
         ensures most { (state self.new).faults ≤ 2 ^ 64 - 1 };
 }

@@ -1,7 +1,8 @@
 //! All of a list of bytes written, and all that a source has left read.
 ghost use Rattle.std.specs.Prelude.{◌≡◌, ◌⊎◌, ◌+◌, ◌^◌, ◌<◌, ◌≤◌, [], vec_len, OnOk, OnErr, IfOk, IsErrOf};
-ghost use Rattle.trace_io.specs.Causes.{Rose, KeepsFaults, HasCause};
-ghost use Rattle.trace_io.specs.Bytes.{AppendsAll, AppendsShorter, ShowsAsBefore, TakesAll, TakesCount, TakesAtMost};
+ghost use Rattle.trace_io.specs.Causes.{KeepsFaults, Rose};
+ghost use Rattle.trace_io.specs.Bytes.{AppendsAll, AppendsShorter, TakesAll, TakesCount, TakesAtMost};
+ghost use Rattle.trace_io.specs.Calls.{Serves, Lasts};
 
 use crate::{Failed, Sink, Source};
 use std::alloc::Global;
@@ -15,8 +16,7 @@ pub fn write_all<K: Sink>(sink: &mut K, bytes: &[u8]) -> Result<(), Failed>
     ensures failed { OnErr result
         (AppendsShorter (K.state sink.old) (K.state sink.new) bytes.now) }
     ensures empty { bytes.now ≡ [] → sink.new ≡ sink.old }
-    ensures shows { ShowsAsBefore (K.state sink.old) (K.state sink.new) }
-    ensures cause { HasCause (K.state sink.old) (K.state sink.new) result }
+    ensures serves { Serves (K.state sink.old) (K.state sink.new) result }
 {
     if bytes.is_empty() {
         return Ok(());
@@ -36,8 +36,7 @@ fn write_rest<K: Sink>(sink: &mut K, bytes: &[u8]) -> Result<(), Failed>
     ensures failed { OnErr result
         (AppendsShorter (K.state sink.old) (K.state sink.new) bytes.now) }
     ensures empty { bytes.now ≡ [] → sink.new ≡ sink.old }
-    ensures shows { ShowsAsBefore (K.state sink.old) (K.state sink.new) }
-    ensures cause { HasCause (K.state sink.old) (K.state sink.new) result }
+    ensures serves { Serves (K.state sink.old) (K.state sink.new) result }
 {
     let mut done = 0;
     while done < bytes.len() {
@@ -75,8 +74,7 @@ pub fn read_all<S: Source>(
     ensures few { IsErrOf result ReadAllFault.Failed
         → TakesAtMost (S.state source.old) (S.state source.new) limit }
     ensures taken { TakesAtMost (S.state source.old) (S.state source.new) (limit + 1) }
-    ensures shows { ShowsAsBefore (S.state source.old) (S.state source.new) }
-    ensures later { (S.state source.old).faults ≤ (S.state source.new).faults }
+    ensures lasts { Lasts (S.state source.old) (S.state source.new) }
     ensures kept { IsErrOf result ReadAllFault.Failed
         ⊎ KeepsFaults (S.state source.old) (S.state source.new) }
     ensures failed { IsErrOf result ReadAllFault.Failed

@@ -12,8 +12,7 @@ ghost use Rattle.stream_demux.specs.Texts.{Printed};
 ghost use Rattle.input_pieces.specs.Listed.{most_input};
 ghost use Rattle.traced_runs.specs.Selftest.{AreGood, HasLines, IsTooLong, TestsSo, kept_of, line_feeds, piece_of};
 ghost use Rattle.traced_runs.specs.Traced.{table_of, trace_frames};
-ghost use Rattle.trace_io.specs.Bytes.{ShowsAsBefore};
-ghost use Rattle.trace_io.specs.Causes.{HasCause};
+ghost use Rattle.trace_io.specs.Calls.{Serves};
 
 use crate::traced::{Untraced, traced_streams, woven_frames};
 use answer_lines::{Status, write_image_bad, write_summary};
@@ -211,8 +210,7 @@ pub fn test_number<K: Sink>(
 ) -> Result<Status, Failed>
     requires { number ≤ 99999 }
     ensures answer { TestsSo number cut (K.state out.old) (K.state out.new) result }
-    ensures cause { HasCause (K.state out.old) (K.state out.new) result }
-    ensures shows { ShowsAsBefore (K.state out.old) (K.state out.new) }
+    ensures serves { Serves (K.state out.old) (K.state out.new) result }
 {
     let Ok(texts) = generate(alloc, number) else {
         return Ok(Status::NoMemory);

@@ -15,8 +15,9 @@ ghost use Rattle.traced_runs.specs.Traced.{TracesSo, WritesTraces, kept_frames, 
 ghost use Rattle.traced_runs.specs.Tracing.{IsTracing, refused_at};
 ghost use Rattle.woven_traces.specs.Weaving.{all_left};
 ghost use Rattle.woven_traces.specs.Woven.{woven};
-ghost use Rattle.trace_io.specs.Bytes.{ShowsAsBefore, TakesAtMost};
-ghost use Rattle.trace_io.specs.Causes.{HasCause, KeepsFaults};
+ghost use Rattle.trace_io.specs.Bytes.{TakesAtMost};
+ghost use Rattle.trace_io.specs.Causes.{KeepsFaults};
+ghost use Rattle.trace_io.specs.Calls.{Serves, Lasts};
 ghost use Rattle.trace_unit.specs.Written.{settled};
 
 use answer_lines::Status;
@@ -275,10 +276,8 @@ pub fn trace_input<J: Source, K: Sink>(
     ensures answer { TracesSo image.now last every (J.state input.old) (J.state input.new) (K.state out.old) (K.state out.new) result }
     ensures few { TakesAtMost (J.state input.old) (J.state input.new) (most_text + 1) }
     ensures kept { (result ≡ Ok Status.ReadFault) ⊎ KeepsFaults (J.state input.old) (J.state input.new) }
-    ensures input_shows { ShowsAsBefore (J.state input.old) (J.state input.new) }
-    ensures input_later { (J.state input.old).faults ≤ (J.state input.new).faults }
-    ensures cause { HasCause (K.state out.old) (K.state out.new) result }
-    ensures shows { ShowsAsBefore (K.state out.old) (K.state out.new) }
+    ensures input_lasts { Lasts (J.state input.old) (J.state input.new) }
+    ensures serves { Serves (K.state out.old) (K.state out.new) result }
 {
     let mut text = Vec::new(alloc);
     let bench = match read_bench(alloc, input, &mut text) {

@@ -5,11 +5,11 @@ ghost use Rattle.etm_types.specs.SettingsTable.{sizes_at};
 ghost use Rattle.formatter_frames.specs.Unframed.{begun_frame, unframed};
 ghost use Rattle.stream_demux.specs.Demuxed.{Gains, StandsAt};
 ghost use Rattle.stream_demux.specs.Texts.{by_sizes};
-ghost use Rattle.trace_io.specs.Bytes.{ShowsAsBefore};
-ghost use Rattle.trace_io.specs.Causes.{HasCause};
+
 ghost use Rattle.wrapped_capture.specs.Laid.{later_pairs};
 ghost use Rattle.wrapped_capture.specs.Rotated.{first_frames, later_frames, rotated};
 ghost use Rattle.wrapped_capture.specs.Wrapped.{HaveTaken, taken_of};
+ghost use Rattle.trace_io.specs.Calls.{Serves};
 
 use crate::unwrap::Unwrap;
 use etm_types::SettingsTable;
@@ -75,8 +75,7 @@ fn take_byte<S: Stream, K: Sink>(
     ensures gains { (t : ℕ → Sizes) (bytes : List ℕ)
         → HaveTaken (S.stands shared.now) S.sizes (S.sums shared.now) (S.listing shared.now) t unwrap.old demux.old bytes
         → Gains (later_pairs unwrap.old.frames) (by_sizes (S.listing shared.now) t) bytes (byte ∷ []) (K.state sink.old) (K.state sink.new) result }
-    ensures cause { HasCause (K.state sink.old) (K.state sink.new) result }
-    ensures shows { ShowsAsBefore (K.state sink.old) (K.state sink.new) }
+    ensures serves { Serves (K.state sink.old) (K.state sink.new) result }
     ensures broken { IsTrue demux.new.broken ↔ IsErr result }
     ensures good { IsOk result → demux.new.broken ≡ false }
     ensures frames { unwrap.new.frames ≡ unwrap.old.frames }
@@ -104,8 +103,7 @@ fn take_bytes<S: Stream, K: Sink>(
     ensures gains { (t : ℕ → Sizes) (bytes : List ℕ)
         → HaveTaken (S.stands shared.now) S.sizes (S.sums shared.now) (S.listing shared.now) t unwrap.old demux.old bytes
         → Gains (later_pairs unwrap.old.frames) (by_sizes (S.listing shared.now) t) bytes piece.now (K.state sink.old) (K.state sink.new) result }
-    ensures cause { HasCause (K.state sink.old) (K.state sink.new) result }
-    ensures shows { ShowsAsBefore (K.state sink.old) (K.state sink.new) }
+    ensures serves { Serves (K.state sink.old) (K.state sink.new) result }
     ensures broken { IsTrue demux.new.broken ↔ IsErr result }
     ensures frames { unwrap.new.frames ≡ unwrap.old.frames }
     ensures taken { IsOk result → taken_of unwrap.new demux.new ≡ taken_of unwrap.old demux.old + length piece.now }
@@ -136,8 +134,7 @@ fn take_kept<S: Stream, K: Sink>(
         → HaveTaken (S.stands shared.now) S.sizes (S.sums shared.now) (S.listing shared.now) t unwrap.now demux.old bytes
         → Gains unframed (by_sizes (S.listing shared.now) t) (later_frames unwrap.now.frames bytes)
         (first_frames unwrap.now.frames bytes ++ begun_frame bytes) (K.state sink.old) (K.state sink.new) result }
-    ensures cause { HasCause (K.state sink.old) (K.state sink.new) result }
-    ensures shows { ShowsAsBefore (K.state sink.old) (K.state sink.new) }
+    ensures serves { Serves (K.state sink.old) (K.state sink.new) result }
     ensures broken { IsTrue demux.new.broken ↔ IsErr result }
 {
     let mut j = 0;

@@ -48,9 +48,9 @@ loop-count-preserved g c =
                 (out c.loop-count.out) (out c.print_piece.new.out) _ (c.in_ok-print_piece-in-Bytes.ensures.gains t bytes so_far.3)),
           );
       input_kept = gives.kept ∙ i.input_kept;
-      input_shows = c.read_piece.ensures.shows ∙ i.input_shows;
-      kept = c.in_ok-print_piece-in-Bytes.ensures.cause.kept ∙ i.kept;
-      shows = c.print_piece.ensures.shows ∙ i.shows;
+      input_shows = c.read_piece.ensures.lasts.shows ∙ i.input_shows;
+      kept = c.in_ok-print_piece-in-Bytes.ensures.serves.cause.kept ∙ i.kept;
+      shows = c.print_piece.ensures.serves.shows ∙ i.shows;
     }
 
 pub returns-in-Ended-clause-took : goal.returns-in-Ended-clause-took

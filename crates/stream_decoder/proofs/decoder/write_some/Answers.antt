@@ -38,16 +38,17 @@ returns-in_err-write_atoms-clause-stopped g c done =
     let still = subst AtRest (sym (c.loop-decoding.invariant.rest done).0) done in
     absurd (let e = (c.in_err-write_atoms.ensures.stopped still).0 in cc)
 
-pub returns-in_err-write_atoms-clause-cause : goal.returns-in_err-write_atoms-clause-cause
-returns-in_err-write_atoms-clause-cause g c =
-    let state = g.K.Sink.state in let i = c.loop-decoding.invariant in let on = c.in_err-write_atoms.ensures.prints in
-    let p = err_from_is_err_and c.from_residual.result c.from_residual.ensures.1 in
-    rw p.1 ((writes_front c.args.image.now c.args.line.now.id c.args.decoding.now c.loop-decoding.decoding c.args.shown.now c.loop-decoding.shown
-    (state c.args.sink.now) (state c.loop-decoding.sink) (state c.write_atoms.new.sink) i.printed on.0 c.write_atoms.new.decoding on.1
-    p.0 (answers_err _ _ c.in_err-write_atoms.field-0.0 p.0 _ (rw i.id at on.2))).cause)
-
-pub returns-in_err-write_atoms-clause-shows : goal.returns-in_err-write_atoms-clause-shows
-returns-in_err-write_atoms-clause-shows g c = c.in_err-write_atoms.ensures.shows ∙ c.loop-decoding.invariant.printed.wrote.shows
+pub returns-in_err-write_atoms-clause-serves : goal.returns-in_err-write_atoms-clause-serves
+returns-in_err-write_atoms-clause-serves g c =
+    record {
+      shows = c.in_err-write_atoms.ensures.serves.shows ∙ c.loop-decoding.invariant.printed.wrote.shows;
+      cause =
+          let state = g.K.Sink.state in let i = c.loop-decoding.invariant in let on = c.in_err-write_atoms.ensures.prints in
+          let p = err_from_is_err_and c.from_residual.result c.from_residual.ensures.1 in
+          rw p.1 ((writes_front c.args.image.now c.args.line.now.id c.args.decoding.now c.loop-decoding.decoding c.args.shown.now c.loop-decoding.shown
+          (state c.args.sink.now) (state c.loop-decoding.sink) (state c.write_atoms.new.sink) i.printed on.0 c.write_atoms.new.decoding on.1
+          p.0 (answers_err _ _ c.in_err-write_atoms.field-0.0 p.0 _ (rw i.id at on.2))).cause);
+    }
 
 pub returns-in_err-write_atoms-clause-reader : goal.returns-in_err-write_atoms-clause-reader
 returns-in_err-write_atoms-clause-reader g c = c.in_err-write_atoms.ensures.reader ∙ c.loop-decoding.invariant.reader
@@ -129,17 +130,18 @@ returns-in_default-clause-stopped g c done =
     let quiet = subst AtRest (sym (same ∙ w.1)) still in
     (refl, (c.next.ensures.stopped quiet).1 ∙ same ∙ w.1 ∙ i.0, w.2 ∙ i.1, w.3 ∙ i.2)
 
-pub returns-in_default-clause-cause : goal.returns-in_default-clause-cause
-returns-in_default-clause-cause g c =
-    let state = g.K.Sink.state in let image = c.args.image.now in let id = c.args.line.now.id in let i = c.loop-decoding.invariant in
-    let d = c.args.decoding.now in let m = c.write_atoms.new.decoding in let on = c.in_ok-write_atoms.ensures.prints in
-    let begun = state c.args.sink.now in let was = state c.write_atoms.new.sink in
-    let printed = printed_more image id d c.loop-decoding.decoding c.args.shown.now c.loop-decoding.shown begun (state c.loop-decoding.sink) was i.printed
-    m c.write_atoms.new.shown on.0 on.1 (rw i.id at on.2) on.3 in
-    (writes_all begun was tt (lines_of id c.args.shown.now printed.items) printed.wrote).cause
-
-pub returns-in_default-clause-shows : goal.returns-in_default-clause-shows
-returns-in_default-clause-shows g c = c.in_ok-write_atoms.ensures.shows ∙ c.loop-decoding.invariant.printed.wrote.shows
+pub returns-in_default-clause-serves : goal.returns-in_default-clause-serves
+returns-in_default-clause-serves g c =
+    record {
+      shows = c.in_ok-write_atoms.ensures.serves.shows ∙ c.loop-decoding.invariant.printed.wrote.shows;
+      cause =
+          let state = g.K.Sink.state in let image = c.args.image.now in let id = c.args.line.now.id in let i = c.loop-decoding.invariant in
+          let d = c.args.decoding.now in let m = c.write_atoms.new.decoding in let on = c.in_ok-write_atoms.ensures.prints in
+          let begun = state c.args.sink.now in let was = state c.write_atoms.new.sink in
+          let printed = printed_more image id d c.loop-decoding.decoding c.args.shown.now c.loop-decoding.shown begun (state c.loop-decoding.sink) was i.printed
+          m c.write_atoms.new.shown on.0 on.1 (rw i.id at on.2) on.3 in
+          (writes_all begun was tt (lines_of id c.args.shown.now printed.items) printed.wrote).cause;
+    }
 
 pub returns-in_default-clause-reader : goal.returns-in_default-clause-reader
 returns-in_default-clause-reader g c =
@@ -205,25 +207,25 @@ returns-in_err-write_found-clause-stopped g c done =
     let quiet = subst AtRest (sym (same ∙ (c.in_ok-write_atoms.ensures.stopped still).1)) still in
     absurd (let e : None ≡ Some c.in-Some.found = sym (c.next.ensures.stopped quiet).0 ∙ c.in-Some.is in cc)
 
-pub returns-in_err-write_found-clause-cause : goal.returns-in_err-write_found-clause-cause
-returns-in_err-write_found-clause-cause g c =
-    let state = g.K.Sink.state in let image = c.args.image.now in let id = c.args.line.now.id in let i = c.loop-decoding.invariant in
-    let d = c.args.decoding.now in let m = c.write_atoms.new.decoding in let on = c.in_ok-write_atoms.ensures.prints in
-    let begun = state c.args.sink.now in let was = state c.write_atoms.new.sink in
-    let printed = printed_more image id d c.loop-decoding.decoding c.args.shown.now c.loop-decoding.shown begun (state c.loop-decoding.sink) was i.printed
-    m c.write_atoms.new.shown on.0 on.1 (rw i.id at on.2) on.3 in
-    let q = c.take_quiet.new.self in let same = c.take_quiet.ensures.unchanged c.if-take_quiet.false in
-    let there = subst (λ (x : Decoding). Printed image id d c.args.shown.now x c.write_atoms.new.shown begun was) (sym same) printed in
-    let now = state c.write_found.new.sink in
-    let same_id = c.in_ok-write_atoms.ensures.id ∙ i.id in
-    let p = err_from_is_err_and c.from_residual-in_err-write_found.result c.from_residual-in_err-write_found.ensures.1 in
-    rw p.1 ((writes_front image id d q c.args.shown.now c.write_atoms.new.shown begun was now there (items_of_found c.in-Some.found) c.next.new.self
-    (c.next.ensures.found c.in-Some.found c.in-Some.is) p.0 (answers_err _ _ c.in_err-write_found.field-0.0 p.0 _
-    (rw same_id at c.in_err-write_found.ensures.lines))).cause)
-
-pub returns-in_err-write_found-clause-shows : goal.returns-in_err-write_found-clause-shows
-returns-in_err-write_found-clause-shows g c =
-    c.in_err-write_found.ensures.lines.shows ∙ c.in_ok-write_atoms.ensures.shows ∙ c.loop-decoding.invariant.printed.wrote.shows
+pub returns-in_err-write_found-clause-serves : goal.returns-in_err-write_found-clause-serves
+returns-in_err-write_found-clause-serves g c =
+    record {
+      shows = c.in_err-write_found.ensures.lines.shows ∙ c.in_ok-write_atoms.ensures.serves.shows ∙ c.loop-decoding.invariant.printed.wrote.shows;
+      cause =
+          let state = g.K.Sink.state in let image = c.args.image.now in let id = c.args.line.now.id in let i = c.loop-decoding.invariant in
+          let d = c.args.decoding.now in let m = c.write_atoms.new.decoding in let on = c.in_ok-write_atoms.ensures.prints in
+          let begun = state c.args.sink.now in let was = state c.write_atoms.new.sink in
+          let printed = printed_more image id d c.loop-decoding.decoding c.args.shown.now c.loop-decoding.shown begun (state c.loop-decoding.sink) was i.printed
+          m c.write_atoms.new.shown on.0 on.1 (rw i.id at on.2) on.3 in
+          let q = c.take_quiet.new.self in let same = c.take_quiet.ensures.unchanged c.if-take_quiet.false in
+          let there = subst (λ (x : Decoding). Printed image id d c.args.shown.now x c.write_atoms.new.shown begun was) (sym same) printed in
+          let now = state c.write_found.new.sink in
+          let same_id = c.in_ok-write_atoms.ensures.id ∙ i.id in
+          let p = err_from_is_err_and c.from_residual-in_err-write_found.result c.from_residual-in_err-write_found.ensures.1 in
+          rw p.1 ((writes_front image id d q c.args.shown.now c.write_atoms.new.shown begun was now there (items_of_found c.in-Some.found) c.next.new.self
+          (c.next.ensures.found c.in-Some.found c.in-Some.is) p.0 (answers_err _ _ c.in_err-write_found.field-0.0 p.0 _
+          (rw same_id at c.in_err-write_found.ensures.lines))).cause);
+    }
 
 pub returns-in_err-write_found-clause-reader : goal.returns-in_err-write_found-clause-reader
 returns-in_err-write_found-clause-reader g c =

@@ -54,8 +54,8 @@ loop-id-preserved g c =
           subst (λ l. Written listing pairs l old new) (sym more)
           (more_written listing pairs front old here new (i.written t pairs all) (run_of c.in-Some.id run)
           (added listing (pairs ++ front) (run_of c.in-Some.id run) here new c.in_ok-take_run.field-0 adds));
-      kept = c.in_ok-take_run.ensures.cause.kept ∙ i.kept;
-      shows = c.take_run.ensures.shows ∙ i.shows;
+      kept = c.in_ok-take_run.ensures.serves.cause.kept ∙ i.kept;
+      shows = c.take_run.ensures.serves.shows ∙ i.shows;
       ready = λ most all.
           let sum : most + n + length run ≡ most + (n + length run) = omega arith in
           subst (λ k. All (IsReady g.S.Stream.broken g.S.Stream.taken k) c.take_run.new.self.streams) sum

@@ -55,8 +55,8 @@ loop-stream-preserved g c =
           (sym (ids_more id i.from))
           (one_more_ended (by_sizes listing t) pairs (ids 1 id) c.loop-stream.whole (state c.args.sink.now) (state c.loop-stream.sink) (state c.finish.new.sink)
           (i.ended shared t pairs all) id ends.0 ends.1 here c.in-Ok.one ends.4 wrote);
-      kept = c.in-Ok.ensures.cause.kept ∙ i.kept;
-      shows = c.finish.ensures.shows ∙ i.shows;
+      kept = c.in-Ok.ensures.serves.cause.kept ∙ i.kept;
+      shows = c.finish.ensures.serves.shows ∙ i.shows;
       ready = (i.ready.0, All-tail ready stream rest (subst (All ready) order i.ready.1));
       from = omega arith;
     }

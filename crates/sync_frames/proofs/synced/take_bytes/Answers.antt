@@ -30,8 +30,8 @@ loop-at-preserved g c =
           (gained_more synced_pairs listing bytes front more old here new tt (i.gained t bytes stands)
           (subst (λ (r : Result (Unit {0}) Failed). Gains synced_pairs listing (bytes ++ front) more here new r) c.in-Ok.is
           (c.take_front-count.ensures.gains t (bytes ++ front) (i.stands t bytes stands))));
-      kept = subst (λ (r : Result (Unit {0}) Failed). OnOk r (KeepsFaults here new)) c.in-Ok.is c.take_front-count.ensures.cause.kept ∙ i.kept;
-      shows = c.take_front-count.ensures.shows ∙ i.shows;
+      kept = subst (λ (r : Result (Unit {0}) Failed). OnOk r (KeepsFaults here new)) c.in-Ok.is c.take_front-count.ensures.serves.cause.kept ∙ i.kept;
+      shows = c.take_front-count.ensures.serves.shows ∙ i.shows;
       room = omega (arith, i.room, c.take_front-count.ensures.room);
       whole = c.take_front-count.ensures.good is_ok;
     }

@@ -28,6 +28,6 @@ loop-k-preserved g c =
       done = i.done ++ frame;
       wrote = Appends-trans old.bytes here.bytes new.bytes i.done frame i.wrote wrote;
       all = one_frame every k n xs i.done (omega (arith, c.loop-k-test.true)) i.all;
-      shows = grind (arith, i.shows, c.write_frame.ensures.shows);
-      kept = grind (arith, i.kept, c.in_ok-write_frame.ensures.cause);
+      shows = grind (arith, i.shows, c.write_frame.ensures.serves.shows);
+      kept = grind (arith, i.kept, c.in_ok-write_frame.ensures.serves.cause);
     }

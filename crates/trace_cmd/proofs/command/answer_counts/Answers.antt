@@ -13,7 +13,7 @@ returns-in_err-image-clause-answer g c words means =
     let image = g.I.Source.state in let input = g.J.Source.state in let out = g.K.Sink.state in
     let asked = call words (image c.args.image.now) (image c.read_image.new.image) (input c.args.input.now) (input c.args.input.now) in
     by_err (AnswersSo asked (out c.args.out.now) (out c.read_image.new.out)) c.from_residual.result c.from_residual.ensures.0 (λ e.
-    (c.in_err-image.ensures.cause.failed, c.in_err-image.ensures.failed refl words (input c.args.input.now) (ap (option_and_then program_of) means)))
+    (c.in_err-image.ensures.serves.cause.failed, c.in_err-image.ensures.failed refl words (input c.args.input.now) (ap (option_and_then program_of) means)))
 
 pub returns-in-Ok-clause-answer : goal.returns-in-Ok-clause-answer
 returns-in-Ok-clause-answer g c words means =
@@ -28,7 +28,7 @@ returns-in-Ok-clause-answer g c words means =
           (ap input none.1) (ap out none.2)
       | inr listed ↦
           so_of_listed asked (CountsOf c.in-Ok.image taken) ((program, means), (program, ap (option_and_then program_of) means, good.0))
-          (out c.read_image.new.out) (out c.print_streams.new.out) c.print_streams.result listed c.print_streams.ensures.cause
+          (out c.read_image.new.out) (out c.print_streams.new.out) c.print_streams.result listed c.print_streams.ensures.serves.cause
     ] in
     subst (λ o. AnswersSo asked (out o) (out c.print_streams.new.out) c.print_streams.result) good.1 so
 

@@ -12,7 +12,7 @@ returns-in_err-image-clause-answer g c words means =
     let image = g.I.Source.state in let input = g.J.Source.state in let out = g.K.Sink.state in
     let asked = call words (image c.args.image.now) (image c.read_image.new.image) (input c.args.input.now) (input c.args.input.now) in
     by_err (AnswersSo asked (out c.args.out.now) (out c.read_image.new.out)) c.from_residual.result c.from_residual.ensures.0 (λ e.
-    (c.in_err-image.ensures.cause.failed, c.in_err-image.ensures.failed refl words (input c.args.input.now) (ap (option_and_then program_of) means)))
+    (c.in_err-image.ensures.serves.cause.failed, c.in_err-image.ensures.failed refl words (input c.args.input.now) (ap (option_and_then program_of) means)))
 
 pub returns-in-Ok-clause-answer : goal.returns-in-Ok-clause-answer
 returns-in-Ok-clause-answer g c words means =
@@ -22,7 +22,7 @@ returns-in-Ok-clause-answer g c words means =
     let good = c.in_ok-image.ensures.good c.in-Ok.image (ap Ok c.in-Ok.is) in
     subst (λ o. AnswersSo asked (out o) (out c.retire_input.new.out) c.retire_input.result) good.1
     (so_of_retired asked c.in-Ok.image (program, means) (program, ap (option_and_then program_of) means, good.0) (out c.read_image.new.out)
-    (out c.retire_input.new.out) c.retire_input.result c.retire_input.ensures.answer c.retire_input.ensures.cause)
+    (out c.retire_input.new.out) c.retire_input.result c.retire_input.ensures.answer c.retire_input.ensures.serves.cause)
 
 pub returns-in-Err-clause-answer : goal.returns-in-Err-clause-answer
 returns-in-Err-clause-answer g c words means =

@@ -32,7 +32,7 @@ returns-in-Packets-clause-answer g c =
           (ap input none.1) (ap out none.2)
       | inr listed ↦
           so_of_listed asked (PacketsOf (said_intake c.in-Packets.intake)) means (out c.args.out.now) (out c.print_streams.new.out) c.print_streams.result
-          listed c.print_streams.ensures.cause
+          listed c.print_streams.ensures.serves.cause
     ]
 
 pub returns-in-Packets-clause-memory : goal.returns-in-Packets-clause-memory
@@ -66,7 +66,7 @@ returns-in-Times-clause-answer g c =
           (ap input none.1) (ap out none.2)
       | inr listed ↦
           so_of_listed asked (TimesOf (said_intake c.in-Times.intake)) means (out c.args.out.now) (out c.print_streams-in-Times.new.out)
-          c.print_streams-in-Times.result listed c.print_streams-in-Times.ensures.cause
+          c.print_streams-in-Times.result listed c.print_streams-in-Times.ensures.serves.cause
     ]
 
 pub returns-in-Times-clause-memory : goal.returns-in-Times-clause-memory
@@ -117,7 +117,7 @@ returns-in-Selftest-clause-answer g c =
     let image = g.I.Source.state in let input = g.J.Source.state in let out = g.K.Sink.state in
     let asked = call (texts c.args.words.now) (image c.args.image.now) (image c.args.image.now) (input c.args.input.now) (input c.args.input.now) in
     so_of_number asked c.in-Selftest.number c.in-Selftest.cut means refl (out c.args.out.now) (out c.test_number.new.out) c.test_number.result
-    c.test_number.ensures.answer c.test_number.ensures.cause
+    c.test_number.ensures.answer c.test_number.ensures.serves.cause
 
 pub returns-in-Ok-None-clause-answer : goal.returns-in-Ok-None-clause-answer
 returns-in-Ok-None-clause-answer g c =

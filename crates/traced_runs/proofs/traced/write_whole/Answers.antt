@@ -13,7 +13,7 @@ returns-in_err-write_all g c =
     let p = err_from_is_err_and c.from_residual.result c.from_residual.ensures.1 in
     rw p.1 (fails_after _ _ _ c.in_err-write_all.field-0.0 p.0 (take at bytes) frame (drop (at + 16) bytes) bytes (frame_between at bytes)
     c.loop-at.invariant.wrote
-    (one_written _ _ _ frame c.in_err-write_all.ensures.ok c.in_err-write_all.ensures.failed c.write_all.ensures.shows c.in_err-write_all.ensures.cause))
+    (one_written _ _ _ frame c.in_err-write_all.ensures.ok c.in_err-write_all.ensures.failed c.write_all.ensures.serves.shows c.in_err-write_all.ensures.serves.cause))
 
 pub loop-at-preserved : goal.loop-at-preserved
 loop-at-preserved g c =
@@ -26,7 +26,7 @@ loop-at-preserved g c =
       whole = omega (arith, i.whole);
       wrote = subst (Wrote _ _) (frame_next at bytes) (wrote_more _ _ _ (take at bytes) frame i.wrote
           (wrote_by _ _ c.in_ok-write_all.field-0 frame
-          (one_written _ _ _ frame c.in_ok-write_all.ensures.ok c.in_ok-write_all.ensures.failed c.write_all.ensures.shows c.in_ok-write_all.ensures.cause)));
+          (one_written _ _ _ frame c.in_ok-write_all.ensures.ok c.in_ok-write_all.ensures.failed c.write_all.ensures.serves.shows c.in_ok-write_all.ensures.serves.cause)));
     }
 
 pub returns : goal.returns

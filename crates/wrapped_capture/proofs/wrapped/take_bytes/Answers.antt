@@ -27,8 +27,8 @@ loop-at-preserved g c =
           (gained_more (later_pairs k) listing bytes front (byte ∷ []) old here new c.in-Ok.field-0 (i.gained t bytes stands)
           (subst (λ j. Gains {E = Failed} (later_pairs j) listing (bytes ++ front) (byte ∷ []) here new (Ok c.in-Ok.field-0)) i.frames
           (c.in-Ok.ensures.gains t (bytes ++ front) (i.stands t bytes stands))));
-      kept = c.in-Ok.ensures.cause.kept ∙ i.kept;
-      shows = c.take_byte.ensures.shows ∙ i.shows;
+      kept = c.in-Ok.ensures.serves.cause.kept ∙ i.kept;
+      shows = c.take_byte.ensures.serves.shows ∙ i.shows;
       taken = omega (arith, i.taken, c.in-Ok.ensures.taken refl);
       whole = c.in-Ok.ensures.good refl;
       frames = c.in-Ok.ensures.frames ∙ i.frames;

@@ -29,8 +29,8 @@ loop-frame-preserved g c =
           subst (λ l. Gained unframed listing before l old new) (sym next)
           (gained_more unframed listing before front frame old here new c.in-Ok.field-0 (i.gained t bytes stands)
           (c.in-Ok.ensures.gains t (before ++ front) (i.stands t bytes stands)));
-      kept = c.in-Ok.ensures.cause.kept ∙ i.kept;
-      shows = c.take_piece.ensures.shows ∙ i.shows;
+      kept = c.in-Ok.ensures.serves.cause.kept ∙ i.kept;
+      shows = c.take_piece.ensures.serves.shows ∙ i.shows;
       taken = omega (arith, i.taken, c.in-Ok.ensures.taken refl, long);
       whole = not_true c.take_piece.new.self.broken c.in-Ok.ensures.broken.0;
     }

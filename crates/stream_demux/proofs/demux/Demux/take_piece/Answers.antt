@@ -60,8 +60,8 @@ loop-at-preserved g c =
           subst (λ l. Gained unframed listing bytes l old new) (sym next)
           (gained_more unframed listing bytes front more old here new m (i.gained t bytes stands)
           (subst (λ k. Gains {T = ℕ} {E = Failed} unframed listing (bytes ++ front) (take k behind) here new (Ok m)) (sym gains.2) gains.1));
-      kept = c.in-Ok.ensures.cause.kept ∙ i.kept;
-      shows = c.take_front.ensures.shows ∙ i.shows;
+      kept = c.in-Ok.ensures.serves.cause.kept ∙ i.kept;
+      shows = c.take_front.ensures.serves.shows ∙ i.shows;
       taken = omega (arith, i.taken);
       whole = i.whole;
       ready = later_ready g.S.Stream.broken g.S.Stream.taken (15 * c.loop-at.self-inside.taken + 15) (15 * (c.loop-at.self-inside.taken + m))

@@ -48,8 +48,8 @@ loop-byte-preserved g c =
           (c.in_ok-take.ensures.adds refl (bytes ++ front) (i.stands bytes stands)) in
           subst (λ (l : List ℕ). SumAdds sums own id bytes l c.args.sum.now c.take.new.sum) (sym more)
           (run_adds_more sums own id bytes front byte c.args.sum.now c.loop-byte.sum c.take.new.sum (i.added bytes stands) gains);
-      kept = c.in_ok-take.ensures.cause.kept ∙ i.kept;
-      shows = c.take.ensures.shows ∙ i.shows;
+      kept = c.in_ok-take.ensures.serves.cause.kept ∙ i.kept;
+      shows = c.take.ensures.serves.shows ∙ i.shows;
       taken = omega (arith, c.take.ensures.taken, i.taken);
       whole = whole_where_ok {E = Failed} (g.Self.Stream.broken c.take.new.self) (Ok c.in_ok-take.field-0) refl c.in_ok-take.ensures.broken;
       sizes = c.take.ensures.sizes ∙ i.sizes;
