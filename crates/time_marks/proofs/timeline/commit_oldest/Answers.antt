@@ -35,6 +35,6 @@ loop-preserved g c =
           (subst (λ (x : Marked). Writes {T = Unit {0}} {E = Failed} b d (Ok c.in_ok-commit_one.field-0) (concat (time_lines id (mark_lines (done ++ out_first m n) (out_first x 1)))))
           i.rest (e.writes (done ++ out_first m n) (i.shown done is)));
       holds = e.holds;
-      kept = e.cause.kept ∙ i.kept;
-      shows = e.shows ∙ i.shows;
+      kept = e.serves.cause.kept ∙ i.kept;
+      shows = e.serves.shows ∙ i.shows;
     }

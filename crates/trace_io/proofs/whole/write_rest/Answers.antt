@@ -9,7 +9,7 @@ loop-done-preserved g c =
     record {
       within = omega (arith, e.bound);
       front = taken_more _ _ _ _ _ _ i.front e.bytes;
-      shows = e.shows ∙ i.shows;
-      kept = e.cause.kept ∙ i.kept;
+      shows = e.serves.shows ∙ i.shows;
+      kept = e.serves.cause.kept ∙ i.kept;
       untouched = λ none. absurd (omega (arith, c.loop-done-test.true, ap length none));
     }

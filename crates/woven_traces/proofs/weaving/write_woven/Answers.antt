@@ -22,4 +22,4 @@ returns g c =
     let done = (c.in_ok-push_woven.ensures.weaves start [] (nothing_yet c.new-frames.result start c.new-frames.ensures)).done in
     let e = c.finish.ensures in
     finished c.push_woven.new.frames whole start (state c.push_woven.new.out) (state c.finish.new.sink) c.finish.result done (e.written whole done.stands)
-    e.shows e.cause
+    e.serves.shows e.serves.cause

@@ -52,6 +52,6 @@ loop-next-preserved g c =
       informed = took.stays;
       depth = took.depth ∙ i.depth;
       holds = λ holds. took.holds;
-      kept = took.cause.kept ∙ i.kept;
-      shows = took.shows ∙ i.shows;
+      kept = took.serves.cause.kept ∙ i.kept;
+      shows = took.serves.shows ∙ i.shows;
     }

@@ -24,6 +24,5 @@ returns-in_default-take g c =
       informs = λ info none. info_informs l.queue c.take.new.self c.args.place.now.stamp e [] (moves c.args.place.now.stamp) info;
       depth = (moves c.args.place.now.stamp).depth;
       holds = ensures.holds;
-      cause = written.cause;
-      shows = refl;
+      serves = record { shows = refl; cause = written.cause };
     }

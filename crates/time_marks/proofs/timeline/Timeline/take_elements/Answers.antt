@@ -72,6 +72,6 @@ loop-next-preserved g c =
       informs = λ spec one some none. took.informs (is_info elems spec n e one (sym there)) none;
       depth = took.depth ∙ i.depth;
       holds = λ holds. took.holds;
-      kept = took.cause.kept ∙ i.kept;
-      shows = took.shows ∙ i.shows;
+      kept = took.serves.cause.kept ∙ i.kept;
+      shows = took.serves.shows ∙ i.shows;
     }

@@ -18,7 +18,7 @@ returns-in_err-push-clause-weaves g c start pairs was =
     let e = c.in_err-push.ensures in
     let lt : k < c.args.count = omega (arith, c.loop-test.true) in
     let cut = next_cut c.loop.frames c.push.new.self pairs t.id c.loop.self.id byte left k start (state c.loop.out) (state c.push.new.sink) i.id here.0 here.1
-    so_far c.in_err-push.field-0.0 c.args.count lt (e.written _ so_far.stands) e.shows e.cause in
+    so_far c.in_err-push.field-0.0 c.args.count lt (e.written _ so_far.stands) e.serves.shows e.serves.cause in
     let p = err_from_is_err_and c.from_residual.result c.from_residual.ensures.1 in
     rw p.1 (weaves_cut c.push.new.self (pairs ++ under t.id (take c.args.count left)) start (state c.push.new.sink) p.0 cut)
 
@@ -41,5 +41,5 @@ loop-preserved g c =
       so_far = λ start pairs was.
           let so_far = i.so_far start pairs was in
           next_pushed c.loop.frames c.push.new.self pairs t.id c.loop.self.id byte left k start (state c.loop.out) (state c.push.new.sink) i.id here.0 here.1
-          so_far c.in_ok-push.field-0 (e.stands _ so_far.stands) (e.written _ so_far.stands) e.shows e.cause;
+          so_far c.in_ok-push.field-0 (e.stands _ so_far.stands) (e.written _ so_far.stands) e.serves.shows e.serves.cause;
     }
