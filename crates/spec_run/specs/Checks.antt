@@ -95,38 +95,54 @@ executed_fault depth p e (Some step) = or_else (aim_fault e) (room_fault depth p
 abbrev pub step_fault : ℕ → Option Class → Place → Event → Option RunFault
 step_fault depth class p e = or_else (word_fault class p.pc) (executed_fault depth p e (executed class p e))
 
--- ---- an event
+-- ---- the table of events
 
--- the first check of an event that fails
-abbrev pub check : Image → ℕ → Option Place → Event → Option RunFault
-check image depth None (event.On addr ctx) = aligned_fault addr
-check image depth None e = Some fault.NotOn
-check image depth (Some p) (event.On addr ctx) = Some fault.AlreadyOn
-check image depth (Some p) (event.Exc kind addr ctx) = or_else (aligned_fault addr) (room_fault depth p.held (exception_at p kind addr))
-check image depth (Some p) (event.Context ctx) = unless (isb_behind p.after_isb p.held) fault.ContextPlace
-check image depth (Some p) (event.Retire n) = unless (nat_le n (length p.held)) (fault.RetireTooMany n (length p.held))
-check image depth (Some p) (event.Cancel n) = unless (nat_le n (length p.held)) (fault.CancelTooMany n (length p.held))
-check image depth (Some p) event.Flip = unless (ends_in_cond p.held) fault.NoBranchToFlip
-check image depth (Some p) event.Sync = None
-check image depth (Some p) event.Overflow = None
-check image depth (Some p) event.Off = None
-check image depth (Some p) e = step_fault depth (class_at image p.pc) p e
+-- what an event asks at a depth, as the first check that fails; and what it does that passes them: of another this says nothing
+pub record Row : Type 0 where
+  pub fault : ℕ → Option RunFault
+  pub effect : Effect
 
+abbrev pub row : Option RunFault → Effect → Row
+row fault effect = record { fault = λ depth. fault; effect = effect }
+
+abbrev pub refused : RunFault → Row
+refused fault = row (Some fault) effect.Synced
+
+-- a step that looks at the word at the pc
 abbrev pub ran_by : Option (RunStep × Ctx) → Effect
 ran_by (Some step) = effect.Ran step.0 step.1
 ran_by None = effect.Synced
 
--- What an event does that passes its checks; of another this says nothing.
+abbrev pub step_row : Option Class → Place → Event → Row
+step_row class p e = record { fault = λ depth. step_fault depth class p e; effect = ran_by (executed class p e) }
+
+-- a step that looks at no word
+abbrev pub exception_row : Place → ℕ → ℕ → Ctx → Row
+exception_row p kind addr ctx =
+    record {
+      fault = λ depth. or_else (aligned_fault addr) (room_fault depth p.held (exception_at p kind addr));
+      effect = effect.Ran (exception_at p kind addr) ctx;
+    }
+
+-- each event, where tracing is off and where it is on
+abbrev pub row_of : Image → Option Place → Event → Row
+row_of image None (event.On addr ctx) = row (aligned_fault addr) (effect.Began addr ctx)
+row_of image None e = refused fault.NotOn
+row_of image (Some p) (event.On addr ctx) = refused fault.AlreadyOn
+row_of image (Some p) (event.Exc kind addr ctx) = exception_row p kind addr ctx
+row_of image (Some p) (event.Context ctx) = row (unless (isb_behind p.after_isb p.held) fault.ContextPlace) (effect.Contexted ctx)
+row_of image (Some p) (event.Retire n) = row (unless (nat_le n (length p.held)) (fault.RetireTooMany n (length p.held))) (effect.Retired n)
+row_of image (Some p) (event.Cancel n) = row (unless (nat_le n (length p.held)) (fault.CancelTooMany n (length p.held))) (effect.Cancelled n)
+row_of image (Some p) event.Flip = row (unless (ends_in_cond p.held) fault.NoBranchToFlip) effect.Flipped
+row_of image (Some p) event.Sync = row None effect.Synced
+row_of image (Some p) event.Overflow = row None effect.Overflowed
+row_of image (Some p) event.Off = row None effect.Stopped
+row_of image (Some p) e = step_row (class_at image p.pc) p e
+
+-- the first check of an event that fails
+abbrev pub check : Image → ℕ → Option Place → Event → Option RunFault
+check image depth p e = (row_of image p e).fault depth
+
+-- what an event does that passes its checks
 abbrev pub effect_of : Image → Option Place → Event → Effect
-effect_of image None (event.On addr ctx) = effect.Began addr ctx
-effect_of image None e = effect.Synced
-effect_of image (Some p) (event.On addr ctx) = effect.Synced
-effect_of image (Some p) (event.Exc kind addr ctx) = effect.Ran (exception_at p kind addr) ctx
-effect_of image (Some p) (event.Context ctx) = effect.Contexted ctx
-effect_of image (Some p) (event.Retire n) = effect.Retired n
-effect_of image (Some p) (event.Cancel n) = effect.Cancelled n
-effect_of image (Some p) event.Flip = effect.Flipped
-effect_of image (Some p) event.Sync = effect.Synced
-effect_of image (Some p) event.Overflow = effect.Overflowed
-effect_of image (Some p) event.Off = effect.Stopped
-effect_of image (Some p) e = ran_by (executed (class_at image p.pc) p e)
+effect_of image p e = (row_of image p e).effect

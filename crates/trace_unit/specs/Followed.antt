@@ -110,42 +110,58 @@ abbrev pub at_place : {X : Type 0} → Option Place → X → (Place → X) → 
 at_place None x f = x
 at_place (Some q) x f = f q
 
--- the orders that are told of it
-abbrev pub orders_done : Done → Option Place → Follower → List Order
-orders_done done.Began place f = at_place place [] (λ q. begin_orders q.pc q.ctx)
-orders_done (done.Ran s) place f = if is_p0 s then step_orders f.places.places s else []
-orders_done done.Contexted place f = []
-orders_done (done.Retired n) place f = Retire n ∷ []
-orders_done (done.Cancelled n) place f = Cancel n ∷ []
-orders_done done.Flipped place f = Flip ∷ []
-orders_done done.Synced place f = at_place place [] (λ q. sync_orders (length f.window.p0s) f.places.places.start q.ctx)
-orders_done done.Overflowed place f = Close ByOverflow ∷ []
-orders_done done.Stopped place f = Close ByOff ∷ []
-
--- the follower behind it
-abbrev pub followed : Done → Option Place → Follower → Follower
-followed done.Began place f = at_place place f (λ q. begun f q.pc q.ctx)
-followed (done.Ran s) place f = if is_p0 s then stepped f s else f
-followed done.Contexted place f = f
-followed (done.Retired n) place f = retired f n
-followed (done.Cancelled n) place f = cancelled f n
-followed done.Flipped place f = at_place place f (λ q. flipped f q.pc)
-followed done.Synced place f = at_place place f (λ q. synced f q.ctx)
-followed done.Overflowed place f = closed f ByOverflow
-followed done.Stopped place f = closed f ByOff
-
 -- there is room for one more, where any is kept
 abbrev pub HasRoomFor : {X : Type 0} → ℕ → List X → Type 0
 HasRoomFor room xs = 0 < room → length xs < room
 
--- what is held is enough, and the run goes on
+-- the orders that are told of what a run did, the follower behind it, and whether it fits: what is held is enough, and the run goes on
+pub record Following : Type 1 where
+  pub orders : List Order
+  pub behind : Follower
+  pub fits : Type 0
+
+-- each thing that a run did, and where it is then
+abbrev pub following : Done → Option Place → Follower → Following
+following done.Began place f =
+    record {
+      orders = at_place place [] (λ q. begin_orders q.pc q.ctx);
+      behind = at_place place f (λ q. begun f q.pc q.ctx);
+      fits = IsSome place;
+    }
+following (done.Ran s) place f =
+    record {
+      orders = if is_p0 s then step_orders f.places.places s else [];
+      behind = if is_p0 s then stepped f s else f;
+      fits = is_p0 s ≡ true → HasRoomFor f.places.room f.places.places.saved × HasRoomFor f.window.room f.window.p0s;
+    }
+following done.Contexted place f = record { orders = []; behind = f; fits = ⊤ }
+following (done.Retired n) place f = record { orders = Retire n ∷ []; behind = retired f n; fits = n ≤ length f.window.p0s }
+following (done.Cancelled n) place f =
+    record {
+      orders = Cancel n ∷ [];
+      behind = cancelled f n;
+      fits = (n ≤ length f.places.places.saved) × (n ≤ length f.window.p0s);
+    }
+following done.Flipped place f =
+    record {
+      orders = Flip ∷ [];
+      behind = at_place place f (λ q. flipped f q.pc);
+      fits = IsSome place × ((p0s : List P0) × (taken : Bool) × (f.window.p0s ≡ p0s ++ p0.Atom taken ∷ []));
+    }
+following done.Synced place f =
+    record {
+      orders = at_place place [] (λ q. sync_orders (length f.window.p0s) f.places.places.start q.ctx);
+      behind = at_place place f (λ q. synced f q.ctx);
+      fits = IsSome place × (length f.window.p0s < 2 ^ 32);
+    }
+following done.Overflowed place f = record { orders = Close ByOverflow ∷ []; behind = closed f ByOverflow; fits = ⊤ }
+following done.Stopped place f = record { orders = Close ByOff ∷ []; behind = closed f ByOff; fits = ⊤ }
+
+abbrev pub orders_done : Done → Option Place → Follower → List Order
+orders_done did place f = (following did place f).orders
+
+abbrev pub followed : Done → Option Place → Follower → Follower
+followed did place f = (following did place f).behind
+
 abbrev pub CanFollow : Done → Option Place → Follower → Type 0
-CanFollow done.Began place f = IsSome place
-CanFollow (done.Ran s) place f = is_p0 s ≡ true → HasRoomFor f.places.room f.places.places.saved × HasRoomFor f.window.room f.window.p0s
-CanFollow done.Contexted place f = ⊤
-CanFollow (done.Retired n) place f = n ≤ length f.window.p0s
-CanFollow (done.Cancelled n) place f = (n ≤ length f.places.places.saved) × (n ≤ length f.window.p0s)
-CanFollow done.Flipped place f = IsSome place × ((p0s : List P0) × (taken : Bool) × (f.window.p0s ≡ p0s ++ p0.Atom taken ∷ []))
-CanFollow done.Synced place f = IsSome place × (length f.window.p0s < 2 ^ 32)
-CanFollow done.Overflowed place f = ⊤
-CanFollow done.Stopped place f = ⊤
+CanFollow did place f = (following did place f).fits
