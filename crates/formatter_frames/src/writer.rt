@@ -1,6 +1,5 @@
 //! Frames put together.
 ghost use Rattle.std.specs.Prelude.{◌≡◌, ℕ, List, [], ◌∷◌, ◌++◌, false, Some, OnOk, is_err};
-
 ghost use Rattle.formatter_frames.specs.Symbols.{told};
 ghost use Rattle.formatter_frames.specs.Framed.{frames_of, whole_frames, framed};
 ghost use Rattle.formatter_frames.specs.Writer.{StandsAt, AppendsGrowth, Puts};

@@ -71,7 +71,7 @@ pub behind_each_element :
     ∷ taken_so 7 loud elem.Flip (Err (NoAtomToFlip 0))
     ∷ []
     ≡ times (pending (Unseen ∷ atom ∷ atom ∷ [])) (None ∷ Some 5 ∷ []) (Some 1 ∷ Some 3 ∷ []) (Event 1 (Some 2) ∷ P0 1 (Some 3) ∷ []) (counts 11 5 3 1)
-      (Some (9, AddressAwaited))
+    (Some (9, AddressAwaited))
     ∷ times (pending (atom ∷ Unseen ∷ [])) (Some 3 ∷ []) (Some 1 ∷ []) (Event 1 (Some 2) ∷ []) (counts 10 4 4 1) (Some (9, AddressAwaited))
     ∷ times (pending []) [] (Some 1 ∷ []) (Event 1 (Some 2) ∷ []) (counts 10 4 3 3) (Some (9, AddressAwaited))
     ∷ times (pending held_things) (Some 3 ∷ None ∷ []) (Some 1 ∷ []) (Event 1 (Some 2) ∷ []) (counts 10 4 3 1) (Some (7, Queue (NoAtomToFlip 0)))

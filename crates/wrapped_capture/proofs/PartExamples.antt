@@ -249,19 +249,17 @@ returning = record { start = 0x1000; bytes = 0xc0 ∷ 0x03 ∷ 0x5f ∷ 0xd6 ∷
 pub one_missing : IsCause returning (behind_known (awaiting (0x3004 ∷ [])) (awaiting [])) nothing_told nothing_told
 unfolding class_of
 one_missing =
-    inr (
-      inr (record {
-        walked = known;
-        shown = refl;
-        ends = record { known = refl; before = 0; counted = refl; returns = refl };
-        addr = refl;
-        awaited = refl;
-        newest = 0x3004;
-        more = [];
-        pops = refl;
-        empty = refl;
-      }),
-    )
+    inr (inr (record {
+      walked = known;
+      shown = refl;
+      ends = record { known = refl; before = 0; counted = refl; returns = refl };
+      addr = refl;
+      awaited = refl;
+      newest = 0x3004;
+      more = [];
+      pops = refl;
+      empty = refl;
+    }))
 
 -- nor because trace is missing, where it is not the first
 abbrev missing : Pre
@@ -318,7 +316,7 @@ unknown_shown : (image : Image) → Shows image first_state (record { pre = trac
     (record { pc = Lost; stack = []; ctx = first_context })
 unknown_shown image =
     record
-        { agrees = refl; leads = (refl, refl, refl); on = refl; unknown = refl; start = refl; ctx = refl; kept = refl; exc = refl; took = refl }
+    { agrees = refl; leads = (refl, refl, refl); on = refl; unknown = refl; start = refl; ctx = refl; kept = refl; exc = refl; took = refl }
 
 -- the whole is told the address and the context, before the info, and the late reader neither
 abbrev told_before : Pre

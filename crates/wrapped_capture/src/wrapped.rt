@@ -5,7 +5,6 @@ ghost use Rattle.etm_types.specs.SettingsTable.{sizes_at};
 ghost use Rattle.formatter_frames.specs.Unframed.{begun_frame, unframed};
 ghost use Rattle.stream_demux.specs.Demuxed.{Gains, StandsAt};
 ghost use Rattle.stream_demux.specs.Texts.{by_sizes};
-
 ghost use Rattle.wrapped_capture.specs.Laid.{later_pairs};
 ghost use Rattle.wrapped_capture.specs.Rotated.{first_frames, later_frames, rotated};
 ghost use Rattle.wrapped_capture.specs.Wrapped.{HaveTaken, taken_of};
