@@ -1,5 +1,6 @@
 -- Run files, from their bytes on, worked out by hand: what they say, the first line that has a fault, and what each of many wrong lines has.
-use Rattle.std.proofs.Common.{◌≡◌, ◌∷◌, ℕ, Bool, false, true, List, [], Option, Some, None, Result, Ok, Err, refl}
+use Rattle.std.proofs.Common.{◌≡◌, ◌∷◌, ℕ, Bool, false, true, List, [], Option, Some, None, Result, Ok, Err, length, refl, arith}
+use Rattle.std.proofs.lemmas.Bool.{le-ltb, lt-ltb}
 use Rattle.std.specs.Prelude.{codes, map}
 use Rattle.std.specs.Str.{chars, is_utf8}
 use Rattle.a64_branches.specs.Classes.{class_of}
@@ -12,6 +13,7 @@ use Rattle.spec_run.specs.declared.event.Event.{Event}
 use Rattle.spec_run.specs.declared.event.Event.TheVariants as event
 use Rattle.spec_run.specs.declared.run_fault.RunFault.TheVariants as fault
 use Rattle.bench_text.specs.BenchText.{Draft, add_any, parsed}
+use Rattle.bench_text.specs.EventLines.{fits}
 use Rattle.bench_text.specs.Parts.{BenchParts, BenchStream}
 use Rattle.bench_text.specs.Refusals.{bench_of}
 use Rattle.bench_text.specs.WhyNumbers.{why_number}
@@ -196,11 +198,55 @@ pub wrong_weaves :
     faults_behind (behind_stream (weaving 0x10 3 ∷ []))
     (codes "weave 10:1" ∷ codes "weave 10:1048576 10:1" ∷ codes "weave 10:0" ∷ codes "weave 10:1048577" ∷ codes "weave 11:1" ∷ codes "weave" ∷ codes "weave 10"
     ∷ codes "weave 10:" ∷ codes "weave 10;1" ∷ codes "weave 010:1" ∷ codes "weave 10:00000000001" ∷ codes "weave 10:1 10" ∷ codes "weave 10:0 11:1"
-    ∷ codes "weave 11:1 10" ∷ codes "stream 12" ∷ codes "step" ∷ codes "depth 1" ∷ [])
+    ∷ codes "weave 10:1 10:0" ∷ codes "weave 10.1" ∷ codes "weave 11:1 10" ∷ codes "stream 12" ∷ codes "step" ∷ codes "depth 1" ∷ [])
     ≡ None ∷ None ∷ Some Range ∷ Some Range ∷ Some IdRange ∷ Some Syntax ∷ Some Syntax ∷ Some Syntax ∷ Some Syntax ∷ Some Syntax ∷ Some Syntax ∷ Some Syntax
-    ∷ Some IdRange ∷ Some Syntax ∷ Some Syntax ∷ Some Syntax ∷ Some Syntax ∷ []
+    ∷ Some IdRange ∷ Some Range ∷ Some Syntax ∷ Some Syntax ∷ Some Syntax ∷ Some Syntax ∷ Some Syntax ∷ []
 unfolding decode_pairs
 wrong_weaves = refl
+
+-- a unit that keeps neither a VMID nor a context ID has those that are 0
+pub wrong_contexts :
+    map (λ text. fault_of (add_any 9 (Some (record {
+      version = version.Two;
+      given = settings None;
+      streams = stream 0x10 (sizes 16 0 0) 15 [] ∷ [];
+      weaves = [];
+    })) (words_in text)))
+    (codes "context el3 s 0 0" ∷ codes "context el0 s 0 1" ∷ codes "context el0 s 1 0" ∷ [])
+    ≡ None ∷ Some Range ∷ Some Range ∷ []
+unfolding decode_pairs
+wrong_contexts = refl
+
+-- the highest values that fit, and each one higher
+pub contexts_at_bounds :
+    map (fits (sizes 16 2 4))
+    (context 3 true 65535 4294967295 ∷ context 4 true 65535 4294967295 ∷ context 3 true 65536 4294967295 ∷ context 3 true 65535 4294967296 ∷ [])
+    ≡ true ∷ false ∷ false ∷ false ∷ []
+contexts_at_bounds = refl
+
+-- each setting of a stream stays, whatever comes behind it
+abbrev streams_of : Result (Option Draft) BenchWhy → List BenchStream
+streams_of (Ok (Some d)) = d.streams
+streams_of other = []
+
+pub own_settings_stay :
+    streams_of (add_any 9 (behind_header version.Two None) (words_in (codes "stream 11 depth 7 vmid 2 cid 0 stack 1"))) ≡ stream 0x11 (sizes 7 2 0) 1 [] ∷ []
+unfolding decode_pairs
+own_settings_stay = refl
+
+-- ---- texts at their longest
+
+-- 64 MiB
+pub longest : (text : List ℕ) → length text ≡ 67108864 → parsed text ≡ Err (9, Syntax) → bench_of code text ≡ Err (9, Syntax)
+longest text size bad =
+    let short = le-ltb 67108864 (length text) (omega (arith, size)) in
+    rw (short, bad) refl
+
+-- and one byte more, whatever it says
+pub too_long : (text : List ℕ) → length text ≡ 67108865 → bench_of code text ≡ Err (0, TooLong)
+too_long text size =
+    let long = lt-ltb 67108864 (length text) (omega (arith, size)) in
+    rw long refl
 
 -- ---- the numbers of the reasons
 

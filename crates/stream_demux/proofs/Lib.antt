@@ -10,6 +10,7 @@ pub mod Standing
 pub mod Sums
 pub mod Examples
 pub mod LaidExamples
+pub mod SumExamples
 pub mod OneText
 pub mod OtherSizes
 pub mod Parted

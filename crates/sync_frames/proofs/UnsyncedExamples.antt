@@ -1,8 +1,8 @@
 -- Which bytes of a trace port are those of frames, worked out by hand, beside what a wrong rule would give.
 use Rattle.std.proofs.Common.{◌≡◌, ℕ, List, [], ◌∷◌, ◌++◌, length, refl, ap, arith}
-use Rattle.std.specs.Prelude.{get_or, replicate, Some, None}
+use Rattle.std.specs.Prelude.{get_or, replicate, false, Some, None}
 use Rattle.sync_frames.specs.Laid.{synced_laid}
-use Rattle.sync_frames.specs.Syncs.{unsynced}
+use Rattle.sync_frames.specs.Syncs.{begins_full_sync, unsynced}
 use Rattle.sync_frames.specs.Unsyncing.{StandsAt, run_at}
 use Rattle.stream_demux.specs.Texts.{of}
 
@@ -36,6 +36,13 @@ a_fourth_begins_anew e = absurd (omega (arith, ap length e))
 pub two_are_enough : unsynced (0xff ∷ 0xff ∷ 0x7f ∷ full ++ 0x05 ∷ []) ≡ full ++ 0x05 ∷ [] → ⊥
 two_are_enough e = absurd (omega (arith, ap length e))
 
+pub two_behind_another_byte : unsynced (0xfe ∷ 0xff ∷ 0xff ∷ 0x7f ∷ 0x01 ∷ 0x02 ∷ []) ≡ []
+two_behind_another_byte = refl
+
+-- one byte or none begins no sync
+pub one_begins_none : (begins_full_sync (0xff ∷ []) ≡ false) × (begins_full_sync [] ≡ false)
+one_begins_none = (refl, refl)
+
 -- half syncs are none, however many
 pub half_syncs_alone : unsynced (half ++ (half ++ (half ++ 0x01 ∷ 0x02 ∷ 0x03 ∷ 0x04 ∷ 0x05 ∷ 0x06 ∷ []))) ≡ []
 half_syncs_alone = refl
@@ -51,6 +58,10 @@ no_byte_of_a_frame = (refl, refl, refl)
 -- FF 7F at an odd place is no sync
 pub at_an_odd_place : unsynced (full ++ 0x00 ∷ 0xff ∷ 0x7f ∷ 0x01 ∷ []) ≡ 0x00 ∷ 0xff ∷ 0x7f ∷ 0x01 ∷ []
 at_an_odd_place = refl
+
+-- nor is another byte before 7F
+pub other_bytes_before_7f : unsynced (full ++ 0x03 ∷ 0x7f ∷ 0xfe ∷ 0x7f ∷ 0x7f ∷ 0x7f ∷ []) ≡ 0x03 ∷ 0x7f ∷ 0xfe ∷ 0x7f ∷ 0x7f ∷ 0x7f ∷ []
+other_bytes_before_7f = refl
 
 pub dropped_at_an_odd_place : unsynced (full ++ 0x00 ∷ 0xff ∷ 0x7f ∷ 0x01 ∷ []) ≡ 0x00 ∷ 0x01 ∷ [] → ⊥
 dropped_at_an_odd_place e = absurd (omega (arith, ap length e))
@@ -178,6 +189,20 @@ holds_one_within = record { goes_on = λ more. refl; place = refl; cut = omega a
 pub hunts : StandsAt (record { place = None; held = 0xff ∷ [] }) (0x07 ∷ 0xff ∷ []) []
 hunts = record { goes_on = λ more. refl; place = refl; cut = omega arith; few = omega arith }
 
+-- before any byte, and with the first one held back
+pub begins : StandsAt (record { place = None; held = [] }) [] []
+begins = record { goes_on = λ more. refl; place = refl; cut = omega arith; few = omega arith }
+
+pub holds_the_first : StandsAt (record { place = None; held = 0xff ∷ [] }) (0xff ∷ []) []
+holds_the_first = record { goes_on = λ more. refl; place = refl; cut = omega arith; few = omega arith }
+
+-- what is held back fills no frame, and was taken
+pub holds_the_last_two : (bytes given : List ℕ) → StandsAt (record { place = Some 14; held = 0x01 ∷ 0x02 ∷ [] }) bytes given → ⊥
+holds_the_last_two bytes given at = absurd (omega (arith, at.cut))
+
+pub holds_what_was_not_taken : StandsAt (record { place = None; held = 0xff ∷ 0xff ∷ [] }) (0xff ∷ []) [] → ⊥
+holds_what_was_not_taken at = absurd (omega (arith, at.few))
+
 -- a byte FF is not given before it is known, nor forgotten
 pub given_too_soon : StandsAt (record { place = Some 1; held = [] }) (full ++ 0xff ∷ []) (0xff ∷ []) → ⊥
 given_too_soon at = absurd (omega (arith, ap length (at.goes_on (0x7f ∷ []))))
@@ -194,7 +219,8 @@ of_another_place at = absurd (omega (arith, at.place))
 -- a run ends before a pair that begins with FF, and is of whole pairs
 pub runs : (run_at (record { place = Some 4; held = [] }) (0x01 ∷ 0xff ∷ 0x7f ∷ 0x04 ∷ 0xff ∷ 0x00 ∷ 0x06 ∷ 0x07 ∷ []) ≡ 4)
     × (run_at (record { place = Some 14; held = [] }) (0x01 ∷ 0x02 ∷ 0x03 ∷ []) ≡ 2)
-runs = (refl, refl)
+    × (run_at (record { place = Some 12; held = [] }) (0x01 ∷ 0x02 ∷ []) ≡ 2) × (run_at (record { place = Some 0; held = [] }) [] ≡ 0)
+runs = (refl, refl, refl, refl)
 
 -- none begins within a pair, or before the first sync
 pub no_run : (run_at (record { place = Some 4; held = 0x01 ∷ [] }) (0x01 ∷ 0x02 ∷ []) ≡ 0)

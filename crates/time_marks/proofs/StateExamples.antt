@@ -1,5 +1,5 @@
 -- What an element and a packet change of times in which everything is set, and bounds of what is told of marks.
-use Rattle.std.proofs.Common.{◌≡◌, ◌<◌, ◌-◌, ◌^◌, ℕ, Bool, true, false, List, [], ◌∷◌, length, map, Option, Some, None, Ok, Err, refl, arith}
+use Rattle.std.proofs.Common.{◌≡◌, ◌<◌, ◌-◌, ◌^◌, ℕ, true, false, List, [], ◌∷◌, length, map, Option, Some, None, Ok, Err, refl, arith}
 use Rattle.std.proofs.lemmas.List.Elements.{All-cons, All-nil}
 use Rattle.element_queue.specs.Pending.{Gone, Pending}
 use Rattle.element_queue.specs.declared.ledger.Counts.{Counts}
@@ -141,10 +141,10 @@ a_run_of_one = All-cons IsSome once [] (omega arith) (All-nil IsSome)
 
 -- numbers rise by one at least, from the lowest up to below the highest
 pub risen : Rise 3 (Some 3 ∷ Some 4 ∷ []) 5
-risen = (omega arith, omega arith, omega arith)
+risen = (omega arith, (omega arith, omega arith))
 
 pub not_twice : Rise 3 (Some 3 ∷ Some 3 ∷ []) 5 → ⊥
-not_twice rise = omega (arith, rise.1)
+not_twice rise = omega (arith, rise.1.0)
 
 pub not_below : Rise 4 (Some 3 ∷ []) 5 → ⊥
 not_below rise = omega (arith, rise.0)
