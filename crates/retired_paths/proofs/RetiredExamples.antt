@@ -152,6 +152,14 @@ not_for_its_form text is = let same = (bad_once [] 3 Syntax text is).2 in absurd
 pub not_before_its_end : (text : List ℕ) → IsBad bad (10 ∷ []) 3 (Run fault.NotOn) text → ⊥
 not_before_its_end text is = absurd (omega (arith, ap length (bad_once (10 ∷ []) 3 (Run fault.NotOn) text is).0))
 
+-- 64 MiB are not past the most that is read
+pub not_before_the_end_of_64_mib : (file : List ℕ) (at : ℕ) (why : BenchWhy) (text : List ℕ) → length file ≡ 67108864
+    → IsBad (file ++ 10 ∷ []) (10 ∷ []) at why text → ⊥
+not_before_the_end_of_64_mib file at why text size is = elim is.ended [
+  | inl end ↦ absurd (omega (arith, ap length end))
+  | inr long ↦ absurd (omega (arith, long, size, ap length is.read, length-append file (10 ∷ []), length-append is.run_file (10 ∷ [])))
+]
+
 pub good_is_not_bad : (left : List ℕ) (at : ℕ) (why : BenchWhy) (text : List ℕ) → IsBad good left at why text → ⊥
 good_is_not_bad left at why text is = by is.ended
   where
