@@ -1,9 +1,10 @@
 -- Answers that were worked out by hand, for one stream of which little is printed, and answers near them that no input has.
-use Rattle.std.proofs.Common.{◌≡◌, ℕ, ◌-◌, ◌≤◌, Bool, true, false, List, [], ◌∷◌, ◌++◌, length, take, Some, Result, Ok, Err, refl, sym, ap, subst, ◌∙◌, inl, inr, arith}
+use Rattle.std.proofs.Common.{◌≡◌, ℕ, ◌-◌, ◌≤◌, Bool, true, false, List, [], ◌∷◌, ◌++◌, length, take, Some, None, Result, Ok, Err, refl, sym, ap, subst, ◌∙◌, inl, inr, arith}
 use Rattle.std.proofs.Common.{append-nil, length-append}
 use Rattle.std.specs.Prelude.{get_or}
 use Rattle.answer_lines.specs.declared.status.Status.{Status}
 use Rattle.answer_lines.specs.declared.status.Status.TheVariants as status
+use Rattle.etm_types.specs.declared.item.Item.TheVariants as item
 use Rattle.input_pieces.specs.Listed.{Breaks, Completes, IsTaken, Listed, most_at_once, most_input}
 use Rattle.path_elements.specs.PathLaws.{BeginsWith}
 use Rattle.stream_demux.proofs.OneText.{one_body}
@@ -114,6 +115,29 @@ taken_once bytes lines (first, sums, from, (items, added, none), is) =
     is ∙ ap (λ (l : List Printed). first ++ l) none ∙ append-nil first
     ∙ one_body each (gains_once byte_line last_line) [] (raw_pairs bytes) first (body_of byte_line last_line [] (raw_pairs bytes)) from
     (body byte_line last_line [] (raw_pairs bytes))
+
+-- 1 GiB, and 4 KiB
+pub most_bytes : (most_input ≡ 1073741824) × (most_at_once ≡ 4096)
+most_bytes = (refl, refl)
+
+-- each byte is an item as well, and the sum says how many there are: its line stands behind those of the bytes
+abbrev counting : Listing
+counting = record {
+  gains = λ id had byte lines. lines ≡ (byte ∷ 10 ∷ []) ∷ [];
+  ends = λ id had line faulty. (line ≡ 0 ∷ 10 ∷ []) × (faulty ≡ false);
+  adds = λ id had byte items. items ≡ item.Stop ∷ [];
+  sums = λ items. (length items ∷ 10 ∷ []) ∷ [];
+}
+
+pub taken_with_its_sum : IsTaken raw_pairs counting (40 ∷ [])
+    (record { id = Some 1; line = 40 ∷ 10 ∷ [] } ∷ record { id = None; line = 1 ∷ 10 ∷ [] } ∷ [])
+taken_with_its_sum = (
+  record { id = Some 1; line = 40 ∷ 10 ∷ [] } ∷ [],
+  record { id = None; line = 1 ∷ 10 ∷ [] } ∷ [],
+  ((40 ∷ 10 ∷ []) ∷ [], [], refl, refl, refl),
+  ((1, item.Stop) ∷ [], (item.Stop ∷ [], [], refl, refl, refl), refl),
+  refl,
+)
 
 pub broken : Says two (41 ∷ []) 1 (40 ∷ 10 ∷ []) (Ok status.ReadFault)
 broken = record {
