@@ -219,6 +219,14 @@ bad_image_once line why new (inr (text, (n, cut, asked, so), shown)) = absurd (n
 pub not_the_line_before : (new : IoState) → Answers over_bad_image out new (status.ImageBad 1 Unaligned) → ⊥
 not_the_line_before new answers = absurd (omega (arith, (bad_image_once 1 Unaligned new answers).0))
 
+-- 64 MiB of a text are not past the most that it may have
+pub not_before_the_end_of_64_mib : (file : List ℕ) (line : ℕ) (why : ImageWhy) → length file ≡ 67108864
+    → TakesNoProgram text_program (shows (file ++ 10 ∷ []) 0) (shows (10 ∷ []) 0) (BadText line why) → ⊥
+not_before_the_end_of_64_mib file line why size (bytes, took, refused, ended) = elim ended [
+  | inl end ↦ absurd (omega (arith, ap length end))
+  | inr long ↦ absurd (omega (arith, long, size, ap length took, length-append file (10 ∷ []), length-append bytes (10 ∷ [])))
+]
+
 -- an image that has a fault is none
 no_image_in_it : (image : Image) → HasRead over_bad_image image → ⊥
 no_image_in_it image (p, named, takes) = by (subst (λ (q : Program). TakesProgram q (shows bad_image 0) (shows [] 0) image) (same_program p named) takes)
