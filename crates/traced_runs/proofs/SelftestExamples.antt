@@ -14,3 +14,7 @@ not_cut = refl
 
 pub two_feeds : line_feeds (codes "01 on" ++ (10 ∷ codes "01 1000") ++ 10 ∷ []) ≡ 2
 two_feeds = refl
+
+-- 9, 11 and 0 are none
+pub no_other_feeds : line_feeds (9 ∷ 10 ∷ 11 ∷ 10 ∷ 0 ∷ []) ≡ 2
+no_other_feeds = refl

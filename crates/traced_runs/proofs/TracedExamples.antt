@@ -304,3 +304,7 @@ not_of_the_first suits =
 -- an ID without a stream has the default sizes
 others_by_default : sizes_at (table_of bench) 4 ≡ sizes 16 1 4
 others_by_default = refl
+
+-- and a table ends with that of 6f
+whole_table : length (table_of bench) ≡ 111
+whole_table = refl
