@@ -1,5 +1,5 @@
 -- Weaves that were worked out by hand, beside what a wrong rule would weave.
-use Rattle.std.proofs.Common.{◌≡◌, ℕ, false, List, [], ◌∷◌, length, refl, ap, arith}
+use Rattle.std.proofs.Common.{◌≡◌, ℕ, false, true, List, [], ◌∷◌, length, refl, ap, arith}
 use Rattle.std.specs.Prelude.{get_or}
 use Rattle.bench_text.specs.declared.line.Weave.{Weave}
 use Rattle.stream_demux.specs.Texts.{of}
@@ -93,3 +93,10 @@ of_the_first = refl
 
 not_apart : has_id 1 ((1, 20 ∷ 21 ∷ []) ∷ []) ≡ false → ⊥
 not_apart e = absurd cc
+
+-- an ID is found behind others, and one between two is none of them
+pub found : has_id 3 ((1, 10 ∷ []) ∷ (3, 30 ∷ []) ∷ []) ≡ true
+found = refl
+
+pub not_found : has_id 2 ((1, 10 ∷ []) ∷ (3, 30 ∷ []) ∷ []) ≡ false
+not_found = refl
