@@ -1,5 +1,5 @@
 -- Answers of a call from those of its parts, and behind the flush.
-use Rattle.std.proofs.Common.{◌≡◌, ◌⊎◌, ℕ, ◌≤◌, true, false, List, [], None, Option, Result, Ok, Err, refl, sym, subst, ◌∙◌, inl, inr, arith}
+use Rattle.std.proofs.Common.{◌≡◌, ℕ, ◌≤◌, true, false, List, [], None, Option, Result, Ok, Err, refl, sym, subst, inl, inr, arith}
 use Rattle.std.specs.Prelude.{IfOk}
 use Rattle.std.proofs.KnownBytes.{Appends-kept, Appends-nil, Consumes-nil}
 use Rattle.bench_text.specs.declared.fault.BenchWhy.{BenchWhy}
@@ -15,9 +15,7 @@ use Rattle.trace_cmd.proofs.WordKinds.{counts_kind, one_kind, packets_kind, path
 use Rattle.answer_lines.specs.UsageLine.{usage_line}
 use Rattle.answer_lines.specs.Prints.{Prints, PrintsFront}
 use Rattle.retired_paths.specs.Retired.{RetiresSo, RunsSo}
-use Rattle.elf_image.specs.declared.fault.ElfWhy.{ElfWhy}
-use Rattle.stream_demux.specs.Laid.{IsLaid, Laid, frames_laid_is, raw_laid_is}
-use Rattle.stream_demux.specs.Texts.{Listing}
+use Rattle.stream_demux.specs.Laid.{IsLaid, frames_laid_is, raw_laid_is}
 use Rattle.input_pieces.specs.Listed.{Interrupts, Listed}
 use Rattle.trace_cmd.specs.Printing.{What, intake_of, laid_in, laid_of, listing_of}
 use Rattle.traced_runs.specs.Selftest.{TestsSo}
@@ -137,24 +135,6 @@ so_of_words c old image input = record { command = inr (image, input); untouched
 pub so_of_none : (c : Call) (old new : IoState) (r : Result Status Failed) → IsCall c.words → r ≡ Ok status.NoMemory → c.input' ≡ c.input → new ≡ old
     → AnswersSo c old new r
 so_of_none c old new r command none input out = subst (AnswersSo c old new) (sym none) (so_of_memory c old new command input out)
-
--- where the input decides the answer, memory was not wanting, and no answer tells why there is no program
-module _ (laid : Laid) (g : Listing) (input input' old new : IoState) (r : Result Status Failed) (listed : Listed laid g input input' old new r) where
-  pub listed_no_memory : r ≡ Ok status.NoMemory → ⊥
-  listed_no_memory is = subst (Listed laid g input input' old new) is listed
-
-  pub listed_no_image : (line : ℕ) (why : ImageWhy) → r ≡ Ok (status.ImageBad line why) → ⊥
-  listed_no_image line why is = subst (Listed laid g input input' old new) is listed
-
-  pub listed_no_file : (why : ElfWhy) → r ≡ Ok (status.ElfBad why) → ⊥
-  listed_no_file why is = subst (Listed laid g input input' old new) is listed
-
--- want of memory is told by one answer
-pub none_no_image : (r : Result Status Failed) (line : ℕ) (why : ImageWhy) → r ≡ Ok status.NoMemory → r ≡ Ok (status.ImageBad line why) → ⊥
-none_no_image r line why none is = let f = sym none ∙ is in cc
-
-pub none_no_file : (r : Result Status Failed) (why : ElfWhy) → r ≡ Ok status.NoMemory → r ≡ Ok (status.ElfBad why) → ⊥
-none_no_file r why none is = let f = sym none ∙ is in cc
 
 -- the line of usage
 pub so_of_usage : (c : Call) (old new : IoState) (r : Result Status Failed) → meaning c.words ≡ None → Writes old new r usage_line

@@ -4,4 +4,5 @@ pub mod StatusExamples
 pub mod AnswerLemmas
 pub mod Meaningless
 pub mod Programs
+pub mod ReadFirst
 pub mod WordKinds

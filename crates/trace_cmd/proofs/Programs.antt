@@ -1,5 +1,8 @@
 -- What bytes say of a program, and that they say one thing.
-use Rattle.std.proofs.Common.{◌≡◌, ◌⊎◌, ℕ, ◌<◌, List, length, Option, Some, None, Result, Ok, Err, refl, sym, ap, subst, ◌∙◌}
+use Rattle.std.proofs.Common.{◌≡◌, ◌⊎◌, ℕ, ◌+◌, ◌<◌, List, length, Some, Result, Ok, Err, IsErr, refl, sym, ap, subst, inl, inr, ◌∙◌}
+use Rattle.answer_lines.specs.Prints.{Prints}
+use Rattle.answer_lines.specs.declared.status.Status.{Status}
+use Rattle.answer_lines.specs.declared.status.Status.TheVariants as status
 use Rattle.std.specs.Io.KnownBytes.{Consumes, IsAtEnd}
 use Rattle.command_words.specs.Words.{Program}
 use Rattle.command_words.specs.declared.words.ProgramForm.{ProgramForm}
@@ -17,8 +20,13 @@ use Rattle.program_image.specs.Part.{IsImage}
 use Rattle.program_image.specs.declared.fault.ImageWhy.{ImageWhy}
 use Rattle.program_image.specs.declared.fault.ImageWhy.TheVariants as image_why
 use Rattle.program_image.specs.declared.image.Image.{Image}
-use Rattle.trace_cmd.specs.Programs.{BadFile, BadText, HasProgram, NoProgram, Refuses, Spells, TakesNoProgram, most_by}
+use Rattle.trace_cmd.specs.Answers.{Answers, Call, ImageText, IsProgramBad, ReadsProgram, call}
+use Rattle.trace_cmd.specs.Programs.{BadFile, BadText, HasProgram, NoProgram, Refuses, Spells, TakesNoProgram, line_of, most_by, most_of}
+use Rattle.trace_io.specs.Bytes.{AppendsAll, AppendsFront, TakesAtMost}
+use Rattle.trace_io.specs.Calls.{Lasts}
+use Rattle.trace_io.specs.Causes.{KeepsFaults}
 use Rattle.trace_io.specs.State.{IoState}
+use Rattle.trace_io.specs.declared.traits.Failed.{Failed}
 
 -- what is good has no fault
 pub apart : {A E : Type 0} (r : Result A E) (x : A) (fault : E) → r ≡ Ok x → r ≡ Err fault → ⊥
@@ -72,3 +80,55 @@ pub file_refused : (p : Program) (old new : IoState) (why : ElfWhy) → p.form �
 file_refused p old new why is taken =
     subst (λ (f : ProgramForm). (bytes : List ℕ) × Consumes old.bytes new.bytes bytes × Refuses f bytes (BadFile why)
     × (IsAtEnd new.bytes ⊎ (most_by f < length bytes))) (sym is) taken
+
+-- no more is taken than its form allows
+pub few_by : (f form : ProgramForm) (old new : IoState) → f ≡ form → TakesAtMost old new (most_by form + 1) → TakesAtMost old new (most_by f + 1)
+few_by f form old new is few = subst (λ (g : ProgramForm). TakesAtMost old new (most_by g + 1)) (sym is) few
+
+-- how it is answered
+abbrev pub status_of : NoProgram → Status
+status_of (BadText line why) = status.ImageBad line why
+status_of (BadFile why) = status.ElfBad why
+
+refused_so : (c : Call) (old new : IoState) (refusal : NoProgram) → Prints (IsProgramBad c refusal) old new → Answers c old new (status_of refusal)
+refused_so c old new (BadText line why) prints = inl prints
+refused_so c old new (BadFile why) prints = prints
+
+module _ (p : Program) (image image' : IoState) (Unprinted : Type 0) (out out' : IoState) (refusal : NoProgram)
+    (refused : TakesNoProgram p image image' refusal) (few : TakesAtMost image image' (most_of p + 1)) (kept : KeepsFaults image image')
+    (lasts : Lasts image image') where
+  abbrev Reads : Result (Result Image Status) Failed → Type 0
+  Reads r = ReadsProgram p image image' Unprinted out out' r
+
+  is_bad : (words : List (List ℕ)) (input : IoState) → HasProgram p words → IsProgramBad (call words image image' input input) refusal (line_of refusal)
+  is_bad words input named = record { program = p; named = named; refused = refused; printed = refl }
+
+  abbrev no_image : Status → Result (Result Image Status) Failed
+  no_image s = Ok (Err s)
+
+  same_status : (s : Status) → no_image (status_of refusal) ≡ no_image s → status_of refusal ≡ s
+  same_status s is = cc
+
+  -- the line that says so was written
+  pub refused_reads : AppendsAll out out' (line_of refusal) → Reads (Ok (Err (status_of refusal)))
+  refused_reads all = record {
+    good = λ parts is. absurd cc;
+    answered = λ s is words input named. subst (Answers (call words image image' input input) out out') (same_status s is)
+        (refused_so (call words image image' input input) out out' refusal (line_of refusal, is_bad words input named, all));
+    failed = λ fails. absurd (let e = fails in cc);
+    taken = few;
+    kept = inr kept;
+    lasts = lasts;
+  }
+
+  -- it was not, or not whole
+  pub unwritten_reads : (r : Result (Result Image Status) Failed) → IsErr r → AppendsFront out out' (line_of refusal) → Reads r
+  unwritten_reads (Ok x) fails front = absurd (let e = fails in cc)
+  unwritten_reads (Err e) fails front = record {
+    good = λ parts is. absurd cc;
+    answered = λ s is. absurd cc;
+    failed = λ fails words input named. inl (ImageText refusal, (line_of refusal, is_bad words input named, front));
+    taken = few;
+    kept = inr kept;
+    lasts = lasts;
+  }

@@ -1,10 +1,12 @@
 -- What each answer of a call means, and the text that comes with it.
-use Rattle.std.specs.Prelude.{◌≡◌, ◌⊎◌, ℕ, true, false, List, [], Option, Some, None, Result, Ok, Err}
+use Rattle.std.specs.Prelude.{◌≡◌, ◌⊎◌, ℕ, ◌+◌, true, false, List, [], Option, Some, None, Result, Ok, Err, IsErr}
 use Rattle.trace_io.specs.State.{IoState}
-use Rattle.trace_io.specs.Bytes.{AppendsAll}
+use Rattle.trace_io.specs.Bytes.{AppendsAll, TakesAtMost}
+use Rattle.trace_io.specs.Calls.{Lasts}
 use Rattle.trace_io.specs.Causes.{KeepsFaults, Rose}
 use Rattle.program_image.specs.declared.image.Image.{Image}
 use Rattle.program_image.specs.declared.fault.ImageWhy.{ImageWhy}
+use Rattle.elf_image.specs.declared.fault.ElfWhy.{ElfWhy}
 use Rattle.answer_lines.specs.declared.status.Status.{Status}
 use Rattle.answer_lines.specs.declared.status.Status.TheVariants as status
 use Rattle.retired_paths.specs.Retired.{IsBadBench, IsRetiredText}
@@ -17,7 +19,7 @@ use Rattle.command_words.specs.Words.{BareKind, NumberKind, PathKind, RunFileKin
 use Rattle.bench_text.specs.declared.fault.BenchWhy.{BenchWhy}
 use Rattle.input_pieces.specs.Listed.{Breaks, Completes, Exceeds, Interrupts}
 use Rattle.trace_cmd.specs.Printing.{What, CountsOf, PathsOf, PacketsOf, TimesOf, laid_of, listing_of}
-use Rattle.trace_cmd.specs.Programs.{BadFile, BadText, HasProgram, IsSpelled, NoProgram, TakesNoProgram, TakesProgram, line_of}
+use Rattle.trace_cmd.specs.Programs.{BadFile, BadText, HasProgram, IsSpelled, NoProgram, TakesNoProgram, TakesProgram, line_of, most_of}
 use Rattle.trace_io.specs.declared.traits.Failed.{Failed}
 
 -- ---- a call
@@ -249,3 +251,30 @@ Answers c old new status.WriteFault = Rose old new × IsWriteFault c old new
 abbrev pub AnswersSo : Call → IoState → IoState → Result Status Failed → Type 0
 AnswersSo c old new (Ok status) = Answers c old new status
 AnswersSo c old new (Err failed) = Rose old new × IsWriteFault c old new
+
+-- What the reading of a program's image tells: it is one, and nothing was printed, or the answer of each command that names the program.
+pub record ReadsProgram (p : Program) (image image' : IoState) (Unprinted : Type 0) (out out' : IoState) (result : Result (Result Image Status) Failed)
+    : Type 0 where
+  pub good : (parts : Image) → result ≡ Ok (Ok parts) → TakesProgram p image image' parts × Unprinted
+  pub answered : (s : Status) → result ≡ Ok (Err s) → (words : List (List ℕ)) (input : IoState) → HasProgram p words
+      → Answers (call words image image' input input) out out' s
+  pub failed : IsErr result → (words : List (List ℕ)) (input : IoState) → HasProgram p words
+      → IsWriteFault (call words image image' input input) out out'
+  pub taken : TakesAtMost image image' (most_of p + 1)
+  pub kept : (result ≡ Ok (Err status.ReadFault)) ⊎ KeepsFaults image image'
+  pub lasts : Lasts image image'
+
+-- The image is read first, `most` bytes of it or fewer, and the input is touched only where it is good: `Untouched` says that the input is
+-- as it was, and `Good` that the image is a good one.
+pub record ImageFirst (most : ℕ) (Good Untouched : Type 0) (image image' input input' : IoState) (result : Result Status Failed) : Type 0 where
+  pub image_few : TakesAtMost image image' most
+  pub order : Untouched ⊎ Good
+  pub image_failed : KeepsFaults image image' ⊎ Untouched
+  pub image_first : (line : ℕ) (why : ImageWhy) → result ≡ Ok (status.ImageBad line why) → Untouched
+  pub elf_first : (why : ElfWhy) → result ≡ Ok (status.ElfBad why) → Untouched
+  pub image_lasts : Lasts image image'
+  pub input_lasts : Lasts input input'
+
+-- the same of a program's image
+abbrev pub ProgramFirst : Program → Type 0 → IoState → IoState → IoState → IoState → Result Status Failed → Type 0
+ProgramFirst p Untouched image image' = ImageFirst (most_of p + 1) ((parts : Image) × TakesProgram p image image' parts) Untouched image image'

@@ -3,15 +3,13 @@ ghost use Rattle.std.specs.Prelude.{◌≡◌, ◌⊎◌, ℕ, ◌+◌, ◌≤�
 ghost use Rattle.bench_text.specs.Refusals.{most_text};
 ghost use Rattle.trace_io.specs.Bytes.{ShowsAsBefore, TakesAtMost};
 ghost use Rattle.trace_io.specs.Causes.{KeepsFaults};
-ghost use Rattle.trace_io.specs.State.{IoState};
 ghost use Rattle.trace_io.specs.Calls.{Serves, Lasts};
-ghost use Rattle.program_image.specs.Part.{Part};
 ghost use Rattle.command_words.specs.Words.{Counts, Path, Retired, Trace, meaning, texts};
 ghost use Rattle.path_text.specs.Writing.{Writes};
-ghost use Rattle.trace_cmd.specs.Answers.{Answers, AnswersSo, IsBareCall, IsRunFileCall};
-ghost use Rattle.trace_cmd.specs.Answers.{IsSelftestCall, IsWriteFault, NoReadFailed, ReadsFirst, call};
+ghost use Rattle.trace_cmd.specs.Answers.{Answers, AnswersSo, ImageFirst, IsBareCall, IsRunFileCall};
+ghost use Rattle.trace_cmd.specs.Answers.{IsSelftestCall, NoReadFailed, ProgramFirst, ReadsFirst, ReadsProgram, call};
 ghost use Rattle.trace_cmd.specs.Printing.{laid_in, sizes_by};
-ghost use Rattle.trace_cmd.specs.Programs.{HasProgram, TakesProgram, most_of, most_taken};
+ghost use Rattle.trace_cmd.specs.Programs.{most_taken};
 ghost use Rattle.answer_lines.specs.UsageLine.{usage_line};
 ghost use Rattle.input_pieces.specs.Listed.{Listed};
 ghost use Rattle.command_words.specs.Said.{IsLaidOut, said_intake, said_program};
@@ -102,16 +100,8 @@ fn read_text<I: Source, K: Sink>(
     out: &mut K,
 ) -> Result<Result<Image, Status>, Failed>
     requires { program.now.form ≡ ProgramForm.Text }
-    ensures good { (parts : List Part) → result ≡ Ok (Ok parts)
-        → TakesProgram (said_program program.now) (I.state image.old) (I.state image.new) parts × (out.new ≡ out.old) }
-    ensures answered { (status : Status) → result ≡ Ok (Err status) → (words : List (List ℕ)) (input : IoState)
-        → HasProgram (said_program program.now) words
-        → Answers (call words (I.state image.old) (I.state image.new) input input) (K.state out.old) (K.state out.new) status }
-    ensures failed { IsErr result → (words : List (List ℕ)) (input : IoState) → HasProgram (said_program program.now) words
-        → IsWriteFault (call words (I.state image.old) (I.state image.new) input input) (K.state out.old) (K.state out.new) }
-    ensures taken { TakesAtMost (I.state image.old) (I.state image.new) (most_of (said_program program.now) + 1) }
-    ensures kept { (result ≡ Ok (Err Status.ReadFault)) ⊎ KeepsFaults (I.state image.old) (I.state image.new) }
-    ensures lasts { Lasts (I.state image.old) (I.state image.new) }
+    ensures reads { ReadsProgram (said_program program.now) (I.state image.old) (I.state image.new) (out.new ≡ out.old)
+        (K.state out.old) (K.state out.new) result }
     ensures serves { Serves (K.state out.old) (K.state out.new) result }
 {
     match Image::read(alloc, image) {
@@ -133,16 +123,8 @@ fn read_file<I: Source, K: Sink>(
     out: &mut K,
 ) -> Result<Result<Image, Status>, Failed>
     requires { program.now.form ≡ ProgramForm.Elf }
-    ensures good { (parts : List Part) → result ≡ Ok (Ok parts)
-        → TakesProgram (said_program program.now) (I.state image.old) (I.state image.new) parts × (out.new ≡ out.old) }
-    ensures answered { (status : Status) → result ≡ Ok (Err status) → (words : List (List ℕ)) (input : IoState)
-        → HasProgram (said_program program.now) words
-        → Answers (call words (I.state image.old) (I.state image.new) input input) (K.state out.old) (K.state out.new) status }
-    ensures failed { IsErr result → (words : List (List ℕ)) (input : IoState) → HasProgram (said_program program.now) words
-        → IsWriteFault (call words (I.state image.old) (I.state image.new) input input) (K.state out.old) (K.state out.new) }
-    ensures taken { TakesAtMost (I.state image.old) (I.state image.new) (most_of (said_program program.now) + 1) }
-    ensures kept { (result ≡ Ok (Err Status.ReadFault)) ⊎ KeepsFaults (I.state image.old) (I.state image.new) }
-    ensures lasts { Lasts (I.state image.old) (I.state image.new) }
+    ensures reads { ReadsProgram (said_program program.now) (I.state image.old) (I.state image.new) (out.new ≡ out.old)
+        (K.state out.old) (K.state out.new) result }
     ensures serves { Serves (K.state out.old) (K.state out.new) result }
 {
     match read_elf(alloc, image) {
@@ -163,16 +145,8 @@ fn read_image<I: Source, K: Sink>(
     image: &mut I,
     out: &mut K,
 ) -> Result<Result<Image, Status>, Failed>
-    ensures good { (parts : List Part) → result ≡ Ok (Ok parts)
-        → TakesProgram (said_program program.now) (I.state image.old) (I.state image.new) parts × (out.new ≡ out.old) }
-    ensures answered { (status : Status) → result ≡ Ok (Err status) → (words : List (List ℕ)) (input : IoState)
-        → HasProgram (said_program program.now) words
-        → Answers (call words (I.state image.old) (I.state image.new) input input) (K.state out.old) (K.state out.new) status }
-    ensures failed { IsErr result → (words : List (List ℕ)) (input : IoState) → HasProgram (said_program program.now) words
-        → IsWriteFault (call words (I.state image.old) (I.state image.new) input input) (K.state out.old) (K.state out.new) }
-    ensures taken { TakesAtMost (I.state image.old) (I.state image.new) (most_of (said_program program.now) + 1) }
-    ensures kept { (result ≡ Ok (Err Status.ReadFault)) ⊎ KeepsFaults (I.state image.old) (I.state image.new) }
-    ensures lasts { Lasts (I.state image.old) (I.state image.new) }
+    ensures reads { ReadsProgram (said_program program.now) (I.state image.old) (I.state image.new) (out.new ≡ out.old)
+        (K.state out.old) (K.state out.new) result }
     ensures serves { Serves (K.state out.old) (K.state out.new) result }
 {
     match program.form {
@@ -194,17 +168,11 @@ fn answer_path<I: Source, J: Source, K: Sink>(
     ensures answer { (words : List (List ℕ)) → meaning words ≡ Some (Path (said_program program.now) (said_intake intake.now))
         → AnswersSo (call words (I.state image.old) (I.state image.new) (J.state input.old) (J.state input.new))
         (K.state out.old) (K.state out.new) result }
-    ensures image_few { TakesAtMost (I.state image.old) (I.state image.new) (most_of (said_program program.now) + 1) }
+    ensures first { ProgramFirst (said_program program.now) (input.new ≡ input.old) (I.state image.old) (I.state image.new)
+        (J.state input.old) (J.state input.new) result }
     ensures kept { (result ≡ Ok Status.ReadFault) ⊎ IsErr result
         ⊎ (KeepsFaults (I.state image.old) (I.state image.new) × KeepsFaults (J.state input.old) (J.state input.new)) }
-    ensures order { (input.new ≡ input.old)
-        ⊎ ((parts : List Part) × TakesProgram (said_program program.now) (I.state image.old) (I.state image.new) parts) }
-    ensures image_failed { KeepsFaults (I.state image.old) (I.state image.new) ⊎ (input.new ≡ input.old) }
-    ensures image_first { (line : ℕ) (why : ImageWhy) → result ≡ Ok (Status.ImageBad line why) → input.new ≡ input.old }
-    ensures elf_first { (why : ElfWhy) → result ≡ Ok (Status.ElfBad why) → input.new ≡ input.old }
     ensures memory { result ≡ Ok Status.NoMemory → input.new ≡ input.old }
-    ensures image_lasts { Lasts (I.state image.old) (I.state image.new) }
-    ensures input_lasts { Lasts (J.state input.old) (J.state input.new) }
     ensures serves { Serves (K.state out.old) (K.state out.new) result }
 {
     match read_image(alloc, program, image, out)? {
@@ -226,17 +194,11 @@ fn answer_counts<I: Source, J: Source, K: Sink>(
     ensures answer { (words : List (List ℕ)) → meaning words ≡ Some (Counts (said_program program.now) (said_intake intake.now))
         → AnswersSo (call words (I.state image.old) (I.state image.new) (J.state input.old) (J.state input.new))
         (K.state out.old) (K.state out.new) result }
-    ensures image_few { TakesAtMost (I.state image.old) (I.state image.new) (most_of (said_program program.now) + 1) }
+    ensures first { ProgramFirst (said_program program.now) (input.new ≡ input.old) (I.state image.old) (I.state image.new)
+        (J.state input.old) (J.state input.new) result }
     ensures kept { (result ≡ Ok Status.ReadFault) ⊎ IsErr result
         ⊎ (KeepsFaults (I.state image.old) (I.state image.new) × KeepsFaults (J.state input.old) (J.state input.new)) }
-    ensures order { (input.new ≡ input.old)
-        ⊎ ((parts : List Part) × TakesProgram (said_program program.now) (I.state image.old) (I.state image.new) parts) }
-    ensures image_failed { KeepsFaults (I.state image.old) (I.state image.new) ⊎ (input.new ≡ input.old) }
-    ensures image_first { (line : ℕ) (why : ImageWhy) → result ≡ Ok (Status.ImageBad line why) → input.new ≡ input.old }
-    ensures elf_first { (why : ElfWhy) → result ≡ Ok (Status.ElfBad why) → input.new ≡ input.old }
     ensures memory { result ≡ Ok Status.NoMemory → input.new ≡ input.old }
-    ensures image_lasts { Lasts (I.state image.old) (I.state image.new) }
-    ensures input_lasts { Lasts (J.state input.old) (J.state input.new) }
     ensures serves { Serves (K.state out.old) (K.state out.new) result }
 {
     match read_image(alloc, program, image, out)? {
@@ -257,16 +219,10 @@ fn answer_retired<I: Source, J: Source, K: Sink>(
         → AnswersSo (call words (I.state image.old) (I.state image.new) (J.state input.old) (J.state input.new))
         (K.state out.old) (K.state out.new) result }
     ensures few { TakesAtMost (J.state input.old) (J.state input.new) (most_text + 1) }
-    ensures image_few { TakesAtMost (I.state image.old) (I.state image.new) (most_of (said_program program.now) + 1) }
+    ensures first { ProgramFirst (said_program program.now) (input.new ≡ input.old) (I.state image.old) (I.state image.new)
+        (J.state input.old) (J.state input.new) result }
     ensures kept { (result ≡ Ok Status.ReadFault)
         ⊎ (KeepsFaults (I.state image.old) (I.state image.new) × KeepsFaults (J.state input.old) (J.state input.new)) }
-    ensures order { (input.new ≡ input.old)
-        ⊎ ((parts : List Part) × TakesProgram (said_program program.now) (I.state image.old) (I.state image.new) parts) }
-    ensures image_failed { KeepsFaults (I.state image.old) (I.state image.new) ⊎ (input.new ≡ input.old) }
-    ensures image_first { (line : ℕ) (why : ImageWhy) → result ≡ Ok (Status.ImageBad line why) → input.new ≡ input.old }
-    ensures elf_first { (why : ElfWhy) → result ≡ Ok (Status.ElfBad why) → input.new ≡ input.old }
-    ensures image_lasts { Lasts (I.state image.old) (I.state image.new) }
-    ensures input_lasts { Lasts (J.state input.old) (J.state input.new) }
     ensures serves { Serves (K.state out.old) (K.state out.new) result }
 {
     match read_image(alloc, program, image, out)? {
@@ -291,16 +247,10 @@ fn answer_trace<I: Source, J: Source, K: Sink>(
         → AnswersSo (call words (I.state image.old) (I.state image.new) (J.state input.old) (J.state input.new))
         (K.state out.old) (K.state out.new) result }
     ensures few { TakesAtMost (J.state input.old) (J.state input.new) (most_text + 1) }
-    ensures image_few { TakesAtMost (I.state image.old) (I.state image.new) (most_of (said_program program.now) + 1) }
+    ensures first { ProgramFirst (said_program program.now) (input.new ≡ input.old) (I.state image.old) (I.state image.new)
+        (J.state input.old) (J.state input.new) result }
     ensures kept { (result ≡ Ok Status.ReadFault)
         ⊎ (KeepsFaults (I.state image.old) (I.state image.new) × KeepsFaults (J.state input.old) (J.state input.new)) }
-    ensures order { (input.new ≡ input.old)
-        ⊎ ((parts : List Part) × TakesProgram (said_program program.now) (I.state image.old) (I.state image.new) parts) }
-    ensures image_failed { KeepsFaults (I.state image.old) (I.state image.new) ⊎ (input.new ≡ input.old) }
-    ensures image_first { (line : ℕ) (why : ImageWhy) → result ≡ Ok (Status.ImageBad line why) → input.new ≡ input.old }
-    ensures elf_first { (why : ElfWhy) → result ≡ Ok (Status.ElfBad why) → input.new ≡ input.old }
-    ensures image_lasts { Lasts (I.state image.old) (I.state image.new) }
-    ensures input_lasts { Lasts (J.state input.old) (J.state input.new) }
     ensures serves { Serves (K.state out.old) (K.state out.new) result }
 {
     match read_image(alloc, program, image, out)? {
@@ -328,20 +278,15 @@ fn answer_words<I: Source, J: Source, K: Sink>(
     ensures answer { AnswersSo (call (texts words.now) (I.state image.old) (I.state image.new) (J.state input.old) (J.state input.new))
         (K.state out.old) (K.state out.new) result }
     ensures few { IsRunFileCall (texts words.now) → TakesAtMost (J.state input.old) (J.state input.new) (most_text + 1) }
-    ensures image_few { TakesAtMost (I.state image.old) (I.state image.new) (most_taken (texts words.now)) }
+    ensures first { ImageFirst (most_taken (texts words.now))
+        (ReadsFirst (call (texts words.now) (I.state image.old) (I.state image.new) (J.state input.old) (J.state input.new)))
+        (input.new ≡ input.old) (I.state image.old) (I.state image.new) (J.state input.old) (J.state input.new) result }
     ensures kept { (result ≡ Ok Status.ReadFault) ⊎ IsErr result
         ⊎ (KeepsFaults (I.state image.old) (I.state image.new) × KeepsFaults (J.state input.old) (J.state input.new)) }
-    ensures order { (input.new ≡ input.old)
-        ⊎ ReadsFirst (call (texts words.now) (I.state image.old) (I.state image.new) (J.state input.old) (J.state input.new)) }
     ensures words_first { meaning (texts words.now) ≡ None → (image.new ≡ image.old) × (input.new ≡ input.old) }
     ensures image_untouched { IsBareCall (texts words.now) → image.new ≡ image.old }
     ensures both_untouched { IsSelftestCall (texts words.now) → (image.new ≡ image.old) × (input.new ≡ input.old) }
-    ensures image_failed { KeepsFaults (I.state image.old) (I.state image.new) ⊎ (input.new ≡ input.old) }
-    ensures image_first { (line : ℕ) (why : ImageWhy) → result ≡ Ok (Status.ImageBad line why) → input.new ≡ input.old }
-    ensures elf_first { (why : ElfWhy) → result ≡ Ok (Status.ElfBad why) → input.new ≡ input.old }
     ensures memory { result ≡ Ok Status.NoMemory → (input.new ≡ input.old) ⊎ IsRunFileCall (texts words.now) }
-    ensures image_lasts { Lasts (I.state image.old) (I.state image.new) }
-    ensures input_lasts { Lasts (J.state input.old) (J.state input.new) }
     ensures serves { Serves (K.state out.old) (K.state out.new) result }
 {
     let command = match command_of(alloc, words) {

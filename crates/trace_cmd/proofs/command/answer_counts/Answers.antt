@@ -5,15 +5,17 @@ use Rattle.trace_cmd.specs.Answers.{AnswersSo, call}
 use Rattle.trace_cmd.specs.Printing.{CountsOf}
 use Rattle.command_words.specs.Said.{said_intake, said_program}
 use Rattle.command_words.specs.Words.{Counts, program_of}
-use Rattle.trace_cmd.proofs.AnswerLemmas.{listed_no_file, listed_no_image, listed_no_memory, none_no_file, none_no_image, so_of_listed, so_of_none}
+use Rattle.trace_cmd.proofs.AnswerLemmas.{so_of_listed, so_of_none}
+use Rattle.trace_cmd.proofs.ReadFirst.{good_first, image_alone, printed_no_memory, printed_none_bad}
 use Rattle.trace_cmd.proofs.command.answer_counts.Goals as goal
 
 pub returns-in_err-image-clause-answer : goal.returns-in_err-image-clause-answer
 returns-in_err-image-clause-answer g c words means =
     let image = g.I.Source.state in let input = g.J.Source.state in let out = g.K.Sink.state in
     let asked = call words (image c.args.image.now) (image c.read_image.new.image) (input c.args.input.now) (input c.args.input.now) in
-    by_err (AnswersSo asked (out c.args.out.now) (out c.read_image.new.out)) c.from_residual.result c.from_residual.ensures.0 (λ e.
-    (c.in_err-image.ensures.serves.cause.failed, c.in_err-image.ensures.failed refl words (input c.args.input.now) (ap (option_and_then program_of) means)))
+    let failed = c.in_err-image.ensures.reads.failed refl words (input c.args.input.now) (ap (option_and_then program_of) means) in
+    by_err (AnswersSo asked (out c.args.out.now) (out c.read_image.new.out)) c.from_residual.result c.from_residual.ensures.0
+    (λ e. (c.in_err-image.ensures.serves.cause.failed, failed))
 
 pub returns-in-Ok-clause-answer : goal.returns-in-Ok-clause-answer
 returns-in-Ok-clause-answer g c words means =
@@ -21,7 +23,7 @@ returns-in-Ok-clause-answer g c words means =
     let asked = call words (image c.args.image.now) (image c.read_image.new.image) (input c.args.input.now) (input c.print_streams.new.input) in
     let program = said_program c.args.program.now in
     let taken = said_intake c.args.intake.now in
-    let good = c.in_ok-image.ensures.good c.in-Ok.image (ap Ok c.in-Ok.is) in
+    let good = c.in_ok-image.ensures.reads.good c.in-Ok.image (ap Ok c.in-Ok.is) in
     let so : AnswersSo asked (out c.read_image.new.out) (out c.print_streams.new.out) c.print_streams.result = elim c.print_streams.ensures.listed [
       | inl none ↦
           so_of_none asked (out c.read_image.new.out) (out c.print_streams.new.out) c.print_streams.result (Counts program taken, means) none.0
@@ -35,24 +37,22 @@ returns-in-Ok-clause-answer g c words means =
 pub returns-in-Err-clause-answer : goal.returns-in-Err-clause-answer
 returns-in-Err-clause-answer g c words means =
     let input = g.J.Source.state in
-    c.in_ok-image.ensures.answered c.in-Err.status (ap Ok c.in-Err.is) words (input c.args.input.now) (ap (option_and_then program_of) means)
+    c.in_ok-image.ensures.reads.answered c.in-Err.status (ap Ok c.in-Err.is) words (input c.args.input.now) (ap (option_and_then program_of) means)
 
--- ---- no answer for want of memory, or of a bad image, comes behind the image
+-- ---- the image comes first
+
+pub returns-in_err-image-clause-first : goal.returns-in_err-image-clause-first
+returns-in_err-image-clause-first g c =
+    let reads = c.in_err-image.ensures.reads in image_alone _ _ _ _ _ (g.J.Source.state c.args.input.now) _ refl reads.taken reads.lasts
+
+pub returns-in-Ok-clause-first : goal.returns-in-Ok-clause-first
+returns-in-Ok-clause-first g c =
+    good_first _ _ _ _ _ _ _ c.in_ok-image.ensures.reads c.in-Ok.image (ap Ok c.in-Ok.is) _ _ _ _
+    (printed_none_bad _ _ _ _ _ _ _ _ c.print_streams.result c.print_streams.ensures.listed) c.print_streams.ensures.input_lasts
+
+pub returns-in-Err-clause-first : goal.returns-in-Err-clause-first
+returns-in-Err-clause-first g c =
+    let reads = c.in_ok-image.ensures.reads in image_alone _ _ _ _ _ (g.J.Source.state c.args.input.now) _ refl reads.taken reads.lasts
 
 pub returns-in-Ok-clause-memory : goal.returns-in-Ok-clause-memory
-returns-in-Ok-clause-memory g c is = elim c.print_streams.ensures.listed [
-  | inl none ↦ none.1
-  | inr listed ↦ absurd (listed_no_memory _ _ _ _ _ _ c.print_streams.result listed is)
-]
-
-pub returns-in-Ok-clause-image_first : goal.returns-in-Ok-clause-image_first
-returns-in-Ok-clause-image_first g c line why is = elim c.print_streams.ensures.listed [
-  | inl none ↦ absurd (none_no_image c.print_streams.result line why none.0 is)
-  | inr listed ↦ absurd (listed_no_image _ _ _ _ _ _ c.print_streams.result listed line why is)
-]
-
-pub returns-in-Ok-clause-elf_first : goal.returns-in-Ok-clause-elf_first
-returns-in-Ok-clause-elf_first g c why is = elim c.print_streams.ensures.listed [
-  | inl none ↦ absurd (none_no_file c.print_streams.result why none.0 is)
-  | inr listed ↦ absurd (listed_no_file _ _ _ _ _ _ c.print_streams.result listed why is)
-]
+returns-in-Ok-clause-memory g c = printed_no_memory _ _ _ _ _ _ _ _ c.print_streams.result c.print_streams.ensures.listed

@@ -5,10 +5,10 @@ use Rattle.trace_cmd.specs.Printing.{PacketsOf, TimesOf}
 use Rattle.command_words.specs.Said.{IsInRange, said, said_intake, said_program}
 use Rattle.command_words.specs.Words.{Packets, Times, texts}
 use Rattle.command_words.specs.declared.words.Command.{Command as Told}
-use Rattle.trace_cmd.proofs.AnswerLemmas.{listed_no_file, listed_no_image, listed_no_memory, none_no_file, none_no_image}
-use Rattle.trace_cmd.proofs.AnswerLemmas.{counts_of_no_run_file, none_taken, packets_of_no_run_file, path_of_no_run_file, so_of_listed, so_of_none, so_of_number, so_of_usage}
-use Rattle.trace_cmd.proofs.AnswerLemmas.{so_of_words, times_of_no_run_file}
-use Rattle.trace_cmd.proofs.WordKinds.{counts_program, path_program, read_first, retired_kind, retired_program, trace_kind, trace_program}
+use Rattle.trace_cmd.proofs.AnswerLemmas.{counts_of_no_run_file, none_taken, packets_of_no_run_file, path_of_no_run_file, so_of_listed, so_of_none}
+use Rattle.trace_cmd.proofs.AnswerLemmas.{so_of_number, so_of_usage, so_of_words, times_of_no_run_file}
+use Rattle.trace_cmd.proofs.ReadFirst.{bare_first, nothing_first, printed_no_memory, printed_none_bad, program_first}
+use Rattle.trace_cmd.proofs.WordKinds.{counts_program, packets_kind, path_program, retired_kind, retired_program, times_kind, trace_kind, trace_program}
 use Rattle.trace_cmd.proofs.command.answer_words.Goals as goal
 
 pub returns-in-Path-clause-answer : goal.returns-in-Path-clause-answer
@@ -36,22 +36,8 @@ returns-in-Packets-clause-answer g c =
     ]
 
 pub returns-in-Packets-clause-memory : goal.returns-in-Packets-clause-memory
-returns-in-Packets-clause-memory g c is = elim c.print_streams.ensures.listed [
-  | inl none ↦ inl none.1
-  | inr listed ↦ absurd (listed_no_memory _ _ _ _ _ _ c.print_streams.result listed is)
-]
-
-pub returns-in-Packets-clause-image_first : goal.returns-in-Packets-clause-image_first
-returns-in-Packets-clause-image_first g c line why is = elim c.print_streams.ensures.listed [
-  | inl none ↦ absurd (none_no_image c.print_streams.result line why none.0 is)
-  | inr listed ↦ absurd (listed_no_image _ _ _ _ _ _ c.print_streams.result listed line why is)
-]
-
-pub returns-in-Packets-clause-elf_first : goal.returns-in-Packets-clause-elf_first
-returns-in-Packets-clause-elf_first g c why is = elim c.print_streams.ensures.listed [
-  | inl none ↦ absurd (none_no_file c.print_streams.result why none.0 is)
-  | inr listed ↦ absurd (listed_no_file _ _ _ _ _ _ c.print_streams.result listed why is)
-]
+returns-in-Packets-clause-memory g c is =
+    inl (printed_no_memory _ _ _ _ _ _ _ _ c.print_streams.result c.print_streams.ensures.listed is)
 
 pub returns-in-Times-clause-answer : goal.returns-in-Times-clause-answer
 returns-in-Times-clause-answer g c =
@@ -70,22 +56,8 @@ returns-in-Times-clause-answer g c =
     ]
 
 pub returns-in-Times-clause-memory : goal.returns-in-Times-clause-memory
-returns-in-Times-clause-memory g c is = elim c.print_streams-in-Times.ensures.listed [
-  | inl none ↦ inl none.1
-  | inr listed ↦ absurd (listed_no_memory _ _ _ _ _ _ c.print_streams-in-Times.result listed is)
-]
-
-pub returns-in-Times-clause-image_first : goal.returns-in-Times-clause-image_first
-returns-in-Times-clause-image_first g c line why is = elim c.print_streams-in-Times.ensures.listed [
-  | inl none ↦ absurd (none_no_image c.print_streams-in-Times.result line why none.0 is)
-  | inr listed ↦ absurd (listed_no_image _ _ _ _ _ _ c.print_streams-in-Times.result listed line why is)
-]
-
-pub returns-in-Times-clause-elf_first : goal.returns-in-Times-clause-elf_first
-returns-in-Times-clause-elf_first g c why is = elim c.print_streams-in-Times.ensures.listed [
-  | inl none ↦ absurd (none_no_file c.print_streams-in-Times.result why none.0 is)
-  | inr listed ↦ absurd (listed_no_file _ _ _ _ _ _ c.print_streams-in-Times.result listed why is)
-]
+returns-in-Times-clause-memory g c is =
+    inl (printed_no_memory _ _ _ _ _ _ _ _ c.print_streams-in-Times.result c.print_streams-in-Times.ensures.listed is)
 
 pub returns-in-Retired-clause-answer : goal.returns-in-Retired-clause-answer
 returns-in-Retired-clause-answer g c =
@@ -149,64 +121,73 @@ returns-in-Packets-clause-few g c file =
     let means = sym c.in-Ok-Some.ensures.value ∙ ap (option_map said) (c.in-Ok-Some.field-0-is ∙ ap (λ (command : Told). Some command) c.in-Packets.is) in
     absurd (packets_of_no_run_file _ (texts c.args.words.now) means file)
 
-pub returns-in-Packets-clause-image_few : goal.returns-in-Packets-clause-image_few
-returns-in-Packets-clause-image_few g c = none_taken (g.I.Source.state c.args.image.now) _
-
 pub returns-in-Times-clause-few : goal.returns-in-Times-clause-few
 returns-in-Times-clause-few g c file =
     let means = sym c.in-Ok-Some.ensures.value ∙ ap (option_map said) (c.in-Ok-Some.field-0-is ∙ ap (λ (command : Told). Some command) c.in-Times.is) in
     absurd (times_of_no_run_file _ (texts c.args.words.now) means file)
 
-pub returns-in-Times-clause-image_few : goal.returns-in-Times-clause-image_few
-returns-in-Times-clause-image_few g c = none_taken (g.I.Source.state c.args.image.now) _
-
 pub returns-in-Selftest-clause-few : goal.returns-in-Selftest-clause-few
 returns-in-Selftest-clause-few g c file = none_taken (g.J.Source.state c.args.input.now) _
-
-pub returns-in-Selftest-clause-image_few : goal.returns-in-Selftest-clause-image_few
-returns-in-Selftest-clause-image_few g c = none_taken (g.I.Source.state c.args.image.now) _
 
 pub returns-in-Ok-None-clause-few : goal.returns-in-Ok-None-clause-few
 returns-in-Ok-None-clause-few g c file = none_taken (g.J.Source.state c.args.input.now) _
 
-pub returns-in-Ok-None-clause-image_few : goal.returns-in-Ok-None-clause-image_few
-returns-in-Ok-None-clause-image_few g c = none_taken (g.I.Source.state c.args.image.now) _
-
 pub returns-in-Err-clause-few : goal.returns-in-Err-clause-few
 returns-in-Err-clause-few g c file = none_taken (g.J.Source.state c.args.input.now) _
 
-pub returns-in-Err-clause-image_few : goal.returns-in-Err-clause-image_few
-returns-in-Err-clause-image_few g c = none_taken (g.I.Source.state c.args.image.now) _
+-- ---- the image comes first
 
--- ---- what was read before the input
-
-pub returns-in-Path-clause-order : goal.returns-in-Path-clause-order
-returns-in-Path-clause-order g c =
+pub returns-in-Path-clause-first : goal.returns-in-Path-clause-first
+returns-in-Path-clause-first g c =
     let means = sym c.in-Ok-Some.ensures.value ∙ ap (option_map said) (c.in-Ok-Some.field-0-is ∙ ap (λ (command : Told). Some command) c.in-Path.is) in
     let image = g.I.Source.state in let input = g.J.Source.state in let words = texts c.args.words.now in
     let asked = call words (image c.args.image.now) (image c.answer_path.new.image) (input c.args.input.now) (input c.answer_path.new.input) in
-    read_first asked (said_program c.in-Path.program) _ (path_program (said_intake c.in-Path.intake) words (said_program c.in-Path.program, means))
-    c.answer_path.ensures.order
+    let p = said_program c.in-Path.program in
+    program_first asked p _ _ (path_program (said_intake c.in-Path.intake) words (p, means)) c.answer_path.ensures.first
 
-pub returns-in-Counts-clause-order : goal.returns-in-Counts-clause-order
-returns-in-Counts-clause-order g c =
+pub returns-in-Counts-clause-first : goal.returns-in-Counts-clause-first
+returns-in-Counts-clause-first g c =
     let means = sym c.in-Ok-Some.ensures.value ∙ ap (option_map said) (c.in-Ok-Some.field-0-is ∙ ap (λ (command : Told). Some command) c.in-Counts.is) in
     let image = g.I.Source.state in let input = g.J.Source.state in let words = texts c.args.words.now in
     let asked = call words (image c.args.image.now) (image c.answer_counts.new.image) (input c.args.input.now) (input c.answer_counts.new.input) in
-    read_first asked (said_program c.in-Counts.program) _ (counts_program (said_intake c.in-Counts.intake) words (said_program c.in-Counts.program, means))
-    c.answer_counts.ensures.order
+    let p = said_program c.in-Counts.program in
+    program_first asked p _ _ (counts_program (said_intake c.in-Counts.intake) words (p, means)) c.answer_counts.ensures.first
 
-pub returns-in-Retired-clause-order : goal.returns-in-Retired-clause-order
-returns-in-Retired-clause-order g c =
+pub returns-in-Packets-clause-first : goal.returns-in-Packets-clause-first
+returns-in-Packets-clause-first g c =
+    let means = sym c.in-Ok-Some.ensures.value ∙ ap (option_map said) (c.in-Ok-Some.field-0-is ∙ ap (λ (command : Told). Some command) c.in-Packets.is) in
+    let words = texts c.args.words.now in
+    bare_first words _ (g.I.Source.state c.args.image.now) _ _ _ (packets_kind (said_intake c.in-Packets.intake) words means)
+    (printed_none_bad _ _ _ _ _ _ _ _ c.print_streams.result c.print_streams.ensures.listed) c.print_streams.ensures.input_lasts
+
+pub returns-in-Times-clause-first : goal.returns-in-Times-clause-first
+returns-in-Times-clause-first g c =
+    let means = sym c.in-Ok-Some.ensures.value ∙ ap (option_map said) (c.in-Ok-Some.field-0-is ∙ ap (λ (command : Told). Some command) c.in-Times.is) in
+    let words = texts c.args.words.now in
+    bare_first words _ (g.I.Source.state c.args.image.now) _ _ _ (times_kind (said_intake c.in-Times.intake) words means)
+    (printed_none_bad _ _ _ _ _ _ _ _ c.print_streams-in-Times.result c.print_streams-in-Times.ensures.listed) c.print_streams-in-Times.ensures.input_lasts
+
+pub returns-in-Retired-clause-first : goal.returns-in-Retired-clause-first
+returns-in-Retired-clause-first g c =
     let means = sym c.in-Ok-Some.ensures.value ∙ ap (option_map said) (c.in-Ok-Some.field-0-is ∙ ap (λ (command : Told). Some command) c.in-Retired.is) in
     let image = g.I.Source.state in let input = g.J.Source.state in let words = texts c.args.words.now in
     let asked = call words (image c.args.image.now) (image c.answer_retired.new.image) (input c.args.input.now) (input c.answer_retired.new.input) in
-    read_first asked (said_program c.in-Retired.program) _ (retired_program words (said_program c.in-Retired.program, means)) c.answer_retired.ensures.order
+    let p = said_program c.in-Retired.program in
+    program_first asked p _ _ (retired_program words (p, means)) c.answer_retired.ensures.first
 
-pub returns-in-Trace-clause-order : goal.returns-in-Trace-clause-order
-returns-in-Trace-clause-order g c =
+pub returns-in-Trace-clause-first : goal.returns-in-Trace-clause-first
+returns-in-Trace-clause-first g c =
     let means = sym c.in-Ok-Some.ensures.value ∙ ap (option_map said) (c.in-Ok-Some.field-0-is ∙ ap (λ (command : Told). Some command) c.in-Trace.is) in
     let image = g.I.Source.state in let input = g.J.Source.state in let words = texts c.args.words.now in
     let asked = call words (image c.args.image.now) (image c.answer_trace.new.image) (input c.args.input.now) (input c.answer_trace.new.input) in
-    read_first asked (said_program c.in-Trace.program) _ (trace_program c.in-Trace.last c.in-Trace.every words (said_program c.in-Trace.program, means))
-    c.answer_trace.ensures.order
+    let p = said_program c.in-Trace.program in
+    program_first asked p _ _ (trace_program c.in-Trace.last c.in-Trace.every words (p, means)) c.answer_trace.ensures.first
+
+pub returns-in-Selftest-clause-first : goal.returns-in-Selftest-clause-first
+returns-in-Selftest-clause-first g c = nothing_first _ _ _ (g.I.Source.state c.args.image.now) (g.J.Source.state c.args.input.now) _ refl
+
+pub returns-in-Ok-None-clause-first : goal.returns-in-Ok-None-clause-first
+returns-in-Ok-None-clause-first g c = nothing_first _ _ _ (g.I.Source.state c.args.image.now) (g.J.Source.state c.args.input.now) _ refl
+
+pub returns-in-Err-clause-first : goal.returns-in-Err-clause-first
+returns-in-Err-clause-first g c = nothing_first _ _ _ (g.I.Source.state c.args.image.now) (g.J.Source.state c.args.input.now) _ refl
