@@ -9,4 +9,4 @@ pub mod Joined
 pub mod Noted
 pub mod Runs
 pub mod RewritingExamples
-pub mod TwoStates
+pub mod TwoStatesExamples

@@ -1,5 +1,6 @@
 -- The line of each packet, written out by hand from the formats that docs/FORMATS.md gives.
-use Rattle.std.proofs.Common.{◌≡◌, ℕ, Bool, List, [], ◌∷◌, ◌++◌, codes, true, false, Option, Some, None, refl, ap, get_or, arith}
+use Rattle.std.proofs.Common.{◌≡◌, ℕ, Bool, List, [], ◌∷◌, ◌++◌, codes, true, false, Option, Some, None, refl, ap, get_or, arith, inl, inr}
+use Rattle.etm_types.specs.Atoms.{IsFewAtoms}
 use Rattle.etm_types.specs.declared.address.AddrForm.TheVariants.{Match, Short1, Short2, Long32, Long64}
 use Rattle.etm_types.specs.declared.atoms.FewAtoms.{FewAtoms}
 use Rattle.etm_types.specs.declared.context.CtxBits.{CtxBits}
@@ -179,3 +180,25 @@ no_offset_in_hex e = let first : 50 ≡ 49 = ap (λ t. get_or t 3 0) e in absurd
 -- 25 atoms are more than a packet has
 pub no_text_of_25_atoms : HasText (packet.Atoms (record { count = 25; bits = 0 })) → ⊥
 no_text_of_25_atoms has = absurd (omega (arith, has))
+
+pub text_of_24_atoms : HasText (packet.Atoms (record { count = 24; bits = 0 }))
+text_of_24_atoms = omega arith
+
+-- three atoms beside another packet are not told; one and two are
+abbrev three : FewAtoms
+three = record { count = 3; first = true }
+
+told_three : IsFewAtoms three → ⊥
+told_three (inl is) = absurd (omega (arith, ap (λ (few : FewAtoms). few.count) is))
+told_three (inr (inl is)) = absurd (omega (arith, ap (λ (few : FewAtoms). few.count) is))
+told_three (inr (inr (inl is))) = absurd (omega (arith, ap (λ (few : FewAtoms). few.count) is))
+told_three (inr (inr (inr is))) = absurd (omega (arith, ap (λ (few : FewAtoms). few.count) is))
+
+pub no_text_of_three : (HasText (packet.Mispredict three) → ⊥) × (HasText (packet.Cancel2 three) → ⊥)
+no_text_of_three = (told_three, told_three)
+
+pub text_of_few : HasText (packet.Mispredict (record { count = 0; first = false })) × HasText (packet.Cancel2 (record { count = 1; first = true }))
+text_of_few = (inl refl, inr (inl refl))
+
+pub text_of_others : HasText packet.On
+text_of_others = tt
