@@ -6,7 +6,7 @@ use Rattle.etm_types.specs.declared.element.Elem.TheVariants as elem
 use Rattle.etm_types.specs.declared.element.P0.TheVariants.{Atom, Exc}
 use Rattle.etm_types.specs.declared.element.Pre.{Pre}
 use Rattle.etm_types.specs.declared.element.Thing.{Thing}
-use Rattle.etm_types.specs.declared.element.Thing.TheVariants.{Seen, Unseen, Gap, Stop}
+use Rattle.etm_types.specs.declared.element.Thing.TheVariants.{Unseen, Gap, Stop}
 use Rattle.element_queue.specs.Counting.{AreCounts, Balances, no_counts, sum_of}
 use Rattle.element_queue.specs.Packed.{addr_of, ctx_of, p0_of, unpacked}
 use Rattle.element_queue.specs.Pending.{Taken as Outcome, committing, nothing_gone}
@@ -17,7 +17,7 @@ use Rattle.element_queue.specs.declared.packed.Element.TheVariants.{NotTaken, Ta
 use Rattle.element_queue.specs.declared.packed.Packed.{Packed}
 use Rattle.element_queue.specs.declared.queue.Committed.TheVariants as committed
 use Rattle.element_queue.specs.declared.queue.PreElem.TheVariants as pre_elem
-use Rattle.element_queue.proofs.Examples.{first, handler, program, second, seen, third}
+use Rattle.element_queue.proofs.Examples.{first, handler, program, second, seen}
 
 abbrev none_given : Pre
 none_given = record { flush = false; on = false; lost = false; ctx = None; addr = None }
