@@ -11,6 +11,3 @@ mod offset;
 
 pub use class::{Class, class_of};
 pub use offset::{INSTRUCTION_BYTES, target};
-
-#[cfg(test)]
-mod tests;

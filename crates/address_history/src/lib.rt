@@ -9,6 +9,3 @@
 mod history;
 
 pub use history::History;
-
-#[cfg(test)]
-mod tests;

@@ -10,6 +10,3 @@ mod laws;
 
 pub use formats::atoms_of;
 pub use laws::{each_byte_has_its_run, runs_differ_in_their_atoms};
-
-#[cfg(test)]
-mod tests;

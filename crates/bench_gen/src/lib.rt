@@ -19,6 +19,3 @@ mod weaves;
 
 pub use generated::{Generated, generate};
 pub use sizes::{round_count, stream_count};
-
-#[cfg(test)]
-mod tests;

@@ -31,6 +31,3 @@ pub use settings::{Settings, SettingsFault};
 pub use settings_table::SettingsTable;
 pub use walk_fault::WalkFault;
 pub use walked::{ExcMark, Walked};
-
-#[cfg(test)]
-mod tests;

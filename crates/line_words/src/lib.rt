@@ -12,6 +12,3 @@ mod words;
 pub use lines::{NumberedLines, is_utf8};
 pub use numbers::{decimal, number, short_number, two_digits};
 pub use words::next_word;
-
-#[cfg(test)]
-mod tests;

@@ -109,6 +109,7 @@ impl Leg {
     }
 
     /// Puts the return address on a stack, where there is one.
+    #[inline(always)]
     pub fn push_link(&self, stack: &mut ReturnStack)
         requires { stack.old.depth ≡ most_addresses }
         ensures addresses { stack.new.addresses ≡ linked self.now.link stack.old.addresses }

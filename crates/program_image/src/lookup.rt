@@ -17,6 +17,7 @@ fn begun_at(parts: &[Part], addr: u64) -> usize
 }
 
 /// Which part the word at an address can be of: the last one that begins there or before it.
+#[inline(always)]
 pub fn part_at(parts: &[Part], addr: u64) -> Option<usize>
     requires { IsImage parts.now }
     ensures word { MatchOption result (word_of parts.now addr ≡ None)

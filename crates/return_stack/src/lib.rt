@@ -11,6 +11,3 @@ mod stack;
 
 pub use saved::SavedStack;
 pub use stack::{MOST_ADDRESSES, ReturnStack};
-
-#[cfg(test)]
-mod tests;

@@ -107,6 +107,7 @@ impl<T> Cells<T> {
     ghost use Rattle.spend_ring.specs.Lends.{lends_cell};
 
     /// Puts a value into an empty cell.
+    #[inline(always)]
     pub(crate) fn put(&mut self, first: First<T>, place: usize, item: T)
         requires first { first.cell ≡ self.old.at }
         requires empty { IsEmpty self.old.held place }
@@ -117,6 +118,7 @@ impl<T> Cells<T> {
     }
 
     /// Takes the value out of a cell, which is then empty.
+    #[inline(always)]
     pub(crate) fn take(&mut self, first: First<T>, place: usize) -> T
         requires first { first.cell ≡ self.old.at }
         requires full { IsFull self.old.held place }
@@ -128,6 +130,7 @@ impl<T> Cells<T> {
     }
 
     /// Shows the value of a cell.
+    #[inline(always)]
     pub(crate) fn get(&self, first: First<T>, place: usize) -> &T
         requires first { first.cell ≡ self.now.at }
         requires full { IsFull self.now.held place }

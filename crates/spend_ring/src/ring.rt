@@ -14,6 +14,7 @@ use std::marker::Model;
 use std_alloc::room::may_hold;
 
 /// The place that lies `offset` after `start`, round the end of the `places`.
+#[inline(always)]
 fn place_after(start: usize, offset: usize, places: usize) -> usize
     requires { (start < places) × (offset ≤ places) × (places < 2 ^ 63) }
     ensures { IsPlace start offset places result }
@@ -73,6 +74,7 @@ impl<T> SpendRing<T> {
     }
 
     /// The number of values.
+    #[inline(always)]
     pub fn len(&self) -> usize
         ensures len { result ≡ length self.now.items }
         ensures bounded { result ≤ self.now.capacity }
@@ -91,6 +93,7 @@ impl<T> SpendRing<T> {
     }
 
     /// Appends a value. A full ring first hands out its oldest, and a ring of capacity 0 hands the value back.
+    #[inline(always)]
     pub fn push_back(&mut self, item: T) -> Option<T>
         ensures order { option_to_list result ++ self.new.items ≡ self.old.items ++ item ∷ [] }
         ensures full { IsSome result ↔ (length self.old.items ≡ self.old.capacity) }
@@ -112,6 +115,7 @@ impl<T> SpendRing<T> {
         }
     }
 
+    #[inline(always)]
     fn append(&mut self, item: T)
         requires room { length self.old.items < self.old.capacity }
         ensures { self.new ≡ ring (self.old.items ++ item ∷ []) self.old.capacity }
@@ -122,6 +126,7 @@ impl<T> SpendRing<T> {
     }
 
     /// Takes the oldest value out.
+    #[inline(always)]
     pub fn pop_front(&mut self) -> Option<T>
         ensures order { self.old.items ≡ option_to_list result ++ self.new.items }
         ensures empty { IsSome result ↔ (0 < length self.old.items) }
@@ -156,6 +161,7 @@ impl<T> SpendRing<T> {
     }
 
     /// Shows the value at `index`, counted from the oldest.
+    #[inline(always)]
     pub fn get(&self, index: usize) -> Option<&T>
         ensures value { option_copied result ≡ slice_get self.now.items index }
         ensures in_range { IsSome result ↔ (index < length self.now.items) }

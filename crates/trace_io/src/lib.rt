@@ -30,6 +30,3 @@ pub use null::{NoSource, NullSink};
 pub use over_std::StdSource;
 pub use traits::{Failed, Sink, Source};
 pub use whole::{ReadAllFault, read_all, write_all};
-
-#[cfg(test)]
-mod tests;

@@ -1,5 +1,5 @@
 //! Each public call on its happy path, with numbers and with values that must be spent.
-use crate::SpendRing;
+use spend_ring::SpendRing;
 use std::test::*;
 
 /// Neither `Drop` nor `Copy`: it has to be spent.

@@ -1,5 +1,5 @@
 //! Each call once, a full stack and one of depth 0.
-use crate::{ReturnStack, SavedStack};
+use return_stack::{ReturnStack, SavedStack};
 use std::test::*;
 
 #[test]

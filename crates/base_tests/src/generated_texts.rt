@@ -1,5 +1,5 @@
 //! Texts against those of the slow model.
-use crate::generate;
+use bench_gen::generate;
 use std::test::*;
 
 #[test]

@@ -1,10 +1,10 @@
 //! What no clause says: errors of std's readers and writers, and each call once on its way.
 ghost use Rattle.std.specs.Prelude.{◌≤◌, IfOk};
 
-use super::*;
 use std::io;
 use std::io::{Cursor, ErrorKind, Read, Write};
 use std::test::Fail;
+use trace_io::*;
 
 /// A reader and writer of which the second call fails and the third moves nothing.
 #[derive(Drop)]

@@ -1,5 +1,5 @@
 //! Lines, words and numbers.
-use super::*;
+use line_words::*;
 
 #[test]
 fn a_text_has_lines_and_a_line_words(rt: HostRuntime) {

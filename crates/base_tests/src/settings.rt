@@ -1,5 +1,5 @@
 //! Each call once, with numbers from the architecture.
-use super::*;
+use etm_types::*;
 use std::test::Fail;
 
 #[test]

@@ -1,5 +1,5 @@
 //! Each call once, with the bytes of the architecture's tables, and then each byte.
-use super::*;
+use atom_formats::*;
 use etm_types::AtomRun;
 
 #[test]

@@ -1,5 +1,5 @@
 //! Two words of each row of the table, as a disassembler reads them, and targets.
-use super::*;
+use a64_branches::*;
 
 #[test]
 fn a_word_has_its_class(rt: HostRuntime) {

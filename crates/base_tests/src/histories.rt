@@ -1,5 +1,5 @@
 //! Each call once, with addresses that were worked out by hand.
-use super::*;
+use address_history::*;
 use etm_types::AddrForm;
 
 #[test]
