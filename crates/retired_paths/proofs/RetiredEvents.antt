@@ -20,12 +20,13 @@ use Rattle.spec_run.proofs.PathFollows.{few, follows}
 use Rattle.spec_run.proofs.PathGrows.{event_adds, items_joined}
 use Rattle.spec_run.proofs.StepLists.{steps_front}
 use Rattle.spec_run.specs.Blocks.{fresh}
-use Rattle.spec_run.specs.Checks.{Place, check, effect_of, exception_at, place_of, ran_by}
+use Rattle.spec_run.specs.Checks.{Place, check, effect_of, exception_at, held_at, place_of, ran_by}
+use Rattle.spec_run.specs.Effects.{applied_on, done_of}
 use Rattle.spec_run.specs.Executed.{AreSteps, IsRunningBy}
 use Rattle.spec_run.specs.RetiredItems.{added_by, items_behind, retired_of}
 use Rattle.spec_run.specs.RunAfter.{AreEvents, after_event, place_in, run_after}
-use Rattle.spec_run.specs.Runs.{Closing, Execution, Running, applied_on, done_of}
-use Rattle.spec_run.specs.Stands.{Kept, OpenBlock, PathStandsAt, StandsAt, held_at}
+use Rattle.spec_run.specs.Runs.{Closing, Execution, Running}
+use Rattle.spec_run.specs.Stands.{Kept, OpenBlock, PathStandsAt, StandsAt}
 use Rattle.spec_run.specs.declared.effect.Effect.{Effect}
 use Rattle.spec_run.specs.declared.effect.Effect.TheVariants as effect
 use Rattle.spec_run.specs.declared.event.Done.{Done}

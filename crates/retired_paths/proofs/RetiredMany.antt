@@ -15,11 +15,12 @@ use Rattle.spec_run.proofs.OneEvent.{place_behind}
 use Rattle.spec_run.proofs.PathFollows.{few, follows}
 use Rattle.spec_run.specs.Blocks.{fresh}
 use Rattle.spec_run.specs.Checks.{Place, check, effect_of, place_of}
+use Rattle.spec_run.specs.Effects.{applied_on}
 use Rattle.spec_run.specs.Executed.{AreSteps, IsPlace, IsRunning, IsRunningBy}
 use Rattle.spec_run.specs.ManySteps.{AllPass, IsStepCount, begun_behind_all, plain_step, plain_steps}
 use Rattle.spec_run.specs.RetiredItems.{closed_items, retired_of, stretch_items}
 use Rattle.spec_run.specs.RunAfter.{AreEvents, after_event, place_in, run_after, run_from}
-use Rattle.spec_run.specs.Runs.{Closing, Execution, Running, applied_on, runs}
+use Rattle.spec_run.specs.Runs.{Closing, Execution, Running, runs}
 use Rattle.spec_run.specs.Stands.{Follows, Kept, OpenBlock, PathStandsAt, StandsAt}
 use Rattle.spec_run.specs.declared.effect.Effect.{Effect}
 use Rattle.spec_run.specs.declared.effect.Effect.TheVariants as effect

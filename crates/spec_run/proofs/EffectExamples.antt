@@ -7,10 +7,11 @@ use Rattle.etm_types.specs.declared.context.Ctx.{Ctx}
 use Rattle.etm_types.specs.declared.item.Item.TheVariants as item
 use Rattle.program_image.specs.Part.{Part}
 use Rattle.spec_run.specs.Checks.{Place, effect_of, executed}
+use Rattle.spec_run.specs.Effects.{applied, done_of}
 use Rattle.spec_run.specs.FaultNumbers.{fault_number}
 use Rattle.spec_run.specs.Kinds.{is_cond, is_isb, is_p0_kind, took_of}
 use Rattle.spec_run.specs.RetiredItems.{added_by, retired_of}
-use Rattle.spec_run.specs.Runs.{ByOff, ByOverflow, Closing, Execution, Running, applied, done_of, turned}
+use Rattle.spec_run.specs.Runs.{ByOff, ByOverflow, Closing, Execution, Running, turned}
 use Rattle.spec_run.specs.Stands.{begun_behind}
 use Rattle.spec_run.specs.declared.effect.Effect.TheVariants as effect
 use Rattle.spec_run.specs.declared.event.Done.TheVariants as done

@@ -13,9 +13,10 @@ use Rattle.spec_run.proofs.EventsJoined.{passed, same_execution}
 use Rattle.spec_run.proofs.StepsKept.{CanRun, IsFlat, begins_so, behind_place, cancels_so, cond_place, context_so, flips_so, jump_place, pc_place, retires_so}
 use Rattle.spec_run.proofs.StepsKept.{runs_so, stretch_so}
 use Rattle.spec_run.specs.Checks.{aligned_fault, check, effect_of, executed, or_else, place_of, ran_by, step_fault, unless}
+use Rattle.spec_run.specs.Effects.{applied}
 use Rattle.spec_run.specs.Executed.{AreStretches, IsPlace, IsRunningBy, IsStretch}
 use Rattle.spec_run.specs.RunAfter.{AreEvents, IsEvent, after_event, place_in, run_after, run_from}
-use Rattle.spec_run.specs.Runs.{ByOff, ByOverflow, Closing, Execution, Running, applied, at_first, flips, runs}
+use Rattle.spec_run.specs.Runs.{ByOff, ByOverflow, Closing, Execution, Running, at_first, flips, runs}
 use Rattle.spec_run.specs.Steps.{ends_in_cond, ends_in_isb, isb_behind}
 use Rattle.spec_run.specs.declared.effect.Effect.{Effect}
 use Rattle.spec_run.specs.declared.effect.Effect.TheVariants as effect

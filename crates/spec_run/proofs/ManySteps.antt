@@ -11,13 +11,14 @@ use Rattle.etm_types.specs.Settings.{Sizes}
 use Rattle.etm_types.specs.declared.context.Ctx.{Ctx}
 use Rattle.program_image.specs.Blocks.{IsPlainRun, behind, class_at}
 use Rattle.program_image.specs.declared.image.Image.{Image}
-use Rattle.spec_run.specs.Checks.{Place, check, effect_of, executed, ran_by, room_fault, step_at, step_fault, unless, window}
+use Rattle.spec_run.specs.Checks.{Place, check, effect_of, executed, held_at, ran_by, room_fault, step_at, step_fault, unless, window}
+use Rattle.spec_run.specs.Effects.{place_after}
 use Rattle.spec_run.specs.ManySteps.{AllPass, IsStepCount, begun_behind_all, place_after_all, plain_step, plain_steps, room_for_steps}
 use Rattle.spec_run.specs.RetiredItems.{stretch_items}
 use Rattle.spec_run.specs.RunAfter.{run_after}
-use Rattle.spec_run.specs.Stands.{Follows, Kept, OpenBlock, PathStandsAt, StandsAt, begun_behind, held_at, start_with}
+use Rattle.spec_run.specs.Stands.{Follows, Kept, OpenBlock, PathStandsAt, StandsAt, begun_behind, start_with}
 use Rattle.spec_run.specs.Steps.{is_p0, p0s}
-use Rattle.spec_run.specs.Windows.{place_after, place_of_standing, place_stepped, place_stepped_all}
+use Rattle.spec_run.specs.Windows.{place_of_standing, place_stepped, place_stepped_all}
 use Rattle.spec_run.specs.declared.effect.Effect.TheVariants as effect
 use Rattle.spec_run.specs.declared.event.Event.{Event}
 use Rattle.spec_run.specs.declared.event.Event.TheVariants as event

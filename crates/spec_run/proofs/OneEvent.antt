@@ -9,12 +9,13 @@ use Rattle.a64_branches.specs.declared.class.Class.{Class}
 use Rattle.program_image.specs.Blocks.{class_at}
 use Rattle.program_image.specs.declared.image.Image.{Image}
 use Rattle.spec_run.specs.Checks.{Place, aligned_fault, aim_fault, check, depth_fault, effect_of, exception_at, executed, executed_fault, or_else}
-use Rattle.spec_run.specs.Checks.{place_of, ran_by, room_fault, step_fault, unless, window, word_fault}
+use Rattle.spec_run.specs.Checks.{held_at, place_of, ran_by, room_fault, step_fault, unless, window, word_fault}
+use Rattle.spec_run.specs.Effects.{applied_on, place_after}
 use Rattle.spec_run.specs.RunAfter.{after_event, go_on, place_in, run_after, run_from}
-use Rattle.spec_run.specs.Runs.{Closing, Execution, Running, applied_on, at_first}
-use Rattle.spec_run.specs.Stands.{Kept, StandsAt, held_at}
+use Rattle.spec_run.specs.Runs.{Closing, Execution, Running, at_first}
+use Rattle.spec_run.specs.Stands.{Kept, StandsAt}
 use Rattle.spec_run.specs.Steps.{is_p0, p0s}
-use Rattle.spec_run.specs.Windows.{RoomInWindow, place_after, planned, planned_by}
+use Rattle.spec_run.specs.Windows.{RoomInWindow, planned, planned_by}
 use Rattle.spec_run.specs.declared.effect.Effect.{Effect}
 use Rattle.spec_run.specs.declared.effect.Effect.TheVariants as effect
 use Rattle.spec_run.specs.declared.event.Event.{Event}

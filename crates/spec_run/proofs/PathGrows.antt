@@ -5,9 +5,10 @@ use Rattle.etm_types.specs.declared.item.Item.{Item}
 use Rattle.program_image.specs.declared.image.Image.{Image}
 use Rattle.spec_run.proofs.PathTaken.{one_grows}
 use Rattle.spec_run.specs.Checks.{effect_of}
+use Rattle.spec_run.specs.Effects.{applied}
 use Rattle.spec_run.specs.RetiredItems.{added_by, closed_items, closing_item, items_behind, retired_of, stretch_items}
 use Rattle.spec_run.specs.RunAfter.{after_event, place_in}
-use Rattle.spec_run.specs.Runs.{ByOff, ByOverflow, Closing, Execution, Running, applied}
+use Rattle.spec_run.specs.Runs.{ByOff, ByOverflow, Closing, Execution, Running}
 use Rattle.spec_run.specs.declared.effect.Effect.{Effect}
 use Rattle.spec_run.specs.declared.effect.Effect.TheVariants as effect
 use Rattle.spec_run.specs.declared.event.Event.{Event}

@@ -8,11 +8,11 @@ use Rattle.std.proofs.lemmas.Option.{slice_get_within}
 use Rattle.circular_buffer.specs.Buffer.{Buffer, buffer, keep_last, last_item}
 use Rattle.etm_types.specs.declared.context.Ctx.{Ctx}
 use Rattle.program_image.specs.declared.image.Image.{Image}
-use Rattle.spec_run.specs.Checks.{Place, step_at, window}
+use Rattle.spec_run.specs.Checks.{Place, held_at, step_at, window}
+use Rattle.spec_run.specs.Effects.{place_flipped}
 use Rattle.spec_run.specs.Runs.{turn_newest, turned}
-use Rattle.spec_run.specs.Stands.{held_at}
 use Rattle.spec_run.specs.Steps.{is_p0, next_behind, p0s}
-use Rattle.spec_run.specs.Windows.{IsWindow, place_by, place_flipped, place_of_standing}
+use Rattle.spec_run.specs.Windows.{IsWindow, place_by, place_of_standing}
 use Rattle.spec_run.specs.declared.standing.Standing.{Standing}
 use Rattle.spec_run.specs.declared.step.RunStep.{RunStep}
 use Rattle.spec_run.specs.declared.step.StepKind.{StepKind}

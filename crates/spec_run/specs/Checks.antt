@@ -1,5 +1,5 @@
 -- What a run asks of an event, and what the event does.
-use Rattle.std.specs.Prelude.{ℕ, zero, suc, ◌+◌, ◌%◌, ◌==◌, nat_le, nat_lt, Bool, true, false, List, length, Option, Some, None}
+use Rattle.std.specs.Prelude.{ℕ, zero, suc, ◌+◌, ◌%◌, ◌==◌, nat_le, nat_lt, Bool, true, false, List, [], length, Option, Some, None}
 use Rattle.a64_branches.specs.Offsets.{target}
 use Rattle.a64_branches.specs.declared.class.Class.{Class}
 use Rattle.a64_branches.specs.declared.class.Class.TheVariants as class
@@ -28,6 +28,10 @@ pub record Place : Type 0 where
 
 abbrev pub place_of : Running → Place
 place_of r = record { held = r.held; after_isb = ends_in_isb r.retired; pc = r.pc; ctx = r.ctx }
+
+abbrev pub held_at : Option Place → List RunStep
+held_at None = []
+held_at (Some p) = p.held
 
 -- ---- checks
 

@@ -4,6 +4,7 @@ pub mod Steps
 pub mod Blocks
 pub mod Runs
 pub mod Checks
+pub mod Effects
 pub mod RunAfter
 pub mod Executed
 pub mod RetiredItems

@@ -5,9 +5,9 @@ use Rattle.program_image.specs.Blocks.{IsBlock, behind}
 use Rattle.program_image.specs.declared.block.Block.{Block}
 use Rattle.program_image.specs.declared.image.Image.{Image}
 use Rattle.spec_run.specs.Checks.{Place, check, effect_of, window}
+use Rattle.spec_run.specs.Effects.{place_after}
 use Rattle.spec_run.specs.Executed.{IsPlace}
 use Rattle.spec_run.specs.Stands.{OpenBlock, begun_behind}
-use Rattle.spec_run.specs.Windows.{place_after}
 use Rattle.spec_run.specs.declared.event.Event.{Event}
 use Rattle.spec_run.specs.declared.step.RunStep.{RunStep}
 use Rattle.spec_run.specs.declared.step.StepKind.TheVariants.{Plain}

@@ -1,4 +1,4 @@
--- What a core executed since its trace began, and what an event changes of it.
+-- What a core executed since its trace began, and what is changed of it while tracing is on. Which effect changes what is in Effects.antt.
 use Rattle.std.specs.Prelude.{ℕ, zero, suc, ◌++◌, Bool, true, false, not, List, [], ◌∷◌, take, drop, Option, Some, None}
 use Rattle.a64_branches.specs.Offsets.{target}
 use Rattle.a64_branches.specs.declared.class.Class.{Class}
@@ -6,11 +6,7 @@ use Rattle.a64_branches.specs.declared.class.Class.TheVariants as class
 use Rattle.etm_types.specs.declared.context.Ctx.{Ctx}
 use Rattle.program_image.specs.Blocks.{behind, class_at}
 use Rattle.program_image.specs.declared.image.Image.{Image}
-use Rattle.spec_run.specs.Steps.{ctx_at, kept, newest, next_behind, p0s, pc_at}
-use Rattle.spec_run.specs.declared.effect.Effect.{Effect}
-use Rattle.spec_run.specs.declared.effect.Effect.TheVariants as effect
-use Rattle.spec_run.specs.declared.event.Done.{Done}
-use Rattle.spec_run.specs.declared.event.Done.TheVariants as done
+use Rattle.spec_run.specs.Steps.{ctx_at, kept, newest, next_behind, pc_at}
 use Rattle.spec_run.specs.declared.step.RunStep.{RunStep}
 use Rattle.spec_run.specs.declared.step.StepKind.{StepKind}
 use Rattle.spec_run.specs.declared.step.StepKind.TheVariants.{Cond}
@@ -81,50 +77,3 @@ flips image r = record r { held = turn_newest image r.held; pc = next_behind r.p
 -- what is held is lost
 abbrev pub closes : Execution → Running → Closing → Execution
 closes x r closing = record { closed = x.closed ++ (r.retired, closing) ∷ []; current = None }
-
--- ---- the table of effects
-
--- what an effect changes, and what is answered of it, over the steps that are held
-pub record Deed : Type 0 where
-  pub changes : Image → ℕ → Execution → Option Running → Execution
-  pub answer : List RunStep → Done
-
--- a change where tracing is off; another changes nothing there
-abbrev pub where_off : (Execution → Execution) → Image → ℕ → Execution → Option Running → Execution
-where_off change image depth x None = change x
-where_off change image depth x (Some r) = x
-
--- a change where tracing is on
-abbrev pub where_on : (Image → ℕ → Execution → Running → Execution) → Image → ℕ → Execution → Option Running → Execution
-where_on change image depth x None = x
-where_on change image depth x (Some r) = change image depth x r
-
-abbrev pub now_running : Execution → Running → Execution
-now_running x r = record x { current = Some r }
-
--- each effect
-abbrev pub deed : Effect → Deed
-deed (effect.Began addr ctx) = record { changes = where_off (λ x. now_running x (begins addr ctx)); answer = λ held. done.Began }
-deed (effect.Ran s ctx) = record { changes = where_on (λ image depth x r. now_running x (runs depth r s ctx)); answer = λ held. done.Ran s }
-deed (effect.Contexted ctx) =
-    record { changes = where_on (λ image depth x r. now_running x (record r { ctx = ctx })); answer = λ held. done.Contexted }
-deed (effect.Retired n) =
-    record { changes = where_on (λ image depth x r. now_running x (retires r n)); answer = λ held. done.Retired (p0s (take n held)) }
-deed (effect.Cancelled n) =
-    record { changes = where_on (λ image depth x r. now_running x (cancels r n)); answer = λ held. done.Cancelled (p0s (newest n held)) }
-deed effect.Flipped = record { changes = where_on (λ image depth x r. now_running x (flips image r)); answer = λ held. done.Flipped }
-deed effect.Synced = record { changes = λ image depth x current. x; answer = λ held. done.Synced }
-deed effect.Overflowed = record { changes = where_on (λ image depth x r. closes x r ByOverflow); answer = λ held. done.Overflowed }
-deed effect.Stopped = record { changes = where_on (λ image depth x r. closes x r ByOff); answer = λ held. done.Stopped }
-
--- ---- an event that is accepted
-
-abbrev pub applied_on : Image → ℕ → Execution → Option Running → Effect → Execution
-applied_on image depth x current e = (deed e).changes image depth x current
-
-abbrev pub applied : Image → ℕ → Execution → Effect → Execution
-applied image depth x e = applied_on image depth x x.current e
-
--- what is answered of it, over the steps that are held
-abbrev pub done_of : List RunStep → Effect → Done
-done_of held e = (deed e).answer held

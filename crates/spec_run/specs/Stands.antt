@@ -26,10 +26,6 @@ pub record Kept : Type 0 where
   pub depth : ℕ
   pub place : Option Place
 
-abbrev pub held_at : Option Place → List RunStep
-held_at None = []
-held_at (Some p) = p.held
-
 -- the run stands behind these events, which are all accepted
 pub record StandsAt (image : Image) (s : Sizes) (kept : Kept) (events : List Event) : Type 0 where
   pub depth : kept.depth ≡ s.depth

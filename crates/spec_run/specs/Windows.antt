@@ -1,15 +1,12 @@
 -- The fields of a run, and what of them shows.
-use Rattle.std.specs.Prelude.{◌≡◌, ℕ, zero, suc, ◌<◌, ◌≤◌, false, List, [], ◌∷◌, ◌++◌, length, take, drop, Option, Some, None, Result, Ok, Err, ⊤}
-use Rattle.std.specs.Option.{option_map}
+use Rattle.std.specs.Prelude.{◌≡◌, ℕ, zero, suc, ◌<◌, ◌≤◌, false, List, [], length, Option, Some, None, Result, Ok, Err, ⊤}
 use Rattle.circular_buffer.specs.Buffer.{Buffer}
 use Rattle.etm_types.specs.declared.context.Ctx.{Ctx}
 use Rattle.program_image.specs.Blocks.{behind}
 use Rattle.program_image.specs.declared.image.Image.{Image}
 use Rattle.spec_run.specs.Checks.{Place, check, effect_of, step_at, window}
-use Rattle.spec_run.specs.Kinds.{is_isb}
-use Rattle.spec_run.specs.Runs.{turn_newest}
-use Rattle.spec_run.specs.Stands.{held_at}
-use Rattle.spec_run.specs.Steps.{ctx_at, isb_behind, kept, newest, next_behind, p0s, pc_at}
+use Rattle.spec_run.specs.Effects.{place_ran}
+use Rattle.spec_run.specs.Steps.{p0s}
 use Rattle.spec_run.specs.declared.effect.Effect.{Effect}
 use Rattle.spec_run.specs.declared.effect.Effect.TheVariants as effect
 use Rattle.spec_run.specs.declared.event.Event.{Event}
@@ -47,17 +44,9 @@ planned_by (Some fault) effect = Err fault
 abbrev pub planned : Image → ℕ → Option Place → Event → Result Effect RunFault
 planned image depth place e = planned_by (check image depth place e) (effect_of image place e)
 
--- ---- what an effect makes of the place
+-- ---- plain steps
 
-abbrev pub place_begun : List RunStep → ℕ → Ctx → Place
-place_begun held addr ctx = record { held = held; after_isb = false; pc = addr; ctx = ctx }
-
--- at depth 0 the step is the newest retired one
-abbrev pub place_ran : ℕ → Place → RunStep → Ctx → Place
-place_ran zero p s ctx = record p { after_isb = is_isb s.kind; pc = s.next; ctx = ctx }
-place_ran (suc depth) p s ctx = record p { held = p.held ++ s ∷ []; pc = s.next; ctx = ctx }
-
--- a plain step, and so many one after the other
+-- one, and so many one after the other
 abbrev pub place_stepped : ℕ → Place → Place
 place_stepped depth p = place_ran depth p (step_at p Plain (behind p.pc 1) false) p.ctx
 
@@ -65,28 +54,7 @@ abbrev pub place_stepped_all : ℕ → Place → ℕ → Place
 place_stepped_all depth p zero = p
 place_stepped_all depth p (suc n) = place_stepped depth (place_stepped_all depth p n)
 
-abbrev pub place_contexted : Place → Ctx → Place
-place_contexted p ctx = record p { ctx = ctx }
-
-abbrev pub place_retired : Place → ℕ → Place
-place_retired p n = record p { held = drop n p.held; after_isb = isb_behind p.after_isb (take n p.held) }
-
-abbrev pub place_cancelled : Place → ℕ → Place
-place_cancelled p n = record p { held = kept n p.held; pc = pc_at p.pc (newest n p.held); ctx = ctx_at p.ctx (newest n p.held) }
-
-abbrev pub place_flipped : Image → Place → Place
-place_flipped image p = record p { held = turn_newest image p.held; pc = next_behind p.pc (turn_newest image p.held) }
-
-abbrev pub place_after : Image → ℕ → Option Place → Effect → Option Place
-place_after image depth place (effect.Began addr ctx) = Some (place_begun (held_at place) addr ctx)
-place_after image depth place (effect.Ran s ctx) = option_map (λ p. place_ran depth p s ctx) place
-place_after image depth place (effect.Contexted ctx) = option_map (λ p. place_contexted p ctx) place
-place_after image depth place (effect.Retired n) = option_map (λ p. place_retired p n) place
-place_after image depth place (effect.Cancelled n) = option_map (λ p. place_cancelled p n) place
-place_after image depth place effect.Flipped = option_map (place_flipped image) place
-place_after image depth place effect.Synced = place
-place_after image depth place effect.Overflowed = None
-place_after image depth place effect.Stopped = None
+-- ---- room
 
 -- there is room for a step that an effect holds
 abbrev pub RoomInWindow : Effect → List RunStep → Type 0

@@ -10,8 +10,9 @@ use Rattle.program_image.specs.Blocks.{HasGap}
 use Rattle.program_image.specs.declared.image.Image.{Image}
 use Rattle.return_stack.specs.Stack.{most_addresses}
 use Rattle.spec_run.specs.Checks.{effect_of}
+use Rattle.spec_run.specs.Effects.{applied}
 use Rattle.spec_run.specs.RunAfter.{AreEvents, after_event, place_in, run_after}
-use Rattle.spec_run.specs.Runs.{Closing, Execution, Running, applied, at_first, runs}
+use Rattle.spec_run.specs.Runs.{Closing, Execution, Running, at_first, runs}
 use Rattle.spec_run.specs.Steps.{is_p0}
 use Rattle.spec_run.specs.declared.effect.Effect.{Effect}
 use Rattle.spec_run.specs.declared.effect.Effect.TheVariants as effect

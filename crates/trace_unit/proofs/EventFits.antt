@@ -17,10 +17,11 @@ use Rattle.program_image.specs.declared.image.Image.{Image}
 use Rattle.spec_run.proofs.StepsKept.{behind_place, cond_place, jump_place}
 use Rattle.spec_run.specs.Checks.{aligned_fault, check, depth_fault, effect_of, exception_at, executed, or_else, place_of, ran_by, room_fault}
 use Rattle.spec_run.specs.Checks.{step_at, step_fault, unless, window}
+use Rattle.spec_run.specs.Effects.{applied_on}
 use Rattle.spec_run.specs.Executed.{IsPlace}
 use Rattle.spec_run.specs.Kinds.{is_cond}
 use Rattle.spec_run.specs.RunAfter.{IsEvent, after_event, place_in}
-use Rattle.spec_run.specs.Runs.{Execution, Running, applied_on, cancels, flips, other_next, runs, turn_newest, turned, turned_next}
+use Rattle.spec_run.specs.Runs.{Execution, Running, cancels, flips, other_next, runs, turn_newest, turned, turned_next}
 use Rattle.spec_run.specs.Steps.{ctx_at, ends_in_cond, is_p0, newest, next_behind, p0s, pc_at}
 use Rattle.spec_run.specs.declared.effect.Effect.{Effect}
 use Rattle.spec_run.specs.declared.effect.Effect.TheVariants as effect

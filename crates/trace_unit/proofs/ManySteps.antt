@@ -5,10 +5,10 @@ use Rattle.std.specs.Prelude.{replicate}
 use Rattle.program_image.specs.declared.image.Image.{Image}
 use Rattle.spec_run.proofs.ManySteps.{ArePlain, IsPlainStep, counted_plain}
 use Rattle.spec_run.proofs.OneEvent.{stands_behind}
-use Rattle.spec_run.specs.Checks.{Place, check}
+use Rattle.spec_run.specs.Checks.{Place, check, held_at}
+use Rattle.spec_run.specs.Effects.{done_of}
 use Rattle.spec_run.specs.ManySteps.{AllPass, IsStepCount, place_after_all}
-use Rattle.spec_run.specs.Runs.{done_of}
-use Rattle.spec_run.specs.Stands.{Kept as RunKept, held_at}
+use Rattle.spec_run.specs.Stands.{Kept as RunKept}
 use Rattle.spec_run.specs.declared.effect.Effect.{Effect}
 use Rattle.spec_run.specs.declared.event.Event.{Event}
 use Rattle.spec_run.specs.declared.event.Event.TheVariants as event

@@ -11,8 +11,9 @@ use Rattle.path_walker.specs.Things.{Walks}
 use Rattle.path_walker.specs.declared.pc.Pc.TheVariants.{Awaited}
 use Rattle.program_image.specs.declared.image.Image.{Image}
 use Rattle.spec_run.specs.Blocks.{begun, blocks, fresh}
+use Rattle.spec_run.specs.Effects.{applied}
 use Rattle.spec_run.specs.RetiredItems.{closed_items}
-use Rattle.spec_run.specs.Runs.{Closing, Execution, Running, applied}
+use Rattle.spec_run.specs.Runs.{Closing, Execution, Running}
 use Rattle.spec_run.specs.declared.effect.Effect.{Effect}
 use Rattle.spec_run.specs.declared.step.RunStep.{RunStep}
 use Rattle.trace_unit.proofs.Rows.{IsFront, Led, Ready, Row, after_all, block_of, first_behind, saved_of, thing_of}

@@ -4,12 +4,12 @@ use Rattle.std.proofs.Common.{refl, sym, ap, subst, ◌∙◌, arith, length-app
 use Rattle.etm_types.specs.Settings.{Sizes}
 use Rattle.program_image.specs.declared.image.Image.{Image}
 use Rattle.spec_run.proofs.OneEvent.{place_behind}
-use Rattle.spec_run.specs.Checks.{Place, check, effect_of}
+use Rattle.spec_run.specs.Checks.{Place, check, effect_of, held_at}
+use Rattle.spec_run.specs.Effects.{done_of, place_after}
 use Rattle.spec_run.specs.RunAfter.{IsEvent, after_event}
-use Rattle.spec_run.specs.Runs.{Execution, Running, done_of}
-use Rattle.spec_run.specs.Stands.{Kept as RunKept, held_at}
+use Rattle.spec_run.specs.Runs.{Execution, Running}
+use Rattle.spec_run.specs.Stands.{Kept as RunKept}
 use Rattle.spec_run.specs.Steps.{is_p0, p0s}
-use Rattle.spec_run.specs.Windows.{place_after}
 use Rattle.spec_run.specs.declared.effect.Effect.{Effect}
 use Rattle.spec_run.specs.declared.event.Done.{Done}
 use Rattle.spec_run.specs.declared.event.Done.TheVariants as done

@@ -5,10 +5,10 @@ use Rattle.element_queue.specs.declared.ledger.Counts.{Counts}
 use Rattle.etm_types.specs.Settings.{Sizes}
 use Rattle.program_image.specs.declared.image.Image.{Image}
 use Rattle.spec_run.proofs.EventsJoined.{passed, same_execution}
-use Rattle.spec_run.specs.Checks.{Place, check, effect_of}
+use Rattle.spec_run.specs.Checks.{Place, check, effect_of, held_at}
 use Rattle.spec_run.specs.RunAfter.{AreEvents, IsEvent, after_event, place_in, run_after, run_from}
 use Rattle.spec_run.specs.Runs.{Execution, Running, at_first}
-use Rattle.spec_run.specs.Stands.{Kept as RunKept, StandsAt as RunStandsAt, held_at}
+use Rattle.spec_run.specs.Stands.{Kept as RunKept, StandsAt as RunStandsAt}
 use Rattle.spec_run.specs.Steps.{p0s}
 use Rattle.spec_run.specs.declared.event.Done.{Done}
 use Rattle.spec_run.specs.declared.event.Event.{Event}

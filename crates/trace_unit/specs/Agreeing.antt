@@ -3,9 +3,9 @@ use Rattle.std.specs.Prelude.{◌≡◌, Bool, true, false, if◌then◌else◌,
 use Rattle.std.specs.Option.{option_map}
 use Rattle.etm_types.specs.Context.{initial_context}
 use Rattle.etm_types.specs.declared.element.P0.{P0}
-use Rattle.spec_run.specs.Checks.{Place}
+use Rattle.spec_run.specs.Checks.{Place, held_at}
 use Rattle.spec_run.specs.Runs.{Running}
-use Rattle.spec_run.specs.Stands.{Kept as RunKept, held_at}
+use Rattle.spec_run.specs.Stands.{Kept as RunKept}
 use Rattle.spec_run.specs.Steps.{is_p0, p0s}
 use Rattle.spec_run.specs.declared.step.RunStep.{RunStep}
 use Rattle.spec_run.specs.declared.step.StepKind.TheVariants.{Isb}

@@ -3,8 +3,8 @@ use Rattle.std.proofs.lemmas.Result.{err_from_is_err_and}
 use Rattle.path_text.proofs.Wrote.{wrote_by}
 use Rattle.path_text.specs.PathLines.{lines_of, shown_after_all}
 use Rattle.path_text.specs.Writing.{Writes}
-use Rattle.spec_run.specs.Checks.{Place}
-use Rattle.spec_run.specs.Stands.{Kept, PathStandsAt, StandsAt, held_at}
+use Rattle.spec_run.specs.Checks.{Place, held_at}
+use Rattle.spec_run.specs.Stands.{Kept, PathStandsAt, StandsAt}
 use Rattle.retired_paths.specs.Retiring.{CanRetire, StandsDone, items_done}
 use Rattle.retired_paths.proofs.RetiredEvents.{answer_by, answer_is, can_retire, fails_to_print, parts_of, prints, stood_at, taken_is, went}
 use Rattle.retired_paths.proofs.retiring.Retiring.print_event.Goals as goal

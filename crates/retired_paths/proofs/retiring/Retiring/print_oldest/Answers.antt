@@ -2,7 +2,8 @@ use Rattle.std.proofs.Common.{ap, arith, subst, sym, refl, ◌∙◌}
 use Rattle.std.proofs.lemmas.Result.{err_from_is_err_and}
 use Rattle.std.specs.Prelude.{slice_get}
 use Rattle.path_text.proofs.Wrote.{Wrote, fails_after, wrote_by, wrote_more}
-use Rattle.spec_run.specs.Stands.{Kept, held_at}
+use Rattle.spec_run.specs.Checks.{held_at}
+use Rattle.spec_run.specs.Stands.{Kept}
 use Rattle.retired_paths.specs.declared.retiring.Retiring.{Retiring}
 use Rattle.retired_paths.proofs.RetiredSteps.{lines_all, lines_one, shown_one, stands_one, take_none, takes_few, takes_follow}
 use Rattle.retired_paths.proofs.retiring.Retiring.print_oldest.Goals.{in-Some+in_ok-print_step, in_default}

@@ -1,8 +1,9 @@
 use Rattle.std.proofs.Common.{◌≡◌, ◌++◌, List, take}
 use Rattle.path_text.proofs.Wrote.{Wrote}
 use Rattle.path_text.specs.PathLines.{lines_of, shown_after_all}
+use Rattle.spec_run.specs.Checks.{held_at}
 use Rattle.spec_run.specs.RetiredItems.{items_behind}
-use Rattle.spec_run.specs.Stands.{PathStandsAt, held_at}
+use Rattle.spec_run.specs.Stands.{PathStandsAt}
 use Rattle.spec_run.specs.declared.step.RunStep.{RunStep}
 use Rattle.retired_paths.proofs.retiring.Retiring.print_oldest.Given as goal
 

@@ -1,8 +1,7 @@
 use Rattle.std.proofs.Common.{◌≡◌, ◌∙◌, Some, ap, sym}
 use Rattle.std.proofs.lemmas.Result.{err_from_is_err_and}
-use Rattle.spec_run.specs.Runs.{done_of}
-use Rattle.spec_run.specs.Stands.{held_at}
-use Rattle.spec_run.specs.Windows.{place_after}
+use Rattle.spec_run.specs.Checks.{held_at}
+use Rattle.spec_run.specs.Effects.{done_of, place_after}
 use Rattle.spec_run.proofs.OneEvent.{planned_as, planned_not, refused_behind, stands_behind}
 use Rattle.spec_run.proofs.run.Run.apply.Goals as goal
 

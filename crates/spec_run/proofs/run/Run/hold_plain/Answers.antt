@@ -1,5 +1,5 @@
 use Rattle.std.proofs.Common.{◌≡◌, ◌<◌, ◌∙◌, ap, arith, length, refl, subst, sym}
-use Rattle.spec_run.specs.Stands.{held_at}
+use Rattle.spec_run.specs.Checks.{held_at}
 use Rattle.spec_run.specs.Steps.{p0s}
 use Rattle.spec_run.specs.Windows.{place_of_standing}
 use Rattle.spec_run.proofs.ManySteps.{held_more, held_size, plain_counts, stepped_more}

@@ -1,6 +1,5 @@
 use Rattle.std.proofs.Common.{◌≡◌, ◌∙◌, Some, ap, sym}
-use Rattle.spec_run.specs.Checks.{room_fault}
-use Rattle.spec_run.specs.Stands.{held_at}
+use Rattle.spec_run.specs.Checks.{held_at, room_fault}
 use Rattle.spec_run.specs.Windows.{place_by, place_of_standing, planned, planned_by}
 use Rattle.spec_run.specs.declared.effect.Effect.TheVariants as effect
 use Rattle.spec_run.proofs.OneEvent.{planned_exception}

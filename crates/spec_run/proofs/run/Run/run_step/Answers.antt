@@ -1,7 +1,6 @@
 use Rattle.std.proofs.Common.{◌<◌, ◌∙◌, ap, arith, length, subst, sym}
 use mir.Val.{bool_byte}
-use Rattle.spec_run.specs.Checks.{window}
-use Rattle.spec_run.specs.Stands.{held_at}
+use Rattle.spec_run.specs.Checks.{held_at, window}
 use Rattle.spec_run.proofs.Held.{byte_within, p0s_within}
 use Rattle.spec_run.proofs.Windows.{held_there, window_ran}
 use Rattle.spec_run.proofs.run.Run.run_step.Goals as goal

@@ -1,6 +1,6 @@
 use Rattle.std.proofs.Common.{◌≡◌, ◌≤◌, ◌∙◌, [], length, subst, sym}
-use Rattle.spec_run.specs.Checks.{window}
-use Rattle.spec_run.specs.Stands.{Kept, held_at}
+use Rattle.spec_run.specs.Checks.{held_at, window}
+use Rattle.spec_run.specs.Stands.{Kept}
 use Rattle.spec_run.proofs.ManySteps.{Moved, moved}
 use Rattle.spec_run.proofs.Windows.{held_there}
 use Rattle.spec_run.proofs.run.Run.step_many.Goals as goal

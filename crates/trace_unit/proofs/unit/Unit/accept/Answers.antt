@@ -1,11 +1,10 @@
 use Rattle.std.proofs.Common.{◌≡◌, None, List, length, ◌++◌, ◌∷◌, [], rules, sym, ap, subst, ◌∙◌, arith, length-append}
 use Rattle.etm_types.specs.Settings.{AreSettings}
 use Rattle.spec_run.proofs.OneEvent.{room_for, stands_behind}
-use Rattle.spec_run.specs.Checks.{check, effect_of}
+use Rattle.spec_run.specs.Checks.{check, effect_of, held_at}
+use Rattle.spec_run.specs.Effects.{done_of, place_after}
 use Rattle.spec_run.specs.RunAfter.{IsEvent}
-use Rattle.spec_run.specs.Runs.{done_of}
-use Rattle.spec_run.specs.Stands.{held_at}
-use Rattle.spec_run.specs.Windows.{RoomInWindow, place_after}
+use Rattle.spec_run.specs.Windows.{RoomInWindow}
 use Rattle.spec_run.specs.declared.effect.Effect.{Effect}
 use Rattle.spec_run.specs.declared.event.Event.{Event}
 use Rattle.trace_unit.proofs.TraceShown.{trace_shows}
