@@ -7,6 +7,7 @@ pub mod Flipped
 pub mod Held
 pub mod Joined
 pub mod Noted
+pub mod QueueExamples
 pub mod Runs
 pub mod RewritingExamples
 pub mod TwoStatesExamples

@@ -11,7 +11,7 @@ use Rattle.etm_types.specs.declared.element.Thing.TheVariants.{Unseen, Gap}
 use Rattle.etm_types.specs.declared.queue_fault.QueueFault.{QueueFault}
 use Rattle.etm_types.specs.declared.queue_fault.QueueFault.TheVariants.{CancelOverrun}
 use Rattle.element_queue.specs.Resolved.{Resolved, resolve_all, with_done}
-use Rattle.element_queue.specs.Rewriting.{Spares, elements_of_run, room_made, taken_at_once}
+use Rattle.element_queue.specs.Rewriting.{KeepsTrace, SpareAll, Spares, elements_of_run, room_made, taken_at_once}
 use Rattle.element_queue.proofs.Examples.{program, second, seen}
 
 abbrev all_given : Pre
@@ -179,3 +179,32 @@ not_spared_by_a_commit = λ h. absurd (omega (arith, h))
 
 pub not_spared_by_a_flip : Spares 2 two.pending elem.Flip → ⊥
 not_spared_by_a_flip = λ h. absurd (omega (arith, h))
+
+pub not_spared_where_trace_is_lost : (Spares 0 two.pending elem.Overflow → ⊥) × (Spares 0 two.pending elem.Discard → ⊥)
+not_spared_where_trace_is_lost = (λ h. h, λ h. h)
+
+-- all others spare all that is held
+pub spared_by_others : Spares 9 two.pending (elem.Info 1) × Spares 9 two.pending elem.On × Spares 9 two.pending (elem.Ctx program)
+    × Spares 9 two.pending (elem.Addr 0x5000) × Spares 9 two.pending taken_atom
+spared_by_others = (tt, tt, tt, tt, tt)
+
+pub trace_is_lost : (KeepsTrace elem.Overflow → ⊥) × (KeepsTrace elem.Discard → ⊥)
+trace_is_lost = (λ h. h, λ h. h)
+
+pub trace_is_kept : KeepsTrace (elem.Info 1) × KeepsTrace elem.On × KeepsTrace (elem.Ctx program) × KeepsTrace (elem.Addr 0x5000)
+    × KeepsTrace taken_atom × KeepsTrace (elem.Commit 1) × KeepsTrace (elem.Cancel 1) × KeepsTrace elem.Flip
+trace_is_kept = (tt, tt, tt, tt, tt, tt, tt, tt)
+
+-- behind a fault nothing makes room
+pub room_up_to_a_fault : room_made 2 two.pending (taken_atom ∷ elem.Commit 9 ∷ taken_atom ∷ []) ∷ room_made 2 two.pending (elem.Commit 9 ∷ []) ∷ [] ≡ 1 ∷ 0 ∷ []
+room_up_to_a_fault = refl
+
+-- the oldest is committed by the atom, so that one more may be taken back behind it; and behind a fault nothing is asked
+pub spared_by_all : SpareAll 2 1 two.pending (taken_atom ∷ elem.Cancel 2 ∷ []) × SpareAll 2 1 two.pending (elem.Commit 1 ∷ elem.Info 1 ∷ []) × SpareAll 2 1 two.pending []
+spared_by_all = ((tt, (omega arith, tt)), (omega arith, (tt, tt)), tt)
+
+pub not_spared_by_the_second : SpareAll 4 1 two.pending (taken_atom ∷ elem.Cancel 3 ∷ []) → ⊥
+not_spared_by_the_second = λ h. absurd (omega (arith, h.1.0))
+
+pub not_spared_by_the_first : SpareAll 4 1 two.pending (elem.Cancel 2 ∷ []) → ⊥
+not_spared_by_the_first = λ h. absurd (omega (arith, h.0))

@@ -11,7 +11,7 @@ use Rattle.etm_types.specs.declared.element.Thing.TheVariants.{Seen, Unseen, Gap
 use Rattle.etm_types.specs.declared.queue_fault.QueueFault.TheVariants.{SpecTooDeep}
 use Rattle.element_queue.specs.declared.queue.PreElem.TheVariants as pre_elem
 use Rattle.element_queue.specs.Counting.{counts_after, no_counts}
-use Rattle.element_queue.specs.Pending.{Gone, Pending, Taken, taken}
+use Rattle.element_queue.specs.Pending.{Gone, Pending, Taken, losing, pre_behind, taken}
 use Rattle.element_queue.specs.Queued.{Queued, committed_by, entry_of, noted}
 use Rattle.element_queue.proofs.Examples.{first, handler, program, second, seen, third}
 
@@ -111,6 +111,14 @@ quiet_flip = refl
 pub flip_behind_unseen : taken 4 (record quiet { held = Unseen ∷ [] }) elem.Flip ≡ stays (Unseen ∷ []) (record none_given { lost = true }) false
 flip_behind_unseen = refl
 
+-- of what is flipped only one that was not seen has trace missing behind it; a gap or a stop, which is never held, has not
+pub given_behind_what_is_flipped : pre_behind (Unseen ∷ []) none_given ∷ pre_behind (first ∷ []) none_given ∷ pre_behind (Gap ∷ []) none_given ∷ pre_behind (Unseen ∷ Stop ∷ []) all_given ∷ pre_behind [] all_given ∷ []
+    ≡ record none_given { lost = true } ∷ none_given ∷ none_given ∷ record all_given { addr = None } ∷ all_given ∷ []
+given_behind_what_is_flipped = refl
+
+pub not_missing_behind_a_stop : (pre_behind (Stop ∷ []) none_given).lost ≡ false
+not_missing_behind_a_stop = refl
+
 pub loud_overflow : taken 4 loud elem.Overflow ≡ Ok (record { held = []; pre = trace_missing; informed = true }, leaves (Gap ∷ []) [] some_held)
 loud_overflow = refl
 
@@ -180,3 +188,7 @@ counts_go_round = refl
 pub counts_go_up : counts_after no_counts 1 (leaves (first ∷ second ∷ Gap ∷ []) (first ∷ second ∷ third ∷ []) (first ∷ second ∷ third ∷ third ∷ []))
     ≡ record { made = 1; committed = 2; cancelled = 3; lost = 4 }
 counts_go_up = refl
+
+-- what is lost is neither committed nor cancelled
+pub lost_alone : losing (first ∷ Unseen ∷ []) ≡ leaves [] [] (first ∷ Unseen ∷ [])
+lost_alone = refl

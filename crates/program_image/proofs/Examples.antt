@@ -2,7 +2,7 @@
 use Rattle.std.proofs.Common.{◌≡◌, ℕ, zero, suc, ◌<◌, ◌^◌, ◌-◌, true, false, List, [], ◌∷◌, Some, None, Ok, Err, refl, arith}
 use Rattle.std.specs.Prelude.{codes, replicate, pos, Option}
 use Rattle.a64_branches.specs.declared.class.Class.{Class}
-use Rattle.a64_branches.specs.declared.class.Class.TheVariants.{Plain, Jump}
+use Rattle.a64_branches.specs.declared.class.Class.TheVariants.{Plain, Jump, Cond}
 use Rattle.std.specs.Str.{is_utf8}
 use Rattle.a64_branches.specs.Classes.{class_of}
 use Rattle.hex.specs.Hex.{decode_pairs}
@@ -59,6 +59,17 @@ overlap_before_too_large : growth_fault (part 4 (nop []) ∷ []) (part 0 []) 167
 overlap_before_too_large = refl
 
 -- ---- the edges of each reason
+
+-- one above a multiple of 4
+one_byte_alone : growth_fault [] (part 0 []) 1 ≡ Some Unaligned
+one_byte_alone = refl
+
+one_byte_beyond : begin_part [] 0x1001 ≡ Err Unaligned
+one_byte_beyond = refl
+
+-- it is bytes that are counted, and not words
+one_byte_above_the_most : growth_fault [] (part 0 (0x1f ∷ [])) 16777216 ≡ Some TooLarge
+one_byte_above_the_most = refl
 
 at_the_last_address : growth_fault [] (part (2 ^ 64 - 4) []) 4 ≡ None
 at_the_last_address = refl
@@ -123,6 +134,13 @@ in_order = refl
 put_before : by_address (part 0x2000 (here []) ∷ part 0x1000 (nop []) ∷ []) ≡ part 0x1000 (nop []) ∷ part 0x2000 (here []) ∷ []
 put_before = refl
 
+one_byte_is_some : by_address (part 0x1000 (0x1f ∷ []) ∷ []) ≡ part 0x1000 (0x1f ∷ []) ∷ []
+one_byte_is_some = refl
+
+-- behind one that begins at the same address, of which no image has two
+put_behind : by_address (part 0x1000 (nop []) ∷ part 0x1000 (here []) ∷ []) ≡ part 0x1000 (nop []) ∷ part 0x1000 (here []) ∷ []
+put_behind = refl
+
 -- ---- texts
 
 -- two lines are a part of one word
@@ -146,6 +164,9 @@ lowest_byte_first = refl
 
 within_a_word : word_of code 0x1002 ≡ None
 within_a_word = refl
+
+next_to_a_word : word_of code 0x1001 ≡ None
+next_to_a_word = refl
 
 after_the_part : word_of code 0x100c ≡ None
 after_the_part = refl
@@ -191,6 +212,11 @@ runs_before_a_branch : runs_of (nop (nop (here (nop [])))) (run 5 None)
     ≡ run 2 (Some (Jump (pos 0) false)) ∷ run 1 (Some (Jump (pos 0) false)) ∷ run 0 (Some (Jump (pos 0) false)) ∷ run 6 None ∷ []
 unfolding class_of
 runs_before_a_branch = refl
+
+-- B.EQ 264 bytes on: its bytes stand lowest first
+bytes_of_a_word : runs_of (0x40 ∷ 0x08 ∷ 0x00 ∷ 0x54 ∷ []) (run 0 None) ≡ run 0 (Some (Cond (pos 264))) ∷ []
+unfolding class_of
+bytes_of_a_word = refl
 
 ends_at_the_branch : IsRun code 0x1000 (run 2 (Some (Jump (pos 0) false)))
 unfolding class_of

@@ -13,4 +13,5 @@ pub mod Tables
 pub mod WordsBelow
 pub mod WordPlaces
 pub mod Examples
+pub mod PlaceExamples
 pub mod TextExamples

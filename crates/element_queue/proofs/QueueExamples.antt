@@ -1,0 +1,195 @@
+-- What contracts see of a queue and of its counts, in values; and how the fields of a packed element stand for one.
+use Rattle.std.proofs.Common.{◌≡◌, ℕ, true, false, List, [], ◌∷◌, length, ap, Option, Some, None, Ok, Err, refl, arith}
+use Rattle.std.proofs.lemmas.List.Elements.{All-cons, All-nil}
+use Rattle.std.specs.Prelude.{◌-◌, ◌^◌}
+use Rattle.etm_types.specs.declared.element.Elem.TheVariants as elem
+use Rattle.etm_types.specs.declared.element.P0.TheVariants.{Atom, Exc}
+use Rattle.etm_types.specs.declared.element.Pre.{Pre}
+use Rattle.etm_types.specs.declared.element.Thing.{Thing}
+use Rattle.etm_types.specs.declared.element.Thing.TheVariants.{Unseen, Gap, Stop}
+use Rattle.element_queue.specs.Counting.{AreCounts, Balances, no_counts, sum_of}
+use Rattle.element_queue.specs.Packed.{addr_of, ctx_of, p0_of, unpacked}
+use Rattle.element_queue.specs.Pending.{Taken as Outcome, committing, nothing_gone}
+use Rattle.element_queue.specs.Queued.{IsHeld, IsQueued, Queued, Takes, TakesInfo, TakesPre, passed, pending_of, things_of}
+use Rattle.element_queue.specs.declared.ledger.Counts.{Counts}
+use Rattle.element_queue.specs.declared.packed.Context.TheVariants.{NotGiven, Secure, NonSecure}
+use Rattle.element_queue.specs.declared.packed.Element.TheVariants.{NotTaken, Taken, Exception}
+use Rattle.element_queue.specs.declared.packed.Packed.{Packed}
+use Rattle.element_queue.specs.declared.queue.Committed.TheVariants as committed
+use Rattle.element_queue.specs.declared.queue.PreElem.TheVariants as pre_elem
+use Rattle.element_queue.proofs.Examples.{first, handler, program, second, seen}
+
+abbrev none_given : Pre
+none_given = record { flush = false; on = false; lost = false; ctx = None; addr = None }
+
+abbrev all_given : Pre
+all_given = record { flush = true; on = true; lost = true; ctx = Some program; addr = Some 0x4000 }
+
+-- ---- counts
+
+pub highest_counts : AreCounts (record { made = 2 ^ 64 - 1; committed = 2 ^ 64 - 1; cancelled = 2 ^ 64 - 1; lost = 2 ^ 64 - 1 })
+highest_counts = record { made = omega arith; committed = omega arith; cancelled = omega arith; lost = omega arith }
+
+pub too_many_made : AreCounts (record no_counts { made = 2 ^ 64 }) → ⊥
+too_many_made = λ are. absurd (omega (arith, are.made))
+
+pub too_many_committed : AreCounts (record no_counts { committed = 2 ^ 64 }) → ⊥
+too_many_committed = λ are. absurd (omega (arith, are.committed))
+
+pub too_many_cancelled : AreCounts (record no_counts { cancelled = 2 ^ 64 }) → ⊥
+too_many_cancelled = λ are. absurd (omega (arith, are.cancelled))
+
+pub too_many_lost : AreCounts (record no_counts { lost = 2 ^ 64 }) → ⊥
+too_many_lost = λ are. absurd (omega (arith, are.lost))
+
+-- each count is added to its own, and goes round
+pub added_up : sum_of (record { made = 1; committed = 20; cancelled = 300; lost = 4000 }) (record { made = 5; committed = 60; cancelled = 700; lost = 2 ^ 64 - 1 })
+    ≡ record { made = 6; committed = 80; cancelled = 1000; lost = 3999 }
+added_up = refl
+
+pub balanced : Balances (record { made = 10; committed = 1; cancelled = 2; lost = 3 }) 4 × Balances (record { made = 1; committed = 2 ^ 64 - 1; cancelled = 0; lost = 0 }) 2
+balanced = (refl, refl)
+
+pub not_balanced : Balances (record { made = 10; committed = 1; cancelled = 2; lost = 3 }) 3 → ⊥
+not_balanced = λ is. cc
+
+-- ---- what holds of every queue
+
+abbrev queue : List Thing → ℕ → Counts → Queued
+queue held depth counts = record { held = held; pre = all_given; depth = depth; counts = counts }
+
+-- three of four are held, of which one was not seen
+pub is_queued : IsQueued (queue (Unseen ∷ first ∷ second ∷ []) 3 (record no_counts { made = 3; committed = 1 }))
+is_queued = record { few = omega arith; things = All-cons IsHeld Unseen (first ∷ second ∷ []) tt (All-cons IsHeld first (second ∷ []) tt (All-cons IsHeld second [] tt (All-nil IsHeld))); balanced = refl }
+
+pub too_many_held : IsQueued (queue (Unseen ∷ first ∷ second ∷ []) 2 (record no_counts { made = 3; committed = 1 })) → ⊥
+too_many_held = λ is. absurd (omega (arith, is.few))
+
+pub one_too_few_made : IsQueued (queue (Unseen ∷ first ∷ second ∷ []) 3 (record no_counts { made = 2; committed = 1 })) → ⊥
+one_too_few_made = λ is. let b = is.balanced in cc
+
+pub no_gap_is_held : (IsHeld Gap → ⊥) × (IsHeld Stop → ⊥)
+no_gap_is_held = (λ is. is, λ is. is)
+
+-- ---- what a call takes
+
+-- what an outcome without a fault holds, and the address that is given behind it
+abbrev held_in : Outcome → List Thing
+held_in (Ok t) = (t.0).held
+held_in (Err fault) = []
+
+abbrev given_addr : Outcome → Option ℕ
+given_addr (Ok t) = ((t.0).pre).addr
+given_addr (Err fault) = None
+
+-- one that is full takes an atom, and commits its oldest
+abbrev full : Queued
+full = queue (first ∷ second ∷ []) 2 (record { made = 5; committed = 1; cancelled = 1; lost = 1 })
+
+abbrev behind : Queued
+behind = record { held = second ∷ seen all_given (Atom false) ∷ []; pre = none_given; depth = 2; counts = record { made = 6; committed = 2; cancelled = 1; lost = 1 } }
+
+pub takes_an_atom : Takes full (elem.P0 (Atom false)) (committing (first ∷ [])) behind
+takes_an_atom = record { rule = λ informed. refl; counts = refl; depth = refl }
+
+pub not_uncounted : Takes full (elem.P0 (Atom false)) (committing (first ∷ [])) (record behind { counts = full.counts }) → ⊥
+not_uncounted = λ takes. let c = takes.counts in cc
+
+pub not_at_another_depth : Takes full elem.On nothing_gone (record full { pre = record all_given { addr = None }; depth = 3 }) → ⊥
+not_at_another_depth = λ takes. let d = takes.depth in cc
+
+pub not_without_the_rule : Takes full elem.On nothing_gone full → ⊥
+not_without_the_rule = λ takes. let a = ap given_addr (takes.rule true) in cc
+
+pub stands_in_the_rules : pending_of full true ∷ pending_of full false ∷ []
+    ≡ record { held = first ∷ second ∷ []; pre = all_given; informed = true } ∷ record { held = first ∷ second ∷ []; pre = all_given; informed = false } ∷ []
+stands_in_the_rules = refl
+
+-- the first trace info announces one P0 element, and others none
+abbrev empty : Queued
+empty = record { held = []; pre = none_given; depth = 2; counts = no_counts }
+
+abbrev flushed : Pre
+flushed = record none_given { flush = true }
+
+pub takes_the_first_info : TakesInfo false empty 1 (record empty { held = Unseen ∷ []; pre = flushed })
+takes_the_first_info = record { rule = refl; counts = refl; depth = refl }
+
+pub takes_a_later_info : TakesInfo true empty 1 (record empty { pre = flushed })
+takes_a_later_info = record { rule = refl; counts = refl; depth = refl }
+
+pub not_announced_twice : TakesInfo true empty 1 (record empty { held = Unseen ∷ []; pre = flushed }) → ⊥
+not_announced_twice = λ takes. let l = ap (λ t. length (held_in t)) takes.rule in cc
+
+pub no_info_counts : TakesInfo true empty 1 (record empty { pre = flushed; counts = record no_counts { made = 1 } }) → ⊥
+no_info_counts = λ takes. let m = ap (λ (c : Counts). c.made) takes.counts in cc
+
+pub no_info_changes_the_depth : TakesInfo true empty 1 (record empty { pre = flushed; depth = 1 }) → ⊥
+no_info_changes_the_depth = λ takes. let d = takes.depth in cc
+
+-- each element that gives something to the next P0 element
+pub takes_what_is_given : TakesPre empty pre_elem.Info (record empty { pre = flushed }) × TakesPre empty pre_elem.On (record empty { pre = record none_given { on = true } })
+    × TakesPre empty (pre_elem.Ctx handler) (record empty { pre = record none_given { ctx = Some handler } })
+    × TakesPre empty (pre_elem.Addr 0x5000) (record empty { pre = record none_given { addr = Some 0x5000 } })
+takes_what_is_given = (
+  λ spec. record { rule = refl; counts = refl; depth = refl },
+  record { rule = λ informed. refl; counts = refl; depth = refl },
+  record { rule = λ informed. refl; counts = refl; depth = refl },
+  record { rule = λ informed. refl; counts = refl; depth = refl },
+)
+
+-- three at once at depth 0
+pub three_passed : passed 3 (record empty { pre = all_given; depth = 0; counts = record { made = 5; committed = 2 ^ 64 - 1; cancelled = 1; lost = 2 } })
+    ≡ record { held = []; pre = none_given; depth = 0; counts = record { made = 8; committed = 2; cancelled = 1; lost = 2 } }
+three_passed = refl
+
+pub held_where_passed : (passed 1 full).held ≡ first ∷ second ∷ []
+held_where_passed = refl
+
+pub things_committed : things_of None ∷ things_of (Some committed.Unseen) ∷ things_of (Some (committed.Seen (record { pre = all_given; p0 = Exc 2 0x6000 }))) ∷ []
+    ≡ [] ∷ (Unseen ∷ []) ∷ (seen all_given (Exc 2 0x6000) ∷ []) ∷ []
+things_committed = refl
+
+-- ---- packed elements
+
+abbrev packed : Packed
+packed = record {
+  addr = 0x4000;
+  ret = 0x6000;
+  vmid = 5;
+  cid = 7;
+  el = 0;
+  context = NonSecure;
+  has_addr = true;
+  flush = true;
+  on = true;
+  lost = true;
+  kind = 2;
+  element = Exception;
+}
+
+pub all_unpacked : unpacked packed ≡ record { pre = all_given; p0 = Exc 2 0x6000 }
+all_unpacked = refl
+
+-- where nothing was given the numbers tell nothing
+pub none_unpacked : unpacked (record packed { context = NotGiven; has_addr = false; flush = false; on = false; lost = false; element = Taken })
+    ≡ record { pre = none_given; p0 = Atom true }
+none_unpacked = refl
+
+-- one flag alone
+pub flags_unpacked : unpacked (record packed { context = NotGiven; has_addr = false; on = false; lost = false; element = NotTaken })
+    ∷ unpacked (record packed { context = NotGiven; has_addr = false; flush = false; lost = false; element = NotTaken })
+    ∷ unpacked (record packed { context = NotGiven; has_addr = false; flush = false; on = false; element = NotTaken }) ∷ []
+    ≡ record { pre = record none_given { flush = true }; p0 = Atom false } ∷ record { pre = record none_given { on = true }; p0 = Atom false }
+    ∷ record { pre = record none_given { lost = true }; p0 = Atom false } ∷ []
+flags_unpacked = refl
+
+pub contexts_unpacked : ctx_of NotGiven 1 5 7 ∷ ctx_of Secure 1 5 7 ∷ ctx_of NonSecure 1 5 7 ∷ []
+    ≡ None ∷ Some (record { el = 1; ns = false; vmid = 5; cid = 7 }) ∷ Some (record { el = 1; ns = true; vmid = 5; cid = 7 }) ∷ []
+contexts_unpacked = refl
+
+pub elements_unpacked : p0_of NotTaken 2 0x6000 ∷ p0_of Taken 2 0x6000 ∷ p0_of Exception 2 0x6000 ∷ [] ≡ Atom false ∷ Atom true ∷ Exc 2 0x6000 ∷ []
+elements_unpacked = refl
+
+pub addresses_unpacked : addr_of false 0x4000 ∷ addr_of true 0x4000 ∷ [] ≡ None ∷ Some 0x4000 ∷ []
+addresses_unpacked = refl
