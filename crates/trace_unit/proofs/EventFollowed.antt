@@ -25,12 +25,12 @@ use Rattle.trace_unit.proofs.Elements.{elements_dropped, elements_joined, elemen
 use Rattle.trace_unit.proofs.Ordered.{AllowsAll, unretired_all}
 use Rattle.trace_unit.proofs.StepOrders.{in_both}
 use Rattle.trace_unit.specs.Agreeing.{elements_of}
+use Rattle.trace_unit.specs.Effects.{counts_by, counts_lost, counts_made, orders_on, places_on}
 use Rattle.trace_unit.specs.Followed.{CanFollow, element_of, followed, orders_done}
 use Rattle.trace_unit.specs.Followed.{windowed_cancelled, windowed_lost, windowed_retired, with_places}
-use Rattle.trace_unit.specs.Kept.{counts_by, counts_lost, counts_made}
 use Rattle.trace_unit.specs.Ordered.{Allows, told_all, unretired_by}
-use Rattle.trace_unit.specs.Orders.{Order, missing, orders_on, p0_order, step_orders, sync_orders}
-use Rattle.trace_unit.specs.Places.{Places, Saved, back_by, placed_behind, places_on, placed_synced, saves, without_stack}
+use Rattle.trace_unit.specs.Orders.{Order, missing, p0_order, step_orders, sync_orders}
+use Rattle.trace_unit.specs.Places.{Places, Saved, back_by, placed_behind, placed_synced, saves, without_stack}
 use Rattle.trace_unit.specs.Whole.{at_once}
 use Rattle.trace_unit.specs.WindowKept.{WindowKept, pushed, turn_newest_p0}
 use Rattle.trace_unit.specs.declared.follower.Follower.{Follower}

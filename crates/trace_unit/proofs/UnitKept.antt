@@ -23,12 +23,12 @@ use Rattle.trace_unit.proofs.EventFollowed.{Suits, window_elements, window_room,
 use Rattle.trace_unit.proofs.EventSuits.{is_there, suits_so}
 use Rattle.trace_unit.proofs.Ordered.{can_tell, told_all_is}
 use Rattle.trace_unit.specs.Agreeing.{Agree, running_by}
+use Rattle.trace_unit.specs.Effects.{orders_on, places_on}
 use Rattle.trace_unit.specs.Fitting.{FitsPlaces, FitsRun}
 use Rattle.trace_unit.specs.Followed.{CanFollow, followed, orders_done, stepped}
 use Rattle.trace_unit.specs.Ordered.{CanTellAll, IsReady, bytes_all, bytes_of, told_all}
-use Rattle.trace_unit.specs.Orders.{Order, Settle, orders_on, step_orders}
+use Rattle.trace_unit.specs.Orders.{Order, Settle, step_orders}
 use Rattle.trace_unit.specs.Packets.{shared_all}
-use Rattle.trace_unit.specs.Places.{places_on}
 use Rattle.trace_unit.specs.Whole.{waits_all}
 use Rattle.trace_unit.specs.declared.follower.Follower.{Follower}
 use Rattle.trace_unit.specs.declared.teller.Teller.{Teller}

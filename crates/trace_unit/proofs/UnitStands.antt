@@ -19,13 +19,14 @@ use Rattle.trace_unit.proofs.Growing.{places_grow, shared_grows, waiting_grows, 
 use Rattle.trace_unit.proofs.Ordered.{bytes_all_are}
 use Rattle.trace_unit.proofs.UnitKept.{Accepts, behind, done_at, follows_as}
 use Rattle.trace_unit.specs.Agreeing.{Agree, kept_of}
+use Rattle.trace_unit.specs.Effects.{counts_by, counts_from, counts_lost, counts_of, orders_on, places_on}
 use Rattle.trace_unit.specs.Followed.{followed, orders_done, windowed_lost}
 use Rattle.trace_unit.specs.Growing.{places_behind, waiting_behind}
-use Rattle.trace_unit.specs.Kept.{Kept, StandsAt, counts_by, counts_from, counts_lost, counts_of}
+use Rattle.trace_unit.specs.Kept.{Kept, StandsAt}
 use Rattle.trace_unit.specs.Ordered.{bytes_all, bytes_of}
-use Rattle.trace_unit.specs.Orders.{Order, Settle, orders_on}
+use Rattle.trace_unit.specs.Orders.{Order, Settle}
 use Rattle.trace_unit.specs.Packets.{Shared, packets_all, settle_packets, shared_all}
-use Rattle.trace_unit.specs.Places.{Places, places_on}
+use Rattle.trace_unit.specs.Places.{Places}
 use Rattle.trace_unit.specs.Small.{unretired}
 use Rattle.trace_unit.specs.Whole.{PutOff, waits_all}
 use Rattle.trace_unit.specs.Written.{pending, spelled, written}

@@ -1,6 +1,6 @@
 -- What a unit makes of what its run did: the orders that it tells, and what it keeps behind them of places and P0 elements.
 use Rattle.std.specs.Prelude.{◌≡◌, ℕ, ◌^◌, ◌<◌, ◌≤◌, Bool, true, if◌then◌else◌, List, [], ◌∷◌, ◌++◌, length, drop, Option, Some, None, IsSome, ⊤}
-use Rattle.element_queue.specs.Counting.{add, no_counts}
+use Rattle.element_queue.specs.Counting.{no_counts}
 use Rattle.etm_types.specs.Settings.{Sizes}
 use Rattle.etm_types.specs.declared.context.Ctx.{Ctx}
 use Rattle.etm_types.specs.declared.element.P0.{P0}
@@ -13,10 +13,12 @@ use Rattle.spec_run.specs.declared.event.Done.TheVariants as done
 use Rattle.spec_run.specs.declared.step.RunStep.{RunStep}
 use Rattle.spec_run.specs.declared.step.StepKind.{StepKind}
 use Rattle.spec_run.specs.declared.step.StepKind.TheVariants.{Cond, Exc}
+use Rattle.trace_unit.specs.Effects.{counts_cancelled, counts_lost, counts_retired}
 use Rattle.trace_unit.specs.Ordered.{told_all, told_by}
 use Rattle.trace_unit.specs.Orders.{Cancel, Close, Flip, Order, Retire, begin_orders, step_orders, sync_orders}
 use Rattle.trace_unit.specs.Packets.{nothing_shared}
-use Rattle.trace_unit.specs.Places.{Places, no_places, placed_back, placed_begun, placed_behind, placed_closed, placed_flipped, placed_synced}
+use Rattle.trace_unit.specs.Places.{Places, no_places, placed_back, placed_begun, placed_behind, placed_closed, placed_flipped}
+use Rattle.trace_unit.specs.Places.{placed_retired, placed_synced}
 use Rattle.trace_unit.specs.PlacesKept.{PlacesKept}
 use Rattle.trace_unit.specs.Whole.{nothing_waits}
 use Rattle.trace_unit.specs.WindowKept.{WindowKept, pushed, turn_newest_p0}
@@ -32,13 +34,13 @@ element_of kind addr = p0.Atom true
 
 -- so many of the oldest are retired, or of the newest taken back; or all are lost
 abbrev pub windowed_retired : WindowKept → ℕ → WindowKept
-windowed_retired w n = record w { p0s = drop n w.p0s; counts = record (w.counts) { committed = add w.counts.committed n } }
+windowed_retired w n = record w { p0s = drop n w.p0s; counts = counts_retired n w.counts }
 
 abbrev pub windowed_cancelled : WindowKept → ℕ → WindowKept
-windowed_cancelled w n = record w { p0s = kept n w.p0s; counts = record (w.counts) { cancelled = add w.counts.cancelled n } }
+windowed_cancelled w n = record w { p0s = kept n w.p0s; counts = counts_cancelled n w.counts }
 
 abbrev pub windowed_lost : WindowKept → WindowKept
-windowed_lost w = record w { p0s = []; counts = record (w.counts) { lost = add w.counts.lost (length w.p0s) } }
+windowed_lost w = record w { p0s = []; counts = counts_lost (length w.p0s) w.counts }
 
 abbrev pub with_places : PlacesKept → Places → PlacesKept
 with_places k p = record k { places = p }
@@ -68,7 +70,7 @@ stepped f s = record {
 -- so many P0 steps were retired, or taken back
 abbrev pub retired : Follower → ℕ → Follower
 retired f n = record {
-  places = with_places f.places (record (f.places.places) { saved = drop n f.places.places.saved });
+  places = with_places f.places (placed_retired f.places.places n);
   window = windowed_retired f.window n;
   teller = told_by f.teller (Retire n);
 }

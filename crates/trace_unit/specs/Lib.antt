@@ -1,5 +1,6 @@
 pub mod Places
 pub mod Orders
+pub mod Effects
 pub mod Told
 pub mod Packing
 pub mod Whole

@@ -13,7 +13,8 @@ ghost use Rattle.spec_run.specs.RunAfter.{IsEvent, run_after};
 ghost use Rattle.spec_run.specs.Runs.{Execution};
 ghost use Rattle.spec_run.specs.declared.event.Event.{Event as Events};
 ghost use Rattle.spec_run.specs.declared.run_fault.RunFault.{RunFault as Refusal};
-ghost use Rattle.trace_unit.specs.Kept.{StandsAt, counts_lost, counts_of};
+ghost use Rattle.trace_unit.specs.Effects.{counts_lost, counts_of};
+ghost use Rattle.trace_unit.specs.Kept.{StandsAt};
 ghost use Rattle.trace_unit.specs.Small.{unretired};
 ghost use Rattle.trace_unit.specs.Written.{settled, written};
 
