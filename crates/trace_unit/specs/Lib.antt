@@ -9,8 +9,8 @@ pub mod Written
 pub mod Telling
 pub mod Growing
 pub mod Room
-pub mod PlacesKept
 pub mod WindowKept
+pub mod PlacesKept
 pub mod Kept
 pub mod Taken
 pub mod Small

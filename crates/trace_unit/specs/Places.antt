@@ -58,10 +58,13 @@ left_by kind next stack = record { needs = false; stack = stack }
 abbrev pub left : ℕ → Places → RunStep → Left
 left most p s = left_by s.kind s.next (pushed_by most (link_after s) p.stack)
 
--- at depth 0 a step is retired as it is executed
+-- one more, where any is kept: at depth 0 a step is retired as it is executed
+abbrev pub with_newest : {X : Type 0} → ℕ → List X → X → List X
+with_newest zero xs x = xs
+with_newest (suc depth) xs x = xs ++ x ∷ []
+
 abbrev pub saves : ℕ → Places → RunStep → List Saved
-saves zero p s = p.saved
-saves (suc depth) p s = p.saved ++ record { stack = p.stack; context = s.ctx; start = p.start } ∷ []
+saves depth p s = with_newest depth p.saved (record { stack = p.stack; context = s.ctx; start = p.start })
 
 -- the reader has the context of the step, whichever comes behind it
 abbrev pub placed_behind : ℕ → ℕ → Places → RunStep → Places

@@ -130,7 +130,7 @@ impl Unit {
         ensures counted { (image : Parts) (events : List Events) → StandsAt image self.now events
             → result ≡ counts_of image self.now.settings.depth events }
     {
-        self.follower.window.counts()
+        self.follower.places.counts()
     }
 
     /// Appends what waits to be written, and ends the unit. What is not retired is lost. The error means want of memory; then
