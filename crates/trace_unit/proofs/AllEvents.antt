@@ -28,8 +28,8 @@ use Rattle.trace_unit.proofs.Rows.{after_all, thing_of}
 use Rattle.trace_unit.proofs.RunBlocks.{AreRunBlocks, blocks_of_run}
 use Rattle.trace_unit.proofs.Shown.{stretch_shows}
 use Rattle.trace_unit.proofs.Walked.{led_walks}
-use Rattle.trace_unit.specs.Orders.{orders, orders_from, orders_on, places_from}
-use Rattle.trace_unit.specs.Places.{Places, no_places, places_after}
+use Rattle.trace_unit.specs.Effects.{orders, orders_from, orders_on, places_after, places_from}
+use Rattle.trace_unit.specs.Places.{Places, no_places}
 use Rattle.trace_unit.specs.Told.{all_told}
 
 -- a run, what its unit keeps and its reader stand together

@@ -23,10 +23,11 @@ use Rattle.trace_unit.proofs.Out.{Waits}
 use Rattle.trace_unit.proofs.RunOrders.{run_takes}
 use Rattle.trace_unit.proofs.Sizes.{few_atoms, small}
 use Rattle.trace_unit.proofs.Telling.{Tells, tells_on}
+use Rattle.trace_unit.specs.Effects.{orders, orders_from, orders_on, places_after}
 use Rattle.trace_unit.specs.Fitting.{FitsOrder, FitsPlaces, FitsRun, IsCounted, IsShared}
-use Rattle.trace_unit.specs.Orders.{Order, Sync, Tell, orders, orders_from, orders_on}
+use Rattle.trace_unit.specs.Orders.{Order, Sync, Tell}
 use Rattle.trace_unit.specs.Packets.{Shared, nothing_shared, packets_all, packets_of, settle_packets, shared_after, shared_all}
-use Rattle.trace_unit.specs.Places.{Places, no_places, places_after}
+use Rattle.trace_unit.specs.Places.{Places, no_places}
 use Rattle.trace_unit.specs.Taken.{CanTakeAll}
 use Rattle.trace_unit.specs.Telling.{told_with}
 use Rattle.trace_unit.specs.Whole.{PutOff, nothing_waits, settle_elements, waits, waits_all, whole, whole_all, whole_settled}

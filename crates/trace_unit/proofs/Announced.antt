@@ -27,9 +27,10 @@ use Rattle.trace_unit.proofs.OrderTold.{settles}
 use Rattle.trace_unit.proofs.Out.{Waits, none_left, none_out}
 use Rattle.trace_unit.proofs.RunOrders.{Suits, run_suits, same_ok}
 use Rattle.trace_unit.proofs.StepOrders.{in_both}
+use Rattle.trace_unit.specs.Effects.{orders, orders_from, orders_on, places_after}
 use Rattle.trace_unit.specs.Orders.{Branch, Cancel, Close, Exception, ExceptionAtTarget, Flip, Order, Retire, Settle, Sync, Tell}
-use Rattle.trace_unit.specs.Orders.{missing, orders, orders_from, orders_on, p0_order, step_orders}
-use Rattle.trace_unit.specs.Places.{Places, no_places, places_after}
+use Rattle.trace_unit.specs.Orders.{missing, p0_order, step_orders}
+use Rattle.trace_unit.specs.Places.{Places, no_places}
 use Rattle.trace_unit.specs.Taken.{AllMeet, Announces}
 use Rattle.trace_unit.specs.Told.{all_told, closing_element, told}
 use Rattle.trace_unit.specs.Whole.{PutOff, nothing_waits, out_elements, settle_elements, waits, waits_all, whole, whole_all}

@@ -33,10 +33,11 @@ use Rattle.spec_run.specs.declared.step.RunStep.{RunStep}
 use Rattle.spec_run.specs.declared.step.StepKind.{StepKind}
 use Rattle.spec_run.specs.declared.step.StepKind.TheVariants.{Cond, Eret, Exc, Ind, Isb, Jump, Plain}
 use Rattle.trace_unit.proofs.StepOrders.{in_both}
+use Rattle.trace_unit.specs.Effects.{orders_on, places_after, places_on}
 use Rattle.trace_unit.specs.Fitting.{FitsOrder, FitsPlaces, FitsRun, FitsRunning, FitsStep}
 use Rattle.trace_unit.specs.Orders.{Address, Cancel, Close, Context, ExceptionAtTarget, Flip, On, Order, Place, Retire, Settle, Start, Sync, Tell}
-use Rattle.trace_unit.specs.Orders.{before, lacked, missing, orders_on, p0_order, step_orders}
-use Rattle.trace_unit.specs.Places.{Places, Saved, back_by, places_after, placed_behind, places_on, saves, without_stack}
+use Rattle.trace_unit.specs.Orders.{before, lacked, missing, p0_order, step_orders}
+use Rattle.trace_unit.specs.Places.{Places, Saved, back_by, placed_behind, saves, without_stack}
 
 -- ---- checks
 

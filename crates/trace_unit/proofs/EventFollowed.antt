@@ -2,7 +2,7 @@
 use Rattle.std.proofs.Common.{◌≡◌, ℕ, zero, suc, ◌+◌, ◌-◌, ◌^◌, ◌<◌, ◌≤◌, Bool, true, false, if◌then◌else◌, List, [], ◌∷◌, ◌++◌, length, take, drop}
 use Rattle.std.proofs.Common.{Option, Some, None}
 use Rattle.std.proofs.Common.{refl, sym, ap, ◌∙◌, inl, inr, arith, append-nil, length-append}
-use Rattle.std.proofs.lemmas.List.{length-drop, length-map, length-take}
+use Rattle.std.proofs.lemmas.List.{length-drop, length-take}
 use Rattle.std.specs.Prelude.{⊤}
 use Rattle.std.specs.Option.{option_map}
 use Rattle.etm_types.specs.SameContext.{same_context}
@@ -24,14 +24,14 @@ use Rattle.trace_unit.proofs.Elements.{elements_dropped, elements_joined, elemen
 use Rattle.trace_unit.proofs.Ordered.{AllowsAll, unretired_all}
 use Rattle.trace_unit.proofs.StepOrders.{in_both}
 use Rattle.trace_unit.specs.Agreeing.{elements_of}
+use Rattle.trace_unit.specs.Effects.{counts_by, counts_lost, counts_made, orders_on, places_on}
 use Rattle.trace_unit.specs.Followed.{CanFollow, element_of, followed, orders_done}
-use Rattle.trace_unit.specs.Followed.{windowed_cancelled, windowed_lost, windowed_retired, with_places}
-use Rattle.trace_unit.specs.Kept.{counts_by, counts_lost, counts_made}
+use Rattle.trace_unit.specs.Followed.{with_both, with_places}
 use Rattle.trace_unit.specs.Ordered.{Allows, told_all, unretired_by}
-use Rattle.trace_unit.specs.Orders.{Order, missing, orders_on, p0_order, step_orders, sync_orders}
-use Rattle.trace_unit.specs.Places.{Places, Saved, back_by, placed_behind, places_on, placed_synced, saves, without_stack}
+use Rattle.trace_unit.specs.Orders.{Order, missing, p0_order, step_orders, sync_orders}
+use Rattle.trace_unit.specs.Places.{Places, placed_synced}
 use Rattle.trace_unit.specs.Whole.{at_once}
-use Rattle.trace_unit.specs.WindowKept.{WindowKept, pushed, turn_newest_p0}
+use Rattle.trace_unit.specs.WindowKept.{WindowKept, pushed, turn_newest_p0, windowed_cancelled, windowed_flipped, windowed_lost, windowed_retired}
 use Rattle.trace_unit.specs.declared.follower.Follower.{Follower}
 
 abbrev pub place_by : Option Running → Option At
@@ -59,7 +59,7 @@ abbrev pub windowed_on : Option Running → WindowKept → Effect → WindowKept
 windowed_on (Some r) w (effect.Ran s ctx) = if is_p0 s then pushed w w.room (element_of s.kind s.addr) else w
 windowed_on (Some r) w (effect.Retired n) = windowed_retired w (p0s (take n r.held))
 windowed_on (Some r) w (effect.Cancelled n) = windowed_cancelled w (p0s (newest n r.held))
-windowed_on (Some r) w effect.Flipped = record w { p0s = turn_newest_p0 w.p0s }
+windowed_on (Some r) w effect.Flipped = windowed_flipped w
 windowed_on (Some r) w effect.Overflowed = windowed_lost w
 windowed_on (Some r) w effect.Stopped = windowed_lost w
 windowed_on current w e = w
@@ -112,43 +112,6 @@ window_elements image depth (Some r) w effect.Synced suits room same = same
 window_elements image depth (Some r) w effect.Overflowed suits room same = refl
 window_elements image depth (Some r) w effect.Stopped suits room same = refl
 window_elements image depth current w e suits room same = absurd suits
-
--- ---- places
-
-passed_many : (room : ℕ) (w : WindowKept) (x : P0) (p : Places) (s : RunStep) → length p.saved ≡ length w.p0s
-    → length (saves room p s) ≡ length (pushed w room x).p0s
-passed_many zero w x p s e = e
-passed_many (suc room) w x p s e =
-    let v : Saved = record { stack = p.stack; context = s.ctx; start = p.start } in
-    omega (arith, e, length-append p.saved (v ∷ []), length-append w.p0s (x ∷ []))
-
-back_saved : (p : Places) (gone : List Saved) → (back_by p gone).saved ≡ p.saved
-back_saved p [] = refl
-back_saved p (v ∷ gone) = refl
-
-pub saved_many : (image : Image) (depth most : ℕ) (current : Option Running) (p : Places) (w : WindowKept) (e : Effect) → Suits depth current e
-    → w.room ≡ depth → length p.saved ≡ length w.p0s → length w.p0s ≡ p0s (held_by current)
-    → length (places_on image depth most current p e).saved ≡ length (windowed_on current w e).p0s
-saved_many image depth most None p w (effect.Began addr ctx) suits room e many = sym many
-saved_many image depth most (Some r) p w (effect.Ran s ctx) suits room e many = by (is_p0 s)
-  where
-    by : (b : Bool) → let q : Places = if b then placed_behind depth most p s else p in
-        let v : WindowKept = if b then pushed w w.room (element_of s.kind s.addr) else w in length q.saved ≡ length v.p0s
-    by true =
-        passed_many depth w (element_of s.kind s.addr) p s e
-        ∙ ap (λ n. length (pushed w n (element_of s.kind s.addr)).p0s) (sym room)
-    by false = e
-saved_many image depth most (Some r) p w (effect.Contexted ctx) suits room e many = e
-saved_many image depth most (Some r) p w (effect.Retired n) suits room e many =
-    let k = p0s (take n r.held) in omega (arith, e, length-drop k p.saved, length-drop k w.p0s)
-saved_many image depth most (Some r) p w (effect.Cancelled n) suits room e many =
-    let k = p0s (newest n r.held) in
-    omega (arith, e, length-take (length p.saved - k) p.saved, length-take (length w.p0s - k) w.p0s)
-saved_many image depth most (Some r) p w effect.Flipped suits room e many = e ∙ sym (turned_many w.p0s)
-saved_many image depth most (Some r) p w effect.Synced suits room e many = length-map p.saved without_stack ∙ e
-saved_many image depth most (Some r) p w effect.Overflowed suits room e many = refl
-saved_many image depth most (Some r) p w effect.Stopped suits room e many = refl
-saved_many image depth most current p w e suits room same many = absurd suits
 
 -- ---- counts
 
@@ -286,13 +249,13 @@ synced_with f n ctx = record f {
 -- as the event's effect says
 abbrev pub followed_on : Image → Option Running → Follower → Effect → Follower
 followed_on image current f e = record {
-  places = with_places f.places (places_on image f.places.room f.places.stack_depth current f.places.places e);
-  window = windowed_on current f.window e;
+  places = with_both f.places (places_on image f.places.window.room f.places.stack_depth current f.places.places e)
+      (windowed_on current f.places.window e);
   teller = told_all f.teller (orders_on current f.places.places e);
 }
 
 pub follows_so : (image : Image) (depth : ℕ) (current : Option Running) (f : Follower) (e : Effect) → Suits depth current e
-    → length f.window.p0s ≡ p0s (held_by current)
+    → length f.places.window.p0s ≡ p0s (held_by current)
     → followed (done_of (held_by current) e) (place_after image depth (place_by current) e) f ≡ followed_on image current f e
 follows_so image depth None f (effect.Began addr ctx) suits many = refl
 follows_so image depth (Some r) f (effect.Ran s ctx) suits many = elim (bools (is_p0 s)) [ inl some ↦ simp some refl | inr none ↦ simp none refl ]
@@ -306,7 +269,7 @@ follows_so image depth (Some r) f effect.Stopped suits many = refl
 follows_so image depth current f e suits many = absurd suits
 
 pub orders_so : (image : Image) (depth : ℕ) (current : Option Running) (f : Follower) (e : Effect) → Suits depth current e
-    → length f.window.p0s ≡ p0s (held_by current)
+    → length f.places.window.p0s ≡ p0s (held_by current)
     → orders_done (done_of (held_by current) e) (place_after image depth (place_by current) e) f ≡ orders_on current f.places.places e
 orders_so image depth None f (effect.Began addr ctx) suits many = refl
 orders_so image depth (Some r) f (effect.Ran s ctx) suits many = refl
@@ -321,27 +284,21 @@ orders_so image depth current f e suits many = absurd suits
 
 -- what a follower asks for
 pub follow_can : (image : Image) (depth : ℕ) (current : Option Running) (f : Follower) (e : Effect) → Suits depth current e
-    → f.places.room ≡ depth → f.window.room ≡ depth → length f.places.places.saved ≡ p0s (held_by current)
-    → f.window.p0s ≡ elements_of (held_by current) → p0s (held_by current) < 2 ^ 32
+    → f.places.window.room ≡ depth → f.places.window.p0s ≡ elements_of (held_by current) → p0s (held_by current) < 2 ^ 32
     → CanFollow (done_of (held_by current) e) (place_after image depth (place_by current) e) f
-follow_can image depth None f (effect.Began addr ctx) suits places window saved same few = refl
-follow_can image depth (Some r) f (effect.Ran s ctx) suits places window saved same few =
+follow_can image depth None f (effect.Began addr ctx) suits room same few = (refl, same)
+follow_can image depth (Some r) f (effect.Ran s ctx) suits room same few =
     let many = ap length same ∙ elements_many r.held in
-    λ some. (
-      λ lt. let more = suits some (omega (arith, lt, places)) in omega (arith, more, saved, places),
-      λ lt. let more = suits some (omega (arith, lt, window)) in omega (arith, more, many, window),
-    )
-follow_can image depth (Some r) f (effect.Contexted ctx) suits places window saved same few = tt
-follow_can image depth (Some r) f (effect.Retired n) suits places window saved same few =
+    λ some lt. let more = suits some (omega (arith, lt, room)) in omega (arith, more, many, room)
+follow_can image depth (Some r) f (effect.Contexted ctx) suits room same few = tt
+follow_can image depth (Some r) f (effect.Retired n) suits room same few =
     let many = ap length same ∙ elements_many r.held in omega (arith, many, p0s_parts n r.held)
-follow_can image depth (Some r) f (effect.Cancelled n) suits places window saved same few =
-    let many = ap length same ∙ elements_many r.held in
-    let parts = p0s_parts (length r.held - n) r.held in
-    (omega (arith, saved, parts), omega (arith, many, parts))
-follow_can image depth (Some r) f effect.Flipped suits places window saved same few =
+follow_can image depth (Some r) f (effect.Cancelled n) suits room same few =
+    let many = ap length same ∙ elements_many r.held in omega (arith, many, p0s_parts (length r.held - n) r.held)
+follow_can image depth (Some r) f effect.Flipped suits room same few =
     let b = ends_in_atom r.held suits in (refl, (b.others, b.taken, same ∙ b.whole))
-follow_can image depth (Some r) f effect.Synced suits places window saved same few =
+follow_can image depth (Some r) f effect.Synced suits room same few =
     let many = ap length same ∙ elements_many r.held in (refl, omega (arith, many, few))
-follow_can image depth (Some r) f effect.Overflowed suits places window saved same few = tt
-follow_can image depth (Some r) f effect.Stopped suits places window saved same few = tt
-follow_can image depth current f e suits places window saved same few = absurd suits
+follow_can image depth (Some r) f effect.Overflowed suits room same few = tt
+follow_can image depth (Some r) f effect.Stopped suits room same few = tt
+follow_can image depth current f e suits room same few = absurd suits

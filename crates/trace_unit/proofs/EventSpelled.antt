@@ -13,8 +13,9 @@ use Rattle.spec_run.specs.declared.effect.Effect.TheVariants as effect
 use Rattle.spec_run.specs.declared.step.RunStep.{RunStep}
 use Rattle.trace_unit.proofs.OrderSpelled.{order_spelled, settled_counted, told_counted}
 use Rattle.trace_unit.proofs.StepOrders.{in_both}
+use Rattle.trace_unit.specs.Effects.{orders_on}
 use Rattle.trace_unit.specs.Fitting.{FitsOrder, IsCounted, IsShared}
-use Rattle.trace_unit.specs.Orders.{Order, Settle, Tell, missing, orders_on, p0_order, step_orders}
+use Rattle.trace_unit.specs.Orders.{Order, Settle, Tell, missing, p0_order, step_orders}
 use Rattle.trace_unit.specs.Packets.{Shared, packets_all, packets_of, shared_after, shared_all}
 use Rattle.trace_unit.specs.Places.{Places}
 use Rattle.trace_unit.specs.Whole.{PutOff, waits}

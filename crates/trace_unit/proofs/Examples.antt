@@ -20,7 +20,8 @@ use Rattle.spec_run.specs.Runs.{ByOff, ByOverflow, Execution}
 use Rattle.spec_run.specs.declared.event.Event.{Event}
 use Rattle.spec_run.specs.declared.event.Event.TheVariants as event
 use Rattle.spec_run.specs.declared.run_fault.RunFault.{RunFault}
-use Rattle.trace_unit.specs.Orders.{Address, Branch, Cancel, Close, Context, Exception, Flip, On, Order, Place, Retire, Settle, Start, Sync, Tell, orders}
+use Rattle.trace_unit.specs.Effects.{orders}
+use Rattle.trace_unit.specs.Orders.{Address, Branch, Cancel, Close, Context, Exception, Flip, On, Order, Place, Retire, Settle, Start, Sync, Tell}
 use Rattle.trace_unit.specs.Told.{all_told}
 use Rattle.trace_unit.specs.Whole.{whole_settled}
 use Rattle.atom_formats.specs.Bytes.{byte_of}

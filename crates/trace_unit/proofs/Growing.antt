@@ -10,10 +10,11 @@ use Rattle.spec_run.specs.Checks.{check, effect_of}
 use Rattle.spec_run.specs.RunAfter.{after_event, place_in, run_after, run_from}
 use Rattle.spec_run.specs.Runs.{Execution, at_first}
 use Rattle.spec_run.specs.declared.event.Event.{Event}
+use Rattle.trace_unit.specs.Effects.{orders, orders_from, orders_on, places_after, places_from}
 use Rattle.trace_unit.specs.Growing.{orders_of_one, places_behind, shared_behind, waiting_behind, written_for_one}
-use Rattle.trace_unit.specs.Orders.{Order, orders, orders_from, orders_on, places_from}
+use Rattle.trace_unit.specs.Orders.{Order}
 use Rattle.trace_unit.specs.Packets.{Shared, nothing_shared, packets_all, packets_of, shared_after, shared_all}
-use Rattle.trace_unit.specs.Places.{Places, no_places, places_after}
+use Rattle.trace_unit.specs.Places.{Places, no_places}
 use Rattle.trace_unit.specs.Whole.{PutOff, nothing_waits, waits, waits_all}
 use Rattle.trace_unit.specs.Written.{spelled, written}
 

@@ -17,8 +17,8 @@ use Rattle.spec_run.specs.Runs.{Closing, Execution, Running}
 use Rattle.spec_run.specs.declared.effect.Effect.{Effect}
 use Rattle.spec_run.specs.declared.step.RunStep.{RunStep}
 use Rattle.trace_unit.proofs.Rows.{IsFront, Led, Ready, Row, after_all, block_of, first_behind, saved_of, thing_of}
-use Rattle.trace_unit.specs.Orders.{orders_on}
-use Rattle.trace_unit.specs.Places.{Places, places_after}
+use Rattle.trace_unit.specs.Effects.{orders_on, places_after}
+use Rattle.trace_unit.specs.Places.{Places}
 use Rattle.trace_unit.specs.Told.{all_told}
 
 -- The block needs an address: the walk waits for one and none was told.

@@ -24,8 +24,8 @@ use Rattle.trace_unit.proofs.AllEvents.{all_events, stands_first}
 use Rattle.trace_unit.proofs.Matching.{MatchesBy}
 use Rattle.trace_unit.proofs.RowLists.{length-rows}
 use Rattle.trace_unit.proofs.Rows.{saved_of}
-use Rattle.trace_unit.specs.Orders.{places_from}
-use Rattle.trace_unit.specs.Places.{Left, Places, Saved, back_by, left_by, link_after, no_places, places_after, placed_behind, places_on}
+use Rattle.trace_unit.specs.Effects.{places_after, places_from, places_on}
+use Rattle.trace_unit.specs.Places.{Left, Places, Saved, back_by, left_by, link_after, no_places, placed_behind}
 use Rattle.trace_unit.specs.Places.{popped, pushed_by, saves, without_stack}
 use Rattle.trace_unit.specs.Small.{IsWithin, unretired}
 

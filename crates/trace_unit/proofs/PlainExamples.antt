@@ -14,7 +14,7 @@ use Rattle.program_image.specs.Part.{Part}
 use Rattle.spec_run.specs.declared.event.Event.{Event}
 use Rattle.spec_run.specs.declared.event.Event.TheVariants as event
 use Rattle.trace_unit.proofs.TraceExamples.{async, branches, sizes, user}
-use Rattle.trace_unit.specs.Orders.{orders}
+use Rattle.trace_unit.specs.Effects.{orders}
 use Rattle.trace_unit.specs.Packets.{no_atoms, run_of}
 use Rattle.trace_unit.specs.Told.{all_told}
 use Rattle.trace_unit.specs.Written.{spelled}

@@ -44,8 +44,9 @@ use Rattle.trace_unit.proofs.Rooms.{Fits, HasRoomBy, room_for}
 use Rattle.trace_unit.proofs.RowLists.{length-rows}
 use Rattle.trace_unit.proofs.Rows.{thing_of}
 use Rattle.trace_unit.proofs.StepOrders.{in_both}
-use Rattle.trace_unit.specs.Orders.{Order, Sync, Tell, before, missing, orders, orders_from, orders_on, p0_order, step_orders}
-use Rattle.trace_unit.specs.Places.{Places, no_places, places_after}
+use Rattle.trace_unit.specs.Effects.{orders, orders_from, orders_on, places_after}
+use Rattle.trace_unit.specs.Orders.{Order, Sync, Tell, before, missing, p0_order, step_orders}
+use Rattle.trace_unit.specs.Places.{Places, no_places}
 use Rattle.trace_unit.specs.Taken.{AllMeet, CanTake, CanTakeAll}
 use Rattle.trace_unit.specs.Told.{all_told, told}
 use Rattle.trace_unit.specs.Whole.{at_once, whole_settled}

@@ -25,7 +25,8 @@ use Rattle.trace_unit.proofs.Matching.{MatchesBy}
 use Rattle.trace_unit.proofs.OrderTold.{wrote_atoms}
 use Rattle.trace_unit.proofs.Out.{Waits, none_left, p0s_of}
 use Rattle.trace_unit.proofs.RunOrders.{held_many, run_takes, same_ok}
-use Rattle.trace_unit.specs.Orders.{Branch, Cancel, Close, Exception, ExceptionAtTarget, Flip, Order, Retire, Settle, Tell, orders}
+use Rattle.trace_unit.specs.Effects.{orders}
+use Rattle.trace_unit.specs.Orders.{Branch, Cancel, Close, Exception, ExceptionAtTarget, Flip, Order, Retire, Settle, Tell}
 use Rattle.trace_unit.specs.Packing.{longest, longest_within}
 use Rattle.trace_unit.specs.Places.{Places, no_places}
 use Rattle.trace_unit.specs.Small.{Small, unretired}

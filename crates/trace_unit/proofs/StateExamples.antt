@@ -19,10 +19,11 @@ use Rattle.spec_run.specs.declared.effect.Effect.TheVariants as effect
 use Rattle.spec_run.specs.declared.step.RunStep.{RunStep}
 use Rattle.spec_run.specs.declared.step.StepKind.{StepKind}
 use Rattle.spec_run.specs.declared.step.StepKind.TheVariants as kind
+use Rattle.trace_unit.specs.Effects.{orders_on, places_on}
 use Rattle.trace_unit.specs.Orders.{Address, Branch, Cancel, Close, Context, Exception, ExceptionAtTarget, Flip, On, Order, Place, Retire}
-use Rattle.trace_unit.specs.Orders.{Settle, Start, Sync, Tell, orders_on}
+use Rattle.trace_unit.specs.Orders.{Settle, Start, Sync, Tell}
 use Rattle.trace_unit.specs.Packets.{Shared, flip_packet, notice_packets, nothing_shared, packets_of, run_of, shared_after}
-use Rattle.trace_unit.specs.Places.{Places, Saved, no_places, places_on}
+use Rattle.trace_unit.specs.Places.{Places, Saved, no_places}
 use Rattle.trace_unit.specs.Told.{told}
 use Rattle.trace_unit.specs.Whole.{PutOff, is_full, nothing_waits, waits, whole}
 

@@ -11,7 +11,8 @@ use Rattle.program_image.specs.Part.{Part}
 use Rattle.spec_run.specs.declared.event.Event.{Event}
 use Rattle.spec_run.specs.declared.event.Event.TheVariants as event
 use Rattle.trace_unit.proofs.TraceExamples.{async, branches, sizes}
-use Rattle.trace_unit.specs.Orders.{Branch, Cancel, Exception, ExceptionAtTarget, On, Place, Retire, Start, Sync, Tell, orders}
+use Rattle.trace_unit.specs.Effects.{orders}
+use Rattle.trace_unit.specs.Orders.{Branch, Cancel, Exception, ExceptionAtTarget, On, Place, Retire, Start, Sync, Tell}
 use Rattle.trace_unit.specs.Whole.{whole_settled}
 use Rattle.trace_unit.specs.Written.{settled}
 

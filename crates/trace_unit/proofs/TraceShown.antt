@@ -34,7 +34,8 @@ use Rattle.trace_unit.proofs.AllPackets.{run_fits, run_spelled, settled_tell}
 use Rattle.trace_unit.proofs.Growing.{spelled_joined}
 use Rattle.trace_unit.proofs.RunOrders.{whole_shows}
 use Rattle.trace_unit.proofs.Telling.{are_told}
-use Rattle.trace_unit.specs.Orders.{Order, Sync, Tell, orders, orders_from}
+use Rattle.trace_unit.specs.Effects.{orders, orders_from}
+use Rattle.trace_unit.specs.Orders.{Order, Sync, Tell}
 use Rattle.trace_unit.specs.Packets.{nothing_shared, packets_all, settle_packets, shared_all}
 use Rattle.trace_unit.specs.Places.{no_places}
 use Rattle.trace_unit.specs.Telling.{AreTold, told_with}

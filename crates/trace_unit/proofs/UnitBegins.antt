@@ -26,10 +26,8 @@ pub first_agrees : (s : Sizes) (most : ℕ) (run : RunKept) (f : Follower) → A
 first_agrees s most run f are stands same =
     let agree : Agree (record { depth = s.depth; place = None }) (first_follower s most) = record {
       depth = refl;
-      places_room = refl;
-      window_room = refl;
+      room = refl;
       elements = refl;
-      saved = refl;
       ready = record {
         settings = are;
         few = omega arith;

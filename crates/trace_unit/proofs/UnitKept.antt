@@ -18,17 +18,17 @@ use Rattle.trace_unit.proofs.BytesFew.{orders_few, weight, weight_of}
 use Rattle.trace_unit.proofs.Elements.{elements_many}
 use Rattle.trace_unit.proofs.EventFits.{event_fits}
 use Rattle.trace_unit.proofs.EventFollowed.{follow_can, followed_on, follows_so, held_by, orders_allowed, orders_behind}
-use Rattle.trace_unit.proofs.EventFollowed.{orders_small, orders_so, place_by, saved_many}
+use Rattle.trace_unit.proofs.EventFollowed.{orders_small, orders_so, place_by}
 use Rattle.trace_unit.proofs.EventFollowed.{Suits, window_elements, window_room, windowed_on}
 use Rattle.trace_unit.proofs.EventSuits.{is_there, suits_so}
 use Rattle.trace_unit.proofs.Ordered.{can_tell, told_all_is}
 use Rattle.trace_unit.specs.Agreeing.{Agree, running_by}
+use Rattle.trace_unit.specs.Effects.{orders_on, places_on}
 use Rattle.trace_unit.specs.Fitting.{FitsPlaces, FitsRun}
 use Rattle.trace_unit.specs.Followed.{CanFollow, followed, orders_done, stepped}
 use Rattle.trace_unit.specs.Ordered.{CanTellAll, IsReady, bytes_all, bytes_of, told_all}
-use Rattle.trace_unit.specs.Orders.{Order, Settle, orders_on, step_orders}
+use Rattle.trace_unit.specs.Orders.{Order, Settle, step_orders}
 use Rattle.trace_unit.specs.Packets.{shared_all}
-use Rattle.trace_unit.specs.Places.{places_on}
 use Rattle.trace_unit.specs.Whole.{waits_all}
 use Rattle.trace_unit.specs.declared.follower.Follower.{Follower}
 use Rattle.trace_unit.specs.declared.teller.Teller.{Teller}
@@ -73,7 +73,7 @@ abbrev pub followed_as : Image → Option Running → Follower → Effect → Fo
 followed_as image current f e = record (followed_on image current f e) { teller = told_as f.teller (orders_on current f.places.places e) }
 
 pub follows_as : (image : Image) (depth : ℕ) (current : Option Running) (f : Follower) (e : Effect) → Suits depth current e
-    → length f.window.p0s ≡ p0s (held_by current)
+    → length f.places.window.p0s ≡ p0s (held_by current)
     → followed (done_of (held_by current) e) (place_after image depth (place_by current) e) f ≡ followed_as image current f e
 follows_as image depth current f e suits many =
     follows_so image depth current f e suits many
@@ -98,32 +98,29 @@ follows_by image current f e acc =
     let x : Execution = record { closed = []; current = current } in
     let agree = acc.agree in
     let suits = suits_so image s.depth current e acc.passes in
-    let many : length f.window.p0s ≡ p0s (held_by current) = ap length agree.elements ∙ elements_many (held_by current) in
-    let n = length f.window.p0s in
+    let many : length f.places.window.p0s ≡ p0s (held_by current) = ap length agree.elements ∙ elements_many (held_by current) in
+    let n = length f.places.window.p0s in
     let ready : IsReady n t = subst (λ n. IsReady n t) (sym many) agree.ready in
     let fit = event_fits image s.depth f.places.stack_depth s x p e acc.given acc.passes (fits_back s current agree.fits) agree.starts in
     let orders = orders_on current p does in
     let allowed = orders_allowed image s.depth current p does n suits ready.few many in
     let told = can_tell t orders n ready allowed fit.0 in
     let same = orders_so image s.depth current f does suits many in
-    let elements = window_elements image s.depth current f.window does suits agree.window_room agree.elements in
+    let elements = window_elements image s.depth current f.places.window does suits agree.room agree.elements in
     let steps = held_at (behind image s.depth place e) in
-    let left : length (windowed_on current f.window does).p0s ≡ p0s steps = ap length elements ∙ elements_many steps in
+    let left : length (windowed_on current f.places.window does).p0s ≡ p0s steps = ap length elements ∙ elements_many steps in
     let there = place_behind image s.depth x e acc.passes in
     let kept : Agree (record { depth = s.depth; place = behind image s.depth place e }) (followed_as image current f does) = record {
       depth = refl;
-      places_room = agree.places_room;
-      window_room = window_room current f.window does ∙ agree.window_room;
+      room = window_room current f.places.window does ∙ agree.room;
       elements = elements;
-      saved = ap (λ room. length (places_on image room f.places.stack_depth current p does).saved) agree.places_room
-          ∙ saved_many image s.depth f.places.stack_depth current p f.window does suits agree.window_room (agree.saved ∙ sym many) many ∙ left;
       ready = subst (λ (t : Teller). IsReady (p0s steps) t) (told_all_is t orders)
-          (subst (λ n. IsReady n (told_all t orders)) (orders_behind image s.depth current p f.window does suits agree.window_room many ∙ left) told.1);
+          (subst (λ n. IsReady n (told_all t orders)) (orders_behind image s.depth current p f.places.window does suits agree.room many ∙ left) told.1);
       fits = subst (λ place. FitsRun s (running_by place)) there (fits_there s (after_event image s.depth x e).current fit.1);
-      starts = subst (λ room. FitsPlaces (places_on image room f.places.stack_depth current p does)) (sym agree.places_room) fit.2;
+      starts = subst (λ room. FitsPlaces (places_on image room f.places.stack_depth current p does)) (sym agree.room) fit.2;
     } in
     record {
-      can = follow_can image s.depth current f does suits agree.places_room agree.window_room agree.saved agree.elements
+      can = follow_can image s.depth current f does suits agree.room agree.elements
           (omega (arith, ready.few, many, ready.settings.depth));
       tells = subst (CanTellAll t) (sym same) told.0;
       few = subst (λ l. length (bytes_all t l) ≤ 128) (sym same)

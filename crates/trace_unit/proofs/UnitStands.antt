@@ -19,15 +19,17 @@ use Rattle.trace_unit.proofs.Growing.{places_grow, shared_grows, waiting_grows, 
 use Rattle.trace_unit.proofs.Ordered.{bytes_all_are}
 use Rattle.trace_unit.proofs.UnitKept.{Accepts, behind, done_at, follows_as}
 use Rattle.trace_unit.specs.Agreeing.{Agree, kept_of}
-use Rattle.trace_unit.specs.Followed.{followed, orders_done, windowed_lost}
+use Rattle.trace_unit.specs.Effects.{counts_by, counts_from, counts_lost, counts_of, orders_on, places_on}
+use Rattle.trace_unit.specs.Followed.{followed, orders_done}
 use Rattle.trace_unit.specs.Growing.{places_behind, waiting_behind}
-use Rattle.trace_unit.specs.Kept.{Kept, StandsAt, counts_by, counts_from, counts_lost, counts_of}
+use Rattle.trace_unit.specs.Kept.{Kept, StandsAt}
 use Rattle.trace_unit.specs.Ordered.{bytes_all, bytes_of}
-use Rattle.trace_unit.specs.Orders.{Order, Settle, orders_on}
+use Rattle.trace_unit.specs.Orders.{Order, Settle}
 use Rattle.trace_unit.specs.Packets.{Shared, packets_all, settle_packets, shared_all}
-use Rattle.trace_unit.specs.Places.{Places, places_on}
+use Rattle.trace_unit.specs.Places.{Places}
 use Rattle.trace_unit.specs.Small.{unretired}
 use Rattle.trace_unit.specs.Whole.{PutOff, waits_all}
+use Rattle.trace_unit.specs.WindowKept.{windowed_lost}
 use Rattle.trace_unit.specs.Written.{pending, spelled, written}
 use Rattle.trace_unit.specs.declared.follower.Follower.{Follower}
 
@@ -73,7 +75,7 @@ grows_by image x f events e now acc ran st stands =
     let told = ordered (places_behind image s most events) in
     let agree = acc.agree in
     let suits = suits_so image s.depth x.current e acc.passes in
-    let many : length f.window.p0s ≡ p0s (held_by x.current) = ap length agree.elements ∙ elements_many (held_by x.current) in
+    let many : length f.places.window.p0s ≡ p0s (held_by x.current) = ap length agree.elements ∙ elements_many (held_by x.current) in
     let same = follows_as image s.depth x.current f does suits many in
     record {
       stands = subst (λ (g : Follower). StandsAt image (kept_of now g) (events ++ e ∷ [])) (sym same) (record {
@@ -81,7 +83,7 @@ grows_by image x f events e now acc ran st stands =
         most = st.most;
         run = stands;
         places =
-            ap (λ room. places_on image room most x.current p does) agree.places_room
+            ap (λ room. places_on image room most x.current p does) agree.room
             ∙ ap (λ (p : Places). places_on image s.depth most x.current p does) st.places
             ∙ sym (places_grow image s most events x e ran);
         waiting =
@@ -93,7 +95,7 @@ grows_by image x f events e now acc ran st stands =
             ∙ ap (λ (h : Shared). shared_all h (ordered (places_behind image s most events))) st.shared
             ∙ sym (shared_grows image s most events x e ran);
         counts =
-            window_counts s.depth x.current f.window does suits agree.window_room agree.elements
+            window_counts s.depth x.current f.places.window does suits agree.room agree.elements
             ∙ ap (λ (c : Counts). counts_by s.depth x.current c does) st.counts
             ∙ sym (counts_grow image s.depth events x e ran);
       });
@@ -134,20 +136,20 @@ held_many (Some r) = refl
 
 -- as many are lost as are not retired
 pub lost_are : (image : Image) (run : RunKept) (f : Follower) (events : List Event) (x : Execution) → Agree run f → StandsAt image (kept_of run f) events
-    → run_after image f.teller.settings.depth events ≡ Ok x → (windowed_lost f.window).counts
+    → run_after image f.teller.settings.depth events ≡ Ok x → (windowed_lost f.places.window).counts
     ≡ counts_lost (unretired x.current) (counts_of image f.teller.settings.depth events)
 lost_are image run f events x agree st ran =
     let same : st.run.execution ≡ x = same_execution st.run.execution x (sym st.run.after ∙ ran) in
-    let many : length f.window.p0s ≡ unretired x.current =
+    let many : length f.places.window.p0s ≡ unretired x.current =
     ap length agree.elements ∙ elements_many (held_at run.place) ∙ ap (λ place. p0s (held_at place)) (st.run.place ∙ ap place_in same) ∙ held_many x.current in
-    ap (λ n. counts_lost n f.window.counts) many ∙ ap (counts_lost (unretired x.current)) st.counts
+    ap (λ n. counts_lost n f.places.window.counts) many ∙ ap (counts_lost (unretired x.current)) st.counts
 
 pub lost_of : (image : Image) (run : RunKept) (f : Follower) (k : Kept) (events : List Event) (x : Execution) → Agree run f → kept_of run f ≡ k
     → StandsAt image k events → run_after image k.settings.depth events ≡ Ok x
-    → (windowed_lost f.window).counts ≡ counts_lost (unretired x.current) (counts_of image k.settings.depth events)
+    → (windowed_lost f.places.window).counts ≡ counts_lost (unretired x.current) (counts_of image k.settings.depth events)
 lost_of image run f k events x agree same =
     subst (λ (k : Kept). StandsAt image k events → run_after image k.settings.depth events ≡ Ok x
-    → (windowed_lost f.window).counts ≡ counts_lost (unretired x.current) (counts_of image k.settings.depth events))
+    → (windowed_lost f.places.window).counts ≡ counts_lost (unretired x.current) (counts_of image k.settings.depth events))
     same (lost_are image run f events x agree)
 
 -- what is settled is what is pending

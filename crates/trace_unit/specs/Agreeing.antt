@@ -1,5 +1,5 @@
 -- What the parts of a unit have in common: a run, and what follows it.
-use Rattle.std.specs.Prelude.{◌≡◌, Bool, true, false, if◌then◌else◌, List, [], ◌∷◌, length, Option}
+use Rattle.std.specs.Prelude.{◌≡◌, Bool, true, false, if◌then◌else◌, List, [], ◌∷◌, Option}
 use Rattle.std.specs.Option.{option_map}
 use Rattle.etm_types.specs.Context.{initial_context}
 use Rattle.etm_types.specs.declared.element.P0.{P0}
@@ -39,14 +39,12 @@ abbrev pub elements_of : List RunStep → List P0
 elements_of [] = []
 elements_of (s ∷ steps) = if is_p0 s then element_of s.kind s.addr ∷ elements_of steps else elements_of steps
 
--- The depth is that of all, and there is room for so many P0 steps. The P0 elements are those of the P0 steps that are held, and places
--- are saved for as many; what waits tells them. All values fit the packets.
+-- The depth is that of all, and there is room for so many P0 steps. The P0 elements are those of the P0 steps that are held, and what
+-- waits tells them. All values fit the packets.
 pub record Agree (run : RunKept) (f : Follower) : Type 0 where
   pub depth : run.depth ≡ f.teller.settings.depth
-  pub places_room : f.places.room ≡ f.teller.settings.depth
-  pub window_room : f.window.room ≡ f.teller.settings.depth
-  pub elements : f.window.p0s ≡ elements_of (held_at run.place)
-  pub saved : length f.places.places.saved ≡ p0s (held_at run.place)
+  pub room : f.places.window.room ≡ f.teller.settings.depth
+  pub elements : f.places.window.p0s ≡ elements_of (held_at run.place)
   pub ready : IsReady (p0s (held_at run.place)) f.teller
   pub fits : FitsRun f.teller.settings (running_by run.place)
   pub starts : FitsPlaces f.places.places
@@ -60,5 +58,5 @@ kept_of run f = record {
   places = f.places.places;
   waiting = f.teller.waiting;
   shared = f.teller.shared;
-  counts = f.window.counts;
+  counts = f.places.window.counts;
 }

@@ -1,13 +1,13 @@
 -- What a unit makes of what its run did: the orders that it tells, and what it keeps behind them of places and P0 elements.
-use Rattle.std.specs.Prelude.{◌≡◌, ℕ, ◌^◌, ◌<◌, ◌≤◌, Bool, true, if◌then◌else◌, List, [], ◌∷◌, ◌++◌, length, drop, Option, Some, None, IsSome, ⊤}
-use Rattle.element_queue.specs.Counting.{add, no_counts}
+use Rattle.std.specs.Prelude.{◌≡◌, ℕ, ◌^◌, ◌<◌, ◌≤◌, Bool, true, if◌then◌else◌, List, [], ◌∷◌, ◌++◌, length, Option, Some, None, IsSome, ⊤}
+use Rattle.element_queue.specs.Counting.{no_counts}
 use Rattle.etm_types.specs.Settings.{Sizes}
 use Rattle.etm_types.specs.declared.context.Ctx.{Ctx}
 use Rattle.etm_types.specs.declared.element.P0.{P0}
 use Rattle.etm_types.specs.declared.element.P0.TheVariants as p0
 use Rattle.spec_run.specs.Checks.{Place}
 use Rattle.spec_run.specs.Runs.{ByOff, ByOverflow, Closing}
-use Rattle.spec_run.specs.Steps.{is_p0, kept}
+use Rattle.spec_run.specs.Steps.{is_p0}
 use Rattle.spec_run.specs.declared.event.Done.{Done}
 use Rattle.spec_run.specs.declared.event.Done.TheVariants as done
 use Rattle.spec_run.specs.declared.step.RunStep.{RunStep}
@@ -16,10 +16,11 @@ use Rattle.spec_run.specs.declared.step.StepKind.TheVariants.{Cond, Exc}
 use Rattle.trace_unit.specs.Ordered.{told_all, told_by}
 use Rattle.trace_unit.specs.Orders.{Cancel, Close, Flip, Order, Retire, begin_orders, step_orders, sync_orders}
 use Rattle.trace_unit.specs.Packets.{nothing_shared}
-use Rattle.trace_unit.specs.Places.{Places, no_places, placed_back, placed_begun, placed_behind, placed_closed, placed_flipped, placed_synced}
+use Rattle.trace_unit.specs.Places.{Places, no_places, placed_back, placed_begun, placed_behind, placed_closed, placed_flipped}
+use Rattle.trace_unit.specs.Places.{placed_retired, placed_synced}
 use Rattle.trace_unit.specs.PlacesKept.{PlacesKept}
 use Rattle.trace_unit.specs.Whole.{nothing_waits}
-use Rattle.trace_unit.specs.WindowKept.{WindowKept, pushed, turn_newest_p0}
+use Rattle.trace_unit.specs.WindowKept.{WindowKept, pushed, windowed_cancelled, windowed_flipped, windowed_lost, windowed_retired}
 use Rattle.trace_unit.specs.declared.follower.Follower.{Follower}
 
 -- the P0 element of a P0 step
@@ -28,28 +29,18 @@ element_of (Exc kind) addr = p0.Exc kind addr
 element_of (Cond taken) addr = p0.Atom taken
 element_of kind addr = p0.Atom true
 
--- ---- what is kept
-
--- so many of the oldest are retired, or of the newest taken back; or all are lost
-abbrev pub windowed_retired : WindowKept → ℕ → WindowKept
-windowed_retired w n = record w { p0s = drop n w.p0s; counts = record (w.counts) { committed = add w.counts.committed n } }
-
-abbrev pub windowed_cancelled : WindowKept → ℕ → WindowKept
-windowed_cancelled w n = record w { p0s = kept n w.p0s; counts = record (w.counts) { cancelled = add w.counts.cancelled n } }
-
-abbrev pub windowed_lost : WindowKept → WindowKept
-windowed_lost w = record w { p0s = []; counts = record (w.counts) { lost = add w.counts.lost (length w.p0s) } }
-
 abbrev pub with_places : PlacesKept → Places → PlacesKept
 with_places k p = record k { places = p }
+
+abbrev pub with_both : PlacesKept → Places → WindowKept → PlacesKept
+with_both k p w = record k { places = p; window = w }
 
 -- ---- what each event makes of a follower: it tells the event's orders, and keeps what is behind it
 
 -- behind no event, with a return stack of so many addresses
 abbrev pub first_follower : Sizes → ℕ → Follower
 first_follower s most = record {
-  places = record { places = no_places; stack_depth = most; room = s.depth };
-  window = record { p0s = []; room = s.depth; counts = no_counts };
+  places = record { places = no_places; stack_depth = most; window = record { p0s = []; room = s.depth; counts = no_counts } };
   teller = record { settings = s; waiting = nothing_waits; shared = nothing_shared };
 }
 
@@ -60,31 +51,28 @@ begun f addr ctx = record f { places = with_places f.places (placed_begun addr c
 -- a P0 step was executed
 abbrev pub stepped : Follower → RunStep → Follower
 stepped f s = record {
-  places = with_places f.places (placed_behind f.places.room f.places.stack_depth f.places.places s);
-  window = pushed f.window f.window.room (element_of s.kind s.addr);
+  places = with_both f.places (placed_behind f.places.window.room f.places.stack_depth f.places.places s)
+      (pushed f.places.window f.places.window.room (element_of s.kind s.addr));
   teller = told_all f.teller (step_orders f.places.places s);
 }
 
 -- so many P0 steps were retired, or taken back
 abbrev pub retired : Follower → ℕ → Follower
 retired f n = record {
-  places = with_places f.places (record (f.places.places) { saved = drop n f.places.places.saved });
-  window = windowed_retired f.window n;
+  places = with_both f.places (placed_retired f.places.places n) (windowed_retired f.places.window n);
   teller = told_by f.teller (Retire n);
 }
 
 abbrev pub cancelled : Follower → ℕ → Follower
 cancelled f n = record {
-  places = with_places f.places (placed_back f.places.places n);
-  window = windowed_cancelled f.window n;
+  places = with_both f.places (placed_back f.places.places n) (windowed_cancelled f.places.window n);
   teller = told_by f.teller (Cancel n);
 }
 
 -- the newest step went the other way, to this address
 abbrev pub flipped : Follower → ℕ → Follower
 flipped f pc = record {
-  places = with_places f.places (placed_flipped f.places.places pc);
-  window = record (f.window) { p0s = turn_newest_p0 f.window.p0s };
+  places = with_both f.places (placed_flipped f.places.places pc) (windowed_flipped f.places.window);
   teller = told_by f.teller Flip;
 }
 
@@ -92,14 +80,13 @@ flipped f pc = record {
 abbrev pub synced : Follower → Ctx → Follower
 synced f ctx = record f {
   places = with_places f.places (placed_synced f.places.places ctx);
-  teller = told_all f.teller (sync_orders (length f.window.p0s) f.places.places.start ctx);
+  teller = told_all f.teller (sync_orders (length f.places.window.p0s) f.places.places.start ctx);
 }
 
 -- tracing ended
 abbrev pub closed : Follower → Closing → Follower
 closed f closing = record {
-  places = with_places f.places (placed_closed f.places.places);
-  window = windowed_lost f.window;
+  places = with_both f.places (placed_closed f.places.places) (windowed_lost f.places.window);
   teller = told_by f.teller (Close closing);
 }
 
@@ -126,33 +113,28 @@ following done.Began place f =
     record {
       orders = at_place place [] (λ q. begin_orders q.pc q.ctx);
       behind = at_place place f (λ q. begun f q.pc q.ctx);
-      fits = IsSome place;
+      fits = IsSome place × (f.places.window.p0s ≡ []);
     }
 following (done.Ran s) place f =
     record {
       orders = if is_p0 s then step_orders f.places.places s else [];
       behind = if is_p0 s then stepped f s else f;
-      fits = is_p0 s ≡ true → HasRoomFor f.places.room f.places.places.saved × HasRoomFor f.window.room f.window.p0s;
+      fits = is_p0 s ≡ true → HasRoomFor f.places.window.room f.places.window.p0s;
     }
 following done.Contexted place f = record { orders = []; behind = f; fits = ⊤ }
-following (done.Retired n) place f = record { orders = Retire n ∷ []; behind = retired f n; fits = n ≤ length f.window.p0s }
-following (done.Cancelled n) place f =
-    record {
-      orders = Cancel n ∷ [];
-      behind = cancelled f n;
-      fits = (n ≤ length f.places.places.saved) × (n ≤ length f.window.p0s);
-    }
+following (done.Retired n) place f = record { orders = Retire n ∷ []; behind = retired f n; fits = n ≤ length f.places.window.p0s }
+following (done.Cancelled n) place f = record { orders = Cancel n ∷ []; behind = cancelled f n; fits = n ≤ length f.places.window.p0s }
 following done.Flipped place f =
     record {
       orders = Flip ∷ [];
       behind = at_place place f (λ q. flipped f q.pc);
-      fits = IsSome place × ((p0s : List P0) × (taken : Bool) × (f.window.p0s ≡ p0s ++ p0.Atom taken ∷ []));
+      fits = IsSome place × ((p0s : List P0) × (taken : Bool) × (f.places.window.p0s ≡ p0s ++ p0.Atom taken ∷ []));
     }
 following done.Synced place f =
     record {
-      orders = at_place place [] (λ q. sync_orders (length f.window.p0s) f.places.places.start q.ctx);
+      orders = at_place place [] (λ q. sync_orders (length f.places.window.p0s) f.places.places.start q.ctx);
       behind = at_place place f (λ q. synced f q.ctx);
-      fits = IsSome place × (length f.window.p0s < 2 ^ 32);
+      fits = IsSome place × (length f.places.window.p0s < 2 ^ 32);
     }
 following done.Overflowed place f = record { orders = Close ByOverflow ∷ []; behind = closed f ByOverflow; fits = ⊤ }
 following done.Stopped place f = record { orders = Close ByOff ∷ []; behind = closed f ByOff; fits = ⊤ }

@@ -6,7 +6,8 @@ use Rattle.spec_run.specs.Checks.{effect_of}
 use Rattle.spec_run.specs.RunAfter.{place_in}
 use Rattle.spec_run.specs.Runs.{Execution, at_first}
 use Rattle.spec_run.specs.declared.event.Event.{Event}
-use Rattle.trace_unit.specs.Orders.{Order, orders, orders_on, places_from}
+use Rattle.trace_unit.specs.Effects.{orders, orders_on, places_from}
+use Rattle.trace_unit.specs.Orders.{Order}
 use Rattle.trace_unit.specs.Packets.{Shared, nothing_shared, packets_all, shared_all}
 use Rattle.trace_unit.specs.Places.{Places, no_places}
 use Rattle.trace_unit.specs.Whole.{PutOff, nothing_waits, waits_all}

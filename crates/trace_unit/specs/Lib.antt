@@ -1,5 +1,6 @@
 pub mod Places
 pub mod Orders
+pub mod Effects
 pub mod Told
 pub mod Packing
 pub mod Whole
@@ -8,8 +9,8 @@ pub mod Written
 pub mod Telling
 pub mod Growing
 pub mod Room
-pub mod PlacesKept
 pub mod WindowKept
+pub mod PlacesKept
 pub mod Kept
 pub mod Taken
 pub mod Small

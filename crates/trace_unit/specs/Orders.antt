@@ -1,21 +1,13 @@
--- The orders of a run: what a trace unit has to tell, event by event, whether it writes it at once or puts some of it off, and
--- whichever packets tell it.
-use Rattle.std.specs.Prelude.{ℕ, ◌==◌, ◌&&◌, Bool, true, false, if◌then◌else◌, List, [], ◌∷◌, ◌++◌, take, Option, Some, None}
+-- The orders of a run: what a trace unit has to tell, whether it writes it at once or puts some of it off, and whichever packets tell
+-- it.
+use Rattle.std.specs.Prelude.{ℕ, ◌==◌, ◌&&◌, Bool, true, false, List, [], ◌∷◌, ◌++◌, Option, Some, None}
 use Rattle.etm_types.specs.SameContext.{same_context}
-use Rattle.etm_types.specs.Settings.{Sizes}
 use Rattle.etm_types.specs.declared.context.Ctx.{Ctx}
-use Rattle.program_image.specs.declared.image.Image.{Image}
-use Rattle.spec_run.specs.Checks.{effect_of}
-use Rattle.spec_run.specs.RunAfter.{after_event, place_in}
-use Rattle.spec_run.specs.Runs.{ByOff, ByOverflow, Closing, Execution, Running, at_first}
-use Rattle.spec_run.specs.Steps.{is_p0, newest, p0s}
-use Rattle.spec_run.specs.declared.effect.Effect.{Effect}
-use Rattle.spec_run.specs.declared.effect.Effect.TheVariants as effect
-use Rattle.spec_run.specs.declared.event.Event.{Event}
+use Rattle.spec_run.specs.Runs.{Closing}
 use Rattle.spec_run.specs.declared.step.RunStep.{RunStep}
 use Rattle.spec_run.specs.declared.step.StepKind.{StepKind}
 use Rattle.spec_run.specs.declared.step.StepKind.TheVariants.{Cond, Exc}
-use Rattle.trace_unit.specs.Places.{Places, no_places, places_after}
+use Rattle.trace_unit.specs.Places.{Places}
 
 -- What leaves the P0 elements as they are. Sync: synchronisation, with a trace info that announces so many P0 elements. On: tracing
 -- begins. Start: the address and the context of the begun block, in full. Place: the same before a P0 step, in the form that is wanted
@@ -84,7 +76,7 @@ step_orders_by at_target p s kind = before p s.ctx ++ p0_order kind s.addr ∷ [
 abbrev pub step_orders : Places → RunStep → List Order
 step_orders p s = step_orders_by (is_target p s.addr) p s s.kind
 
--- ---- an event
+-- ---- tracing begins, and synchronisation
 
 -- tracing begins at an address, in a context
 abbrev pub begin_orders : ℕ → Ctx → List Order
@@ -93,33 +85,3 @@ begin_orders addr ctx = Tell (Sync 0) ∷ Tell On ∷ Tell (Start addr ctx) ∷ 
 -- synchronisation, where so many P0 steps are not retired, and the begun block starts at an address
 abbrev pub sync_orders : ℕ → ℕ → Ctx → List Order
 sync_orders n addr ctx = Settle ∷ Tell (Sync n) ∷ Tell (Start addr ctx) ∷ []
-
--- at depth 0 a step is retired as it is executed, and no order tells so
-abbrev pub orders_on : Option Running → Places → Effect → List Order
-orders_on None p (effect.Began addr ctx) = begin_orders addr ctx
-orders_on (Some r) p (effect.Ran s ctx) = if is_p0 s then step_orders p s else []
-orders_on (Some r) p (effect.Retired n) = Retire (p0s (take n r.held)) ∷ []
-orders_on (Some r) p (effect.Cancelled n) = Cancel (p0s (newest n r.held)) ∷ []
-orders_on (Some r) p effect.Flipped = Flip ∷ []
-orders_on (Some r) p effect.Synced = sync_orders (p0s r.held) p.start r.ctx
-orders_on (Some r) p effect.Overflowed = Close ByOverflow ∷ []
-orders_on (Some r) p effect.Stopped = Close ByOff ∷ []
-orders_on current p e = []
-
--- ---- events, which are accepted
-
-abbrev pub orders_from : Image → ℕ → ℕ → Execution → Places → List Event → List Order
-orders_from image depth most x p [] = []
-orders_from image depth most x p (e ∷ events) =
-    orders_on x.current p (effect_of image (place_in x) e)
-    ++ orders_from image depth most (after_event image depth x e) (places_after image depth most x p (effect_of image (place_in x) e)) events
-
--- what is kept behind them
-abbrev pub places_from : Image → ℕ → ℕ → Execution → Places → List Event → Places
-places_from image depth most x p [] = p
-places_from image depth most x p (e ∷ events) =
-    places_from image depth most (after_event image depth x e) (places_after image depth most x p (effect_of image (place_in x) e)) events
-
--- the orders of all events, with a return stack of so many addresses
-abbrev pub orders : Image → Sizes → ℕ → List Event → List Order
-orders image s most events = orders_from image s.depth most at_first no_places events

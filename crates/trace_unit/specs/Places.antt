@@ -1,15 +1,11 @@
--- What a trace unit keeps of the places of its run, and what each event changes of it: the return addresses that a reader has, what
+-- What a trace unit keeps of the places of its run, and what changes it: the return addresses that a reader has, what
 -- it goes back to where P0 steps are taken back, and what the reader knows of the block that is begun (Arm IHI 0064, "Return stack").
-use Rattle.std.specs.Prelude.{ℕ, zero, suc, ◌==◌, Bool, true, false, if◌then◌else◌, List, [], ◌∷◌, ◌++◌, map, take, drop, Option, Some, None}
+use Rattle.std.specs.Prelude.{ℕ, zero, suc, ◌==◌, Bool, true, false, if◌then◌else◌, List, [], ◌∷◌, ◌++◌, map, drop, Option, Some, None}
 use Rattle.etm_types.specs.Context.{initial_context}
 use Rattle.etm_types.specs.declared.context.Ctx.{Ctx}
 use Rattle.program_image.specs.Blocks.{behind}
-use Rattle.program_image.specs.declared.image.Image.{Image}
 use Rattle.return_stack.specs.Stack.{pushed}
-use Rattle.spec_run.specs.Runs.{Execution, Running, flips}
-use Rattle.spec_run.specs.Steps.{is_p0, kept, newest, p0s}
-use Rattle.spec_run.specs.declared.effect.Effect.{Effect}
-use Rattle.spec_run.specs.declared.effect.Effect.TheVariants as effect
+use Rattle.spec_run.specs.Steps.{kept, newest}
 use Rattle.spec_run.specs.declared.step.RunStep.{RunStep}
 use Rattle.spec_run.specs.declared.step.StepKind.{StepKind}
 use Rattle.spec_run.specs.declared.step.StepKind.TheVariants.{Eret, Exc, Ind}
@@ -62,10 +58,13 @@ left_by kind next stack = record { needs = false; stack = stack }
 abbrev pub left : ℕ → Places → RunStep → Left
 left most p s = left_by s.kind s.next (pushed_by most (link_after s) p.stack)
 
--- at depth 0 a step is retired as it is executed
+-- one more, where any is kept: at depth 0 a step is retired as it is executed
+abbrev pub with_newest : {X : Type 0} → ℕ → List X → X → List X
+with_newest zero xs x = xs
+with_newest (suc depth) xs x = xs ++ x ∷ []
+
 abbrev pub saves : ℕ → Places → RunStep → List Saved
-saves zero p s = p.saved
-saves (suc depth) p s = p.saved ++ record { stack = p.stack; context = s.ctx; start = p.start } ∷ []
+saves depth p s = with_newest depth p.saved (record { stack = p.stack; context = s.ctx; start = p.start })
 
 -- the reader has the context of the step, whichever comes behind it
 abbrev pub placed_behind : ℕ → ℕ → Places → RunStep → Places
@@ -77,6 +76,10 @@ placed_behind depth most p s =
 -- tracing begins at an address, in a context
 abbrev pub placed_begun : ℕ → Ctx → Places
 placed_begun addr ctx = record { stack = []; saved = []; needs = false; start = addr; reader_context = ctx }
+
+-- so many of the oldest P0 steps are retired
+abbrev pub placed_retired : Places → ℕ → Places
+placed_retired p n = record p { saved = drop n p.saved }
 
 -- back to before the oldest of the P0 steps that are taken back, where there is one
 abbrev pub back_by : Places → List Saved → Places
@@ -100,19 +103,3 @@ placed_synced p ctx = record p { stack = []; saved = map without_stack p.saved; 
 -- tracing ends: what is held is lost
 abbrev pub placed_closed : Places → Places
 placed_closed p = record p { saved = [] }
-
--- ---- what an event changes
-
-abbrev pub places_on : Image → ℕ → ℕ → Option Running → Places → Effect → Places
-places_on image depth most None p (effect.Began addr ctx) = placed_begun addr ctx
-places_on image depth most (Some r) p (effect.Ran s ctx) = if is_p0 s then placed_behind depth most p s else p
-places_on image depth most (Some r) p (effect.Retired n) = record p { saved = drop (p0s (take n r.held)) p.saved }
-places_on image depth most (Some r) p (effect.Cancelled n) = placed_back p (p0s (newest n r.held))
-places_on image depth most (Some r) p effect.Flipped = placed_flipped p (flips image r).pc
-places_on image depth most (Some r) p effect.Synced = placed_synced p r.ctx
-places_on image depth most (Some r) p effect.Overflowed = placed_closed p
-places_on image depth most (Some r) p effect.Stopped = placed_closed p
-places_on image depth most current p e = p
-
-abbrev pub places_after : Image → ℕ → ℕ → Execution → Places → Effect → Places
-places_after image depth most x p e = places_on image depth most x.current p e

@@ -6,7 +6,7 @@ use Rattle.packet_grammar.specs.declared.packet.Packet.{Packet}
 use Rattle.packet_writer.specs.Spelling.{spelling}
 use Rattle.program_image.specs.declared.image.Image.{Image}
 use Rattle.spec_run.specs.declared.event.Event.{Event}
-use Rattle.trace_unit.specs.Orders.{orders}
+use Rattle.trace_unit.specs.Effects.{orders}
 use Rattle.trace_unit.specs.Packets.{nothing_shared, packets_all, settle_packets}
 use Rattle.trace_unit.specs.Whole.{nothing_waits, waits_all}
 

@@ -11,25 +11,24 @@ ghost use Rattle.return_stack.specs.Stack.{most_addresses};
 ghost use Rattle.spec_run.specs.Checks.{Place};
 ghost use Rattle.spec_run.specs.Runs.{ByOff, ByOverflow};
 ghost use Rattle.trace_unit.specs.Followed.{CanFollow, HasRoomFor, begun, cancelled, closed, element_of, first_follower};
-ghost use Rattle.trace_unit.specs.Followed.{flipped, followed, orders_done, retired, stepped, synced, windowed_lost};
+ghost use Rattle.trace_unit.specs.Followed.{flipped, followed, orders_done, retired, stepped, synced};
 ghost use Rattle.trace_unit.specs.Ordered.{CanTell, CanTellAll, bytes_all, bytes_of, told_all, told_by};
 ghost use Rattle.trace_unit.specs.Orders.{Cancel, Close, Flip, Retire, before, begin_orders, lacked, p0_order, step_orders};
 ghost use Rattle.trace_unit.specs.Orders.{sync_orders};
 ghost use Rattle.trace_unit.specs.Room.{RoomForBytes};
+ghost use Rattle.trace_unit.specs.WindowKept.{windowed_lost};
 
 use crate::places::Places;
 use crate::teller::Teller;
-use crate::window::Window;
 use element_queue::Ledger;
 use etm_types::{Ctx, P0, Settings};
 use spec_run::{Done, Run, RunStep, StepKind};
 use std::alloc::{AllocError, Global};
 
-/// The places of the run, its P0 elements that are not retired, and what is told. It has no drop: `close` ends it.
+/// The places of the run, with its P0 steps that are not retired, and what is told. It has no drop: `close` ends it.
 #[must_use]
 pub struct Follower {
     pub places: Places,
-    pub window: Window,
     pub teller: Teller,
 }
 
@@ -45,10 +44,8 @@ impl Follower {
         ensures settings { AreSettings settings.now }
     {
         let room = settings.depth() as usize;
-        let places = Places::new(alloc, room, stack_depth)?;
         Ok(Follower {
-            places,
-            window: Window::new(alloc, room)?,
+            places: Places::new(alloc, room, stack_depth)?,
             teller: Teller::new(settings),
         })
     }
@@ -90,19 +87,16 @@ impl Follower {
 
     /// Ends it. What is not retired is lost.
     pub fn close(self) -> Ledger
-        ensures value { result ≡ (windowed_lost self.window).counts }
+        ensures value { result ≡ (windowed_lost self.places.window).counts }
         ensures balanced { Balances result 0 }
     {
-        let Follower {
-            places: _,
-            window,
-            teller: _,
-        } = self;
-        window.close()
+        let Follower { places, teller: _ } = self;
+        places.close()
     }
 
     /// Tracing begins.
     fn begin(&mut self, addr: u64, ctx: Ctx, bytes: &mut Vec<u8>)
+        requires none { self.old.places.window.p0s ≡ [] }
         requires tells { CanTellAll self.old.teller (begin_orders addr ctx) }
         requires room { RoomForBytes bytes.old (bytes_all self.old.teller (begin_orders addr ctx)) }
         ensures follower { self.new ≡ begun self.old addr ctx }
@@ -116,8 +110,7 @@ impl Follower {
 
     /// A P0 step was executed.
     fn step(&mut self, step: &RunStep, bytes: &mut Vec<u8>)
-        requires places { HasRoomFor self.old.places.room self.old.places.places.saved }
-        requires window { HasRoomFor self.old.window.room self.old.window.p0s }
+        requires window { HasRoomFor self.old.places.window.room self.old.places.window.p0s }
         requires tells { CanTellAll self.old.teller (step_orders self.old.places.places step.now) }
         requires room { RoomForBytes bytes.old (bytes_all self.old.teller (step_orders self.old.places.places step.now)) }
         ensures follower { self.new ≡ stepped self.old step.now }
@@ -125,8 +118,7 @@ impl Follower {
             ≡ bytes.old.items ++ bytes_all self.old.teller (step_orders self.old.places.places step.now) }
     {
         self.tell(step, bytes);
-        self.places.push(step);
-        self.window.push(element_of(step));
+        self.places.push(step, element_of(step));
     }
 
     /// Tells what the reader lacks of the block, and a P0 step; of an exception at its target both in one.
@@ -192,30 +184,27 @@ impl Follower {
 
     /// So many P0 steps are retired.
     fn retire(&mut self, n: u32)
-        requires held { n ≤ length self.old.window.p0s }
+        requires held { n ≤ length self.old.places.window.p0s }
         requires can { CanTell self.old.teller (Retire n) }
         ensures { self.new ≡ retired self.old n }
     {
         self.teller.retire(n);
         self.places.retire(n as usize);
-        self.window.retire(n as usize);
     }
 
     /// So many of the newest P0 steps are taken back.
     fn cancel(&mut self, n: u32)
-        requires saved { n ≤ length self.old.places.places.saved }
-        requires held { n ≤ length self.old.window.p0s }
+        requires held { n ≤ length self.old.places.window.p0s }
         requires can { CanTell self.old.teller (Cancel n) }
         ensures { self.new ≡ cancelled self.old n }
     {
         self.teller.cancel(n);
         self.places.cancel(n as usize);
-        self.window.cancel(n as usize);
     }
 
     /// The newest step goes the other way, to this address.
     fn flip(&mut self, pc: u64, bytes: &mut Vec<u8>)
-        requires newest { (p0s : List Element) × (taken : Bool) × (self.old.window.p0s ≡ p0s ++ Atom taken ∷ []) }
+        requires newest { (p0s : List Element) × (taken : Bool) × (self.old.places.window.p0s ≡ p0s ++ Atom taken ∷ []) }
         requires can { CanTell self.old.teller Flip }
         requires room { RoomForBytes bytes.old (bytes_of self.old.teller Flip) }
         ensures follower { self.new ≡ flipped self.old pc }
@@ -223,21 +212,20 @@ impl Follower {
     {
         self.teller.flip(bytes);
         self.places.flip(pc);
-        self.window.flip();
     }
 
     /// Synchronisation, in this context.
     fn sync(&mut self, ctx: Ctx, bytes: &mut Vec<u8>)
-        requires few { length self.old.window.p0s < 2 ^ 32 }
-        requires tells { CanTellAll self.old.teller (sync_orders (length self.old.window.p0s) self.old.places.places.start ctx) }
+        requires few { length self.old.places.window.p0s < 2 ^ 32 }
+        requires tells { CanTellAll self.old.teller (sync_orders (length self.old.places.window.p0s) self.old.places.places.start ctx) }
         requires room { RoomForBytes bytes.old
-            (bytes_all self.old.teller (sync_orders (length self.old.window.p0s) self.old.places.places.start ctx)) }
+            (bytes_all self.old.teller (sync_orders (length self.old.places.window.p0s) self.old.places.places.start ctx)) }
         ensures follower { self.new ≡ synced self.old ctx }
         ensures bytes { bytes.new.items ≡ bytes.old.items
-            ++ bytes_all self.old.teller (sync_orders (length self.old.window.p0s) self.old.places.places.start ctx) }
+            ++ bytes_all self.old.teller (sync_orders (length self.old.places.window.p0s) self.old.places.places.start ctx) }
     {
         self.teller.settle(bytes);
-        let announced = self.window.held() as u32;
+        let announced = self.places.held() as u32;
         self.teller.sync(announced, bytes);
         self.teller.start(self.places.start(), ctx, bytes);
         self.places.sync(ctx);
@@ -251,8 +239,7 @@ impl Follower {
         ensures bytes { bytes.new.items ≡ bytes.old.items ++ bytes_of self.old.teller (Close ByOverflow) }
     {
         self.teller.overflow(bytes);
-        self.places.close();
-        self.window.lose();
+        self.places.lose();
     }
 
     /// Tracing ends.
@@ -263,8 +250,7 @@ impl Follower {
         ensures bytes { bytes.new.items ≡ bytes.old.items ++ bytes_of self.old.teller (Close ByOff) }
     {
         self.teller.stop(bytes);
-        self.places.close();
-        self.window.lose();
+        self.places.lose();
     }
 }
 

@@ -1,95 +1,89 @@
 //! The places of a run, as far as its trace unit knows them, with the return addresses that a reader has too (Arm IHI 0064,
-//! "Return stack").
-ghost use Rattle.std.specs.Prelude.{◌≡◌, ◌<◌, ◌≤◌, length, drop, slice_get, IfOk, IfSome};
+//! "Return stack"), and its P0 steps that are not retired.
+ghost use Rattle.std.specs.Prelude.{◌≡◌, ◌<◌, ◌≤◌, ◌++◌, ◌∷◌, [], length, Bool, List, IfOk};
+ghost use Rattle.element_queue.specs.Counting.{AreCounts, Balances, no_counts};
+ghost use Rattle.etm_types.specs.declared.element.P0.{P0 as Element};
+ghost use Rattle.etm_types.specs.declared.element.P0.TheVariants.{Atom};
 ghost use Rattle.return_stack.specs.Stack.{most_addresses};
+ghost use Rattle.trace_unit.specs.Effects.{counts_lost};
 ghost use Rattle.trace_unit.specs.Orders.{is_target};
 ghost use Rattle.trace_unit.specs.Places.{left_by, no_places, placed_back, placed_begun, placed_behind, placed_closed};
-ghost use Rattle.trace_unit.specs.Places.{placed_flipped, placed_synced, saves};
+ghost use Rattle.trace_unit.specs.Places.{placed_flipped, placed_retired, placed_synced, saves};
+ghost use Rattle.trace_unit.specs.WindowKept.{pushed, windowed_cancelled, windowed_flipped, windowed_lost, windowed_retired};
 
+use crate::window::{Saved, Window};
 use a64_branches::INSTRUCTION_BYTES;
-use circular_buffer::HeapCircularBuffer;
-use etm_types::Ctx;
-use return_stack::{ReturnStack, SavedStack};
+use element_queue::{Counts, Ledger};
+use etm_types::{Ctx, P0};
+use return_stack::ReturnStack;
 use spec_run::{RunStep, StepKind};
 use std::alloc::{AllocError, Global};
 use std::marker::Model;
 
-/// What is kept of a P0 step that is not retired.
-#[derive(Clone, Copy, Debug, Drop)]
-pub struct Saved {
-    /// The return addresses before it.
-    stack: SavedStack,
-    /// The context and the start of its block.
-    context: Ctx,
-    start: u64,
-}
-
-impl Model for Saved {
-    ghost use Rattle.trace_unit.specs.Places.{Saved as Keeps};
-
-    ghost Value = { Keeps };
-
-    ghost view = { λ s. record { stack = s.stack; context = s.context; start = s.start } };
-
-    ghost inverse = { λ s. record { stack = s.stack; context = s.context; start = s.start } };
-}
-
-/// The return addresses, what is saved of each P0 step that is held, and what the reader knows of
-/// the begun block.
+/// The return addresses, what the reader knows of the begun block, and the P0 steps that are not retired, with what is saved of each. It
+/// has no drop: `close` ends it.
 ///
-/// A call costs the same whatever is held, but for `retire` and `cancel`, which look once at each P0 step that goes, and `begin` and
+/// A call costs the same whatever is held, but for `retire` and `cancel`, which look once at each P0 step that goes, and `lose` and
 /// `close`, by which all go.
-#[derive(Drop)]
+#[must_use]
 pub struct Places {
     stack: ReturnStack,
-    /// Oldest first.
-    saved: HeapCircularBuffer<Saved>,
-    /// So many of the oldest were saved before a synchronisation, and count as saved without return addresses.
-    emptied: usize,
     /// Whether the begun block needs an address.
     needs: bool,
     start: u64,
     /// The context that the reader has for the begun block.
     reader_context: Ctx,
+    window: Window,
 }
 
 impl Model for Places {
     ghost use Rattle.std.specs.Prelude.{◌≤◌, All, length};
-    ghost use Rattle.trace_unit.specs.Places.{Saved as Keeps};
-    ghost use Rattle.trace_unit.specs.PlacesKept.{PlacesKept, without_stacks};
+    ghost use Rattle.trace_unit.specs.PlacesKept.{PlacesKept};
+    ghost use Rattle.trace_unit.specs.WindowKept.{StepKept, p0s_in, saved_in};
 
     ghost Value = { PlacesKept };
 
     ghost view = { λ p. record {
       places = record {
         stack = p.stack.addresses;
-        saved = without_stacks p.emptied p.saved.items;
+        saved = saved_in p.window.steps;
         needs = p.needs;
         start = p.start;
         reader_context = p.reader_context;
       };
       stack_depth = p.stack.depth;
-      room = p.saved.capacity;
+      window = record { p0s = p0s_in p.window.steps; room = p.window.room; counts = p.window.counts };
     } };
 
-    ghost invariant = { λ p. All (λ (s : Keeps). length s.stack ≤ p.stack.depth) p.saved.items × (p.emptied ≤ length p.saved.items) };
+    ghost invariant = { λ p. All (λ (s : StepKept). length s.saved.stack ≤ p.stack.depth) p.window.steps };
 }
 
 impl Places {
-    /// No places, with room for so many P0 steps that are held, and for so many return addresses.
+    /// No places, with room for so many P0 steps that are not retired, and for so many return addresses.
     /// This is the one call that takes memory, and the error means want of it.
     pub fn new(alloc: Global, room: usize, stack_depth: usize) -> Result<Places, AllocError>
         requires { stack_depth ≤ most_addresses }
-        ensures { IfOk result (λ p. p ≡ record { places = no_places; stack_depth = stack_depth; room = room }) }
+        ensures { IfOk result (λ p. p ≡ record {
+          places = no_places;
+          stack_depth = stack_depth;
+          window = record { p0s = []; room = room; counts = no_counts };
+        }) }
     {
         Ok(Places {
             stack: ReturnStack::new(alloc, stack_depth)?,
-            saved: HeapCircularBuffer::with_capacity(alloc, room)?,
-            emptied: 0,
             needs: false,
             start: 0,
             reader_context: Ctx::initial(),
+            window: Window::new(alloc, room)?,
         })
+    }
+
+    /// How many P0 steps are not retired.
+    pub fn held(&self) -> usize
+        ensures held { result ≡ length self.now.window.p0s }
+        ensures few { result ≤ self.now.window.room }
+    {
+        self.window.held()
     }
 
     /// Whether the begun block needs an address.
@@ -120,24 +114,26 @@ impl Places {
         self.reader_context
     }
 
-    /// Tracing begins at an address.
+    /// Tracing begins at an address, where no P0 step is held.
     pub fn begin(&mut self, addr: u64, ctx: Ctx)
+        requires { self.old.window.p0s ≡ [] }
         ensures { self.new ≡ record (self.old) { places = placed_begun addr ctx } }
     {
         self.stack.clear();
-        self.saved.clear();
-        self.emptied = 0;
         self.needs = false;
         self.start = addr;
         self.reader_context = ctx;
     }
 
     /// A P0 step was executed. At depth 0, where there is no room, it is retired at once.
-    pub fn push(&mut self, step: &RunStep)
-        requires { 0 < self.old.room → length self.old.places.saved < self.old.room }
-        ensures { self.new ≡ record (self.old) { places = placed_behind self.old.room self.old.stack_depth self.old.places step.now } }
+    pub fn push(&mut self, step: &RunStep, p0: P0)
+        requires { 0 < self.old.window.room → length self.old.window.p0s < self.old.window.room }
+        ensures { self.new ≡ record (self.old) {
+          places = placed_behind self.old.window.room self.old.stack_depth self.old.places step.now;
+          window = pushed self.old.window self.old.window.room p0;
+        } }
     {
-        self.save(step);
+        self.save(step, p0);
         if step.link {
             self.stack.push(step.addr.wrapping_add(INSTRUCTION_BYTES));
         }
@@ -146,20 +142,20 @@ impl Places {
         self.reader_context = step.ctx;
     }
 
-    /// Keeps what the unit goes back to where a P0 step is taken back. At depth 0 nothing is kept.
-    fn save(&mut self, step: &RunStep)
-        requires { 0 < self.old.room → length self.old.places.saved < self.old.room }
+    /// Keeps a P0 step, and what the unit goes back to where it is taken back. At depth 0 nothing is kept.
+    fn save(&mut self, step: &RunStep, p0: P0)
+        requires { 0 < self.old.window.room → length self.old.window.p0s < self.old.window.room }
         ensures { self.new ≡ record (self.old) {
-          places = record (self.old.places) { saved = saves self.old.room self.old.places step.now };
+          places = record (self.old.places) { saved = saves self.old.window.room self.old.places step.now };
+          window = pushed self.old.window self.old.window.room p0;
         } }
     {
-        if self.saved.capacity() > 0 {
-            self.saved.push_back(Saved {
-                stack: self.stack.save(),
-                context: step.ctx,
-                start: self.start,
-            });
-        }
+        let saved = Saved {
+            stack: self.stack.save(),
+            context: step.ctx,
+            start: self.start,
+        };
+        self.window.push(p0, saved);
     }
 
     /// Takes the return address off where the reader does so too, and tells whether the block
@@ -182,48 +178,40 @@ impl Places {
 
     /// So many of the oldest P0 steps are retired.
     pub fn retire(&mut self, n: usize)
-        ensures { self.new ≡ record (self.old) { places = record (self.old.places) { saved = drop n self.old.places.saved } } }
+        requires { n ≤ length self.old.window.p0s }
+        ensures { self.new ≡ record (self.old) {
+          places = placed_retired self.old.places n;
+          window = windowed_retired self.old.window n;
+        } }
     {
-        let held = self.saved.len();
-        self.saved.truncate_front(held.saturating_sub(n));
-        self.emptied = self.emptied.saturating_sub(n);
+        self.window.retire(n);
     }
 
     /// So many of the newest P0 steps are taken back.
     pub fn cancel(&mut self, n: usize)
-        requires { n ≤ length self.old.places.saved }
-        ensures { self.new ≡ record (self.old) { places = placed_back self.old.places n } }
+        requires { n ≤ length self.old.window.p0s }
+        ensures { self.new ≡ record (self.old) {
+          places = placed_back self.old.places n;
+          window = windowed_cancelled self.old.window n;
+        } }
     {
-        let kept = self.saved.len() - n;
-        if let Some(oldest) = self.saved_at(kept) {
+        if let Some(oldest) = self.window.cancel(n) {
             self.stack.restore(&oldest.stack);
             self.needs = false;
             self.start = oldest.start;
             self.reader_context = oldest.context;
         }
-        self.saved.truncate_back(kept);
-        self.emptied = self.emptied.min(kept);
     }
 
-    /// What is saved of the P0 step at an index; 0 is the oldest.
-    fn saved_at(&self, index: usize) -> Option<Saved>
-        ensures saved { result ≡ slice_get self.now.places.saved index }
-        ensures few { IfSome result (λ s. length s.stack ≤ self.now.stack_depth) }
-    {
-        let saved = *self.saved.get(index)?;
-        if index >= self.emptied {
-            return Some(saved);
-        }
-        Some(Saved {
-            stack: SavedStack::empty(),
-            ..saved
-        })
-    }
-
-    /// The newest step goes the other way, to this address.
+    /// The newest step, a conditional branch, goes the other way, to this address.
     pub fn flip(&mut self, pc: u64)
-        ensures { self.new ≡ record (self.old) { places = placed_flipped self.old.places pc } }
+        requires { (p0s : List Element) × (taken : Bool) × (self.old.window.p0s ≡ p0s ++ Atom taken ∷ []) }
+        ensures { self.new ≡ record (self.old) {
+          places = placed_flipped self.old.places pc;
+          window = windowed_flipped self.old.window;
+        } }
     {
+        self.window.flip();
         self.needs = false;
         self.start = pc;
     }
@@ -234,17 +222,42 @@ impl Places {
         ensures { self.new ≡ record (self.old) { places = placed_synced self.old.places ctx } }
     {
         self.stack.clear();
-        let held = self.saved.len();
-        self.emptied = held;
+        self.window.sync();
         self.needs = false;
         self.reader_context = ctx;
     }
 
     /// Tracing ends: what is held is lost.
-    pub fn close(&mut self)
-        ensures { self.new ≡ record (self.old) { places = placed_closed self.old.places } }
+    pub fn lose(&mut self)
+        ensures { self.new ≡ record (self.old) {
+          places = placed_closed self.old.places;
+          window = windowed_lost self.old.window;
+        } }
     {
-        self.saved.clear();
-        self.emptied = 0;
+        self.window.lose();
+    }
+
+    /// What became of the P0 steps.
+    pub fn counts(&self) -> Counts
+        ensures value { result ≡ self.now.window.counts }
+        ensures balanced { Balances self.now.window.counts (length self.now.window.p0s) }
+        ensures counted { AreCounts self.now.window.counts }
+    {
+        self.window.counts()
+    }
+
+    /// Ends it. What is not retired is lost.
+    pub fn close(self) -> Ledger
+        ensures value { result ≡ counts_lost (length self.window.p0s) self.window.counts }
+        ensures balanced { Balances result 0 }
+    {
+        let Places {
+            stack: _,
+            needs: _,
+            start: _,
+            reader_context: _,
+            window,
+        } = self;
+        window.close()
     }
 }

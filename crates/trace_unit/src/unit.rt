@@ -13,7 +13,8 @@ ghost use Rattle.spec_run.specs.RunAfter.{IsEvent, run_after};
 ghost use Rattle.spec_run.specs.Runs.{Execution};
 ghost use Rattle.spec_run.specs.declared.event.Event.{Event as Events};
 ghost use Rattle.spec_run.specs.declared.run_fault.RunFault.{RunFault as Refusal};
-ghost use Rattle.trace_unit.specs.Kept.{StandsAt, counts_lost, counts_of};
+ghost use Rattle.trace_unit.specs.Effects.{counts_lost, counts_of};
+ghost use Rattle.trace_unit.specs.Kept.{StandsAt};
 ghost use Rattle.trace_unit.specs.Small.{unretired};
 ghost use Rattle.trace_unit.specs.Written.{settled, written};
 
@@ -129,7 +130,7 @@ impl Unit {
         ensures counted { (image : Parts) (events : List Events) → StandsAt image self.now events
             → result ≡ counts_of image self.now.settings.depth events }
     {
-        self.follower.window.counts()
+        self.follower.places.counts()
     }
 
     /// Appends what waits to be written, and ends the unit. What is not retired is lost. The error means want of memory; then

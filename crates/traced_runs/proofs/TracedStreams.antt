@@ -54,7 +54,7 @@ use Rattle.traced_runs.specs.Traced.{is_of_one, table_of, trace_frames, trace_li
 use Rattle.woven_traces.specs.Woven as weave
 use Rattle.trace_unit.proofs.AllPackets.{run_spelled}
 use Rattle.trace_unit.proofs.TraceShown.{trace_shows}
-use Rattle.trace_unit.specs.Orders.{orders}
+use Rattle.trace_unit.specs.Effects.{orders}
 use Rattle.trace_unit.specs.Packets.{nothing_shared, packets_all, settle_packets}
 use Rattle.trace_unit.specs.Whole.{nothing_waits, waits_all}
 use Rattle.trace_unit.specs.Written.{settled, spelled}

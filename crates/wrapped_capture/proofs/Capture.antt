@@ -36,8 +36,9 @@ use Rattle.trace_unit.proofs.OrderPackets.{first_tells, settle_tells}
 use Rattle.trace_unit.proofs.RunOrders.{whole_shows}
 use Rattle.trace_unit.proofs.Telling.{Tells, are_told, tells_none, tells_on}
 use Rattle.trace_unit.proofs.TraceShown.{run_begins, run_told}
+use Rattle.trace_unit.specs.Effects.{orders}
 use Rattle.trace_unit.specs.Fitting.{FitsOrder}
-use Rattle.trace_unit.specs.Orders.{Order, Sync, Tell, orders}
+use Rattle.trace_unit.specs.Orders.{Order, Sync, Tell}
 use Rattle.trace_unit.specs.Packets.{cancel_packets, nothing_shared, notice_packets, out_packets, packed, packets_all, settle_packets, shared_all}
 use Rattle.trace_unit.specs.Telling.{told_with}
 use Rattle.trace_unit.specs.Told.{atom_element, cancels_of}

@@ -8,7 +8,7 @@ use Rattle.trace_unit.proofs.follower.Follower.sync.Goals.{After-held-announced}
 
 -- room for the trace info and the start, behind what is settled
 behind_settle : (c : After-held-announced)
-    → let n = length c.args.self.now.window.p0s in
+    → let n = length c.args.self.now.places.window.p0s in
     let settled = told_by c.args.self.now.teller Settle in
     RoomForBytes c.settle.new.bytes (bytes_of settled (Tell (Sync n))
     ++ (bytes_of (told_by settled (Tell (Sync n))) (Tell (Start c.args.self.now.places.places.start c.args.ctx)) ++ []))

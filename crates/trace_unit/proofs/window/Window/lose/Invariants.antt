@@ -5,6 +5,7 @@ abbrev pub invariant-loop-oldest : goal.invariant-loop-oldest
 invariant-loop-oldest l =
     let w = l.self-inside in let was = l.initial.self-inside in record {
       capacity : w.ring.capacity ≡ was.ring.capacity;
+      emptied : w.emptied ≡ was.emptied;
       made : w.ledger.made ≡ was.ledger.made;
       committed : w.ledger.committed ≡ was.ledger.committed;
       cancelled : w.ledger.cancelled ≡ was.ledger.cancelled;

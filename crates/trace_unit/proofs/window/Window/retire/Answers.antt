@@ -1,8 +1,8 @@
-use Rattle.std.proofs.Common.{◌≡◌, length, drop, ap, sym, ◌∙◌, arith, drop-drop, length-drop}
-use Rattle.std.proofs.lemmas.List.{drop-map, length-map}
-use Rattle.element_queue.specs.Counting.{add}
+use Rattle.std.proofs.Common.{◌≡◌, ◌-◌, length, drop, ap, sym, ◌∙◌, arith, drop-drop, length-drop}
 use Rattle.element_queue.proofs.Balanced.{same_counts}
-use Rattle.trace_unit.proofs.WindowHeld.{p0s_of}
+use Rattle.trace_unit.specs.Effects.{counts_retired}
+use Rattle.trace_unit.specs.WindowKept.{StepsKept, without_stacks}
+use Rattle.trace_unit.proofs.WindowHeld.{emptied_drop, emptied_length}
 use Rattle.trace_unit.proofs.window.Window.retire.Goals.{in-Some, in_default}
 use Rattle.trace_unit.proofs.window.Window.retire.Goals as goal
 
@@ -11,13 +11,14 @@ loop-preserved c =
     let was = c.self.inside.ring.items in
     let kept = c.loop.invariant in
     let held = ap length kept.items ∙ length-drop c.loop.counter was in
-    let asked = ap (λ w. length w.p0s) (sym c.self.view_is) ∙ length-map was (λ e. e.p0) in
+    let asked = ap (λ (k : StepsKept). length k.steps) (sym c.self.view_is) ∙ emptied_length c.self.inside.emptied was in
     elim c.match-pop_front.branch [
       | in-Some w ↦
-          let counts = w.commit.ensures.committed in
+          let counts = w.commit.ensures in
           rw w.self-inside-is (record {
             items = c.pop_front.ensures.rest ∙ ap (drop 1) kept.items ∙ drop-drop 1 c.loop.counter was;
             capacity = c.pop_front.ensures.capacity ∙ kept.capacity;
+            emptied = kept.emptied;
             made = ap (λ l. l.made) counts ∙ kept.made;
             committed = omega (arith, ap (λ l. l.committed) counts);
             cancelled = ap (λ l. l.cancelled) counts ∙ kept.cancelled;
@@ -28,14 +29,16 @@ loop-preserved c =
 
 pub returns : goal.returns
 returns c =
-    let was = c.self.inside.ring.items in
-    let counts = c.self.inside.ledger in
+    let was = c.self.inside in
+    let n = c.args.n in
+    let emptied = c.saturating_sub-self-inside.result in
     let kept = c.loop.invariant in
-    let all : c.loop.counter ≡ c.args.n = omega arith in
-    let same : c.loop.self-inside.ledger ≡ record counts { committed = add counts.committed c.args.n } =
+    let all : c.loop.counter ≡ n = omega arith in
+    let left : emptied ≡ was.emptied - n = c.saturating_sub-self-inside.ensures ∙ ap (λ e. e - n) kept.emptied in
+    let same : c.loop.self-inside.ledger ≡ counts_retired n was.ledger =
     same_counts _ _ (omega arith) (omega arith) (omega arith) (omega arith) in
     rw (← c.self.view_is) (λ k. record {
-      p0s = (ap p0s_of kept.items ∙ sym (drop-map (λ e. e.p0) c.loop.counter was) ∙ ap (λ n. drop n (p0s_of was)) all) k;
+      steps = (ap (without_stacks emptied) (kept.items ∙ ap (λ n. drop n was.ring.items) all) ∙ emptied_drop n was.emptied emptied was.ring.items left) k;
       room = kept.capacity k;
       counts = same k;
     })

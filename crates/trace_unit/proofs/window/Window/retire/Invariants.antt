@@ -6,6 +6,7 @@ invariant-loop l =
     let w = l.self-inside in let was = l.initial.self-inside in record {
       items : w.ring.items ≡ drop l.counter was.ring.items;
       capacity : w.ring.capacity ≡ was.ring.capacity;
+      emptied : w.emptied ≡ was.emptied;
       made : w.ledger.made ≡ was.ledger.made;
       committed : w.ledger.committed ≡ (was.ledger.committed + l.counter) % 2 ^ 64;
       cancelled : w.ledger.cancelled ≡ was.ledger.cancelled;
