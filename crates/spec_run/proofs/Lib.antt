@@ -1,4 +1,5 @@
 pub mod EffectExamples
+pub mod EventExamples
 pub mod EventsJoined
 pub mod EventsKept
 pub mod Examples

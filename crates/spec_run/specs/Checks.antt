@@ -6,7 +6,6 @@ use Rattle.a64_branches.specs.declared.class.Class.TheVariants as class
 use Rattle.etm_types.specs.declared.context.Ctx.{Ctx}
 use Rattle.program_image.specs.Blocks.{behind, class_at}
 use Rattle.program_image.specs.declared.image.Image.{Image}
-use Rattle.spec_run.specs.Kinds.{is_p0_kind}
 use Rattle.spec_run.specs.Runs.{Running}
 use Rattle.spec_run.specs.Steps.{ends_in_cond, ends_in_isb, isb_behind, is_p0, p0s}
 use Rattle.spec_run.specs.declared.effect.Effect.{Effect}

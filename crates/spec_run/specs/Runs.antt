@@ -1,5 +1,5 @@
 -- What a core executed since its trace began, and what is changed of it while tracing is on. Which effect changes what is in Effects.antt.
-use Rattle.std.specs.Prelude.{ℕ, zero, suc, ◌++◌, Bool, true, false, not, List, [], ◌∷◌, take, drop, Option, Some, None}
+use Rattle.std.specs.Prelude.{ℕ, zero, suc, ◌++◌, Bool, false, not, List, [], ◌∷◌, take, drop, Option, Some, None}
 use Rattle.a64_branches.specs.Offsets.{target}
 use Rattle.a64_branches.specs.declared.class.Class.{Class}
 use Rattle.a64_branches.specs.declared.class.Class.TheVariants as class

@@ -1,8 +1,9 @@
 -- What each effect and each order changes of what a unit keeps, and what each tells: where everything is set, and where nothing is.
-use Rattle.std.proofs.Common.{◌≡◌, ℕ, Bool, true, false, List, [], ◌∷◌, ◌++◌, map, replicate, Option, Some, None, refl}
+use Rattle.std.proofs.Common.{◌≡◌, ℕ, Bool, true, false, List, [], ◌∷◌, ◌++◌, map, replicate, Option, Some, None, refl, ◌^◌, ◌-◌}
 use Rattle.a64_branches.specs.Classes.{class_of}
 use Rattle.atom_formats.specs.Bytes.{byte_of}
 use Rattle.atom_formats.specs.Formats.{atom_formats}
+use Rattle.element_queue.specs.declared.ledger.Counts.{Counts}
 use Rattle.etm_types.specs.declared.address.AddrForm.TheVariants.{Match, Short1, Short2, Long32, Long64}
 use Rattle.etm_types.specs.declared.atoms.FewAtoms.{FewAtoms}
 use Rattle.etm_types.specs.declared.context.Ctx.{Ctx}
@@ -19,7 +20,7 @@ use Rattle.spec_run.specs.declared.effect.Effect.TheVariants as effect
 use Rattle.spec_run.specs.declared.step.RunStep.{RunStep}
 use Rattle.spec_run.specs.declared.step.StepKind.{StepKind}
 use Rattle.spec_run.specs.declared.step.StepKind.TheVariants as kind
-use Rattle.trace_unit.specs.Effects.{orders_on, places_on}
+use Rattle.trace_unit.specs.Effects.{counts_by, orders_on, places_on}
 use Rattle.trace_unit.specs.Orders.{Address, Branch, Cancel, Close, Context, Exception, ExceptionAtTarget, Flip, On, Order, Place, Retire}
 use Rattle.trace_unit.specs.Orders.{Settle, Start, Sync, Tell}
 use Rattle.trace_unit.specs.Packets.{Shared, flip_packet, notice_packets, nothing_shared, packets_of, run_of, shared_after}
@@ -136,6 +137,39 @@ pub while_off :
     ∷ effect.Stopped ∷ effect.Contexted program ∷ [])
     ≡ record { stack = []; saved = []; needs = false; start = 0x7000; reader_context = program } ∷ replicate 8 loud
 while_off = refl
+
+-- ---- counts of P0 steps
+
+abbrev counts : ℕ → ℕ → ℕ → ℕ → Counts
+counts made committed cancelled lost = record { made = made; committed = committed; cancelled = cancelled; lost = lost }
+
+abbrev so_far : Counts
+so_far = counts 10 20 30 40
+
+-- plain steps are in no count: of the three held steps two are P0 steps, and so one of the two oldest and one of the newest
+pub counted_of_each_effect :
+    map (counts_by 4 running so_far)
+    (ran kind.Jump 0x5000 true ∷ ran kind.Plain 0x4004 false ∷ effect.Retired 2 ∷ effect.Retired 3 ∷ effect.Cancelled 1 ∷ effect.Cancelled 3
+    ∷ effect.Overflowed ∷ effect.Stopped ∷ effect.Flipped ∷ effect.Synced ∷ effect.Contexted program ∷ effect.Began 0x7000 program ∷ [])
+    ≡ counts 11 20 30 40 ∷ so_far ∷ counts 10 21 30 40 ∷ counts 10 22 30 40 ∷ counts 10 20 31 40 ∷ counts 10 20 32 40
+    ∷ counts 10 20 30 42 ∷ counts 10 20 30 42 ∷ so_far ∷ so_far ∷ so_far ∷ so_far ∷ []
+counted_of_each_effect = refl
+
+-- at depth 0 a P0 step is retired as it is executed; each count goes round, and where tracing is off nothing counts
+pub counted_at_depth_0 : counts_by 0 running (counts 10 (2 ^ 64 - 1) 30 40) (ran kind.Jump 0x5000 true) ∷ counts_by 0 running (counts (2 ^ 64 - 1) 20 30 40) (ran kind.Jump 0x5000 true) ∷ []
+    ≡ counts 11 0 30 40 ∷ counts 0 21 30 40 ∷ []
+counted_at_depth_0 = refl
+
+pub counts_go_round : counts_by 4 running (counts (2 ^ 64 - 1) 20 30 40) (ran kind.Jump 0x5000 true) ∷ counts_by 4 running (counts 10 20 (2 ^ 64 - 1) 40) (effect.Cancelled 3)
+    ∷ counts_by 4 running (counts 10 (2 ^ 64 - 1) 30 40) (effect.Retired 3) ∷ counts_by 4 running (counts 10 20 30 (2 ^ 64 - 1)) effect.Stopped ∷ []
+    ≡ counts 0 20 30 40 ∷ counts 10 20 1 40 ∷ counts 10 1 30 40 ∷ counts 10 20 30 1 ∷ []
+counts_go_round = refl
+
+pub uncounted_while_off :
+    map (counts_by 4 None so_far)
+    (effect.Began 0x7000 program ∷ ran kind.Jump 0x5000 true ∷ effect.Retired 1 ∷ effect.Cancelled 1 ∷ effect.Overflowed ∷ effect.Stopped ∷ [])
+    ≡ replicate 6 so_far
+uncounted_while_off = refl
 
 -- ---- orders
 

@@ -22,6 +22,7 @@ use Rattle.etm_types.specs.declared.context.Ctx.{Ctx}
 use Rattle.program_image.specs.Part.{Part}
 use Rattle.spec_run.specs.declared.event.Event.{Event}
 use Rattle.spec_run.specs.declared.event.Event.TheVariants as event
+use Rattle.trace_unit.specs.Packing.{longest}
 use Rattle.trace_unit.specs.Written.{settled, written}
 
 abbrev pub user : Ctx
@@ -68,6 +69,17 @@ many_so_far : written loop (sizes 64) 15 many ≡
     async ++ 0x01 ∷ 0x01 ∷ 0x00 ∷ 0x04 ∷ 0x85 ∷ 0x02 ∷ 0x10 ∷ 0x00 ∷ 0x00 ∷ 0x00 ∷ 0x00 ∷ 0x00 ∷ 0x00 ∷ 0x10 ∷ 0xd4 ∷ []
 unfolding class_of atom_formats byte_of
 many_so_far = refl
+
+-- ---- the longest front
+
+-- of EEEN all four, of N that one, and of NNNE, which no packet of four tells, three
+told_at_once : longest (true ∷ true ∷ true ∷ false ∷ []) ∷ longest (false ∷ []) ∷ longest (false ∷ false ∷ false ∷ true ∷ []) ∷ [] ≡ 4 ∷ 1 ∷ 3 ∷ []
+unfolding atom_formats byte_of
+told_at_once = refl
+
+not_told_as_three : longest (true ∷ true ∷ true ∷ false ∷ []) ≡ 3 → ⊥
+unfolding atom_formats byte_of
+not_told_as_three e = let n : 4 ≡ 3 = e in absurd (omega (arith, n))
 
 -- ---- a written atom is flipped
 
