@@ -10,6 +10,7 @@ use Rattle.spec_run.specs.Steps.{ends_in_cond, is_p0, kept, newest, p0s}
 use Rattle.spec_run.specs.declared.step.RunStep.{RunStep}
 use Rattle.trace_unit.proofs.Flipped.{branch, ends_in_branch, turn_newest_at}
 use Rattle.trace_unit.proofs.Lists.{kept_at}
+use Rattle.trace_unit.proofs.WindowHeld.{at_newest_push}
 use Rattle.trace_unit.specs.Agreeing.{elements_of}
 use Rattle.trace_unit.specs.Followed.{element_of}
 use Rattle.trace_unit.specs.WindowKept.{turn_newest_p0, turn_p0}
@@ -65,11 +66,6 @@ p0s_parts n steps =
 
 -- ---- the newest step goes the other way
 
-turn_at : (xs : List P0) (x : P0) → turn_newest_p0 (xs ++ x ∷ []) ≡ xs ++ turn_p0 x ∷ []
-turn_at [] x = refl
-turn_at (y ∷ []) x = refl
-turn_at (y ∷ z ∷ xs) x = ap (λ l. y ∷ l) (turn_at (z ∷ xs) x)
-
 pub record EndsInAtom (elements : List P0) : Type 0 where
   pub others : List P0
   pub taken : Bool
@@ -89,7 +85,7 @@ elements_turned image steps ends =
     ap (λ l. elements_of (turn_newest image l)) b.whole
     ∙ ap elements_of (turn_newest_at image b.others last)
     ∙ elements_joined b.others (turned image last ∷ [])
-    ∙ sym (turn_at (elements_of b.others) (Atom b.taken))
+    ∙ sym (at_newest_push turn_p0 (elements_of b.others) (Atom b.taken))
     ∙ ap turn_newest_p0 (sym (elements_joined b.others (last ∷ [])))
     ∙ ap (λ l. turn_newest_p0 (elements_of l)) (sym b.whole)
 

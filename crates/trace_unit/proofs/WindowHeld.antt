@@ -60,12 +60,6 @@ emptied_length zero vs = refl
 emptied_length (suc n) [] = refl
 emptied_length (suc n) (x ∷ vs) = ap suc (emptied_length n vs)
 
--- with one more
-pub emptied_push : (n : ℕ) (vs : List StepKept) (v : StepKept) → n ≤ length vs → without_stacks n (vs ++ v ∷ []) ≡ without_stacks n vs ++ v ∷ []
-emptied_push zero vs v h = refl
-emptied_push (suc n) [] v h = absurd (omega arith)
-emptied_push (suc n) (x ∷ vs) v h = ap (λ l. step_emptied x ∷ l) (emptied_push n vs v (omega arith))
-
 -- without the oldest or the newest of them
 pub emptied_drop : (i n m : ℕ) (vs : List StepKept) → m ≡ n - i → without_stacks m (drop i vs) ≡ drop i (without_stacks n vs)
 emptied_drop zero n m vs h = let same : m ≡ n = omega (arith, h) in ap (λ k. without_stacks k vs) same
