@@ -1,6 +1,7 @@
 mod CommandLines
 mod CountExamples
 mod FrameExamples
+mod LineExamples
 mod ListExamples
 pub mod ListTables
 mod SeenExamples
