@@ -1,5 +1,5 @@
 -- How the words of a line stand in a row, and what the values of options stand for, each beside near misses.
-use Rattle.std.proofs.Common.{◌≡◌, ℕ, Bool, true, false, List, [], ◌∷◌, codes, map, Option, Some, None, refl, arith}
+use Rattle.std.proofs.Common.{◌≡◌, ℕ, true, false, List, [], ◌∷◌, codes, map, Option, Some, None, refl, arith}
 use Rattle.std.proofs.lemmas.List.Elements.{All-cons, All-nil}
 use Rattle.command_words.specs.CommandLines.{Apart, Flag, IsCount, IsCounted, IsCut, IsEnd, IsForm, IsLayout, IsLine, IsNumber, IsPiece}
 use Rattle.command_words.specs.CommandLines.{IsSelftestLine, IsTraceLine, Joined, Piece, Positional, has_option, in_row}
@@ -154,8 +154,8 @@ are_traced = record {
   behind = codes "img" ∷ [];
   row = refl;
   are_pieces =
-    All-cons IsPiece (Apart option.Last (codes "5")) (Joined option.SyncEvery (codes "7") ∷ Flag option.Elf ∷ []) (refl, refl)
-    (All-cons IsPiece (Joined option.SyncEvery (codes "7")) (Flag option.Elf ∷ []) refl (All-cons IsPiece (Flag option.Elf) [] refl (All-nil IsPiece)));
+      All-cons IsPiece (Apart option.Last (codes "5")) (Joined option.SyncEvery (codes "7") ∷ Flag option.Elf ∷ []) (refl, refl)
+      (All-cons IsPiece (Joined option.SyncEvery (codes "7")) (Flag option.Elf ∷ []) refl (All-cons IsPiece (Flag option.Elf) [] refl (All-nil IsPiece)));
   end_is = (refl, refl);
   positionals_are = refl;
   only = only_traced;

@@ -1,6 +1,6 @@
-use Rattle.std.proofs.Common.{◌≡◌, [], true, false, refl, sym, ap, subst, ◌∙◌, inl, inr}
+use Rattle.std.proofs.Common.{◌≡◌, [], refl, ap, subst, ◌∙◌, inl, inr}
 use Rattle.clap.specs.Kinds.{HasKind}
-use Rattle.clap.specs.Words.{App, fault_of, is_simple, is_simple_and_free, subcommand_of, subcommand_rows_of}
+use Rattle.clap.specs.Words.{App, fault_of, is_simple, is_simple_and_free, subcommand_of}
 use Rattle.command_words.specs.Words.{texts}
 use Rattle.command_words.proofs.WordMeaning.{etm_is_free, etm_is_simple}
 use Rattle.command_words.proofs.parser.matches_of.Goals as goal
