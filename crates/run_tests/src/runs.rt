@@ -312,14 +312,17 @@ fn the_context_is_that_of_the_oldest_taken_back(rt: HostRuntime) -> Result<(), F
     follow_from_first(&rt, rt.alloc(), 4, &TAKEN_BACK)
 }
 
+/// The two oldest steps that are not retired.
+fn oldest(run: &Run) -> [Option<RunStep>; 2] {
+    [run.step_at(0), run.step_at(1)]
+}
+
 #[test]
 fn steps_that_are_not_retired_are_told(rt: HostRuntime) -> Result<(), Fail> {
     let image = Image::of_text(rt.alloc(), CODE)?;
     let mut run = run_of(rt.alloc(), 4)?;
-    assert_eq!(rt; run.step_at(0), None);
-    follow(&rt, &mut run, &image, &EACH_EVENT[..2]);
-    assert_eq!(rt; (run.step_at(0), run.step_at(1)), (Some(FIRST_STEP), None));
-    assert!(rt; !FIRST_STEP.kind.is_p0());
+    follow(&rt, &mut run, &image, &[AT_FIRST, BEHIND_A_NOP]);
+    assert_eq!(rt; oldest(&run), [Some(FIRST_STEP), None]);
     Ok(())
 }
 
@@ -580,18 +583,28 @@ const DEPTHS: [Anew; 4] = [
     ONE_IS_DEEP,
 ];
 
+/// How many steps are held behind a branch of a run that begins anew at a depth, and why another one may not be taken.
+fn begun_anew(
+    run: &mut Run,
+    image: &Image,
+    depth: u32,
+) -> Result<(u32, Option<RunFault>), RunFault> {
+    if let Ok(settings) = Settings::new(depth, 4, 4) {
+        run.restart(&settings);
+    }
+    run.apply(image, &ON_AT_THE_BRANCH.event)?;
+    run.apply(image, &Event::NotTaken)?;
+    Ok((run.unretired(), run.check(image, &Event::Taken).err()))
+}
+
 #[test]
 fn a_run_begins_anew_with_other_settings(rt: HostRuntime) -> Result<(), Fail> {
     let image = Image::of_text(rt.alloc(), CODE)?;
     let mut run = run_of(rt.alloc(), 4)?;
     for anew in &DEPTHS {
-        run.restart(&Settings::new(anew.depth, 4, 4)?);
-        assert_eq!(rt; (run.pc(), run.unretired()), (None, 0));
-        run.apply(&image, &ON_AT_THE_BRANCH.event)?;
-        run.apply(&image, &Event::NotTaken)?;
         assert_eq!(rt;
-            (run.unretired(), run.check(&image, &Event::Taken).err()),
-            (anew.unretired, anew.refused)
+            begun_anew(&mut run, &image, anew.depth),
+            Ok((anew.unretired, anew.refused))
         );
     }
     Ok(())

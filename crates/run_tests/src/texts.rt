@@ -1,6 +1,6 @@
 //! Run files and what is read of them.
 use bench_text::{Bench, BenchFault, BenchLine, BenchWhy};
-use etm_types::{Ctx, Id, Settings};
+use etm_types::{Ctx, Settings};
 use spec_run::{Event, RunFault};
 use std::alloc::Global;
 use std::test::Fail;
@@ -29,9 +29,15 @@ const STEPS: BenchLine = BenchLine {
     times: 3,
 };
 
-/// The IDs of the streams, and one more.
-fn ids(bench: &Bench) -> [Option<Id>; 3] {
-    [bench.id_at(0), bench.id_at(1), bench.id_at(2)]
+/// The ID of the `s`-th stream.
+fn id_of(bench: &Bench, s: usize) -> Option<u8> {
+    Some(bench.id_at(s)?.get())
+}
+
+/// How many streams there are, their IDs, and that of one more.
+fn streams(bench: &Bench) -> (usize, [Option<u8>; 3]) {
+    let ids = [id_of(bench, 0), id_of(bench, 1), id_of(bench, 2)];
+    (bench.streams(), ids)
 }
 
 /// The lines of the first stream and one more, and that of a stream without lines.
@@ -53,8 +59,7 @@ fn weave_of(bench: &Bench, k: usize) -> Option<(u8, u32)> {
 #[test]
 fn a_run_file_has_its_streams(rt: HostRuntime) -> Result<(), Fail> {
     let bench = Bench::read(rt.alloc(), RUN_FILE)?;
-    assert_eq!(rt; bench.streams(), 2);
-    assert_eq!(rt; ids(&bench), [Id::new(0x6f), Id::new(1), None]);
+    assert_eq!(rt; streams(&bench), (2, [Some(0x6f), Some(1), None]));
     assert_eq!(rt; lines(&bench), [Some(ON), Some(STEPS), None, None]);
     Ok(())
 }
@@ -104,17 +109,19 @@ const TRACED: [Traced; 3] = [
     },
 ];
 
+/// The settings and the return stack of the `s`-th stream.
+fn settings_of(bench: &Bench, s: usize) -> Option<(Settings, usize)> {
+    Some((bench.settings_of(s)?, bench.stack_of(s)?))
+}
+
 #[test]
 fn a_stream_has_settings_of_its_own(rt: HostRuntime) -> Result<(), Fail> {
     let bench = Bench::read(rt.alloc(), OWN_SETTINGS)?;
-    for (k, traced) in TRACED.iter().enumerate() {
-        let settings = Settings::new(traced.depth, traced.vmid_bytes, traced.cid_bytes).ok();
-        assert_eq!(rt;
-            (bench.settings_of(k), bench.stack_of(k)),
-            (settings, Some(traced.stack))
-        );
+    for (s, traced) in TRACED.iter().enumerate() {
+        let settings = Settings::new(traced.depth, traced.vmid_bytes, traced.cid_bytes)?;
+        assert_eq!(rt; settings_of(&bench, s), Some((settings, traced.stack)));
     }
-    assert_eq!(rt; (bench.settings_of(3), bench.stack_of(3)), (None, None));
+    assert_eq!(rt; settings_of(&bench, 3), None);
     Ok(())
 }
 
