@@ -125,14 +125,9 @@ fn bytes_of_one_id_come_at_once(rt: HostRuntime) -> Result<(), Fail> {
     let frames = frames_of(rt.alloc(), &[(1, 0x10), (1, 0x21), (2, 0x30)])?;
     let (_, frame) = FrameReader::new().take(&frames);
     let bytes = frame.ok_or("a frame is full")?;
-    assert_eq!(rt;
-        [bytes.run_at(0), bytes.run_at(1), bytes.run_at(2)],
-        [
-            Some((1, b"\x10\x21".as_slice())),
-            Some((1, b"\x21".as_slice())),
-            Some((2, b"\x30".as_slice())),
-        ]
-    );
+    assert_eq!(rt; bytes.run_at(0), Some((1, b"\x10\x21".as_slice())));
+    assert_eq!(rt; bytes.run_at(1), Some((1, b"\x21".as_slice())));
+    assert_eq!(rt; bytes.run_at(2), Some((2, b"\x30".as_slice())));
     Ok(())
 }
 
