@@ -2,6 +2,7 @@
 use etm_types::{Ctx, ExcMark, Walked};
 use path_counts::{Counter, Targets, is_pointer_branch};
 use program_image::Image;
+use std::alloc::{AllocError, Global};
 use std::test::Fail;
 use trace_io::MemSink;
 
@@ -12,51 +13,97 @@ const LINES: &[u8] =
     b"at 0 2\nat 4 3\nat 1000 2\nat 1004 2\nat 1008 2\ntaken 1008 1\nat 3000 3\nto 3000 1000 2\nto 3000 fffffffffffffffc 1\n\
 at fffffffffffffffc 2\non 1\n? 1\ngap 1\nstop 1\nexc irq 2\n";
 
-/// So many instructions from an address on.
-fn run(start: u64, count: u64, took: bool) -> Walked {
+/// Three instructions from 1000 on.
+const BLOCK: Walked = Walked {
+    on: false,
+    unknown: false,
+    ctx: Ctx {
+        el: 0,
+        ns: false,
+        vmid: 0,
+        cid: 0,
+    },
+    start: 0x1000,
+    count: 3,
+    took: false,
+    exc: None,
+};
+
+/// Three instructions over the end of the addresses.
+const ROUND: Walked = Walked {
+    start: 0xffff_ffff_ffff_fffc,
+    ..BLOCK
+};
+
+const CALL: Walked = Walked {
+    start: 0x3000,
+    count: 1,
+    ..BLOCK
+};
+
+const INTERRUPT: Option<ExcMark> = Some(ExcMark { kind: 14, ret: 8 });
+
+const WALKED: [Walked; 9] = [
     Walked {
-        on: false,
-        unknown: false,
-        ctx: Ctx::initial(),
-        start,
-        count,
-        took,
-        exc: None,
+        on: true,
+        took: true,
+        ..BLOCK
+    },
+    BLOCK,
+    ROUND,
+    ROUND,
+    Walked {
+        start: 4,
+        count: 1,
+        exc: INTERRUPT,
+        ..BLOCK
+    },
+    Walked {
+        unknown: true,
+        start: 0,
+        count: 0,
+        exc: INTERRUPT,
+        ..BLOCK
+    },
+    CALL,
+    CALL,
+    CALL,
+];
+
+/// Where the calls went, and a branch that no word of the image is.
+const BRANCHES: [(u64, u64); 4] = [
+    (0x3000, 0xffff_ffff_ffff_fffc),
+    (0x3000, 0x1000),
+    (0x2000, 0x1000),
+    (0x3000, 0x1000),
+];
+
+fn targets(alloc: Global) -> Result<Targets, AllocError> {
+    let mut targets = Targets::new(alloc)?;
+    for (from, to) in BRANCHES {
+        targets.add(from, to);
     }
+    Ok(targets)
 }
 
 #[test]
 fn words_and_other_items_are_counted(rt: HostRuntime) -> Result<(), Fail> {
     let image = Image::of_text(rt.alloc(), TEXT)?;
     let mut counter = Counter::new(rt.alloc(), &image)?;
-    let mut first = run(0x1000, 3, true);
-    first.on = true;
-    let mut last = run(4, 1, false);
-    last.exc = Some(ExcMark { kind: 14, ret: 8 });
-    let mut unknown = run(0, 0, false);
-    unknown.unknown = true;
-    unknown.exc = last.exc;
-    let round = run(0xffff_ffff_ffff_fffc, 3, false);
-    let call = run(0x3000, 1, false);
-    counter.add_walked(&image, &first);
-    counter.add_walked(&image, &run(0x1000, 3, false));
-    counter.add_walked(&image, &round);
-    counter.add_walked(&image, &round);
-    counter.add_walked(&image, &last);
-    counter.add_walked(&image, &unknown);
-    counter.add_walked(&image, &call);
-    counter.add_walked(&image, &call);
-    counter.add_walked(&image, &call);
+    for walked in &WALKED {
+        assert!(rt; counter.fits(&image));
+        counter.add_walked(&image, walked);
+    }
     counter.add_gap();
     counter.add_stop();
-    assert!(rt; is_pointer_branch(0xd63f_0200));
-    let mut targets = Targets::new(rt.alloc())?;
-    targets.add(0x3000, 0xffff_ffff_ffff_fffc);
-    targets.add(0x3000, 0x1000);
-    targets.add(0x2000, 0x1000);
-    targets.add(0x3000, 0x1000);
     let mut sink = MemSink::new(rt.alloc(), Vec::new(rt.alloc()));
-    counter.write(&image, &targets, &mut sink)?;
+    assert!(rt; counter.fits(&image));
+    counter.write(&image, &targets(rt.alloc())?, &mut sink)?;
     assert_eq!(rt; sink.written(), LINES);
     Ok(())
+}
+
+#[test]
+fn a_branch_to_a_register_goes_where_a_pointer_says(rt: HostRuntime) {
+    assert!(rt; is_pointer_branch(0xd63f_0200));
 }

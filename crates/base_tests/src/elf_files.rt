@@ -1,8 +1,8 @@
 //! Small programs, and what is read of them.
+use crate::images::has_words;
 use elf_image::{
     ElfImageFault, ElfWhy, a_refusal_is_the_first, read_elf, text_of, the_text_is_an_image,
 };
-use program_image::Image;
 use std::alloc::Global;
 use std::test::Fail;
 use trace_io::{MemSource, SafeSource};
@@ -56,27 +56,27 @@ fn refusal(alloc: Global, file: &[u8]) -> Result<String, Fail> {
 
 #[test]
 fn a_segment_is_a_part_of_the_text(rt: HostRuntime) -> Result<(), Fail> {
-    let alloc = rt.alloc();
-    let text = text_of(alloc, &program(alloc, &[])?).map_err(|_| "refused")?;
+    let text = text_of(rt.alloc(), &program(rt.alloc(), &[])?)?;
     let expected = b"@0000000000001000\n1f2003d5\n40000054\n1f2003d5\nfdffff17\n";
     assert_eq!(rt; text.as_slice(), expected.as_slice());
     Ok(())
 }
 
+const REFUSALS: [(Field, &str); 7] = [
+    ((4, b"\x01"), "elf: header"),
+    ((56, b"\x02"), "elf: table"),
+    ((96, b"\x11"), "elf: segment 0"),
+    ((80, b"\x02"), "elf: unaligned 0"),
+    ((80, b"\xf4\xff\xff\xff\xff\xff\xff\xff"), "elf: wraps 0"),
+    ((80, b"\xf0\xff\xff\xff\xff\xff\xff\xff"), ""),
+    ((68, b"\x04"), ""),
+];
+
 #[test]
 fn each_refusal_has_its_line(rt: HostRuntime) -> Result<(), Fail> {
-    let alloc = rt.alloc();
-    let files: [(Field, &str); 7] = [
-        ((4, b"\x01"), "elf: header"),
-        ((56, b"\x02"), "elf: table"),
-        ((96, b"\x11"), "elf: segment 0"),
-        ((80, b"\x02"), "elf: unaligned 0"),
-        ((80, b"\xf4\xff\xff\xff\xff\xff\xff\xff"), "elf: wraps 0"),
-        ((80, b"\xf0\xff\xff\xff\xff\xff\xff\xff"), ""),
-        ((68, b"\x04"), ""),
-    ];
-    for (edit, line) in files {
-        assert_eq!(rt; refusal(alloc, &program(alloc, &[edit])?)?.as_str(), line);
+    for (edit, line) in REFUSALS {
+        let file = program(rt.alloc(), &[edit])?;
+        assert_eq!(rt; refusal(rt.alloc(), &file)?.as_str(), line);
     }
     Ok(())
 }
@@ -84,44 +84,43 @@ fn each_refusal_has_its_line(rt: HostRuntime) -> Result<(), Fail> {
 #[test]
 fn a_reason_has_its_number_its_word_and_its_header(rt: HostRuntime) {
     let why = ElfWhy::Overlap(3);
-    assert_eq!(rt; why.number(), 7);
-    assert_eq!(rt; why.word(), "overlap");
-    assert_eq!(rt; why.header(), Some(3));
-    assert_eq!(rt; ElfWhy::TooLong.header(), None);
+    assert_eq!(rt;
+        (why.number(), why.word(), why.header()),
+        (7, "overlap", Some(3))
+    );
+    the_text_is_an_image();
+    a_refusal_is_the_first();
 }
+
+const WORDS: [(u64, Option<u32>); 6] = [
+    (0x0ffc, None),
+    (0x1000, Some(0xd503_201f)),
+    (0x1004, Some(0x5400_0040)),
+    (0x1008, Some(0xd503_201f)),
+    (0x100c, Some(0x17ff_fffd)),
+    (0x1010, None),
+];
 
 #[test]
 fn a_program_is_read_from_a_source(rt: HostRuntime) -> Result<(), Fail> {
-    let alloc = rt.alloc();
-    let mut source = SafeSource::new(program(alloc, &[])?, 7);
-    let image: Image = read_elf(alloc, &mut source).map_err(|_| "refused")?;
-    let words = [
-        (0x0ffc, None),
-        (0x1000, Some(0xd503_201f)),
-        (0x1004, Some(0x5400_0040)),
-        (0x1008, Some(0xd503_201f)),
-        (0x100c, Some(0x17ff_fffd)),
-        (0x1010, None),
-    ];
-    for (addr, word) in words {
-        assert_eq!(rt; image.word_at(addr), word);
-    }
+    let mut source = SafeSource::new(program(rt.alloc(), &[])?, 7);
+    has_words(&rt, &read_elf(rt.alloc(), &mut source)?, &WORDS);
     Ok(())
 }
 
 #[test]
 fn a_failed_read_is_no_program(rt: HostRuntime) -> Result<(), Fail> {
-    let alloc = rt.alloc();
-    let mut source = MemSource::new(program(alloc, &[])?, 7, vec![in alloc; false, true]?);
-    assert!(rt; matches!(read_elf(alloc, &mut source), Err(ElfImageFault::ReadFault)));
-    let mut refused = SafeSource::new(program(alloc, &[(18, b"\x3e")])?, 7);
-    let header = ElfImageFault::Bad(ElfWhy::Header);
-    assert!(rt; matches!(read_elf(alloc, &mut refused), Err(fault) if fault == header));
+    let script = vec![in rt.alloc(); false, true]?;
+    let mut source = MemSource::new(program(rt.alloc(), &[])?, 7, script);
+    let fault = read_elf(rt.alloc(), &mut source).err();
+    assert_eq!(rt; fault, Some(ElfImageFault::ReadFault));
     Ok(())
 }
 
 #[test]
-fn the_laws_hold_of_any_file() {
-    the_text_is_an_image();
-    a_refusal_is_the_first();
+fn a_file_of_another_machine_is_no_program(rt: HostRuntime) -> Result<(), Fail> {
+    let mut source = SafeSource::new(program(rt.alloc(), &[(18, b"\x3e")])?, 7);
+    let fault = read_elf(rt.alloc(), &mut source).err();
+    assert_eq!(rt; fault, Some(ElfImageFault::Bad(ElfWhy::Header)));
+    Ok(())
 }

@@ -78,17 +78,62 @@ fn a_packet_is_written_in_its_fewest_bytes(rt: HostRuntime) {
     written_packets_are_read();
 }
 
+/// Atoms, the byte that spells the longest front of them, and how many that are.
+struct Front {
+    atoms: &'static [bool],
+    byte: u8,
+    count: usize,
+}
+
+const LAST_NOT_TAKEN: [bool; 24] = [
+    true, true, true, true, true, true, true, true, true, true, true, true, true, true, true, true,
+    true, true, true, true, true, true, true, false,
+];
+
+const FRONTS: [Front; 7] = [
+    Front {
+        atoms: &[true; 24],
+        byte: 0xd4,
+        count: 24,
+    },
+    Front {
+        atoms: &LAST_NOT_TAKEN,
+        byte: 0xf4,
+        count: 24,
+    },
+    Front {
+        atoms: &[true; 25],
+        byte: 0xd4,
+        count: 24,
+    },
+    Front {
+        atoms: &[true; 3],
+        byte: 0xff,
+        count: 3,
+    },
+    Front {
+        atoms: &[true, true, true, false],
+        byte: 0xe0,
+        count: 4,
+    },
+    Front {
+        atoms: &[false; 5],
+        byte: 0xd5,
+        count: 5,
+    },
+    Front {
+        atoms: &[false, true],
+        byte: 0xda,
+        count: 2,
+    },
+];
+
 #[test]
 fn the_longest_front_is_told(rt: HostRuntime) {
-    let mut last_not = [true; 24];
-    last_not[23] = false;
-    assert_eq!(rt; longest_front(&[true; 24]), (0xd4, 24));
-    assert_eq!(rt; longest_front(&last_not), (0xf4, 24));
-    assert_eq!(rt; longest_front(&[true; 25]), (0xd4, 24));
-    assert_eq!(rt; longest_front(&[true; 3]), (0xff, 3));
-    assert_eq!(rt; longest_front(&[true, true, true, false]), (0xe0, 4));
-    assert_eq!(rt; longest_front(&[false; 5]), (0xd5, 5));
-    assert_eq!(rt; longest_front(&[false, true]), (0xda, 2));
+    for front in &FRONTS {
+        assert!(rt; !front.atoms.is_empty());
+        assert_eq!(rt; longest_front(front.atoms), (front.byte, front.count));
+    }
 }
 
 #[test]

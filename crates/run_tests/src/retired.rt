@@ -1,6 +1,4 @@
 //! The retired path, step by step: what it gives on runs worked out by hand.
-ghost use Rattle.std.specs.Prelude.{◌≡◌, false};
-
 use etm_types::{Ctx, ExcMark, Walked};
 use spec_run::{RetiredPath, RunStep, StepKind};
 
@@ -11,118 +9,131 @@ const PROGRAM: Ctx = Ctx {
     cid: 7,
 };
 
-const HANDLER: Ctx = Ctx {
-    el: 1,
-    ns: true,
-    vmid: 5,
-    cid: 7,
+const HANDLER: Ctx = Ctx { el: 1, ..PROGRAM };
+
+const FIRST: RunStep = RunStep {
+    addr: 0x1000,
+    ctx: PROGRAM,
+    kind: StepKind::Plain,
+    next: 0x1004,
+    link: false,
 };
 
-fn step(addr: u64, ctx: Ctx, kind: StepKind, next: u64) -> RunStep
-    ensures { result ≡ record { addr = addr; ctx = ctx; kind = kind; next = next; link = false } }
-{
-    RunStep {
-        addr,
-        ctx,
-        kind,
-        next,
-        link: false,
-    }
-}
+const SECOND: RunStep = RunStep {
+    addr: 0x1004,
+    next: 0x1008,
+    ..FIRST
+};
 
-/// So many instructions from an address on.
-fn block(on: bool, ctx: Ctx, start: u64, count: u64) -> Option<Walked> {
-    Some(Walked {
-        on,
-        unknown: false,
-        ctx,
-        start,
-        count,
-        took: false,
-        exc: None,
-    })
-}
+const BRANCH: RunStep = RunStep {
+    addr: 0x1008,
+    kind: StepKind::Cond { taken: true },
+    next: 0x1010,
+    ..FIRST
+};
 
-/// A block whose last instruction is a conditional branch, and was taken.
-fn taken(block: Option<Walked>) -> Option<Walked> {
-    let walked = block?;
-    Some(Walked {
-        took: true,
-        ..walked
-    })
-}
+const JUMP: RunStep = RunStep {
+    addr: 0x2000,
+    kind: StepKind::Jump,
+    next: 0x2000,
+    ..FIRST
+};
 
-/// A block with an exception of this kind behind it, which returns to an address.
-fn interrupted(block: Option<Walked>, kind: u8, ret: u64) -> Option<Walked> {
-    let walked = block?;
-    Some(Walked {
-        exc: Some(ExcMark { kind, ret }),
-        ..walked
-    })
+const NOT_TAKEN: RunStep = RunStep {
+    kind: StepKind::Cond { taken: false },
+    next: 0x2004,
+    ..JUMP
+};
+
+const EXCEPTION: RunStep = RunStep {
+    addr: 0x2000,
+    kind: StepKind::Exc { kind: 3 },
+    next: 0x8000,
+    ..FIRST
+};
+
+const IN_HANDLER: RunStep = RunStep {
+    addr: 0x8000,
+    ctx: HANDLER,
+    next: 0x8004,
+    ..FIRST
+};
+
+const RETURN: RunStep = RunStep {
+    addr: 0x8004,
+    kind: StepKind::Eret,
+    next: 0x2000,
+    ..IN_HANDLER
+};
+
+/// The three instructions from 1000 on, the last of which is a branch that was taken, right behind where trace began.
+const BRANCH_BLOCK: Walked = Walked {
+    on: true,
+    unknown: false,
+    ctx: PROGRAM,
+    start: 0x1000,
+    count: 3,
+    took: true,
+    exc: None,
+};
+
+const JUMP_BLOCK: Walked = Walked {
+    start: 0x2000,
+    count: 1,
+    took: false,
+    ..BRANCH_BLOCK
+};
+
+#[test]
+fn a_branch_ends_a_block(rt: HostRuntime) {
+    let mut path = RetiredPath::new();
+    path.begin();
+    let blocks = [
+        path.retire(&FIRST),
+        path.retire(&SECOND),
+        path.retire(&BRANCH),
+    ];
+    assert_eq!(rt; blocks, [None, None, Some(BRANCH_BLOCK)]);
 }
 
 #[test]
-fn two_blocks_and_a_plain_step(rt: HostRuntime) {
+fn what_was_begun_is_forgotten_as_trace_ends(rt: HostRuntime) {
     let mut path = RetiredPath::new();
     path.begin();
-    assert_eq!(rt;
-        path.retire(&step(0x1000, PROGRAM, StepKind::Plain, 0x1004)),
-        None
-    );
-    assert_eq!(rt;
-        path.retire(&step(0x1004, PROGRAM, StepKind::Plain, 0x1008)),
-        None
-    );
-    assert_eq!(rt;
-        path.retire(&step(0x1008, PROGRAM, StepKind::Cond { taken: true }, 0x1010)),
-        taken(block(true, PROGRAM, 0x1000, 3))
-    );
-    assert_eq!(rt;
-        path.retire(&step(0x1010, PROGRAM, StepKind::Plain, 0x1014)),
-        None
-    );
-    assert_eq!(rt;
-        path.retire(&step(0x1014, PROGRAM, StepKind::Ind { link: false }, 0x1000)),
-        block(false, PROGRAM, 0x1010, 2)
-    );
-    assert_eq!(rt;
-        path.retire(&step(0x1000, PROGRAM, StepKind::Plain, 0x1004)),
-        None
-    );
+    let begun = path.retire(&FIRST);
     path.close();
     path.begin();
-    assert_eq!(rt;
-        path.retire(&step(0x2000, PROGRAM, StepKind::Jump, 0x2000)),
-        block(true, PROGRAM, 0x2000, 1)
-    );
-    assert_eq!(rt;
-        path.retire(&step(0x2000, PROGRAM, StepKind::Cond { taken: false }, 0x2004)),
-        block(false, PROGRAM, 0x2000, 1)
-    );
+    let blocks = [begun, path.retire(&JUMP), path.retire(&NOT_TAKEN)];
+    let second = Walked {
+        on: false,
+        ..JUMP_BLOCK
+    };
+    assert_eq!(rt; blocks, [None, Some(JUMP_BLOCK), Some(second)]);
 }
 
 #[test]
-fn exceptions(rt: HostRuntime) {
+fn an_exception_ends_a_block_of_what_stands_before_it(rt: HostRuntime) {
     let mut path = RetiredPath::new();
     path.begin();
-    assert_eq!(rt;
-        path.retire(&step(0x2000, PROGRAM, StepKind::Exc { kind: 3 }, 0x8000)),
-        interrupted(block(true, PROGRAM, 0x2000, 0), 3, 0x2000)
-    );
-    assert_eq!(rt;
-        path.retire(&step(0x8000, HANDLER, StepKind::Plain, 0x8004)),
-        None
-    );
-    assert_eq!(rt;
-        path.retire(&step(0x8004, HANDLER, StepKind::Eret, 0x2000)),
-        block(false, HANDLER, 0x8000, 2)
-    );
-    assert_eq!(rt;
-        path.retire(&step(0x2000, PROGRAM, StepKind::Plain, 0x2004)),
-        None
-    );
-    assert_eq!(rt;
-        path.retire(&step(0x2004, PROGRAM, StepKind::Exc { kind: 14 }, 0x8000)),
-        interrupted(block(false, PROGRAM, 0x2000, 1), 14, 0x2004)
-    );
+    let blocks = [
+        path.retire(&EXCEPTION),
+        path.retire(&IN_HANDLER),
+        path.retire(&RETURN),
+    ];
+    let exception = Walked {
+        count: 0,
+        exc: Some(ExcMark {
+            kind: 3,
+            ret: 0x2000,
+        }),
+        ..JUMP_BLOCK
+    };
+    let handler = Walked {
+        on: false,
+        ctx: HANDLER,
+        start: 0x8000,
+        count: 2,
+        ..JUMP_BLOCK
+    };
+    assert_eq!(rt; blocks, [Some(exception), None, Some(handler)]);
 }
