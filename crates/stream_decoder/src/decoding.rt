@@ -556,8 +556,9 @@ impl Decoding {
         }
     }
 
-    /// The same, one atom after the other.
-    #[inline(always)]
+    /// The same, one atom after the other. It is a function of its own, as the next one is: the loop with all that it does is one piece of code then,
+    /// and no atom costs a call.
+    #[inline(never)]
     fn walk_each(&mut self, image: &Image, run: &mut Stretches)
         requires none { run.old ≡ [] }
         requires holds { IsDecoding self.old }
