@@ -7,6 +7,7 @@ use Rattle.etm_types.specs.Settings.{FitsSettings, Sizes}
 use Rattle.etm_types.specs.declared.context.Ctx.{Ctx}
 use Rattle.program_image.specs.Part.{Part}
 use Rattle.spec_run.specs.Checks.{Place}
+use Rattle.spec_run.specs.Effects.{place_after}
 use Rattle.spec_run.specs.Executed.{Executes, IsPlace}
 use Rattle.spec_run.specs.ManySteps.{plain_steps, room_for_steps}
 use Rattle.spec_run.specs.RunAfter.{AreEvents, IsEvent}
@@ -77,6 +78,14 @@ not_the_second are = absurd (omega (arith, are.1.0))
 pub context_behind_a_return : map (ctx_behind program) (event.Eret 0 handler ∷ event.Step ∷ event.Taken ∷ event.NotTaken ∷ event.To 0 ∷ event.On 0 handler ∷ event.Exc 3 0 handler ∷ event.Context handler ∷ event.Retire 1 ∷ event.Cancel 1 ∷ event.Flip ∷ event.Sync ∷ event.Overflow ∷ event.Off ∷ [])
     ≡ handler ∷ replicate 13 program
 context_behind_a_return = refl
+
+-- of another context each field
+pub other_context_behind_a_return :
+    map (ctx_behind handler)
+    (event.Eret 0 program ∷ event.Step ∷ event.Taken ∷ event.NotTaken ∷ event.To 0 ∷ event.On 0 program ∷ event.Exc 3 0 program ∷ event.Context program
+    ∷ event.Retire 1 ∷ event.Cancel 1 ∷ event.Flip ∷ event.Sync ∷ event.Overflow ∷ event.Off ∷ [])
+    ≡ program ∷ replicate 13 handler
+other_context_behind_a_return = refl
 
 abbrev nop : ℕ → RunStep
 nop addr = record { addr = addr; ctx = program; kind = kind.Plain; next = addr + 4; link = false }
@@ -204,3 +213,45 @@ no_link = (
 pub no_register_branch_at_a_return : (Executes code (kind.Ind false) (step (kind.Ind false) 0x101c 0x9000 false) → ⊥) × (Executes code kind.Eret (step kind.Eret 0x1014 0x9000 false) → ⊥)
 unfolding class_of
 no_register_branch_at_a_return = ((λ does. let e : Some class.Eret ≡ Some (class.Ind false) = does.0 in cc), (λ does. let e : Some (class.Ind false) ≡ Some class.Eret = does.0 in cc))
+
+-- ---- the place behind each effect
+
+abbrev branch : RunStep
+branch = record (step (kind.Cond true) 0x1010 0x1018 false) { ctx = handler }
+
+abbrev turned_branch : RunStep
+turned_branch = record { addr = 0x1010; ctx = handler; kind = kind.Cond false; next = 0x1014; link = false }
+
+abbrev before : Place
+before = record { held = nop 0x1000 ∷ branch ∷ []; after_isb = true; pc = 0x1018; ctx = program }
+
+pub place_behind_each :
+    map (place_after code 16 (Some before))
+    (effect.Began 0x7000 handler ∷ effect.Ran jump handler ∷ effect.Contexted handler ∷ effect.Retired 1 ∷ effect.Retired 0 ∷ effect.Cancelled 1
+    ∷ effect.Cancelled 0 ∷ effect.Flipped ∷ effect.Synced ∷ effect.Overflowed ∷ effect.Stopped ∷ [])
+    ≡ Some (record { held = nop 0x1000 ∷ branch ∷ []; after_isb = false; pc = 0x7000; ctx = handler })
+    ∷ Some (record { held = nop 0x1000 ∷ branch ∷ jump ∷ []; after_isb = true; pc = 0x1010; ctx = handler })
+    ∷ Some (record { held = nop 0x1000 ∷ branch ∷ []; after_isb = true; pc = 0x1018; ctx = handler })
+    ∷ Some (record { held = branch ∷ []; after_isb = false; pc = 0x1018; ctx = program })
+    ∷ Some before
+    ∷ Some (record { held = nop 0x1000 ∷ []; after_isb = true; pc = 0x1010; ctx = handler })
+    ∷ Some before
+    ∷ Some (record { held = nop 0x1000 ∷ turned_branch ∷ []; after_isb = true; pc = 0x1014; ctx = program })
+    ∷ Some before ∷ None ∷ None ∷ []
+unfolding class_of
+place_behind_each = refl
+
+-- at depth 0 the step is retired, an ISB or not
+pub place_behind_a_step_at_depth_0 :
+    place_after code 0 (Some (record before { held = []; after_isb = false })) (effect.Ran (step kind.Isb 0x1004 0x1008 false) handler)
+    ∷ place_after code 0 (Some (record before { held = [] })) (effect.Ran jump handler) ∷ []
+    ≡ Some (record { held = []; after_isb = true; pc = 0x1008; ctx = handler })
+    ∷ Some (record { held = []; after_isb = false; pc = 0x1010; ctx = handler }) ∷ []
+place_behind_a_step_at_depth_0 = refl
+
+pub place_while_off :
+    map (place_after code 16 None)
+    (effect.Began 0x7000 handler ∷ effect.Ran jump handler ∷ effect.Contexted handler ∷ effect.Retired 1 ∷ effect.Cancelled 1 ∷ effect.Flipped
+    ∷ effect.Synced ∷ effect.Overflowed ∷ effect.Stopped ∷ [])
+    ≡ Some (record { held = []; after_isb = false; pc = 0x7000; ctx = handler }) ∷ replicate 8 None
+place_while_off = refl
