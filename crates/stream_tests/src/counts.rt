@@ -2,7 +2,7 @@
 use count_streams::CountStream;
 use etm_types::{Settings, SettingsTable};
 use program_image::Image;
-use std::alloc::Global;
+use std::alloc::{AllocError, Global};
 use std::process::Abort;
 use std::test::Fail;
 use stream_demux::{Demux, RawStream};
@@ -12,62 +12,87 @@ use trace_io::{Failed, MemSink};
 const IMAGE: &[u8] = b"@1000\n1f2003d5 40000054 1f2003d5 fdffff17\n@8000\n1f2003d5 e0039fd6\n";
 
 /// Trace on at 1000, and the atoms E, E and N.
-const ALONE: [u8; 29] = [
-    0x00, 0x00, 0x00, 0x00, 0x00, 0x00, 0x00, 0x00, 0x00, 0x00, 0x00, 0x80, 0x01, 0x01, 0x00, 0x04,
-    0x85, 0x00, 0x08, 0x00, 0x00, 0x00, 0x00, 0x00, 0x00, 0x31, 0xf7, 0xf7, 0xf6,
-];
+const ALONE: &[u8] = b"\0\0\0\0\0\0\0\0\0\0\0\x80\x01\x01\0\x04\
+\x85\0\x08\0\0\0\0\0\0\x31\xf7\xf7\xf6";
 
 const COUNTS: &[u8] = b"at 1000 2\nat 1004 2\ntaken 1004 1\nat 100c 1\non 1\n";
 
 /// The frames of two units, of which one has an interrupt.
-const TWO: [u8; 112] = [
-    0x21, 0x00, 0x00, 0x00, 0x00, 0x00, 0x00, 0x00, 0x00, 0x00, 0x00, 0x00, 0x80, 0x01, 0x00, 0x80,
-    0x00, 0x02, 0x80, 0x02, 0x25, 0x04, 0x00, 0x00, 0x00, 0x00, 0x00, 0x00, 0x00, 0x00, 0x00, 0x06,
-    0x00, 0x00, 0x80, 0x01, 0x00, 0x00, 0x21, 0x04, 0x84, 0x00, 0x08, 0x00, 0x00, 0x00, 0x00, 0x1c,
-    0x00, 0x00, 0xb0, 0x2a, 0x00, 0x00, 0x00, 0xf7, 0x25, 0xf7, 0x84, 0x00, 0x08, 0x00, 0x00, 0x30,
-    0x00, 0x00, 0x00, 0x00, 0xb0, 0x2b, 0x00, 0x00, 0x00, 0xf6, 0x21, 0x06, 0x1c, 0x95, 0x00, 0xc0,
-    0x82, 0x00, 0x40, 0x00, 0x00, 0x31, 0x25, 0xf7, 0x21, 0xf7, 0x02, 0x83, 0x02, 0x82, 0x00, 0x80,
-    0x08, 0x00, 0x00, 0xb0, 0x2a, 0x00, 0x00, 0x00, 0x25, 0xf6, 0xf6, 0xf7, 0x01, 0x00, 0x00, 0x30,
-];
+const TWO: &[u8] = b"\x21\0\0\0\0\0\0\0\0\0\0\0\x80\x01\0\x80\
+\0\x02\x80\x02\x25\x04\0\0\0\0\0\0\0\0\0\x06\
+\0\0\x80\x01\0\0\x21\x04\x84\0\x08\0\0\0\0\x1c\
+\0\0\xb0\x2a\0\0\0\xf7\x25\xf7\x84\0\x08\0\0\x30\
+\0\0\0\0\xb0\x2b\0\0\0\xf6\x21\x06\x1c\x95\0\xc0\
+\x82\0\x40\0\0\x31\x25\xf7\x21\xf7\x02\x83\x02\x82\0\x80\
+\x08\0\0\xb0\x2a\0\0\0\x25\xf6\xf6\xf7\x01\0\0\x30";
 
 const COUNTS_OF_TWO: &[u8] =
-    b"at 1000 4\nat 1004 4\ntaken 1004 2\nat 1008 1\nat 100c 3\nat 8000 1\nat 8004 1\non 2\nexc irq 1\n";
+    b"at 1000 4\nat 1004 4\ntaken 1004 2\nat 1008 1\nat 100c 3\nat 8000 1\nat 8004 1\non 2\nexc irq 1\n10 end\n12 end\n";
 
 /// More bytes than any test takes.
 const MOST_BYTES: u64 = 1000;
 
-fn code(alloc: Global) -> Result<Image, Fail> {
-    Ok(Image::of_text(alloc, IMAGE)?)
-}
-
 /// Units that do not speculate.
 fn table() -> Result<SettingsTable, Fail> {
-    let settings = Settings::new(0, 1, 4).ok().ok_or("they are settings")?;
+    let settings = Settings::new(0, 1, 4)?;
     Ok(SettingsTable::new(settings))
 }
 
-/// What is printed of one stream that is not framed: with its end, or where reading stops before it.
-fn printed(rt: &impl Abort, alloc: Global, bytes: &[u8], ends: bool) -> Result<Vec<u8>, Fail> {
-    let image = code(alloc)?;
+/// The parts, one behind the other.
+fn joined(alloc: Global, parts: &[&[u8]]) -> Result<Vec<u8>, AllocError> {
+    let mut all = Vec::new(alloc);
+    for part in parts {
+        all.extend_from_slice(part)?;
+    }
+    Ok(all)
+}
+
+/// A stream over an image that is not framed: its bytes, whether it ends with them or reading stops before, and what is printed.
+struct Case {
+    image: &'static [u8],
+    bytes: &'static [&'static [u8]],
+    ends: bool,
+    lines: &'static [&'static [u8]],
+}
+
+/// Counts a stream, of which nothing is printed before its end.
+fn compare(rt: &impl Abort, alloc: Global, case: &Case) -> Result<(), Fail> {
+    let image = Image::of_text(alloc, case.image)?;
+    let bytes = joined(alloc, case.bytes)?;
     let mut sink = MemSink::new(alloc, Vec::new(alloc));
     let mut raw: RawStream<CountStream> = RawStream::new(alloc, &image, &table()?)?;
     assert!(rt; bytes.len() < 100);
-    assert_eq!(rt; raw.take_piece(&image, bytes, &mut sink), Ok(()));
+    assert_eq!(rt; raw.take_piece(&image, &bytes, &mut sink), Ok(()));
     assert_eq!(rt; sink.written().len(), 0);
-    if ends {
+    if case.ends {
         raw.finish(&image, &mut sink)?;
     } else {
         raw.close(&image, &mut sink)?;
     }
-    Ok(sink.written().to_vec(alloc)?)
+    assert_eq!(rt; sink.written(), joined(alloc, case.lines)?.as_slice());
+    Ok(())
 }
+
+const STREAMS: [Case; 2] = [
+    Case {
+        image: IMAGE,
+        bytes: &[ALONE],
+        ends: false,
+        lines: &[COUNTS],
+    },
+    Case {
+        image: IMAGE,
+        bytes: &[ALONE],
+        ends: true,
+        lines: &[COUNTS, b"01 end\n"],
+    },
+];
 
 #[test]
 fn one_stream(rt: HostRuntime) -> Result<(), Fail> {
-    let mut all = COUNTS.to_vec(rt.alloc())?;
-    assert_eq!(rt; printed(&rt, rt.alloc(), &ALONE, false)?, all);
-    all.extend_from_slice(b"01 end\n")?;
-    assert_eq!(rt; printed(&rt, rt.alloc(), &ALONE, true)?, all);
+    for case in &STREAMS {
+        compare(&rt, rt.alloc(), case)?;
+    }
     Ok(())
 }
 
@@ -75,73 +100,79 @@ fn one_stream(rt: HostRuntime) -> Result<(), Fail> {
 const CALLS: &[u8] = b"@1000\n1f2003d5 20003fd6\n@8000\n1f2003d5 e0039fd6\n";
 
 /// Trace on at 1000, an E, the address 1000 and an E, and the address 8000 and an E.
-const CALLED: [u8; 39] = [
-    0x00, 0x00, 0x00, 0x00, 0x00, 0x00, 0x00, 0x00, 0x00, 0x00, 0x00, 0x80, 0x01, 0x01, 0x00, 0x04,
-    0x85, 0x00, 0x08, 0x00, 0x00, 0x00, 0x00, 0x00, 0x00, 0x31, 0xf7, 0x9a, 0x00, 0x08, 0x00, 0x00,
-    0xf7, 0x9a, 0x00, 0x40, 0x00, 0x00, 0xf7,
-];
+const CALLED: &[u8] = b"\0\0\0\0\0\0\0\0\0\0\0\x80\x01\x01\0\x04\
+\x85\0\x08\0\0\0\0\0\0\x31\xf7\x9a\0\x08\0\0\
+\xf7\x9a\0\x40\0\0\xf7";
+
+const BRANCHES: Case = Case {
+    image: CALLS,
+    bytes: &[CALLED],
+    ends: true,
+    lines: &[
+        b"at 1000 2\nat 1004 2\nto 1004 1000 1\nto 1004 8000 1\nat 8000 1\nat 8004 1\non 1\n01 end\n",
+    ],
+};
 
 #[test]
 fn where_a_branch_went(rt: HostRuntime) -> Result<(), Fail> {
-    let image = Image::of_text(rt.alloc(), CALLS)?;
-    let mut sink = MemSink::new(rt.alloc(), Vec::new(rt.alloc()));
-    let mut raw: RawStream<CountStream> = RawStream::new(rt.alloc(), &image, &table()?)?;
-    assert_eq!(rt; raw.take_piece(&image, &CALLED, &mut sink), Ok(()));
-    raw.finish(&image, &mut sink)?;
-    assert_eq!(rt;
-        sink.written(),
-        b"at 1000 2\nat 1004 2\nto 1004 1000 1\nto 1004 8000 1\nat 8000 1\nat 8004 1\non 1\n01 end\n".as_slice()
-    );
-    Ok(())
+    compare(&rt, rt.alloc(), &BRANCHES)
 }
+
+const OVERFLOW: Case = Case {
+    image: IMAGE,
+    bytes: &[ALONE, b"\x00\x05\xf7\xf7"],
+    ends: true,
+    lines: &[COUNTS, b"? 2\ngap 1\n01 end\n"],
+};
 
 #[test]
 fn what_an_overflow_leaves_unknown(rt: HostRuntime) -> Result<(), Fail> {
-    let mut bytes = ALONE.to_vec(rt.alloc())?;
-    bytes.extend_from_slice(&[0x00, 0x05, 0xf7, 0xf7])?;
-    assert!(rt; bytes.len() < 100);
-    let mut all = COUNTS.to_vec(rt.alloc())?;
-    all.extend_from_slice(b"? 2\ngap 1\n01 end\n")?;
-    assert_eq!(rt; printed(&rt, rt.alloc(), &bytes, true)?, all);
-    Ok(())
+    compare(&rt, rt.alloc(), &OVERFLOW)
 }
+
+/// Trace on at 1000, an E, and an N at the branch that is no conditional one.
+const FAULT: Case = Case {
+    image: IMAGE,
+    bytes: &[
+        b"\0\0\0\0\0\0\0\0\0\0\0\x80\x01\x01\0\x04\x85\0\x08\0\0\0\0\0\0\x31\xf7",
+        b"\xf6\xf7\xf7",
+    ],
+    ends: true,
+    lines: &[b"at 1000 1\nat 1004 1\ntaken 1004 1\non 1\n01 fault 27 bad-atom 100c\n"],
+};
 
 #[test]
 fn nothing_behind_a_fault(rt: HostRuntime) -> Result<(), Fail> {
-    let mut bytes = ALONE[..27].to_vec(rt.alloc())?;
-    bytes.extend_from_slice(&[0xf6, 0xf7, 0xf7])?;
-    assert_eq!(rt;
-        printed(&rt, rt.alloc(), &bytes, true)?.as_slice(),
-        b"at 1000 1\nat 1004 1\ntaken 1004 1\non 1\n01 fault 27 bad-atom 100c\n".as_slice()
-    );
-    Ok(())
+    compare(&rt, rt.alloc(), &FAULT)
+}
+
+/// Counts the two units, of which nothing is written before their end, and says how they end.
+fn count_two(
+    rt: &impl Abort,
+    alloc: Global,
+    sink: &mut MemSink,
+) -> Result<Result<bool, Failed>, Fail> {
+    let image = Image::of_text(alloc, IMAGE)?;
+    let mut demux: Demux<CountStream> = Demux::new(alloc, &image, &table()?)?;
+    assert!(rt; !demux.broken() && demux.taken() < MOST_BYTES);
+    assert_eq!(rt; demux.take_piece(&image, TWO, sink), Ok(()));
+    assert_eq!(rt; sink.written().len(), 0);
+    assert!(rt; !demux.broken());
+    Ok(demux.finish(&image, sink))
 }
 
 #[test]
 fn two_streams(rt: HostRuntime) -> Result<(), Fail> {
-    let image = code(rt.alloc())?;
     let mut sink = MemSink::new(rt.alloc(), Vec::new(rt.alloc()));
-    let mut demux: Demux<CountStream> = Demux::new(rt.alloc(), &image, &table()?)?;
-    assert!(rt; !demux.broken() && demux.taken() < MOST_BYTES);
-    assert_eq!(rt; demux.take_piece(&image, &TWO, &mut sink), Ok(()));
-    assert_eq!(rt; sink.written().len(), 0);
-    assert!(rt; !demux.broken());
-    assert_eq!(rt; demux.finish(&image, &mut sink), Ok(true));
-    let mut all = COUNTS_OF_TWO.to_vec(rt.alloc())?;
-    all.extend_from_slice(b"10 end\n12 end\n")?;
-    assert_eq!(rt; sink.written(), all.as_slice());
+    assert_eq!(rt; count_two(&rt, rt.alloc(), &mut sink)?, Ok(true));
+    assert_eq!(rt; sink.written(), COUNTS_OF_TWO);
     Ok(())
 }
 
 #[test]
 fn counts_that_can_not_be_written(rt: HostRuntime) -> Result<(), Fail> {
-    let image = code(rt.alloc())?;
     let mut sink = MemSink::new(rt.alloc(), vec![in rt.alloc(); false, true]?);
-    let mut demux: Demux<CountStream> = Demux::new(rt.alloc(), &image, &table()?)?;
-    assert!(rt; !demux.broken() && demux.taken() < MOST_BYTES);
-    assert_eq!(rt; demux.take_piece(&image, &TWO, &mut sink), Ok(()));
-    assert!(rt; !demux.broken());
-    assert_eq!(rt; demux.finish(&image, &mut sink), Err(Failed));
+    assert_eq!(rt; count_two(&rt, rt.alloc(), &mut sink)?, Err(Failed));
     assert_eq!(rt; sink.written(), b"at 1000 4\n".as_slice());
     Ok(())
 }

@@ -1,69 +1,58 @@
 //! Small buffers that were written round, and the last frames of captures.
-use std::alloc::Global;
 use std::test::Fail;
 use wrapped_capture::{Unwrap, last_frames};
 
-/// Two frames of one source: an A-sync, a trace info, trace on, an address with a context, and two atoms.
-const FRAMES: [[u8; 16]; 2] = [
-    [
-        0x03, 0x00, 0x00, 0x00, 0x00, 0x00, 0x00, 0x00, 0x00, 0x00, 0x00, 0x00, 0x80, 0x01, 0x00,
-        0x80,
-    ],
-    [
-        0x00, 0x04, 0x84, 0x00, 0x08, 0x00, 0x00, 0x00, 0x00, 0x00, 0x00, 0x31, 0xda, 0x2d, 0x02,
-        0x02,
-    ],
-];
+type Frame = [u8; 16];
 
-/// These frames one behind the other.
-fn joined(alloc: Global, frames: &[[u8; 16]]) -> Result<Vec<u8>, Fail> {
-    let mut bytes = Vec::new(alloc);
-    for frame in frames {
-        bytes.extend_from_slice(frame)?;
+/// The first frame of one source: an A-sync, and the header of a trace info.
+const FIRST: Frame = *b"\x03\0\0\0\0\0\0\0\0\0\0\0\x80\x01\0\x80";
+
+/// The second one: the trace info, trace on, an address with a context, and two atoms.
+const SECOND: Frame = *b"\0\x04\x84\0\x08\0\0\0\0\0\0\x31\xda\x2d\x02\x02";
+
+/// Both, one behind the other.
+const FRAMES: &[u8] = b"\x03\0\0\0\0\0\0\0\0\0\0\0\x80\x01\0\x80\
+\0\x04\x84\0\x08\0\0\0\0\0\0\x31\xda\x2d\x02\x02";
+
+/// Gives bytes to a buffer one by one, and says what it gives with the last of them.
+fn take_all(unwrap: &mut Unwrap, bytes: &[u8]) -> Option<Frame> {
+    let mut given = None;
+    for byte in bytes {
+        given = unwrap.take(*byte);
     }
-    Ok(bytes)
+    given
 }
 
 #[test]
 fn frames_of_an_unwrap(rt: HostRuntime) -> Result<(), Fail> {
     let mut unwrap = Unwrap::new(rt.alloc(), 1)?;
-    let [first, second] = FRAMES;
-    for byte in second {
-        assert_eq!(rt; unwrap.take(byte), None);
-    }
-    let mut given = None;
-    for byte in first {
-        assert_eq!(rt; given, None);
-        given = unwrap.take(byte);
-    }
-    assert_eq!(rt; given, Some(first));
+    let begun = [
+        take_all(&mut unwrap, &SECOND),
+        take_all(&mut unwrap, &FIRST[..15]),
+    ];
+    assert_eq!(rt; begun, [None, None]);
+    assert_eq!(rt; unwrap.take(FIRST[15]), Some(FIRST));
     assert_eq!(rt; unwrap.take(7), None);
-    assert_eq!(rt; unwrap.kept(0), Some(second));
-    assert_eq!(rt; unwrap.kept(1), None);
+    assert_eq!(rt; [unwrap.kept(0), unwrap.kept(1)], [Some(SECOND), None]);
     assert_eq!(rt; unwrap.tail(), &[7][..]);
     Ok(())
 }
 
 #[test]
-fn the_last_of_frames(rt: HostRuntime) -> Result<(), Fail> {
-    let bytes = joined(rt.alloc(), &FRAMES)?;
-    assert!(rt; bytes.len() % 16 == 0);
-    assert_eq!(rt; last_frames(&bytes, 1), &FRAMES[1][..]);
-    assert_eq!(rt; last_frames(&bytes, 2), &bytes[..]);
-    assert_eq!(rt; last_frames(&bytes, 65_536), &bytes[..]);
-    Ok(())
+fn the_last_of_frames(rt: HostRuntime) {
+    assert_eq!(rt; last_frames(FRAMES, 1), SECOND.as_slice());
+    assert_eq!(rt; last_frames(FRAMES, 2), FRAMES);
+    assert_eq!(rt; last_frames(FRAMES, 65_536), FRAMES);
 }
 
 #[test]
 fn a_buffer_with_no_such_frame(rt: HostRuntime) -> Result<(), Fail> {
     let mut unwrap = Unwrap::new(rt.alloc(), 3)?;
-    for byte in joined(rt.alloc(), &FRAMES)? {
-        assert_eq!(rt; unwrap.take(byte), None);
-    }
-    let [first, second] = FRAMES;
-    assert_eq!(rt; unwrap.kept(0), Some(first));
-    assert_eq!(rt; unwrap.kept(1), Some(second));
-    assert_eq!(rt; unwrap.kept(2), None);
-    assert_eq!(rt; unwrap.tail(), &[][..]);
+    assert_eq!(rt; take_all(&mut unwrap, FRAMES), None);
+    assert_eq!(rt;
+        [unwrap.kept(0), unwrap.kept(1), unwrap.kept(2)],
+        [Some(FIRST), Some(SECOND), None]
+    );
+    assert!(rt; unwrap.tail().is_empty());
     Ok(())
 }
