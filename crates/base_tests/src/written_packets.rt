@@ -24,17 +24,6 @@ fn are_written(packet: Packet, bytes: &[u8]) -> bool
 
 #[test]
 fn a_packet_is_written_in_its_fewest_bytes(rt: HostRuntime) {
-    let ctx = CtxBits {
-        el: 1,
-        ns: true,
-        vmid: Some(7),
-        cid: Some(0x0102_0304),
-    };
-    let form = AddrForm::Long64(0xffff_8000_1234_5678);
-    let time = Packet::Time {
-        bits: 64,
-        low: 0x0123_4567_89ab_cdef,
-    };
     assert!(rt; are_written(Packet::Commit(128), &[0x2d, 0x80, 0x01]));
     assert!(rt; are_written(Packet::Cancel { n: 3, flip: true }, &[0x2f, 0x03]));
     let irq = Packet::Exc {
@@ -56,6 +45,23 @@ fn a_packet_is_written_in_its_fewest_bytes(rt: HostRuntime) {
             &[0x32]
         )
     );
+    each_packet_has_its_bytes();
+    written_packets_are_read();
+}
+
+#[test]
+fn a_time_and_an_address_are_written_in_full(rt: HostRuntime) {
+    let ctx = CtxBits {
+        el: 1,
+        ns: true,
+        vmid: Some(7),
+        cid: Some(0x0102_0304),
+    };
+    let form = AddrForm::Long64(0xffff_8000_1234_5678);
+    let time = Packet::Time {
+        bits: 64,
+        low: 0x0123_4567_89ab_cdef,
+    };
     assert!(rt;
         are_written(
             time,
@@ -74,8 +80,6 @@ fn a_packet_is_written_in_its_fewest_bytes(rt: HostRuntime) {
             ]
         )
     );
-    each_packet_has_its_bytes();
-    written_packets_are_read();
 }
 
 /// Atoms, the byte that spells the longest front of them, and how many that are.
