@@ -1,5 +1,5 @@
 //! The queue of P0 elements that are not committed.
-ghost use Rattle.std.specs.Prelude.{◌≡◌, ◌≤◌, ◌<◌, ◌-◌, ◌↔◌, ℕ, [], length, take, drop, map, Option, Ok, Err};
+ghost use Rattle.std.specs.Prelude.{◌≡◌, ◌≤◌, ◌<◌, ◌-◌, ◌↔◌, ℕ, [], length, take, drop, map, slice_get, Option, Ok, Err, Some};
 ghost use Rattle.std.specs.Prelude.{IfOk, IfSome, IsOk, IsErr, IsSome, IsTrue, false, ◌∷◌};
 ghost use Rattle.etm_types.specs.Pre.{nothing_told, trace_missing};
 ghost use Rattle.etm_types.specs.declared.element.Elem.TheVariants as elem;
@@ -10,7 +10,7 @@ ghost use Rattle.element_queue.specs.Counting.{AreCounts, Balances, counts_after
 ghost use Rattle.element_queue.specs.Packed.{pre_of_packed};
 ghost use Rattle.element_queue.specs.Pending.{cancelling, committing, flip_newest, losing, nothing_gone, taken};
 ghost use Rattle.element_queue.specs.Queued.{IsQueued, Refuses, Takes, TakesInfo, TakesPre};
-ghost use Rattle.element_queue.specs.Queued.{committed_by, entry_of, given_since, noted, passed, pending_of, things_of};
+ghost use Rattle.element_queue.specs.Queued.{entry_of, given_since, noted, passed, pending_of, thing_of, things_of};
 ghost use Rattle.element_queue.specs.declared.queue.AtomEntry.{AtomEntry};
 
 use crate::ledger::{Counts, Ledger};
@@ -134,6 +134,32 @@ impl Queue {
         None
     }
 
+    /// One more atom, before which nothing was given, where no more may be held: it commits the oldest.
+    #[inline(always)]
+    pub fn push_plain(&mut self, taken: bool) -> Committed
+        requires some { 0 < self.old.depth }
+        requires full { self.old.depth ≤ length self.old.held }
+        requires given { self.old.pre ≡ nothing_told }
+        ensures takes { Takes self.old (elem.P0 (Atom taken)) (committing (thing_of result ∷ [])) self.new }
+        ensures queued { IsQueued self.new }
+        ensures counted { AreCounts self.old.counts }
+    {
+        let newest = Slot::new(
+            Packed::nothing_told().with(P0::Atom(taken)),
+            &mut self.ledger,
+        );
+        match self.ring.push_back(newest) {
+            Some(slot) => {
+                let oldest = Uncommitted::from_slot(slot);
+                Committed::Seen(oldest.commit(&mut self.ledger))
+            }
+            None => {
+                self.unseen -= 1;
+                Committed::Unseen
+            }
+        }
+    }
+
     /// One more P0 element at depth 0. It is committed at once.
     #[inline(always)]
     fn pass(&mut self, p0: P0) -> Entry
@@ -172,36 +198,15 @@ impl Queue {
         self.ledger.count_passed(n);
     }
 
-    /// Which entry one atom more commits: the oldest that is held, or that atom itself where the depth is 0. `None` where it
-    /// commits nothing, and where it commits anything but an atom before which nothing but an address was given.
+    /// Which entry the one at `index` is, counted from the oldest. `None` where none is there, and where it is anything but an atom
+    /// before which nothing but an address was given.
     #[inline(always)]
-    pub fn next_committed(&self, taken: bool) -> Option<AtomEntry>
-        ensures value { IfSome result (λ atom. committed_by self.now (Atom taken) ≡ Seen (entry_of atom) ∷ []) }
-        ensures some { IsSome result ↔ ((atom : AtomEntry) × (committed_by self.now (Atom taken) ≡ Seen (entry_of atom) ∷ [])) }
+    pub fn atom_at(&self, index: usize) -> Option<AtomEntry>
+        ensures value { IfSome result (λ atom. slice_get self.now.held index ≡ Some (Seen (entry_of atom))) }
+        ensures some { IsSome result ↔ ((atom : AtomEntry) × (slice_get self.now.held index ≡ Some (Seen (entry_of atom)))) }
     {
-        if self.unseen > 0 || self.ring.len() as u32 != self.depth {
-            return None;
-        }
-        match self.ring.get(0) {
-            Some(oldest) => oldest.packed().atom(),
-            None => Some(AtomEntry {
-                addr: self.passing()?,
-                taken,
-            }),
-        }
-    }
-
-    /// Which entry the oldest is. `None` where nothing is held, and where it is anything but an atom before which nothing but
-    /// an address was given.
-    #[inline(always)]
-    pub fn oldest_atom(&self) -> Option<AtomEntry>
-        ensures value { IfSome result (λ atom. take 1 self.now.held ≡ Seen (entry_of atom) ∷ []) }
-        ensures some { IsSome result ↔ ((atom : AtomEntry) × (take 1 self.now.held ≡ Seen (entry_of atom) ∷ [])) }
-    {
-        if self.unseen > 0 {
-            return None;
-        }
-        self.ring.get(0)?.packed().atom()
+        let place = index.checked_sub(self.unseen as usize)?;
+        self.ring.get(place)?.packed().atom()
     }
 
     /// Whether one more may be held, so that it commits nothing.

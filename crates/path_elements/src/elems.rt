@@ -1,5 +1,5 @@
 //! The elements of one packet.
-ghost use Rattle.std.specs.Prelude.{◌≡◌, ◌≤◌, ◌+◌, ◌∷◌, ◌++◌, ◌↔◌, [], ℕ, Bool, length, replicate, slice_get, All, IfSome, IsSome, None, Some};
+ghost use Rattle.std.specs.Prelude.{◌≡◌, ◌≤◌, ◌<◌, ◌+◌, ◌∷◌, ◌++◌, ◌↔◌, [], ℕ, Bool, length, replicate, slice_get, All, IfSome, IsSome, None, Some};
 ghost use Rattle.etm_types.specs.declared.element.Elem.TheVariants as elem;
 ghost use Rattle.etm_types.specs.declared.element.P0.TheVariants.{Atom};
 ghost use Rattle.etm_types.specs.Atoms.{atoms_in, most_atoms};
@@ -92,6 +92,14 @@ impl Elems {
         ensures most { result ≤ most_atoms }
     {
         usize::from(self.atoms.count) + self.rest.len()
+    }
+
+    /// How many atoms there are. They stand before all else.
+    #[inline(always)]
+    pub fn atom_count(&self) -> usize
+        ensures value { (i : ℕ) → (i < result) ↔ ((taken : Bool) × (slice_get self.now i ≡ Some (elem.P0 (Atom taken)))) }
+    {
+        usize::from(self.atoms.count)
     }
 
     /// The atom at `i`, counted from 0, where one stands there.

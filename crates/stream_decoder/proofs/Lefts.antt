@@ -34,3 +34,10 @@ next_left [] (suc n) x others e = absurd cc
 next_left (y ∷ xs) zero x others e = ap tail_of e
 next_left (y ∷ xs) (suc n) x others e =
     let more : suc n + 1 ≡ suc (n + 1) = omega arith in ap (λ k. drop k (y ∷ xs)) more ∙ next_left xs n x others e
+
+-- what stands at a place of what is left
+pub at_left : {X : Type 0} (xs : List X) (n k m : ℕ) → m ≡ n + k → slice_get (drop n xs) k ≡ slice_get xs m
+at_left xs zero k m e = let same : k ≡ m = omega (arith, e) in ap (slice_get xs) same
+at_left [] (suc n) k m e = refl
+at_left (x ∷ xs) (suc n) k zero e = absurd (omega (arith, e))
+at_left (x ∷ xs) (suc n) k (suc m) e = at_left xs n k m (omega (arith, e))

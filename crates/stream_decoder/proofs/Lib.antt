@@ -19,3 +19,4 @@ pub mod Fronts
 pub mod Along
 pub mod Examples
 pub mod Runs
+pub mod LettingGo

@@ -15,7 +15,6 @@ use Rattle.path_walker.specs.State.{State, IsState}
 use Rattle.path_walker.specs.Walk.{Shows, atom_at, items_in, walked_in}
 use Rattle.path_walker.specs.declared.stretch.Stretch.{Stretch}
 use Rattle.path_text.proofs.LineLemmas.{lines_of-append, lines_of-instructions, shown_after_all-append, shown_after_all-instructions}
-use Rattle.path_text.proofs.Wrote.{Wrote, wrote_more}
 use Rattle.path_text.specs.PathLines.{instruction_lines, lines_of, shown_after_all}
 use Rattle.program_image.specs.declared.image.Image.{Image}
 use Rattle.std.proofs.Math.Nat.{mod-lt}
@@ -34,7 +33,6 @@ use Rattle.stream_decoder.specs.Decoding.{Decoding, IsDecoding, decoding_of}
 use Rattle.stream_decoder.specs.Left.{Left}
 use Rattle.stream_decoder.specs.Waiting.{Commits, IsWaiting, Waiting, committed_by, counts_passed, passed}
 use Rattle.stream_decoder.specs.Yields.{Goes, WalksAtoms, left}
-use Rattle.trace_io.specs.State.{IoState}
 
 -- the address that was given before the next atom of a run
 abbrev pub addr_behind : Option ℕ → List Stretch → Option ℕ
@@ -242,15 +240,6 @@ ran image r t f s s' addr (stretch ∷ run) l l' w w' none zero given is some wa
     subst (λ (v : Waiting). Ran image r t f s s' (stretch ∷ run) l l' v w') (sym same)
     (subst (λ (v : Waiting). Ran image r t f s s' (stretch ∷ run) l l' here v) (sym after)
     (subst (λ (x : Left). Ran image r t f s s' (stretch ∷ run) l x here (at_zero (w.pending).informed None (counts_passed n w.counts))) (sym left_is) all))
-
--- ---- one stretch more
-
-pub items_more : (ctx : Ctx) (run : List Stretch) (stretch : Stretch)
-    → items_in ctx run ++ items_of (walked_in ctx stretch) ≡ items_in ctx (run ++ stretch ∷ [])
-items_more ctx [] stretch = sym (append-nil (items_of (walked_in ctx stretch)))
-items_more ctx (x ∷ run) stretch =
-    append_assoc (items_of (walked_in ctx x)) (items_in ctx run) (items_of (walked_in ctx stretch))
-    ∙ ap (λ (items : List Item). items_of (walked_in ctx x) ++ items) (items_more ctx run stretch)
 
 -- ---- the stretches one by one
 

@@ -1,12 +1,14 @@
 -- What contracts see of the P0 elements that wait: those that may still be taken back, and those that are due.
-use Rattle.std.specs.Prelude.{◌≡◌, ◌≤◌, ℕ, Bool, List, ◌++◌, length, take, drop, Ok}
+use Rattle.std.specs.Prelude.{◌≡◌, ◌≤◌, ℕ, zero, suc, Bool, List, [], ◌∷◌, ◌++◌, length, take, drop, Ok}
 use Rattle.element_queue.specs.Counting.{AreCounts, Balances, add, counts_after, entries, made_by}
-use Rattle.element_queue.specs.Pending.{Gone, Pending, taken}
+use Rattle.element_queue.specs.Pending.{Gone, Pending, committing, taken}
 use Rattle.element_queue.specs.Queued.{Queued, committed_by as queue_commits}
 use Rattle.element_queue.specs.declared.ledger.Counts.{Counts}
 use Rattle.etm_types.specs.Pre.{nothing_told}
 use Rattle.etm_types.specs.declared.element.Elem.{Elem}
+use Rattle.etm_types.specs.declared.element.Elem.TheVariants as elem
 use Rattle.etm_types.specs.declared.element.P0.{P0}
+use Rattle.etm_types.specs.declared.element.P0.TheVariants.{Atom}
 use Rattle.etm_types.specs.declared.element.Thing.{Thing}
 
 -- what may still be taken back, what was committed by an element and is still to be given out, the most that may be held, and
@@ -26,6 +28,10 @@ waiting_of q informed due =
       depth = q.depth;
       counts = q.counts;
     }
+
+-- all that wait, oldest first
+abbrev pub all_of : Waiting → List Thing
+all_of w = w.due ++ (w.pending).held
 
 -- what may still be taken back, as a queue of its own
 abbrev pub queue_of : Waiting → Queued
@@ -59,3 +65,20 @@ pub record Commits (w : Waiting) (e : Elem) (w' : Waiting) (things : List Thing)
   pub commits : gone.committed ≡ things ++ w'.due
   pub counts : counted_with w'.counts w'.due ≡ counts_after (counted_with w.counts w.due) (made_by e) gone
   pub depth : w'.depth ≡ w.depth
+
+-- so many atoms that are next are taken, one after the other, and all that each commits is given out; these elements are left
+abbrev pub TakesAtoms : Waiting → List Elem → ℕ → Waiting → List Elem → Type 0
+TakesAtoms w elements zero w' elements' = (w' ≡ w) × (elements' ≡ elements)
+TakesAtoms w elements (suc n) w' elements' =
+    (taken : Bool) × (others : List Elem) × (next : Waiting) × (elements ≡ elem.P0 (Atom taken) ∷ others)
+    × Commits w (elem.P0 (Atom taken)) next (committed_by w (Atom taken)) × IsWaiting next × TakesAtoms next others n w' elements'
+
+-- the oldest that is due was given out
+abbrev pub DropsOldest : Waiting → Thing → List Thing → Waiting → Type 0
+DropsOldest w thing others w' =
+    (w.due ≡ thing ∷ others) × (w' ≡ record w { due = others; counts = counts_after w.counts 0 (committing (thing ∷ [])) }) × IsWaiting w'
+
+-- so many that are due were given out, one after the other
+abbrev pub DropsDue : Waiting → ℕ → Waiting → Type 0
+DropsDue w zero w' = w' ≡ w
+DropsDue w (suc n) w' = (thing : Thing) × (others : List Thing) × (next : Waiting) × DropsOldest w thing others next × DropsDue next n w'

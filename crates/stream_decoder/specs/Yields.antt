@@ -10,6 +10,7 @@ use Rattle.etm_types.specs.declared.element.Elem.{Elem}
 use Rattle.etm_types.specs.declared.element.Elem.TheVariants as elem
 use Rattle.etm_types.specs.declared.element.P0.TheVariants.{Atom}
 use Rattle.etm_types.specs.declared.element.Thing.{Thing}
+use Rattle.etm_types.specs.declared.element.Thing.TheVariants.{Seen}
 use Rattle.etm_types.specs.declared.item.Item.{Item}
 use Rattle.etm_types.specs.declared.item.Item.TheVariants as item
 use Rattle.etm_types.specs.declared.queue_fault.QueueFault.{QueueFault}
@@ -28,7 +29,7 @@ use Rattle.path_text.specs.PathLines.{lines_of, shown_after_all}
 use Rattle.path_text.specs.Writing.{Writes}
 use Rattle.path_walker.specs.State.{State, IsState}
 use Rattle.path_walker.specs.Things.{Walks}
-use Rattle.path_walker.specs.Walk.{Shows, atom_at, walked_in}
+use Rattle.path_walker.specs.Walk.{Shows, atom_at, items_in, walked_in}
 use Rattle.path_walker.specs.declared.stretch.Stretch.{Stretch}
 use Rattle.program_image.specs.declared.image.Image.{Image}
 use Rattle.stream_decoder.specs.Decoding.{Decoding, AtRest, counted, depth_of}
@@ -107,6 +108,14 @@ WalksAtoms image s addr elements (stretch ∷ run) s' =
     (taken : Bool) × (others : List Elem) × (next : State) × (elements ≡ elem.P0 (Atom taken) ∷ others)
     × Shows image s (atom_at addr taken) (walked_in s.ctx stretch) next × IsState next × WalksAtoms image next None others run s'
 
+-- The oldest of some things are atoms before which nothing but an address was given, and they were walked one after the other: these are
+-- their stretches, and the walk goes on from a state.
+abbrev pub WalksOldest : Image → State → List Thing → List Stretch → State → Type 0
+WalksOldest image s things [] s' = s' ≡ s
+WalksOldest image s things (stretch ∷ run) s' =
+    (addr : Option ℕ) × (taken : Bool) × (others : List Thing) × (next : State) × (things ≡ Seen (atom_at addr taken) ∷ others)
+    × Shows image s (atom_at addr taken) (walked_in s.ctx stretch) next × IsState next × WalksOldest image next others run s'
+
 -- the next element has a fault
 pub record Refuses (d : Decoding) (f : QueueFault) : Type 0 where
   pub element : Elem
@@ -146,6 +155,12 @@ pub record Goes (image : Image) (d : Decoding) (items : List Item) (d' : Decodin
   pub leads : (rest : List Item) (outcome : Outcome) (more : List (ℕ × Elem)) → Yields image d' rest outcome more
       → Yields image d (items ++ rest) outcome (with_offset d.at took ++ more)
   pub rest : d' ≡ record d { pending = d'.pending; due = d'.due; walk = d'.walk; todo = d'.todo; counts = d'.counts }
+
+-- some of it is done, without a fault, and the stretches that it showed stand behind those of a run
+pub record WalksOn (image : Image) (d : Decoding) (run : List Stretch) (d' : Decoding) (run' : List Stretch) : Type 0 where
+  pub added : List Stretch
+  pub joined : run' ≡ run ++ added
+  pub goes : Goes image d (items_in (d'.walk).ctx added) d'
 
 abbrev pub is_walk_fault : Option (ℕ × Fault) → Bool
 is_walk_fault (Some (at, fault.Walk f)) = true

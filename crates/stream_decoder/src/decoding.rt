@@ -4,7 +4,6 @@ ghost use Rattle.std.specs.Prelude.{length, Err, Some, None, IfOk, IfSome, IsErr
 ghost use Rattle.element_queue.specs.Counting.{Balances, counts_after};
 ghost use Rattle.element_queue.specs.Pending.{losing};
 ghost use Rattle.etm_types.specs.Pre.{nothing_told};
-ghost use Rattle.etm_types.specs.Walked.{items_of};
 ghost use Rattle.etm_types.specs.declared.queue_fault.QueueFault.{QueueFault};
 ghost use Rattle.etm_types.specs.declared.walk_fault.WalkFault.{WalkFault};
 ghost use Rattle.packet_grammar.specs.Parsed.{Ending, IsStream};
@@ -15,15 +14,16 @@ ghost use Rattle.packet_reader.specs.Stands as stands;
 ghost use Rattle.path_elements.specs.Held.{CanBeTaken};
 ghost use Rattle.path_walker.specs.Things.{IsAlignedThing, Walks};
 ghost use Rattle.path_walker.specs.State.{IsState};
-ghost use Rattle.path_walker.specs.Walk.{ToldIsAligned, items_in, walked_in};
+ghost use Rattle.path_walker.specs.Walk.{ToldIsAligned, items_in};
 ghost use Rattle.program_image.specs.declared.image.Image.{Image};
-ghost use Rattle.stream_decoder.specs.Decoding.{AtRest, Begins, IsDecoding};
-ghost use Rattle.stream_decoder.specs.Follows.{AreStretchesOfWords, FindsWords, IsStretchOfWords};
+ghost use Rattle.stream_decoder.specs.Decoding.{AtRest, Begins, IsDecoding, depth_of};
+ghost use Rattle.stream_decoder.specs.Follows.{AreStretchesOfWords, FindsWords};
 ghost use Rattle.stream_decoder.specs.Stands.{end_at};
-ghost use Rattle.stream_decoder.specs.Yields.{BegunByte, BegunFront, Ends, Goes, Leaves, OpensPacket, Refuses, Stops, WalksAtoms};
+ghost use Rattle.stream_decoder.specs.Yields.{BegunByte, BegunFront, Ends, Goes, Leaves, OpensPacket, Refuses, Stops, WalksAtoms, WalksOn};
 ghost use Rattle.stream_decoder.specs.Yields.{items_of_found, items_found, left};
 
 use crate::found::Found;
+use crate::oldest::{drop_due, take_atoms, walk_oldest};
 use crate::todo::Todo;
 use crate::waiting::Waiting;
 use element_queue::{Counts, Ledger};
@@ -32,7 +32,7 @@ use packet_grammar::headers::ATOMS;
 use packet_grammar::{End, Fault, Packet};
 use packet_reader::{Address, PacketReader, Step};
 use path_elements::{Awaited, ElemMaker};
-use path_walker::{Stretch, Stretches, Walker};
+use path_walker::{Stretches, Walker};
 use program_image::Image;
 use std::alloc::{AllocError, Global};
 use std::marker::Model;
@@ -473,67 +473,78 @@ impl Decoding {
         }
     }
 
-    /// Walks the oldest that is due; or, where nothing is due, takes the next element where it is an atom, and walks what it
-    /// commits. It does so where that is an atom before which nothing but an address was given, and its own address is known. Else,
-    /// and where the walk has a fault, nothing changes: [`next`](Decoding::next) goes on from there.
+    /// Walks the oldest that are due; or, where nothing is due, takes the next elements where they are atoms, and walks what they commit. It
+    /// does so as far as these are atoms before which nothing but an address was given, and the address of each is known. Says whether there
+    /// was one. Else, and where the walk has a fault, nothing changes: [`next`](Decoding::next) goes on from there.
     ///
     /// Most elements are such, and what they show is small.
     #[inline(always)]
-    fn next_atom(&mut self, image: &Image) -> Option<Stretch>
-        ensures goes { IfSome result (λ stretch. Goes image.now self.old (items_of (walked_in self.new.walk.ctx stretch)) self.new) }
-        ensures words { IfSome result (IsStretchOfWords image.now) }
-        ensures fewer { IfSome result (λ stretch. left self.new < left self.old) }
-        ensures none { result ≡ None → self.new ≡ self.old }
-        ensures stopped { AtRest self.old → result ≡ None }
+    fn walk_some(&mut self, image: &Image, run: &mut Stretches) -> bool
+        ensures walks { WalksOn image.now self.old run.old self.new run.new }
+        ensures words { AreStretchesOfWords image.now run.old → AreStretchesOfWords image.now run.new }
+        ensures fewer { IsTrue result → left self.new < left self.old }
+        ensures unchanged { result ≡ false → (self.new ≡ self.old) × (run.new ≡ run.old) }
+        ensures none { run.new ≡ [] → self.new ≡ self.old }
+        ensures stopped { AtRest self.old → result ≡ false }
         ensures context { self.new.walk.ctx ≡ self.old.walk.ctx }
         ensures reader { self.new.reader ≡ self.old.reader }
         ensures holds { IsDecoding self.new }
     {
         if self.waiting.is_due() {
-            return self.walk_due(image);
+            return self.walk_due(image, run);
         }
-        self.walk_taken(image)
+        if self.waiting.is_full() {
+            return self.walk_taken(image, run);
+        }
+        false
     }
 
-    /// Walks the oldest that is due, where it is an atom before which nothing but an address was given.
+    /// Walks the oldest that are due.
     #[inline(always)]
-    fn walk_due(&mut self, image: &Image) -> Option<Stretch>
-        ensures goes { IfSome result (λ stretch. Goes image.now self.old (items_of (walked_in self.new.walk.ctx stretch)) self.new) }
-        ensures words { IfSome result (IsStretchOfWords image.now) }
-        ensures fewer { IfSome result (λ stretch. left self.new < left self.old) }
-        ensures none { result ≡ None → self.new ≡ self.old }
-        ensures stopped { AtRest self.old → result ≡ None }
+    fn walk_due(&mut self, image: &Image, run: &mut Stretches) -> bool
+        requires holds { IsDecoding self.old }
+        ensures walks { WalksOn image.now self.old run.old self.new run.new }
+        ensures words { AreStretchesOfWords image.now run.old → AreStretchesOfWords image.now run.new }
+        ensures fewer { IsTrue result → left self.new < left self.old }
+        ensures unchanged { result ≡ false → (self.new ≡ self.old) × (run.new ≡ run.old) }
+        ensures none { run.new ≡ [] → self.new ≡ self.old }
+        ensures stopped { AtRest self.old → result ≡ false }
         ensures context { self.new.walk.ctx ≡ self.old.walk.ctx }
         ensures reader { self.new.reader ≡ self.old.reader }
         ensures holds { IsDecoding self.new }
     {
-        let atom = self.waiting.due_atom()?;
-        let stretch = self.walker.walk_atom(image, atom.addr, atom.taken)?;
-        self.waiting.drop_due();
-        Some(stretch)
+        let most = self.waiting.due_count();
+        let n = walk_oldest(&mut self.walker, image, &self.waiting, most, run);
+        if n == 0 {
+            return false;
+        }
+        drop_due(&mut self.waiting, n);
+        true
     }
 
-    /// Takes the next element where it is an atom and commits one before which nothing but an address was given, and walks that
-    /// one.
+    /// Takes the next elements where they are atoms, and walks the oldest, which they commit. No more may be held.
     #[inline(always)]
-    fn walk_taken(&mut self, image: &Image) -> Option<Stretch>
-        ensures goes { IfSome result (λ stretch. Goes image.now self.old (items_of (walked_in self.new.walk.ctx stretch)) self.new) }
-        ensures words { IfSome result (IsStretchOfWords image.now) }
-        ensures fewer { IfSome result (λ stretch. left self.new < left self.old) }
-        ensures none { result ≡ None → self.new ≡ self.old }
-        ensures stopped { AtRest self.old → result ≡ None }
+    fn walk_taken(&mut self, image: &Image, run: &mut Stretches) -> bool
+        requires due { self.old.due ≡ [] }
+        requires full { depth_of self.old ≤ length self.old.pending.held }
+        requires holds { IsDecoding self.old }
+        ensures walks { WalksOn image.now self.old run.old self.new run.new }
+        ensures words { AreStretchesOfWords image.now run.old → AreStretchesOfWords image.now run.new }
+        ensures fewer { IsTrue result → left self.new < left self.old }
+        ensures unchanged { result ≡ false → (self.new ≡ self.old) × (run.new ≡ run.old) }
+        ensures none { run.new ≡ [] → self.new ≡ self.old }
+        ensures stopped { AtRest self.old → result ≡ false }
         ensures context { self.new.walk.ctx ≡ self.old.walk.ctx }
         ensures reader { self.new.reader ≡ self.old.reader }
         ensures holds { IsDecoding self.new }
     {
-        let taken = self.todo.first_atom()?;
-        let committed = self.waiting.next_committed(taken)?;
-        let stretch = self
-            .walker
-            .walk_atom(image, committed.addr, committed.taken)?;
-        self.waiting.take_atom(taken);
-        self.todo.advance();
-        Some(stretch)
+        let most = self.todo.atom_count();
+        let n = walk_oldest(&mut self.walker, image, &self.waiting, most, run);
+        if n == 0 {
+            return false;
+        }
+        take_atoms(&mut self.waiting, &mut self.todo, n);
+        true
     }
 
     /// Walks what is due, and then the next elements, as long as these are atoms before which nothing but an address was given: at most 24.
@@ -552,14 +563,14 @@ impl Decoding {
         run.clear();
         match self.waiting.passing() {
             Some(given) => self.walk_passing(image, given, run),
-            None => self.walk_each(image, run),
+            None => self.walk_held(image, run),
         }
     }
 
-    /// The same, one atom after the other. It is a function of its own, as the next one is: the loop with all that it does is one piece of code then,
-    /// and no atom costs a call.
+    /// The same, of what is held. It is a function of its own, as the next one is: the loop with all that it does is one piece of code then, and no
+    /// atom costs a call.
     #[inline(never)]
-    fn walk_each(&mut self, image: &Image, run: &mut Stretches)
+    fn walk_held(&mut self, image: &Image, run: &mut Stretches)
         requires none { run.old ≡ [] }
         requires holds { IsDecoding self.old }
         ensures goes { Goes image.now self.old (items_in self.new.walk.ctx run.new) self.new }
@@ -570,12 +581,7 @@ impl Decoding {
         ensures reader { self.new.reader ≡ self.old.reader }
         ensures holds { IsDecoding self.new }
     {
-        while run.has_room() {
-            let Some(stretch) = self.next_atom(image) else {
-                return;
-            };
-            run.push(stretch);
-        }
+        while self.walk_some(image, run) {}
     }
 
     /// The same, where this address was given before the first atom, or none.

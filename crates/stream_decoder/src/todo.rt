@@ -1,5 +1,5 @@
 //! The elements of a packet that are still to be taken.
-ghost use Rattle.std.specs.Prelude.{◌≡◌, ◌≤◌, ◌<◌, ◌∷◌, [], ◌↔◌, drop, length, slice_get, Bool, IfSome, IsSome, IsTrue, List, Some, None};
+ghost use Rattle.std.specs.Prelude.{◌≡◌, ◌≤◌, ◌<◌, ◌∷◌, [], ◌↔◌, ℕ, drop, length, slice_get, Bool, IfSome, IsSome, IsTrue, List, Some, None};
 ghost use Rattle.etm_types.specs.declared.element.Elem.TheVariants as elem;
 ghost use Rattle.etm_types.specs.declared.element.P0.TheVariants.{Atom};
 ghost use Rattle.path_elements.specs.Held.{elem_of_correction};
@@ -78,6 +78,14 @@ impl Todo {
         ensures some { IsSome result ↔ ((taken : Bool) × (others : List Elem) × (self.now.elements ≡ elem.P0 (Atom taken) ∷ others)) }
     {
         self.elems.atom(self.next)
+    }
+
+    /// How many atoms are next.
+    #[inline(always)]
+    pub fn atom_count(&self) -> usize
+        ensures value { (k : ℕ) → (k < result) ↔ ((taken : Bool) × (slice_get self.now.elements k ≡ Some (elem.P0 (Atom taken)))) }
+    {
+        self.elems.atom_count().saturating_sub(self.next)
     }
 
     /// The atom that stands so many places behind the next one, where an atom of a run of atoms stands there.

@@ -1,6 +1,6 @@
 //! The P0 elements that wait: those that may still be taken back, and those that an element committed and that
 //! are still to be walked.
-ghost use Rattle.std.specs.Prelude.{◌≡◌, ◌∷◌, ◌++◌, [], List, IsTrue, IfOk, IfSome, IsSome, IsErr, ◌↔◌, None, Err, false, option_to_list, length, ◌<◌};
+ghost use Rattle.std.specs.Prelude.{◌≡◌, ◌∷◌, ◌++◌, [], List, IsTrue, IfOk, IfSome, IsSome, IsErr, ◌↔◌, None, Some, Err, false, option_to_list, length, slice_get, ◌<◌, ◌≤◌};
 ghost use Rattle.element_queue.specs.Counting.{Balances, counts_after, no_counts};
 ghost use Rattle.element_queue.specs.Pending.{committing, losing, taken};
 ghost use Rattle.element_queue.specs.Queued.{entry_of, things_of};
@@ -12,7 +12,7 @@ ghost use Rattle.etm_types.specs.declared.element.Thing.TheVariants.{Seen};
 ghost use Rattle.etm_types.specs.declared.element.Thing.{Thing};
 ghost use Rattle.etm_types.specs.declared.queue_fault.QueueFault.{QueueFault};
 ghost use Rattle.path_elements.specs.Held.{elem_of_correction};
-ghost use Rattle.stream_decoder.specs.Waiting.{Commits, IsWaiting, committed_by, passed};
+ghost use Rattle.stream_decoder.specs.Waiting.{Commits, IsWaiting, all_of, committed_by, passed};
 ghost use Rattle.etm_types.specs.Pre.{nothing_told};
 
 use element_queue::{AtomEntry, Committed, Counts, Ledger, PreElem, Queue};
@@ -93,16 +93,14 @@ impl Waiting {
         Ok(None)
     }
 
-    /// Which entry one atom more commits, where it is an atom before which nothing but an address was given, and nothing is due.
+    /// Which entry the one at `index` is of all that wait, counted from the oldest. `None` where none is there, and where it is anything but an
+    /// atom before which nothing but an address was given.
     #[inline(always)]
-    pub fn next_committed(&self, taken: bool) -> Option<AtomEntry>
-        ensures value { IfSome result (λ atom. (self.now.due ≡ []) × (committed_by self.now (Atom taken) ≡ Seen (entry_of atom) ∷ [])) }
-        ensures some { IsSome result ↔ ((self.now.due ≡ []) × (atom : AtomEntry) × (committed_by self.now (Atom taken) ≡ Seen (entry_of atom) ∷ [])) }
+    pub fn atom_at(&self, index: usize) -> Option<AtomEntry>
+        ensures value { IfSome result (λ atom. slice_get (all_of self.now) index ≡ Some (Seen (entry_of atom))) }
+        ensures some { IsSome result ↔ ((atom : AtomEntry) × (slice_get (all_of self.now) index ≡ Some (Seen (entry_of atom)))) }
     {
-        if self.due > 0 {
-            return None;
-        }
-        self.queue.next_committed(taken)
+        self.queue.atom_at(index)
     }
 
     /// Takes an atom, and lets go what it commits.
@@ -113,6 +111,27 @@ impl Waiting {
         ensures holds { IsWaiting self.new }
     {
         self.queue.push(P0::Atom(taken));
+    }
+
+    /// Takes an atom before which nothing was given, where no more may be held, and lets go what it commits.
+    #[inline(always)]
+    pub fn take_plain_atom(&mut self, taken: bool)
+        requires due { self.old.due ≡ [] }
+        requires some { 0 < self.old.depth }
+        requires full { self.old.depth ≤ length self.old.pending.held }
+        requires given { self.old.pending.pre ≡ nothing_told }
+        ensures commits { Commits self.old (elem.P0 (Atom taken)) self.new (committed_by self.old (Atom taken)) }
+        ensures holds { IsWaiting self.new }
+    {
+        self.queue.push_plain(taken);
+    }
+
+    /// Whether one more P0 element commits the oldest: nothing is due, and no more may be held.
+    #[inline(always)]
+    pub fn is_full(&self) -> bool
+        ensures { IsTrue result ↔ ((self.now.due ≡ []) × (self.now.depth ≤ length self.now.pending.held)) }
+    {
+        self.due == 0 && !self.queue.has_room()
     }
 
     /// The address that was given before the next P0 element, where one was, if each is committed as it is made, nothing is due and
@@ -226,16 +245,12 @@ impl Waiting {
         self.due > 0
     }
 
-    /// Which entry the oldest is that is due, where it is an atom before which nothing but an address was given.
+    /// How many are due.
     #[inline(always)]
-    pub fn due_atom(&self) -> Option<AtomEntry>
-        ensures value { IfSome result (λ atom. (others : List Thing) × (self.now.due ≡ Seen (entry_of atom) ∷ others)) }
-        ensures some { IsSome result ↔ ((atom : AtomEntry) × (others : List Thing) × (self.now.due ≡ Seen (entry_of atom) ∷ others)) }
+    pub fn due_count(&self) -> usize
+        ensures { result ≡ length self.now.due }
     {
-        if self.due == 0 {
-            return None;
-        }
-        self.queue.oldest_atom()
+        self.due as usize
     }
 
     /// The oldest that is due was given out.

@@ -1,4 +1,4 @@
-use Rattle.std.proofs.Common.{◌≡◌, List, [], refl, arith, sym, subst, ◌∙◌}
+use Rattle.std.proofs.Common.{◌≡◌, List, [], refl, subst}
 use Rattle.std.specs.Prelude.{IfOk}
 use Rattle.etm_types.specs.declared.context.Ctx.{Ctx}
 use Rattle.path_text.specs.PathLines.{lines_of, shown_after_all}
@@ -6,7 +6,6 @@ use Rattle.path_text.specs.Writing.{Writes}
 use Rattle.path_walker.specs.Walk.{items_in}
 use Rattle.path_walker.specs.declared.stretch.Stretch.{Stretch}
 use Rattle.path_text.proofs.Wrote.{writes_all, wrote_nothing}
-use Rattle.stream_decoder.specs.Decoding.{AtRest, Decoding}
 use Rattle.stream_decoder.specs.Yields.{Goes}
 use Rattle.stream_decoder.proofs.decoder.write_atoms.Goals as goal
 

@@ -1,52 +1,84 @@
-use Rattle.std.proofs.Common.{subst, sym}
-use Rattle.element_queue.specs.Queued.{entry_of}
-use Rattle.etm_types.specs.Walked.{items_of}
-use Rattle.etm_types.specs.declared.element.Elem.TheVariants as elem
-use Rattle.etm_types.specs.declared.element.P0.TheVariants.{Atom}
+use Rattle.std.proofs.Common.{◌≡◌, ◌≤◌, ◌<◌, ◌++◌, [], List, length, append-nil, sym, ap, subst, ◌∙◌, arith}
 use Rattle.etm_types.specs.declared.context.Ctx.{Ctx}
-use Rattle.path_walker.specs.Walk.{walked_in}
+use Rattle.etm_types.specs.declared.element.Thing.{Thing}
+use Rattle.path_walker.specs.State.{State}
+use Rattle.path_walker.specs.Walk.{items_in}
 use Rattle.stream_decoder.specs.Decoding.{Decoding, decoding_of}
-use Rattle.stream_decoder.specs.Yields.{Goes}
-use Rattle.stream_decoder.proofs.Atoms.{goes_by_atom, holds_by_atom, told_aligned}
-use Rattle.stream_decoder.proofs.Worded.{shows_stretch}
+use Rattle.stream_decoder.specs.Waiting.{IsWaiting, all_of}
+use Rattle.stream_decoder.specs.Yields.{Goes, left}
+use Rattle.stream_decoder.proofs.LettingGo.{none_more, ran_by_taking, some_more, waits_in, walked_within}
+use Rattle.stream_decoder.proofs.Runs.{Ran}
+use Rattle.stream_decoder.proofs.Yielding.{goes_nowhere}
 use Rattle.stream_decoder.proofs.decoding.Decoding.walk_taken.Goals as goal
 
-pub walk_atom-requires : goal.walk_atom-requires
-walk_atom-requires c =
-    let i = c.self.inside in
-    told_aligned i.reader i.maker i.todo i.waiting i.walker i.fault c.in_ok-taken.taken (entry_of c.in_ok-committed.committed)
-    c.in_ok-committed.ensures.value.0 c.in_ok-committed.ensures.value.1
-    c.self.invariant.1
+pub returns-then-n-eq0-clause-walks : goal.returns-then-n-eq0-clause-walks
+returns-then-n-eq0-clause-walks c =
+    let i = c.self.inside in let image = c.args.image.now in let walks = c.walk_oldest-n.ensures.walks in
+    let none = none_more image i.walker c.walk_oldest-n.new.walker (all_of i.waiting) c.args.run.now walks.0 c.walk_oldest-n.new.run c.walk_oldest-n.result
+    walks.2 c.if-n-eq0.true walks.1 walks.3 in
+    let before = decoding_of i.reader i.maker i.todo i.waiting i.walker i.fault in
+    let last = decoding_of i.reader i.maker i.todo i.waiting c.walk_oldest-n.new.walker i.fault in
+    let moved = subst (λ (s : State). Goes image before [] (decoding_of i.reader i.maker i.todo i.waiting s i.fault)) (sym none.0) (goes_nowhere image before) in
+    record {
+      added = [];
+      joined = none.1 ∙ sym (append-nil c.args.run.now);
+      goes = subst (λ (d : Decoding). Goes image d [] last) c.self.view_is moved;
+    }
+
+pub take_atoms-requires-clause-atoms : goal.take_atoms-requires-clause-atoms
+take_atoms-requires-clause-atoms c k below = (c.atom_count-most.ensures.value k).0 (omega (arith, below, c.walk_oldest-n.ensures.most))
+
+pub take_atoms-requires-clause-held : goal.take_atoms-requires-clause-held
+take_atoms-requires-clause-held c =
+    let i = c.self.inside in let walks = c.walk_oldest-n.ensures.walks in
+    let due = ap (λ (d : Decoding). d.due) c.self.view_is ∙ c.requires.due in
+    let held = ap (λ (x : List Thing). length (x ++ (i.waiting.pending).held)) due in
+    omega (arith, walks.2, held, walked_within c.args.image.now i.walker c.walk_oldest-n.new.walker (all_of i.waiting) walks.0 walks.3)
+
+-- nothing is due, no more may be held, and what waits is as it must be
+none : (c : goal.After-take_atoms) → c.self.inside.waiting.due ≡ []
+none c = ap (λ (d : Decoding). d.due) c.self.view_is ∙ c.requires.due
+
+full : (c : goal.After-take_atoms) → c.self.inside.waiting.depth ≤ length c.self.inside.waiting.pending.held
+full c =
+    let held = ap (λ (d : Decoding). length (d.pending).held) c.self.view_is in
+    let depth = ap (λ (d : Decoding). ((d.reader).settings).depth) c.self.view_is in omega (arith, c.requires.full, held, depth, c.self.invariant.0)
+
+waits : (c : goal.After-take_atoms) → IsWaiting c.self.inside.waiting
+waits c = let i = c.self.inside in waits_in i.reader i.maker i.todo i.waiting i.walker i.fault c.self.invariant.0 c.self.invariant.1
+
+-- the run was walked and let go
+ran : (c : goal.After-take_atoms) → let i = c.self.inside in
+    Ran c.args.image.now i.reader i.maker i.fault i.walker c.walk_oldest-n.new.walker c.walk_oldest-n.ensures.walks.0 i.todo c.take_atoms.new.todo
+    i.waiting c.take_atoms.new.waiting
+ran c =
+    let i = c.self.inside in let walks = c.walk_oldest-n.ensures.walks in
+    ran_by_taking c.args.image.now i.reader i.maker i.fault i.walker c.walk_oldest-n.new.walker walks.0 c.walk_oldest-n.result i.todo c.take_atoms.new.todo i.waiting
+    c.take_atoms.new.waiting walks.2 c.if-n-eq0.false (none c) (full c) (waits c) c.self.invariant walks.3 c.take_atoms.ensures.takes c.take_atoms.ensures.at
 
 pub invariant_of-self-2 : goal.invariant_of-self-2
-invariant_of-self-2 c =
-    let i = c.self.inside in
-    holds_by_atom i.reader i.maker i.todo c.advance.new.self i.waiting c.take_atom.new.self i.walker
-    c.walk_atom.new.self i.fault c.in_ok-taken.taken (entry_of c.in_ok-committed.committed) c.in_ok-taken.ensures.value.0 c.in_ok-taken.ensures.value.1
-    (c.advance.ensures (elem.P0 (Atom c.in_ok-taken.taken)) c.in_ok-taken.ensures.value.0 c.in_ok-taken.ensures.value.1)
-    c.in_ok-committed.ensures.value.0 c.in_ok-committed.ensures.value.1 c.self.invariant c.take_atom.ensures.commits c.take_atom.ensures.holds
-    c.in_ok-stretch.ensures.state
+invariant_of-self-2 c = (ran c).2
 
-pub returns-clause-goes : goal.returns-clause-goes
-returns-clause-goes c =
-    let i = c.self.inside in
-    let goes = goes_by_atom i.reader i.maker i.todo c.advance.new.self i.waiting c.take_atom.new.self i.walker
-    c.walk_atom.new.self i.fault c.in_ok-taken.taken (entry_of c.in_ok-committed.committed) c.in_ok-taken.ensures.value.0 c.in_ok-taken.ensures.value.1
-    (c.advance.ensures (elem.P0 (Atom c.in_ok-taken.taken)) c.in_ok-taken.ensures.value.0 c.in_ok-taken.ensures.value.1)
-    c.in_ok-committed.ensures.value.0 c.in_ok-committed.ensures.value.1 c.self.invariant c.take_atom.ensures.commits c.take_atom.ensures.holds
-    c.args.image.now (walked_in i.walker.ctx c.in_ok-stretch.stretch)
-    c.in_ok-stretch.ensures.shows in
-    let before = decoding_of i.reader i.maker i.todo i.waiting i.walker i.fault in
-    let after = decoding_of i.reader i.maker c.advance.new.self c.take_atom.new.self c.walk_atom.new.self i.fault in
-    let kept = subst (λ (x : Ctx). Goes c.args.image.now before (items_of (walked_in x c.in_ok-stretch.stretch)) after)
-    (sym c.in_ok-stretch.ensures.context) goes in
-    subst (λ (d : Decoding). Goes c.args.image.now d (items_of (walked_in c.walk_atom.new.self.ctx c.in_ok-stretch.stretch)) after) c.self.view_is kept
+pub returns-clause-walks : goal.returns-clause-walks
+returns-clause-walks c =
+    let i = c.self.inside in let image = c.args.image.now in let walks = c.walk_oldest-n.ensures.walks in
+    let last = decoding_of i.reader i.maker c.take_atoms.new.todo c.take_atoms.new.waiting c.walk_oldest-n.new.walker i.fault in
+    record {
+      added = walks.0;
+      joined = walks.1;
+      goes = subst (λ (ctx : Ctx). Goes image c.args.self.now (items_in ctx walks.0) last) (sym c.walk_oldest-n.ensures.context)
+          (subst (λ (d : Decoding). Goes image d (items_in i.walker.ctx walks.0) last) c.self.view_is (ran c).0);
+    }
+
+pub returns-clause-fewer : goal.returns-clause-fewer
+returns-clause-fewer c some =
+    let i = c.self.inside in let last = decoding_of i.reader i.maker c.take_atoms.new.todo c.take_atoms.new.waiting c.walk_oldest-n.new.walker i.fault in
+    subst (λ (d : Decoding). left last < left d) c.self.view_is (ran c).1
 
 pub returns-clause-holds : goal.returns-clause-holds
-returns-clause-holds c = (invariant_of-self-2 c).1
+returns-clause-holds c = (ran c).2.1
 
-pub returns-clause-words : goal.returns-clause-words
-returns-clause-words c =
-    let i = c.self.inside in
-    shows_stretch c.args.image.now i.walker c.walk_atom.new.self _ i.walker.ctx c.in_ok-stretch.stretch c.in_ok-stretch.ensures.shows
-    c.in_ok-stretch.ensures.placed
+pub returns-clause-none : goal.returns-clause-none
+returns-clause-none c empty =
+    let walks = c.walk_oldest-n.ensures.walks in
+    absurd (some_more c.args.run.now walks.0 c.walk_oldest-n.new.run c.walk_oldest-n.result walks.2 c.if-n-eq0.false walks.1 empty)

@@ -1,15 +1,15 @@
-use Rattle.std.proofs.Common.{◌≡◌, ◌-◌, ◌≤◌, [], length}
+use Rattle.std.proofs.Common.{◌≡◌, ◌≤◌, []}
 use Rattle.path_walker.specs.Walk.{items_in}
 use Rattle.stream_decoder.specs.Decoding.{AtRest, IsDecoding}
 use Rattle.stream_decoder.specs.Follows.{AreStretchesOfWords}
 use Rattle.stream_decoder.specs.Yields.{Goes, left}
-use Rattle.stream_decoder.proofs.decoding.Decoding.walk_each.Given as goal
+use Rattle.stream_decoder.proofs.decoding.Decoding.walk_held.Given as goal
 
-abbrev pub decreases-loop-self : goal.decreases-loop-self
-decreases-loop-self l = 24 - length l.run
+abbrev pub decreases-loop : goal.decreases-loop
+decreases-loop l = left l.self
 
-abbrev pub invariant-loop-self : goal.invariant-loop-self
-invariant-loop-self l =
+abbrev pub invariant-loop : goal.invariant-loop
+invariant-loop l =
     record {
       goes : Goes l.image l.fn.self (items_in l.self.walk.ctx l.run) l.self;
       words : AreStretchesOfWords l.image l.run;
