@@ -1,5 +1,5 @@
 //! What is printed does not depend on how an input falls into pieces, and lines do not wait for the whole of it.
-use crate::tests::{joined, words};
+use crate::tests::{Case, compare, joined, words};
 use std::alloc::Global;
 use std::process::Abort;
 use std::test::Fail;
@@ -34,42 +34,42 @@ const HEAD: &[u8] = &[
     0, 0x31,
 ];
 
+const PATH: Case = Case {
+    words: &["path", "image"],
+    image: IMAGE,
+    input: &[FRAMES],
+    output: PATHS,
+    status: Status::Done,
+};
+
 /// Reads the frames by pieces of so many bytes, and compares what is printed.
-fn read_by(rt: &impl Abort, alloc: Global, mut input: SafeSource) -> Result<(), Fail> {
-    let mut sink = MemSink::new(alloc, Vec::new(alloc));
-    let status = run(
-        alloc,
-        &words(alloc, &["path", "image"])?,
-        &mut SafeSource::new(IMAGE.to_vec(alloc)?, 4096),
-        &mut input,
-        &mut sink,
-    );
-    assert_eq!(rt; sink.written(), joined(alloc, PATHS)?.as_slice());
-    assert_eq!(rt; status, Status::Done);
-    Ok(())
+fn read_by(rt: &impl Abort, alloc: Global, size: usize) -> Result<(), Fail> {
+    assert!(rt; size > 0);
+    let mut image = SafeSource::new(IMAGE.to_vec(alloc)?, 4096);
+    let mut input = SafeSource::new(FRAMES.to_vec(alloc)?, size);
+    compare(rt, alloc, &PATH, &mut image, &mut input)
 }
 
 #[test]
 fn pieces_of_any_size_print_the_same(rt: HostRuntime) -> Result<(), Fail> {
-    let alloc = rt.alloc();
-    read_by(&rt, alloc, SafeSource::new(FRAMES.to_vec(alloc)?, 1))?;
-    read_by(&rt, alloc, SafeSource::new(FRAMES.to_vec(alloc)?, 2))?;
-    read_by(&rt, alloc, SafeSource::new(FRAMES.to_vec(alloc)?, 3))?;
-    read_by(&rt, alloc, SafeSource::new(FRAMES.to_vec(alloc)?, 15))?;
-    read_by(&rt, alloc, SafeSource::new(FRAMES.to_vec(alloc)?, 16))?;
-    read_by(&rt, alloc, SafeSource::new(FRAMES.to_vec(alloc)?, 17))?;
-    read_by(&rt, alloc, SafeSource::new(FRAMES.to_vec(alloc)?, 1000))
+    for size in [1, 2, 3, 15, 16, 17, 1000] {
+        read_by(&rt, rt.alloc(), size)?;
+    }
+    Ok(())
+}
+
+/// The head, and 20000 atoms behind it.
+fn head_and_atoms(alloc: Global) -> Result<Vec<u8>, Fail> {
+    let mut atoms = Vec::new(alloc);
+    atoms.resize(20_000, 0xf7)?;
+    Ok(joined(alloc, &[HEAD, &atoms])?)
 }
 
 #[test]
 fn no_more_is_read_behind_a_write_that_fails(rt: HostRuntime) -> Result<(), Fail> {
     let alloc = rt.alloc();
-    let mut atoms = Vec::new(alloc);
-    atoms.resize(20_000, 0xf7)?;
-    let mut input = SafeSource::new(joined(alloc, &[HEAD, &atoms])?, 20_026);
-    let mut script = Vec::new(alloc);
-    script.push(true)?;
-    let mut sink = MemSink::new(alloc, script);
+    let mut input = SafeSource::new(head_and_atoms(alloc)?, 20_026);
+    let mut sink = MemSink::new(alloc, vec![in alloc; true]?);
     let status = run(
         alloc,
         &words(alloc, &["path", "--raw", "--depth", "0", "image"])?,
@@ -77,11 +77,13 @@ fn no_more_is_read_behind_a_write_that_fails(rt: HostRuntime) -> Result<(), Fail
         &mut input,
         &mut sink,
     );
-    assert_eq!(rt; status, Status::WriteFault);
-    assert!(rt; sink.written().is_empty());
-    match read_all(alloc, &mut input, 20_026) {
-        Ok(left) => assert_eq!(rt; left.len(), 20_026 - 4096),
-        Err(_) => assert!(rt; false),
-    }
+    assert_eq!(rt;
+        (status, sink.written()),
+        (Status::WriteFault, b"".as_slice())
+    );
+    let left = read_all(alloc, &mut input, 20_026)
+        .ok()
+        .ok_or("it is read")?;
+    assert_eq!(rt; left.len(), 20_026 - 4096);
     Ok(())
 }

@@ -1,6 +1,6 @@
 //! What stands where a read, a write or a flush is refused: tables over worked inputs, in which each call fails in turn.
-use crate::tests::words;
-use std::alloc::{AllocError, Global};
+use crate::tests::{joined, words};
+use std::alloc::Global;
 use std::io;
 use std::io::{ErrorKind, Write};
 use std::process::Abort;
@@ -88,78 +88,97 @@ fn answer<J: Source, K: Sink>(
     Ok(run(alloc, &words(alloc, command)?, &mut image, input, out))
 }
 
-/// A script by which calls go as these went, and then one fails.
-fn failing_behind(alloc: Global, calls: &[bool]) -> Result<Vec<bool>, AllocError> {
-    let mut script = calls.to_vec(alloc)?;
+/// A script by which so many calls go well, and then one fails.
+fn failing_behind(alloc: Global, calls: usize) -> Result<Vec<bool>, Fail> {
+    let mut script = Vec::new(alloc);
+    script.resize(calls, false)?;
     script.push(true)?;
     Ok(script)
 }
 
-/// Each write of a command fails in turn, and what was written before it stands. Behind the last of these pieces one more is to
+/// A command, its input, the pieces that it writes, and its answer.
+#[derive(Clone, Copy)]
+struct Written {
+    command: &'static [&'static str],
+    input: &'static [u8],
+    pieces: &'static [&'static [u8]],
+    status: Status,
+}
+
+/// What is answered and written where the write behind so many is refused.
+fn write_refused(alloc: Global, case: &Written, writes: usize) -> Result<(Status, Vec<u8>), Fail> {
+    let mut sink = MemSink::new(alloc, failing_behind(alloc, writes)?);
+    let mut source = SafeSource::new(case.input.to_vec(alloc)?, 4096);
+    let status = answer(alloc, case.command, &mut source, &mut sink)?;
+    Ok((status, sink.written().to_vec(alloc)?))
+}
+
+/// Each write of a command fails in turn, and what was written before it stands. Behind the last of its pieces one more is to
 /// fail, which is never made.
-fn each_write_fails(
-    rt: &impl Abort,
-    alloc: Global,
-    command: &[&str],
-    input: &[u8],
-    pieces: &[&[u8]],
-    last: Status,
-) -> Result<(), Fail> {
-    let mut calls: Vec<bool> = Vec::new(alloc);
-    let mut written: Vec<u8> = Vec::new(alloc);
-    for piece in pieces {
-        let mut sink = MemSink::new(alloc, failing_behind(alloc, &calls)?);
-        let mut source = SafeSource::new(input.to_vec(alloc)?, 4096);
-        let status = answer(alloc, command, &mut source, &mut sink)?;
-        assert_eq!(rt; status, Status::WriteFault);
-        assert_eq!(rt; sink.written(), written.as_slice());
-        calls.push(false)?;
-        written.extend_from_slice(piece)?;
+fn each_write_fails(rt: &impl Abort, alloc: Global, case: &Written) -> Result<(), Fail> {
+    for writes in 0..=case.pieces.len() {
+        let status = if writes < case.pieces.len() {
+            Status::WriteFault
+        } else {
+            case.status
+        };
+        let written = joined(alloc, &case.pieces[..writes])?;
+        assert_eq!(rt; write_refused(alloc, case, writes)?, (status, written));
     }
-    let mut sink = MemSink::new(alloc, failing_behind(alloc, &calls)?);
-    let mut source = SafeSource::new(input.to_vec(alloc)?, 4096);
-    assert_eq!(rt; answer(alloc, command, &mut source, &mut sink)?, last);
-    assert_eq!(rt; sink.written(), written.as_slice());
     Ok(())
 }
 
 #[test]
 fn each_line_of_a_path_is_refused_in_turn(rt: HostRuntime) -> Result<(), Fail> {
-    each_write_fails(&rt, rt.alloc(), PATH, FRAMES, LINES, Status::Faulted)
+    let path = Written {
+        command: PATH,
+        input: FRAMES,
+        pieces: LINES,
+        status: Status::Faulted,
+    };
+    each_write_fails(&rt, rt.alloc(), &path)
 }
 
 #[test]
 fn each_line_of_a_retired_path_is_refused_in_turn(rt: HostRuntime) -> Result<(), Fail> {
-    let command = &["retired", "image"];
-    each_write_fails(&rt, rt.alloc(), command, RUN, RETIRED, Status::Done)
+    let retired = Written {
+        command: &["retired", "image"],
+        input: RUN,
+        pieces: RETIRED,
+        status: Status::Done,
+    };
+    each_write_fails(&rt, rt.alloc(), &retired)
 }
 
 #[test]
 fn each_frame_of_a_trace_is_refused_in_turn(rt: HostRuntime) -> Result<(), Fail> {
-    let command = &["trace", "image"];
-    each_write_fails(&rt, rt.alloc(), command, RUN, TRACED, Status::Done)
+    let trace = Written {
+        command: &["trace", "image"],
+        input: RUN,
+        pieces: TRACED,
+        status: Status::Done,
+    };
+    each_write_fails(&rt, rt.alloc(), &trace)
+}
+
+/// What is answered and written where the bytes are read one by one, and the read behind so many is refused.
+fn read_refused(alloc: Global, reads: usize) -> Result<(Status, Vec<u8>), Fail> {
+    let mut sink = MemSink::new(alloc, Vec::new(alloc));
+    let script = failing_behind(alloc, reads)?;
+    let mut source = MemSource::new(FRAMES.to_vec(alloc)?, 1, script);
+    let status = answer(alloc, PATH, &mut source, &mut sink)?;
+    Ok((status, sink.written().to_vec(alloc)?))
 }
 
 #[test]
 fn each_read_of_a_byte_is_refused_in_turn(rt: HostRuntime) -> Result<(), Fail> {
-    let alloc = rt.alloc();
-    let mut calls: Vec<bool> = Vec::new(alloc);
-    for _ in FRAMES {
-        let mut sink = MemSink::new(alloc, Vec::new(alloc));
-        let script = failing_behind(alloc, &calls)?;
-        let mut source = MemSource::new(FRAMES.to_vec(alloc)?, 1, script);
-        let status = answer(alloc, PATH, &mut source, &mut sink)?;
-        assert_eq!(rt; status, Status::ReadFault);
-        assert!(rt; sink.written().is_empty());
-        calls.push(false)?;
+    for reads in 0..FRAMES.len() {
+        let (status, written) = read_refused(rt.alloc(), reads)?;
+        assert_eq!(rt; (status, written.len()), (Status::ReadFault, 0));
     }
     // all bytes were read, and the read fails that would find their end
-    let mut sink = MemSink::new(alloc, Vec::new(alloc));
-    let script = failing_behind(alloc, &calls)?;
-    let mut source = MemSource::new(FRAMES.to_vec(alloc)?, 1, script);
-    let status = answer(alloc, PATH, &mut source, &mut sink)?;
-    assert_eq!(rt; status, Status::ReadFault);
-    assert_eq!(rt; sink.written(), BODY);
+    let (status, written) = read_refused(rt.alloc(), FRAMES.len())?;
+    assert_eq!(rt; (status, written.as_slice()), (Status::ReadFault, BODY));
     Ok(())
 }
 
@@ -168,36 +187,37 @@ fn an_image_that_cannot_be_read_leaves_the_input(rt: HostRuntime) -> Result<(), 
     let alloc = rt.alloc();
     let mut source = SafeSource::new(FRAMES.to_vec(alloc)?, 4096);
     let mut sink = MemSink::new(alloc, Vec::new(alloc));
-    let status = run(
-        alloc,
-        &words(alloc, PATH)?,
-        &mut NoSource::new(),
-        &mut source,
-        &mut sink,
-    );
-    assert_eq!(rt; status, Status::ReadFault);
-    assert!(rt; sink.written().is_empty());
-    match read_all(alloc, &mut source, 64) {
-        Ok(left) => assert_eq!(rt; left.as_slice(), FRAMES),
-        Err(_) => assert!(rt; false),
-    }
+    let words = words(alloc, PATH)?;
+    let status = run(alloc, &words, &mut NoSource::new(), &mut source, &mut sink);
+    let left = read_all(alloc, &mut source, 64).ok().ok_or("it is read")?;
+    assert_eq!(rt; (status, sink.written().len()), (Status::ReadFault, 0));
+    assert_eq!(rt; left.as_slice(), FRAMES);
     Ok(())
+}
+
+/// Commands, and an input of each.
+const COMMANDS: [(&[&str], &[u8]); 5] = [
+    (PATH, FRAMES),
+    (&["packets"], FRAMES),
+    (&["retired", "image"], RUN),
+    (&["trace", "image"], RUN),
+    (&["walk"], FRAMES),
+];
+
+/// The answer of a command where each flush is refused.
+fn flush_refused(alloc: Global, command: &[&str], input: &[u8]) -> Result<Status, Fail> {
+    let mut source = SafeSource::new(input.to_vec(alloc)?, 4096);
+    let mut sink = BufferedSink::new(alloc, Unflushed)?;
+    answer(alloc, command, &mut source, &mut sink)
 }
 
 #[test]
 fn a_flush_that_is_refused_is_told(rt: HostRuntime) -> Result<(), Fail> {
-    let alloc = rt.alloc();
-    for (command, input) in [
-        (PATH, FRAMES),
-        (&["packets"], FRAMES),
-        (&["retired", "image"], RUN),
-        (&["trace", "image"], RUN),
-        (&["walk"], FRAMES),
-    ] {
-        let mut source = SafeSource::new(input.to_vec(alloc)?, 4096);
-        let mut sink = BufferedSink::new(alloc, Unflushed)?;
-        let status = answer(alloc, command, &mut source, &mut sink)?;
-        assert_eq!(rt; status, Status::WriteFault);
+    for (command, input) in COMMANDS {
+        assert_eq!(rt;
+            flush_refused(rt.alloc(), command, input)?,
+            Status::WriteFault
+        );
     }
     Ok(())
 }

@@ -4,7 +4,7 @@ use std::alloc::{AllocError, Global};
 use std::process::Abort;
 use std::test::Fail;
 use trace_cmd::{Status, run};
-use trace_io::{MemSink, MemSource, NoSource, SafeSource};
+use trace_io::{MemSink, MemSource, NoSource, SafeSource, Source};
 
 /// NOP at 1000; B.EQ to 100c; NOP; B to 1000.
 const LOOP_IMAGE: &[u8] = b"@1000\n1f2003d5 40000054 1f2003d5 fdffff17\n";
@@ -41,266 +41,331 @@ pub(crate) fn words(alloc: Global, texts: &[&str]) -> Result<Vec<String>, AllocE
     Ok(words)
 }
 
-const PATH: &[&str] = &["path", "--raw", "--depth", "0", "image"];
+/// The words of a call, the image, the parts of its input and of what it prints, and its answer.
+#[derive(Clone, Copy)]
+pub(crate) struct Case {
+    pub words: &'static [&'static str],
+    pub image: &'static [u8],
+    pub input: &'static [&'static [u8]],
+    pub output: &'static [&'static [u8]],
+    pub status: Status,
+}
 
-/// The answer of a call on an image and the parts of an input, whose output is expected.
-fn answer(
+/// Makes a call over these sources, and compares what is printed and the answer.
+pub(crate) fn compare<I: Source, J: Source>(
     rt: &impl Abort,
     alloc: Global,
-    image: &[u8],
-    input: &[&[u8]],
-    output: &[&[u8]],
-) -> Result<Status, Fail> {
+    case: &Case,
+    image: &mut I,
+    input: &mut J,
+) -> Result<(), Fail> {
     let mut sink = MemSink::new(alloc, Vec::new(alloc));
-    let status = run(
-        alloc,
-        &words(alloc, PATH)?,
-        &mut SafeSource::new(image.to_vec(alloc)?, 4096),
-        &mut SafeSource::new(joined(alloc, input)?, 7),
-        &mut sink,
-    );
-    assert_eq!(rt; sink.written(), joined(alloc, output)?.as_slice());
-    Ok(status)
+    let status = run(alloc, &words(alloc, case.words)?, image, input, &mut sink);
+    assert_eq!(rt; status, case.status);
+    assert_eq!(rt; sink.written(), joined(alloc, case.output)?.as_slice());
+    Ok(())
 }
+
+/// Makes calls on inputs that come by pieces of at most seven bytes.
+pub(crate) fn compare_all(rt: &impl Abort, alloc: Global, cases: &[Case]) -> Result<(), Fail> {
+    for case in cases {
+        let mut image = SafeSource::new(case.image.to_vec(alloc)?, 4096);
+        let mut input = SafeSource::new(joined(alloc, case.input)?, 7);
+        compare(rt, alloc, case, &mut image, &mut input)?;
+    }
+    Ok(())
+}
+
+/// Nothing is printed of a stream without bytes.
+const PATH: Case = Case {
+    words: &["path", "--raw", "--depth", "0", "image"],
+    image: LOOP_IMAGE,
+    input: &[],
+    output: &[],
+    status: Status::Done,
+};
+
+/// A stream that ends with a fault.
+const FAULTED: Case = Case {
+    status: Status::Faulted,
+    ..PATH
+};
+
+const PATHS: [Case; 2] = [
+    Case {
+        input: &[SYNC, HEAD, b"\xf7\xf7\xf6"],
+        output: &[FIRST_LINES, b"01 100c\n01 1000\n01 1004\n01 end\n"],
+        ..PATH
+    },
+    PATH,
+];
 
 #[test]
 fn the_path_of_a_stream_is_printed(rt: HostRuntime) -> Result<(), Fail> {
-    let input = [SYNC, HEAD, &[0xf7, 0xf7, 0xf6]];
-    let output = [FIRST_LINES, b"01 100c\n01 1000\n01 1004\n01 end\n"];
-    assert_eq!(rt;
-        answer(&rt, rt.alloc(), LOOP_IMAGE, &input, &output)?,
-        Status::Done
-    );
-    assert_eq!(rt;
-        answer(&rt, rt.alloc(), LOOP_IMAGE, &[], &[])?,
-        Status::Done
-    );
-    Ok(())
+    compare_all(&rt, rt.alloc(), &PATHS)
 }
+
+const CUTS: [Case; 2] = [
+    Case {
+        input: &[b"\x00\x00\x00"],
+        output: &[b"01 nosync\n"],
+        ..PATH
+    },
+    Case {
+        input: &[SYNC, b"\x85\x00"],
+        output: &[b"01 cut 2\n"],
+        ..PATH
+    },
+];
 
 #[test]
 fn a_stream_that_is_cut_or_has_no_sync_is_no_fault(rt: HostRuntime) -> Result<(), Fail> {
-    let zeros: &[&[u8]] = &[&[0, 0, 0]];
-    assert_eq!(rt;
-        answer(&rt, rt.alloc(), LOOP_IMAGE, zeros, &[b"01 nosync\n"])?,
-        Status::Done
-    );
-    let cut = [SYNC, &[0x85, 0x00]];
-    assert_eq!(rt;
-        answer(&rt, rt.alloc(), LOOP_IMAGE, &cut, &[b"01 cut 2\n"])?,
-        Status::Done
-    );
-    Ok(())
+    compare_all(&rt, rt.alloc(), &CUTS)
 }
 
-#[test]
-fn an_exception_and_its_return_are_printed(rt: HostRuntime) -> Result<(), Fail> {
-    let input: &[&[u8]] = &[
+const HANDLED: [Case; 1] = [Case {
+    image: HANDLER_IMAGE,
+    input: &[
         SYNC,
-        &[0x01, 0x01, 0x00, 0x04],
-        &[0x85, 0x00, 0x08, 0, 0, 0, 0, 0, 0, 0x30],
-        &[0x06, 0x1d, 0x95, 0x01],
-        &[0x82, 0x00, 0x40, 0x00, 0x00, 0x31, 0xf7],
-        &[0x82, 0x01, 0x08, 0x00, 0x00, 0x30, 0xf7],
-    ];
-    let output: &[&[u8]] = &[
+        b"\x01\x01\x00\x04",
+        b"\x85\x00\x08\x00\x00\x00\x00\x00\x00\x30",
+        b"\x06\x1d\x95\x01",
+        b"\x82\x00\x40\x00\x00\x31\xf7",
+        b"\x82\x01\x08\x00\x00\x30\xf7",
+    ],
+    output: &[
         b"01 on\n01 ctx el0 ns 0 0\n01 1000\n01 exc irq 1004\n",
         b"01 ctx el1 ns 0 0\n01 8000\n01 8004\n",
         b"01 ctx el0 ns 0 0\n01 1004\n01 end\n",
-    ];
-    assert_eq!(rt;
-        answer(&rt, rt.alloc(), HANDLER_IMAGE, input, output)?,
-        Status::Done
-    );
-    Ok(())
+    ],
+    ..PATH
+}];
+
+#[test]
+fn an_exception_and_its_return_are_printed(rt: HostRuntime) -> Result<(), Fail> {
+    compare_all(&rt, rt.alloc(), &HANDLED)
 }
+
+const FAULTS: [Case; 5] = [
+    Case {
+        input: &[SYNC, HEAD, b"\xf7\xf6"],
+        output: &[FIRST_LINES, b"01 fault 27 bad-atom 100c\n"],
+        ..FAULTED
+    },
+    Case {
+        input: &[SYNC, HEAD, b"\xf7\x95\x00\xf7"],
+        output: &[FIRST_LINES, b"01 fault 29 address-mismatch 100c 1000\n"],
+        ..FAULTED
+    },
+    Case {
+        input: &[SYNC, HEAD, b"\x9a\x00\x48\x00\x00\xf7"],
+        output: &[b"01 fault 31 no-code 9000\n"],
+        ..FAULTED
+    },
+    Case {
+        input: &[SYNC, HEAD, b"\x06\x1d\x95\x02"],
+        output: &[b"01 fault 28 return-missed 1004 1008\n"],
+        ..FAULTED
+    },
+    Case {
+        input: &[SYNC, HEAD, b"\x06\x1d\xf7"],
+        output: &[b"01 fault 28 address-awaited\n"],
+        ..FAULTED
+    },
+];
 
 #[test]
 fn a_fault_of_the_path_is_told_at_its_packet(rt: HostRuntime) -> Result<(), Fail> {
-    for (bytes, lines, last) in [
-        (
-            &[0xf7, 0xf6][..],
-            FIRST_LINES,
-            &b"01 fault 27 bad-atom 100c\n"[..],
-        ),
-        (
-            &[0xf7, 0x95, 0x00, 0xf7],
-            FIRST_LINES,
-            b"01 fault 29 address-mismatch 100c 1000\n",
-        ),
-        (
-            &[0x9a, 0x00, 0x48, 0x00, 0x00, 0xf7],
-            b"",
-            b"01 fault 31 no-code 9000\n",
-        ),
-        (
-            &[0x06, 0x1d, 0x95, 0x02],
-            b"",
-            b"01 fault 28 return-missed 1004 1008\n",
-        ),
-        (&[0x06, 0x1d, 0xf7], b"", b"01 fault 28 address-awaited\n"),
-        // a cancel, a mispredict and the two other cancels
-        (
-            &[0x06, 0x1d, 0x2e, 0x01],
-            b"",
-            b"01 fault 28 address-awaited\n",
-        ),
-        (&[0x06, 0x1d, 0x30], b"", b"01 fault 28 address-awaited\n"),
-        (&[0x06, 0x1d, 0x34], b"", b"01 fault 28 address-awaited\n"),
-        (&[0x06, 0x1d, 0x38], b"", b"01 fault 28 address-awaited\n"),
-    ] {
-        let input = [SYNC, HEAD, bytes];
-        let output = [lines, last];
-        assert_eq!(rt;
-            answer(&rt, rt.alloc(), LOOP_IMAGE, &input, &output)?,
-            Status::Faulted
-        );
-    }
-    Ok(())
+    compare_all(&rt, rt.alloc(), &FAULTS)
 }
+
+/// A cancel, a mispredict and the two other cancels behind an exception.
+const AWAITED: [Case; 4] = [
+    Case {
+        input: &[SYNC, HEAD, b"\x06\x1d\x2e\x01"],
+        output: &[b"01 fault 28 address-awaited\n"],
+        ..FAULTED
+    },
+    Case {
+        input: &[SYNC, HEAD, b"\x06\x1d\x30"],
+        output: &[b"01 fault 28 address-awaited\n"],
+        ..FAULTED
+    },
+    Case {
+        input: &[SYNC, HEAD, b"\x06\x1d\x34"],
+        output: &[b"01 fault 28 address-awaited\n"],
+        ..FAULTED
+    },
+    Case {
+        input: &[SYNC, HEAD, b"\x06\x1d\x38"],
+        output: &[b"01 fault 28 address-awaited\n"],
+        ..FAULTED
+    },
+];
+
+#[test]
+fn nothing_is_corrected_before_the_address_of_an_exception(rt: HostRuntime) -> Result<(), Fail> {
+    compare_all(&rt, rt.alloc(), &AWAITED)
+}
+
+const OVERRUNS: [Case; 4] = [
+    Case {
+        input: &[SYNC, HEAD, b"\xf7", b"\x2d\x01"],
+        output: &[FIRST_LINES, b"01 fault 27 commit-overrun 1 0\n"],
+        ..FAULTED
+    },
+    Case {
+        input: &[SYNC, HEAD, b"\xf7", b"\x2e\x01"],
+        output: &[FIRST_LINES, b"01 fault 27 cancel-overrun 1 0\n"],
+        ..FAULTED
+    },
+    Case {
+        input: &[SYNC, HEAD, b"\xf7", b"\x30"],
+        output: &[FIRST_LINES, b"01 fault 27 no-atom 0\n"],
+        ..FAULTED
+    },
+    Case {
+        input: &[SYNC, b"\x01\x04\x01"],
+        output: &[b"01 fault 12 spec-too-deep 1 0\n"],
+        ..FAULTED
+    },
+];
 
 #[test]
 fn nothing_is_held_that_could_be_asked_for(rt: HostRuntime) -> Result<(), Fail> {
-    for (bytes, last) in [
-        (&[0x2d, 0x01][..], &b"01 fault 27 commit-overrun 1 0\n"[..]),
-        (&[0x2e, 0x01], b"01 fault 27 cancel-overrun 1 0\n"),
-        (&[0x30], b"01 fault 27 no-atom 0\n"),
-    ] {
-        let input = [SYNC, HEAD, &[0xf7], bytes];
-        let output = [FIRST_LINES, last];
-        assert_eq!(rt;
-            answer(&rt, rt.alloc(), LOOP_IMAGE, &input, &output)?,
-            Status::Faulted
-        );
-    }
-    let deep: &[&[u8]] = &[SYNC, &[0x01, 0x04, 0x01]];
-    assert_eq!(rt;
-        answer(
-            &rt,
-            rt.alloc(),
-            LOOP_IMAGE,
-            deep,
-            &[b"01 fault 12 spec-too-deep 1 0\n"]
-        )?,
-        Status::Faulted
-    );
-    Ok(())
+    compare_all(&rt, rt.alloc(), &OVERRUNS)
 }
+
+const BAD_IMAGES: [Case; 5] = [
+    Case {
+        image: b"@1000\n1f2003d5\n@1002\n",
+        output: &[b"image line 3: unaligned\n"],
+        status: Status::ImageBad {
+            line: 3,
+            why: ImageWhy::Unaligned,
+        },
+        ..PATH
+    },
+    Case {
+        image: b"@1000\n1f2003d5 1f2003d5\n@1004\n1f2003d5\n",
+        output: &[b"image line 4: overlap\n"],
+        status: Status::ImageBad {
+            line: 4,
+            why: ImageWhy::Overlap,
+        },
+        ..PATH
+    },
+    Case {
+        image: b"@fffffffffffffffc\n1f2003d5 1f2003d5\n",
+        output: &[b"image line 2: wraps\n"],
+        status: Status::ImageBad {
+            line: 2,
+            why: ImageWhy::Wraps,
+        },
+        ..PATH
+    },
+    Case {
+        image: b"1f2003d5\n",
+        output: &[b"image line 1: syntax\n"],
+        status: Status::ImageBad {
+            line: 1,
+            why: ImageWhy::Syntax,
+        },
+        ..PATH
+    },
+    Case {
+        image: b"@fffffffffffffffc\n1f2003d5\n",
+        ..PATH
+    },
+];
 
 #[test]
 fn an_image_that_is_bad_is_told_by_its_first_line(rt: HostRuntime) -> Result<(), Fail> {
-    for (image, line, why, told) in [
-        (
-            &b"@1000\n1f2003d5\n@1002\n"[..],
-            3,
-            ImageWhy::Unaligned,
-            &b"image line 3: unaligned\n"[..],
-        ),
-        (
-            b"@1000\n1f2003d5 1f2003d5\n@1004\n1f2003d5\n",
-            4,
-            ImageWhy::Overlap,
-            b"image line 4: overlap\n",
-        ),
-        (
-            b"@fffffffffffffffc\n1f2003d5 1f2003d5\n",
-            2,
-            ImageWhy::Wraps,
-            b"image line 2: wraps\n",
-        ),
-        (
-            b"1f2003d5\n",
-            1,
-            ImageWhy::Syntax,
-            b"image line 1: syntax\n",
-        ),
-    ] {
-        assert_eq!(rt;
-            answer(&rt, rt.alloc(), image, &[], &[told])?,
-            Status::ImageBad { line, why }
-        );
-    }
-    let last_word = b"@fffffffffffffffc\n1f2003d5\n";
-    assert_eq!(rt; answer(&rt, rt.alloc(), last_word, &[], &[])?, Status::Done);
-    Ok(())
+    compare_all(&rt, rt.alloc(), &BAD_IMAGES)
 }
+
+const TWO_REASONS: [Case; 3] = [
+    Case {
+        image: b"@1002 1f2003d5\n",
+        output: &[b"image line 1: syntax\n"],
+        status: Status::ImageBad {
+            line: 1,
+            why: ImageWhy::Syntax,
+        },
+        ..PATH
+    },
+    Case {
+        image: b"@fffffffffffffffc\n1f2003d5 1f20\n",
+        output: &[b"image line 2: unaligned\n"],
+        status: Status::ImageBad {
+            line: 2,
+            why: ImageWhy::Unaligned,
+        },
+        ..PATH
+    },
+    Case {
+        image: b"@fffffffffffffffc\n1f2003d5\n@fffffffffffffff8\n1f2003d5 1f2003d5 1f2003d5\n",
+        output: &[b"image line 4: wraps\n"],
+        status: Status::ImageBad {
+            line: 4,
+            why: ImageWhy::Wraps,
+        },
+        ..PATH
+    },
+];
 
 #[test]
 fn of_a_line_that_is_bad_for_two_reasons_the_earlier_is_told(rt: HostRuntime) -> Result<(), Fail> {
-    for (image, line, why, told) in [
-        (
-            &b"@1002 1f2003d5\n"[..],
-            1,
-            ImageWhy::Syntax,
-            &b"image line 1: syntax\n"[..],
-        ),
-        (
-            b"@fffffffffffffffc\n1f2003d5 1f20\n",
-            2,
-            ImageWhy::Unaligned,
-            b"image line 2: unaligned\n",
-        ),
-        (
-            b"@fffffffffffffffc\n1f2003d5\n@fffffffffffffff8\n1f2003d5 1f2003d5 1f2003d5\n",
-            4,
-            ImageWhy::Wraps,
-            b"image line 4: wraps\n",
-        ),
-    ] {
-        assert_eq!(rt;
-            answer(&rt, rt.alloc(), image, &[], &[told])?,
-            Status::ImageBad { line, why }
-        );
-    }
-    Ok(())
+    compare_all(&rt, rt.alloc(), &TWO_REASONS)
 }
+
+const NO_MEANING: Case = Case {
+    words: &["path", "--raw"],
+    output: &[b"usage: etm path|packets|trace|retired|selftest|times\n"],
+    status: Status::Usage,
+    ..PATH
+};
 
 #[test]
 fn words_without_a_meaning_print_the_usage(rt: HostRuntime) -> Result<(), Fail> {
-    let alloc = rt.alloc();
-    let mut sink = MemSink::new(alloc, Vec::new(alloc));
-    let status = run(
-        alloc,
-        &words(alloc, &["path", "--raw"])?,
+    compare(
+        &rt,
+        rt.alloc(),
+        &NO_MEANING,
         &mut NoSource::new(),
         &mut NoSource::new(),
-        &mut sink,
-    );
-    assert_eq!(rt; status, Status::Usage);
-    let usage = b"usage: etm path|packets|trace|retired|selftest|times\n";
-    assert_eq!(rt; sink.written(), usage.as_slice());
-    Ok(())
+    )
 }
+
+/// A stream of one branch.
+const ONE_BRANCH: &[&[u8]] = &[SYNC, HEAD, b"\xf7"];
 
 #[test]
 fn a_write_that_fails_is_told(rt: HostRuntime) -> Result<(), Fail> {
-    let alloc = rt.alloc();
-    let mut sink = MemSink::new(alloc, vec![in alloc; false, true]?);
+    let mut sink = MemSink::new(rt.alloc(), vec![in rt.alloc(); false, true]?);
     let status = run(
-        alloc,
-        &words(alloc, PATH)?,
-        &mut SafeSource::new(LOOP_IMAGE.to_vec(alloc)?, 4096),
-        &mut SafeSource::new(joined(alloc, &[SYNC, HEAD, &[0xf7]])?, 4096),
+        rt.alloc(),
+        &words(rt.alloc(), PATH.words)?,
+        &mut SafeSource::new(LOOP_IMAGE.to_vec(rt.alloc())?, 4096),
+        &mut SafeSource::new(joined(rt.alloc(), ONE_BRANCH)?, 4096),
         &mut sink,
     );
-    assert_eq!(rt; status, Status::WriteFault);
-    assert_eq!(rt; sink.written(), b"01 on\n".as_slice());
+    assert_eq!(rt;
+        (status, sink.written()),
+        (Status::WriteFault, b"01 on\n".as_slice())
+    );
     Ok(())
 }
 
+const READ_FAULT: Case = Case {
+    status: Status::ReadFault,
+    ..PATH
+};
+
 #[test]
 fn a_read_that_fails_is_told(rt: HostRuntime) -> Result<(), Fail> {
-    let alloc = rt.alloc();
-    let mut sink = MemSink::new(alloc, Vec::new(alloc));
-    let input = joined(alloc, &[SYNC, HEAD, &[0xf7]])?;
-    let status = run(
-        alloc,
-        &words(alloc, PATH)?,
-        &mut SafeSource::new(LOOP_IMAGE.to_vec(alloc)?, 4096),
-        &mut MemSource::new(input, 5, vec![in alloc; false, true]?),
-        &mut sink,
-    );
-    assert_eq!(rt; status, Status::ReadFault);
-    assert!(rt; sink.written().is_empty());
-    Ok(())
+    let mut image = SafeSource::new(LOOP_IMAGE.to_vec(rt.alloc())?, 4096);
+    let script = vec![in rt.alloc(); false, true]?;
+    let mut input = MemSource::new(joined(rt.alloc(), ONE_BRANCH)?, 5, script);
+    compare(&rt, rt.alloc(), &READ_FAULT, &mut image, &mut input)
 }

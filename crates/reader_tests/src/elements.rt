@@ -1,18 +1,15 @@
 //! The packets of hand-made streams, with their elements worked out by hand.
-ghost use Rattle.std.specs.Prelude.{◌<◌, ◌≤◌};
+ghost use Rattle.std.specs.Prelude.{◌≤◌, IfSome, IsTrue};
 ghost use Rattle.path_elements.specs.Held.{CanBeTaken};
 
 use etm_types::{AddrForm, AtomRun, Ctx, CtxBits, Elem, FewAtoms, P0};
 use packet_grammar::Packet;
 use path_elements::*;
 use std::process::Abort;
-use std::test::Fail;
 
 const TAKEN: Elem = Elem::P0(P0::Atom(true));
 
 const NOT_TAKEN: Elem = Elem::P0(P0::Atom(false));
-
-const NO_SPEC: Elem = Elem::Info { spec: 0 };
 
 const SECURE: Ctx = Ctx {
     el: 0,
@@ -25,249 +22,397 @@ const PROGRAM: Ctx = Ctx { ns: true, ..SECURE };
 
 const HANDLER: Ctx = Ctx { el: 1, ..PROGRAM };
 
-/// Trace info with a speculation depth, or without one.
-fn info(spec: Option<u32>) -> Packet
-    ensures { CanBeTaken result }
-{
-    Packet::Info {
+const IN_SECURE: CtxBits = CtxBits {
+    el: 0,
+    ns: false,
+    vmid: None,
+    cid: None,
+};
+
+const IN_PROGRAM: CtxBits = CtxBits {
+    ns: true,
+    ..IN_SECURE
+};
+
+const IN_HANDLER: CtxBits = CtxBits {
+    el: 1,
+    ..IN_PROGRAM
+};
+
+/// A packet, and the elements that it gives, where it may come.
+#[derive(Clone, Copy)]
+struct Row {
+    packet: Packet,
+    elems: Option<&'static [Elem]>,
+}
+
+/// Trace info without a speculation depth.
+const INFO: Row = Row {
+    packet: Packet::Info {
         info: Some(0),
         key: None,
-        spec,
+        spec: None,
         cyct: None,
-    }
-}
+    },
+    elems: Some(&[Elem::Info { spec: 0 }]),
+};
+
+const SYNC: Row = Row {
+    packet: Packet::Async,
+    elems: Some(&[]),
+};
 
 /// One atom E.
-fn taken() -> Packet
-    ensures { CanBeTaken result }
-{
-    Packet::Atoms(AtomRun { count: 1, bits: 1 })
-}
+const ATOM: Row = Row {
+    packet: Packet::Atoms(AtomRun { count: 1, bits: 1 }),
+    elems: Some(&[TAKEN]),
+};
 
-/// An exception of a type, and whether its address is the target of what stood before too.
-fn exception(kind: u8, target: bool) -> Packet
-    requires { kind < 32 }
-    ensures { CanBeTaken result }
-{
-    Packet::Exc { kind, target }
-}
+const AN_INTERRUPT: Row = Row {
+    packet: Packet::Exc {
+        kind: 14,
+        target: false,
+    },
+    elems: Some(&[]),
+};
 
-/// An address in the 64-bit form, with its context.
-fn start(addr: u64, el: u8, ns: bool) -> Packet
-    requires { el ≤ 3 }
-    ensures { CanBeTaken result }
+/// An interrupt whose address is the target of what stood before too.
+const AN_INTERRUPT_AT_ITS_TARGET: Row = Row {
+    packet: Packet::Exc {
+        kind: 14,
+        target: true,
+    },
+    elems: Some(&[]),
+};
+
+const A_FAULT: Row = Row {
+    packet: Packet::Exc {
+        kind: 1,
+        target: false,
+    },
+    elems: Some(&[]),
+};
+
+const NEWEST_ADDRESS: Packet = Packet::Addr {
+    form: AddrForm::Match(0),
+    ctx: None,
+};
+
+/// Whether a level is one that there is.
+fn has_level(ctx: &Option<CtxBits>) -> bool
+    ensures { IsTrue result → IfSome ctx.now (λ told. told.el ≤ 3) }
 {
-    Packet::Addr {
-        form: AddrForm::Long64(addr),
-        ctx: Some(CtxBits {
-            el,
-            ns,
-            vmid: None,
-            cid: None,
-        }),
+    match ctx {
+        Some(told) => told.el <= 3,
+        None => true,
     }
 }
 
-/// Takes a packet, and holds its elements against those that are wanted.
-fn gives(
-    rt: &impl Abort,
-    maker: &mut ElemMaker,
-    packet: &Packet,
-    wanted: &[Elem],
-) -> Result<(), Fail>
-    requires { CanBeTaken packet.now }
+/// Whether the numbers of a packet are within their ranges.
+fn can_be_taken(packet: &Packet) -> bool
+    ensures { IsTrue result → CanBeTaken packet.now }
 {
-    let elems = maker.take(packet).ok().ok_or("the packet may come here")?;
-    assert_eq!(rt; elems.len(), wanted.len(), "after {packet:?}");
+    match packet {
+        Packet::Exc { kind, .. } => *kind < 32,
+        Packet::Mispredict(few) => few.count <= 2,
+        Packet::Cancel2(few) => few.count <= 2,
+        Packet::CtxInfo(ctx) => ctx.el <= 3,
+        Packet::Addr {
+            form: AddrForm::Match(entry),
+            ctx,
+        } => *entry <= 2 && has_level(ctx),
+        Packet::Addr { ctx, .. } => has_level(ctx),
+        Packet::Atoms(run) => run.count <= 24,
+        _ => true,
+    }
+}
+
+/// Whether these elements are the ones that are wanted.
+fn are(elems: &Elems, wanted: &[Elem]) -> bool {
     for (i, elem) in wanted.iter().enumerate() {
-        assert_eq!(rt; elems.get(i), Some(*elem), "after {packet:?}, at {i}");
+        if elems.get(i) != Some(*elem) {
+            return false;
+        }
     }
-    assert_eq!(rt; elems.get(elems.len()), None);
-    Ok(())
+    elems.len() == wanted.len() && elems.get(wanted.len()).is_none()
 }
 
-/// A packet may not come, and changes nothing.
-fn refuses(rt: &impl Abort, maker: &mut ElemMaker, packet: &Packet)
+/// Whether a packet gives the elements that are wanted, or, where there are none, may not come and changes nothing.
+fn gives(maker: &mut ElemMaker, packet: &Packet, wanted: Option<&[Elem]>) -> bool
     requires { CanBeTaken packet.now }
 {
     let before = *maker;
-    assert_eq!(rt; maker.take(packet).err(), Some(Awaited), "after {packet:?}");
-    assert_eq!(rt; *maker, before);
+    match (maker.take(packet), wanted) {
+        (Ok(elems), Some(wanted)) => are(&elems, wanted),
+        (Err(Awaited), None) => *maker == before,
+        _ => false,
+    }
 }
 
-#[test]
-fn a_flip_after_a_sync(rt: HostRuntime) -> Result<(), Fail> {
+/// Gives a new maker the packets of a table.
+fn follow(rt: &impl Abort, rows: &[Row]) {
     let mut maker = ElemMaker::new();
-    let none = FewAtoms {
-        count: 0,
-        first: false,
-    };
-    gives(&rt, &mut maker, &Packet::Async, &[])?;
-    gives(&rt, &mut maker, &info(None), &[NO_SPEC])?;
-    gives(&rt, &mut maker, &Packet::On, &[Elem::On])?;
-    gives(
-        &rt,
-        &mut maker,
-        &start(0x1000, 0, false),
-        &[Elem::Ctx(SECURE), Elem::Addr(0x1000)],
-    )?;
-    gives(&rt, &mut maker, &taken(), &[TAKEN])?;
-    gives(&rt, &mut maker, &Packet::Async, &[])?;
-    gives(&rt, &mut maker, &info(Some(1)), &[Elem::Info { spec: 1 }])?;
-    gives(
-        &rt,
-        &mut maker,
-        &start(0x100c, 0, false),
-        &[Elem::Ctx(SECURE), Elem::Addr(0x100c)],
-    )?;
-    gives(&rt, &mut maker, &Packet::Mispredict(none), &[Elem::Flip])?;
-    gives(&rt, &mut maker, &taken(), &[TAKEN])?;
-    gives(&rt, &mut maker, &Packet::Commit(2), &[Elem::Commit(2)])
+    for (i, row) in rows.iter().enumerate() {
+        assert!(rt; can_be_taken(&row.packet));
+        assert!(rt; gives(&mut maker, &row.packet, row.elems), "row {i}");
+    }
 }
 
+const A_FLIP_AFTER_A_SYNC: [Row; 11] = [
+    SYNC,
+    INFO,
+    Row {
+        packet: Packet::On,
+        elems: Some(&[Elem::On]),
+    },
+    Row {
+        packet: Packet::Addr {
+            form: AddrForm::Long64(0x1000),
+            ctx: Some(IN_SECURE),
+        },
+        elems: Some(&[Elem::Ctx(SECURE), Elem::Addr(0x1000)]),
+    },
+    ATOM,
+    SYNC,
+    Row {
+        packet: Packet::Info {
+            info: Some(0),
+            key: None,
+            spec: Some(1),
+            cyct: None,
+        },
+        elems: Some(&[Elem::Info { spec: 1 }]),
+    },
+    Row {
+        packet: Packet::Addr {
+            form: AddrForm::Long64(0x100c),
+            ctx: Some(IN_SECURE),
+        },
+        elems: Some(&[Elem::Ctx(SECURE), Elem::Addr(0x100c)]),
+    },
+    Row {
+        packet: Packet::Mispredict(FewAtoms {
+            count: 0,
+            first: false,
+        }),
+        elems: Some(&[Elem::Flip]),
+    },
+    ATOM,
+    Row {
+        packet: Packet::Commit(2),
+        elems: Some(&[Elem::Commit(2)]),
+    },
+];
+
 #[test]
-fn an_exception_and_its_return(rt: HostRuntime) -> Result<(), Fail> {
-    let mut maker = ElemMaker::new();
-    let short = Packet::Addr {
-        form: AddrForm::Short1(4),
-        ctx: None,
-    };
-    let irq = P0::Exc {
-        kind: 14,
-        ret: 0x1004,
-    };
-    gives(&rt, &mut maker, &Packet::On, &[])?;
-    gives(&rt, &mut maker, &info(None), &[NO_SPEC])?;
-    gives(
-        &rt,
-        &mut maker,
-        &start(0x1000, 0, true),
-        &[Elem::Ctx(PROGRAM), Elem::Addr(0x1000)],
-    )?;
-    gives(&rt, &mut maker, &exception(14, false), &[])?;
-    gives(&rt, &mut maker, &short, &[Elem::P0(irq)])?;
-    gives(
-        &rt,
-        &mut maker,
-        &start(0x8000, 1, true),
-        &[Elem::Ctx(HANDLER), Elem::Addr(0x8000)],
-    )?;
-    gives(&rt, &mut maker, &taken(), &[TAKEN])?;
-    gives(&rt, &mut maker, &Packet::CtxSame, &[Elem::Ctx(HANDLER)])?;
+fn a_flip_after_a_sync(rt: HostRuntime) {
+    follow(&rt, &A_FLIP_AFTER_A_SYNC);
+}
+
+/// Trace on is not told before the first trace info.
+const AN_EXCEPTION_AND_ITS_RETURN: [Row; 8] = [
+    Row {
+        packet: Packet::On,
+        elems: Some(&[]),
+    },
+    INFO,
+    Row {
+        packet: Packet::Addr {
+            form: AddrForm::Long64(0x1000),
+            ctx: Some(IN_PROGRAM),
+        },
+        elems: Some(&[Elem::Ctx(PROGRAM), Elem::Addr(0x1000)]),
+    },
+    AN_INTERRUPT,
+    Row {
+        packet: Packet::Addr {
+            form: AddrForm::Short1(4),
+            ctx: None,
+        },
+        elems: Some(&[Elem::P0(P0::Exc {
+            kind: 14,
+            ret: 0x1004,
+        })]),
+    },
+    Row {
+        packet: Packet::Addr {
+            form: AddrForm::Long64(0x8000),
+            ctx: Some(IN_HANDLER),
+        },
+        elems: Some(&[Elem::Ctx(HANDLER), Elem::Addr(0x8000)]),
+    },
+    ATOM,
+    Row {
+        packet: Packet::CtxSame,
+        elems: Some(&[Elem::Ctx(HANDLER)]),
+    },
+];
+
+#[test]
+fn an_exception_and_its_return(rt: HostRuntime) {
+    follow(&rt, &AN_EXCEPTION_AND_ITS_RETURN);
     elements_come_one_by_one();
     spelled_packets_can_be_taken();
-    Ok(())
+}
+
+const PLACE: Elem = Elem::Addr(0x1000);
+
+const INTERRUPT: Elem = Elem::P0(P0::Exc {
+    kind: 14,
+    ret: 0x1000,
+});
+
+const AN_EXCEPTION_AT_ITS_TARGET: [Row; 10] = [
+    INFO,
+    AN_INTERRUPT_AT_ITS_TARGET,
+    Row {
+        packet: Packet::Addr {
+            form: AddrForm::Long64(0x1000),
+            ctx: Some(IN_PROGRAM),
+        },
+        elems: Some(&[Elem::Ctx(PROGRAM), PLACE, INTERRUPT]),
+    },
+    AN_INTERRUPT_AT_ITS_TARGET,
+    Row {
+        packet: NEWEST_ADDRESS,
+        elems: Some(&[PLACE, INTERRUPT]),
+    },
+    AN_INTERRUPT,
+    Row {
+        packet: NEWEST_ADDRESS,
+        elems: Some(&[INTERRUPT]),
+    },
+    Row {
+        packet: Packet::Exc {
+            kind: 3,
+            target: true,
+        },
+        elems: Some(&[]),
+    },
+    Row {
+        packet: Packet::Discard,
+        elems: Some(&[Elem::Discard]),
+    },
+    Row {
+        packet: NEWEST_ADDRESS,
+        elems: Some(&[PLACE]),
+    },
+];
+
+#[test]
+fn an_exception_at_its_target(rt: HostRuntime) {
+    follow(&rt, &AN_EXCEPTION_AT_ITS_TARGET);
+}
+
+const AN_EXCEPTION_AWAITS_ITS_ADDRESS: [Row; 8] = [
+    INFO,
+    A_FAULT,
+    Row {
+        elems: None,
+        ..INFO
+    },
+    Row {
+        elems: None,
+        ..ATOM
+    },
+    Row {
+        elems: None,
+        ..A_FAULT
+    },
+    Row {
+        packet: Packet::Ignore,
+        elems: Some(&[]),
+    },
+    Row {
+        packet: Packet::Overflow,
+        elems: Some(&[Elem::Overflow]),
+    },
+    ATOM,
+];
+
+#[test]
+fn an_exception_awaits_its_address(rt: HostRuntime) {
+    follow(&rt, &AN_EXCEPTION_AWAITS_ITS_ADDRESS);
+}
+
+const CANCEL_OF_TWO: Packet = Packet::Cancel3 { e: true, n: 2 };
+
+const ATOMS_FIRST: [Row; 5] = [
+    INFO,
+    Row {
+        packet: Packet::Atoms(AtomRun {
+            count: 4,
+            bits: 0b1110,
+        }),
+        elems: Some(&[NOT_TAKEN, TAKEN, TAKEN, TAKEN]),
+    },
+    Row {
+        packet: Packet::Cancel { n: 3, flip: true },
+        elems: Some(&[Elem::Cancel(3), Elem::Flip]),
+    },
+    Row {
+        packet: Packet::Cancel2(FewAtoms {
+            count: 2,
+            first: true,
+        }),
+        elems: Some(&[TAKEN, TAKEN, Elem::Cancel(1), Elem::Flip]),
+    },
+    Row {
+        packet: CANCEL_OF_TWO,
+        elems: Some(&[TAKEN, Elem::Cancel(2), Elem::Flip]),
+    },
+];
+
+#[test]
+fn atoms_come_first_and_the_oldest_of_them(rt: HostRuntime) {
+    follow(&rt, &ATOMS_FIRST);
+}
+
+/// A maker that took a trace info, and so counts what comes.
+fn informed(rt: &impl Abort) -> ElemMaker {
+    let mut maker = ElemMaker::new();
+    assert!(rt; gives(&mut maker, &INFO.packet, INFO.elems));
+    maker
+}
+
+/// What a cancel of two corrects, by places.
+fn corrections(maker: &ElemMaker) -> Option<[Option<Correction>; 4]> {
+    let elems = maker.correction_of(&CANCEL_OF_TWO)?;
+    Some([
+        elems.correction(0),
+        elems.correction(1),
+        elems.correction(2),
+        elems.correction(3),
+    ])
 }
 
 #[test]
-fn an_exception_at_its_target(rt: HostRuntime) -> Result<(), Fail> {
-    let mut maker = ElemMaker::new();
-    let newest = Packet::Addr {
-        form: AddrForm::Match(0),
-        ctx: None,
-    };
-    let irq = Elem::P0(P0::Exc {
-        kind: 14,
-        ret: 0x1000,
-    });
-    let place = Elem::Addr(0x1000);
-    gives(&rt, &mut maker, &info(None), &[NO_SPEC])?;
-    gives(&rt, &mut maker, &exception(14, true), &[])?;
-    gives(
-        &rt,
-        &mut maker,
-        &start(0x1000, 0, true),
-        &[Elem::Ctx(PROGRAM), place, irq],
-    )?;
-    gives(&rt, &mut maker, &exception(14, true), &[])?;
-    gives(&rt, &mut maker, &newest, &[place, irq])?;
-    gives(&rt, &mut maker, &exception(14, false), &[])?;
-    gives(&rt, &mut maker, &newest, &[irq])?;
-    gives(&rt, &mut maker, &exception(3, true), &[])?;
-    gives(&rt, &mut maker, &Packet::Discard, &[Elem::Discard])?;
-    gives(&rt, &mut maker, &newest, &[place])
+fn what_a_cancel_corrects_is_told_behind_its_atoms(rt: HostRuntime) {
+    assert_eq!(rt; corrections(&ElemMaker::new()), None);
+    assert_eq!(rt;
+        corrections(&informed(&rt)),
+        Some([
+            None,
+            Some(Correction::Cancel(2)),
+            Some(Correction::Flip),
+            None,
+        ])
+    );
+    assert!(rt; informed(&rt).correction_of(&Packet::Commit(1)).is_none());
+}
+
+/// The elements of the address 1000 without a context, where it may come: how many, and the first.
+fn plain_address(maker: &mut ElemMaker) -> Option<(usize, Option<Elem>)> {
+    let elems = maker.take_plain_address(&AddrForm::Long64(0x1000), &None)?;
+    Some((elems.len(), elems.get(0)))
 }
 
 #[test]
-fn an_exception_awaits_its_address(rt: HostRuntime) -> Result<(), Fail> {
-    let mut maker = ElemMaker::new();
-    gives(&rt, &mut maker, &info(None), &[NO_SPEC])?;
-    gives(&rt, &mut maker, &exception(1, false), &[])?;
-    refuses(&rt, &mut maker, &info(None));
-    refuses(&rt, &mut maker, &taken());
-    refuses(&rt, &mut maker, &exception(1, false));
-    gives(&rt, &mut maker, &Packet::Ignore, &[])?;
-    gives(&rt, &mut maker, &Packet::Overflow, &[Elem::Overflow])?;
-    gives(&rt, &mut maker, &taken(), &[TAKEN])
-}
-
-#[test]
-fn atoms_come_first_and_the_oldest_of_them(rt: HostRuntime) -> Result<(), Fail> {
-    let mut maker = ElemMaker::new();
-    let two = FewAtoms {
-        count: 2,
-        first: true,
-    };
-    let run = AtomRun {
-        count: 4,
-        bits: 0b1110,
-    };
-    let cancel = Packet::Cancel { n: 3, flip: true };
-    let joined = Packet::Cancel3 { e: true, n: 2 };
-    gives(&rt, &mut maker, &info(None), &[NO_SPEC])?;
-    gives(
-        &rt,
-        &mut maker,
-        &Packet::Atoms(run),
-        &[NOT_TAKEN, TAKEN, TAKEN, TAKEN],
-    )?;
-    gives(&rt, &mut maker, &cancel, &[Elem::Cancel(3), Elem::Flip])?;
-    gives(
-        &rt,
-        &mut maker,
-        &Packet::Cancel2(two),
-        &[TAKEN, TAKEN, Elem::Cancel(1), Elem::Flip],
-    )?;
-    gives(
-        &rt,
-        &mut maker,
-        &joined,
-        &[TAKEN, Elem::Cancel(2), Elem::Flip],
-    )
-}
-
-#[test]
-fn what_a_cancel_corrects_is_told_behind_its_atoms(rt: HostRuntime) -> Result<(), Fail> {
-    let mut maker = ElemMaker::new();
-    let cancel = Packet::Cancel3 { e: true, n: 2 };
-    assert!(rt; maker.correction_of(&cancel).is_none());
-    gives(&rt, &mut maker, &info(None), &[NO_SPEC])?;
-    assert!(rt; maker.correction_of(&Packet::Commit(1)).is_none());
-    let elems = maker.correction_of(&cancel).ok_or("it counts")?;
-    assert_eq!(rt; elems.correction(0), None);
-    assert_eq!(rt; elems.correction(1), Some(Correction::Cancel(2)));
-    assert_eq!(rt; elems.correction(2), Some(Correction::Flip));
-    assert_eq!(rt; elems.correction(3), None);
-    Ok(())
-}
-
-#[test]
-fn an_address_without_a_context(rt: HostRuntime) -> Result<(), Fail> {
-    let mut maker = ElemMaker::new();
-    let form = AddrForm::Long64(0x1000);
-    assert!(rt; maker.take_plain_address(&form, &None).is_none());
-    gives(&rt, &mut maker, &info(None), &[NO_SPEC])?;
-    let elems = maker
-        .take_plain_address(&form, &None)
-        .ok_or("it may come here")?;
-    assert_eq!(rt; elems.len(), 1);
-    assert_eq!(rt; elems.get(0), Some(Elem::Addr(0x1000)));
-    let again = Packet::Addr {
-        form: AddrForm::Match(0),
-        ctx: None,
-    };
-    gives(&rt, &mut maker, &again, &[Elem::Addr(0x1000)])?;
-    gives(&rt, &mut maker, &exception(1, false), &[])?;
-    assert!(rt; maker.take_plain_address(&form, &None).is_none());
-    Ok(())
+fn an_address_without_a_context(rt: HostRuntime) {
+    let mut maker = informed(&rt);
+    assert_eq!(rt; plain_address(&mut ElemMaker::new()), None);
+    assert_eq!(rt; plain_address(&mut maker), Some((1, Some(PLACE))));
+    assert!(rt; gives(&mut maker, &NEWEST_ADDRESS, Some(&[PLACE])));
+    assert!(rt; gives(&mut maker, &A_FAULT.packet, Some(&[])));
+    assert_eq!(rt; plain_address(&mut maker), None);
 }

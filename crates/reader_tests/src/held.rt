@@ -1,6 +1,7 @@
 //! The queue of held elements: each method once, that it can succeed, and what it gives on lists of elements worked out by hand.
 use element_queue::*;
 use etm_types::{Ctx, Entry, P0, Pre, QueueFault};
+use std::process::Abort;
 use std::test::Fail;
 
 const TAKEN: P0 = P0::Atom(true);
@@ -19,168 +20,376 @@ const HANDLER: Ctx = Ctx {
     cid: 7,
 };
 
-/// Nothing was given but, where there is one, an address.
-fn given(addr: Option<u64>) -> Pre {
-    Pre {
-        addr,
-        ..Pre::nothing_told()
+/// Before it nothing was given.
+const NOTHING_GIVEN: Pre = Pre {
+    flush: false,
+    on: false,
+    lost: false,
+    ctx: None,
+    addr: None,
+};
+
+/// Before it trace is missing: so a stream begins.
+const TRACE_MISSING: Pre = Pre {
+    lost: true,
+    ..NOTHING_GIVEN
+};
+
+/// What is asked of a queue.
+enum Call {
+    Note(PreElem),
+    Push(P0),
+    CheckCommit(u32),
+    CommitOne,
+    Cancel(u32),
+    Flip,
+    Discard,
+}
+
+/// What is asked, and what is committed by it, or why it may not be asked.
+struct Row {
+    call: Call,
+    answer: Result<Option<Committed>, QueueFault>,
+}
+
+fn answer(queue: &mut Queue, call: &Call) -> Result<Option<Committed>, QueueFault> {
+    match call {
+        Call::Note(elem) => queue.note(*elem),
+        Call::Push(p0) => return Ok(queue.push(*p0)),
+        Call::CheckCommit(n) => queue.check_commit(*n)?,
+        Call::CommitOne => return Ok(queue.commit_one()),
+        Call::Cancel(n) => queue.cancel(*n)?,
+        Call::Flip => queue.flip()?,
+        Call::Discard => queue.discard(),
+    }
+    Ok(None)
+}
+
+/// How many were made, committed, cancelled and lost.
+fn numbers(counts: Counts) -> [u64; 4] {
+    [counts.made, counts.committed, counts.cancelled, counts.lost]
+}
+
+/// Asks a queue what stands in a table.
+fn ask(rt: &impl Abort, queue: &mut Queue, rows: &[Row]) {
+    for (i, row) in rows.iter().enumerate() {
+        assert_eq!(rt; answer(queue, &row.call), row.answer, "row {i}");
     }
 }
 
-fn seen(pre: Pre, p0: P0) -> Option<Committed> {
-    Some(Committed::Seen(Entry { pre, p0 }))
-}
+const TWO_HELD: [Row; 7] = [
+    Row {
+        call: Call::Note(PreElem::Info),
+        answer: Ok(None),
+    },
+    Row {
+        call: Call::Note(PreElem::Addr(0x4000)),
+        answer: Ok(None),
+    },
+    Row {
+        call: Call::Note(PreElem::On),
+        answer: Ok(None),
+    },
+    Row {
+        call: Call::Note(PreElem::Ctx(HANDLER)),
+        answer: Ok(None),
+    },
+    Row {
+        call: Call::Note(PreElem::Addr(0x1000)),
+        answer: Ok(None),
+    },
+    Row {
+        call: Call::Push(TAKEN),
+        answer: Ok(None),
+    },
+    Row {
+        call: Call::Push(INTERRUPT),
+        answer: Ok(Some(Committed::Unseen)),
+    },
+];
+
+const OLDEST: [Row; 6] = [
+    Row {
+        call: Call::CheckCommit(2),
+        answer: Ok(None),
+    },
+    Row {
+        call: Call::CheckCommit(3),
+        answer: Err(QueueFault::CommitOverrun { asked: 3, held: 2 }),
+    },
+    Row {
+        call: Call::Push(NOT_TAKEN),
+        answer: Ok(Some(Committed::Seen(Entry {
+            pre: Pre {
+                flush: true,
+                on: true,
+                lost: true,
+                ctx: Some(HANDLER),
+                addr: Some(0x1000),
+            },
+            p0: TAKEN,
+        }))),
+    },
+    Row {
+        call: Call::CommitOne,
+        answer: Ok(Some(Committed::Seen(Entry {
+            pre: NOTHING_GIVEN,
+            p0: INTERRUPT,
+        }))),
+    },
+    Row {
+        call: Call::CommitOne,
+        answer: Ok(Some(Committed::Seen(Entry {
+            pre: NOTHING_GIVEN,
+            p0: NOT_TAKEN,
+        }))),
+    },
+    Row {
+        call: Call::CommitOne,
+        answer: Ok(None),
+    },
+];
 
 #[test]
 fn the_oldest_are_committed(rt: HostRuntime) -> Result<(), Fail> {
     let mut queue = Queue::new(rt.alloc(), 2)?;
-    assert_eq!(rt;
-        queue.start(3),
-        Err(QueueFault::SpecTooDeep { spec: 3, depth: 2 })
-    );
+    let deep = QueueFault::SpecTooDeep { spec: 3, depth: 2 };
+    assert_eq!(rt; queue.start(3), Err(deep));
     assert_eq!(rt; queue.start(1), Ok(()));
-    queue.note(PreElem::Info);
-    queue.note(PreElem::Addr(0x4000));
-    queue.note(PreElem::On);
-    queue.note(PreElem::Ctx(HANDLER));
-    queue.note(PreElem::Addr(0x1000));
-    assert_eq!(rt; queue.push(TAKEN), None);
-    assert_eq!(rt; queue.push(INTERRUPT), Some(Committed::Unseen));
+    ask(&rt, &mut queue, &TWO_HELD);
     assert_eq!(rt; queue.held(), 2);
-    assert_eq!(rt; queue.check_commit(2), Ok(()));
-    assert_eq!(rt;
-        queue.check_commit(3),
-        Err(QueueFault::CommitOverrun { asked: 3, held: 2 })
-    );
-    let first = Pre {
-        flush: true,
-        on: true,
-        lost: true,
-        ctx: Some(HANDLER),
-        addr: Some(0x1000),
-    };
-    assert_eq!(rt; queue.push(NOT_TAKEN), seen(first, TAKEN));
-    assert_eq!(rt; queue.commit_one(), seen(given(None), INTERRUPT));
-    assert_eq!(rt; queue.commit_one(), seen(given(None), NOT_TAKEN));
-    assert_eq!(rt; queue.commit_one(), None);
-    assert_eq!(rt;
-        queue.close().counts(),
-        Counts {
-            made: 3,
-            committed: 3,
-            cancelled: 0,
-            lost: 0,
-        }
-    );
+    ask(&rt, &mut queue, &OLDEST);
+    assert_eq!(rt; numbers(queue.close().counts()), [3, 3, 0, 0]);
     Ok(())
 }
+
+const NEWEST: [Row; 17] = [
+    Row {
+        call: Call::Flip,
+        answer: Err(QueueFault::NoAtomToFlip { held: 0 }),
+    },
+    Row {
+        call: Call::Push(TAKEN),
+        answer: Ok(None),
+    },
+    Row {
+        call: Call::Note(PreElem::Addr(0x3000)),
+        answer: Ok(None),
+    },
+    Row {
+        call: Call::Push(NOT_TAKEN),
+        answer: Ok(None),
+    },
+    Row {
+        call: Call::Push(INTERRUPT),
+        answer: Ok(None),
+    },
+    Row {
+        call: Call::Note(PreElem::Addr(0x4000)),
+        answer: Ok(None),
+    },
+    Row {
+        call: Call::Flip,
+        answer: Err(QueueFault::NoAtomToFlip { held: 3 }),
+    },
+    Row {
+        call: Call::Cancel(4),
+        answer: Err(QueueFault::CancelOverrun { asked: 4, held: 3 }),
+    },
+    Row {
+        call: Call::Cancel(0),
+        answer: Ok(None),
+    },
+    Row {
+        call: Call::Cancel(2),
+        answer: Ok(None),
+    },
+    Row {
+        call: Call::Push(TAKEN),
+        answer: Ok(None),
+    },
+    Row {
+        call: Call::Note(PreElem::Addr(0x5000)),
+        answer: Ok(None),
+    },
+    Row {
+        call: Call::Flip,
+        answer: Ok(None),
+    },
+    Row {
+        call: Call::Push(TAKEN),
+        answer: Ok(None),
+    },
+    Row {
+        call: Call::CommitOne,
+        answer: Ok(Some(Committed::Seen(Entry {
+            pre: TRACE_MISSING,
+            p0: TAKEN,
+        }))),
+    },
+    Row {
+        call: Call::CommitOne,
+        answer: Ok(Some(Committed::Seen(Entry {
+            pre: Pre {
+                addr: Some(0x3000),
+                ..NOTHING_GIVEN
+            },
+            p0: NOT_TAKEN,
+        }))),
+    },
+    Row {
+        call: Call::CommitOne,
+        answer: Ok(Some(Committed::Seen(Entry {
+            pre: NOTHING_GIVEN,
+            p0: TAKEN,
+        }))),
+    },
+];
 
 #[test]
 fn the_newest_are_taken_back(rt: HostRuntime) -> Result<(), Fail> {
     let mut queue = Queue::new(rt.alloc(), 16384)?;
-    assert_eq!(rt; queue.flip(), Err(QueueFault::NoAtomToFlip { held: 0 }));
-    assert_eq!(rt; queue.push(TAKEN), None);
-    queue.note(PreElem::Addr(0x3000));
-    assert_eq!(rt; queue.push(NOT_TAKEN), None);
-    assert_eq!(rt; queue.push(INTERRUPT), None);
-    queue.note(PreElem::Addr(0x4000));
-    assert_eq!(rt; queue.flip(), Err(QueueFault::NoAtomToFlip { held: 3 }));
-    assert_eq!(rt;
-        queue.cancel(4),
-        Err(QueueFault::CancelOverrun { asked: 4, held: 3 })
-    );
-    assert_eq!(rt; queue.cancel(0), Ok(()));
-    assert_eq!(rt; queue.cancel(2), Ok(()));
-    assert_eq!(rt; queue.push(TAKEN), None);
-    queue.note(PreElem::Addr(0x5000));
-    assert_eq!(rt; queue.flip(), Ok(()));
-    assert_eq!(rt; queue.push(TAKEN), None);
-    assert_eq!(rt; queue.commit_one(), seen(Pre::trace_missing(), TAKEN));
-    assert_eq!(rt; queue.commit_one(), seen(given(Some(0x3000)), NOT_TAKEN));
-    assert_eq!(rt; queue.commit_one(), seen(given(None), TAKEN));
-    assert_eq!(rt;
-        queue.close().counts(),
-        Counts {
-            made: 5,
-            committed: 3,
-            cancelled: 2,
-            lost: 0,
-        }
-    );
+    ask(&rt, &mut queue, &NEWEST);
+    assert_eq!(rt; numbers(queue.close().counts()), [5, 3, 2, 0]);
     Ok(())
 }
 
+/// Two were held from before the trace that was found.
+const LOST: [Row; 5] = [
+    Row {
+        call: Call::Note(PreElem::Addr(0x1000)),
+        answer: Ok(None),
+    },
+    Row {
+        call: Call::Flip,
+        answer: Ok(None),
+    },
+    Row {
+        call: Call::Cancel(1),
+        answer: Ok(None),
+    },
+    Row {
+        call: Call::Push(TAKEN),
+        answer: Ok(None),
+    },
+    Row {
+        call: Call::Discard,
+        answer: Ok(None),
+    },
+];
+
+const MISSING: [Row; 3] = [
+    Row {
+        call: Call::Push(NOT_TAKEN),
+        answer: Ok(None),
+    },
+    Row {
+        call: Call::CommitOne,
+        answer: Ok(Some(Committed::Seen(Entry {
+            pre: TRACE_MISSING,
+            p0: NOT_TAKEN,
+        }))),
+    },
+    Row {
+        call: Call::Push(TAKEN),
+        answer: Ok(None),
+    },
+];
+
 #[test]
 fn trace_is_missing_behind_what_was_not_seen(rt: HostRuntime) -> Result<(), Fail> {
+    assert_eq!(rt; Pre::nothing_told(), NOTHING_GIVEN);
+    assert_eq!(rt; Pre::trace_missing(), TRACE_MISSING);
     let mut queue = Queue::new(rt.alloc(), 2)?;
     assert_eq!(rt; queue.start(2), Ok(()));
-    queue.note(PreElem::Addr(0x1000));
-    assert_eq!(rt; queue.flip(), Ok(()));
-    assert_eq!(rt; queue.cancel(1), Ok(()));
-    assert_eq!(rt; queue.push(TAKEN), None);
-    queue.discard();
+    ask(&rt, &mut queue, &LOST);
     assert_eq!(rt; queue.held(), 0);
-    assert_eq!(rt; queue.push(NOT_TAKEN), None);
-    assert_eq!(rt; queue.commit_one(), seen(Pre::trace_missing(), NOT_TAKEN));
-    assert_eq!(rt; queue.push(TAKEN), None);
-    assert_eq!(rt;
-        queue.ledger(),
-        Counts {
-            made: 3,
-            committed: 1,
-            cancelled: 0,
-            lost: 1,
-        }
-    );
-    assert_eq!(rt; queue.close().counts().lost, 2);
+    ask(&rt, &mut queue, &MISSING);
+    assert_eq!(rt; numbers(queue.ledger()), [3, 1, 0, 1]);
+    assert_eq!(rt; numbers(queue.close().counts()), [3, 1, 0, 2]);
     Ok(())
 }
+
+/// The oldest that is held, where it is an atom; that which is committed by one atom N more; and whether that one may be held.
+fn next(queue: &Queue) -> (Option<AtomEntry>, Option<AtomEntry>, bool) {
+    (
+        queue.oldest_atom(),
+        queue.next_committed(false),
+        queue.has_room(),
+    )
+}
+
+const AN_ATOM_BEHIND_AN_INTERRUPT: [Row; 3] = [
+    Row {
+        call: Call::CommitOne,
+        answer: Ok(Some(Committed::Seen(Entry {
+            pre: TRACE_MISSING,
+            p0: INTERRUPT,
+        }))),
+    },
+    Row {
+        call: Call::Note(PreElem::Addr(0x1000)),
+        answer: Ok(None),
+    },
+    Row {
+        call: Call::Push(TAKEN),
+        answer: Ok(None),
+    },
+];
+
+const PUSH_INTERRUPT: Row = Row {
+    call: Call::Push(INTERRUPT),
+    answer: Ok(None),
+};
+
+const PUSH_NOT_TAKEN: Row = Row {
+    call: Call::Push(NOT_TAKEN),
+    answer: Ok(None),
+};
 
 #[test]
 fn the_atom_that_is_committed_next_is_told(rt: HostRuntime) -> Result<(), Fail> {
     let mut queue = Queue::new(rt.alloc(), 2)?;
-    assert_eq!(rt; queue.push(INTERRUPT), None);
-    assert_eq!(rt; queue.oldest_atom(), None);
-    assert_eq!(rt; queue.commit_one(), seen(Pre::trace_missing(), INTERRUPT));
-    queue.note(PreElem::Addr(0x1000));
-    assert_eq!(rt; queue.push(TAKEN), None);
+    ask(&rt, &mut queue, &[PUSH_INTERRUPT]);
+    let interrupt = next(&queue);
+    ask(&rt, &mut queue, &AN_ATOM_BEHIND_AN_INTERRUPT);
+    let atom = next(&queue);
+    ask(&rt, &mut queue, &[PUSH_NOT_TAKEN]);
+    let full = next(&queue);
+    let lost = queue.close().counts().lost;
     let oldest = Some(AtomEntry {
         addr: Some(0x1000),
         taken: true,
     });
-    assert_eq!(rt; queue.oldest_atom(), oldest);
-    assert_eq!(rt; queue.next_committed(false), None);
-    assert!(rt; queue.has_room());
-    assert_eq!(rt; queue.push(NOT_TAKEN), None);
-    assert!(rt; !queue.has_room());
-    assert_eq!(rt; queue.next_committed(false), oldest);
-    assert_eq!(rt; queue.close().counts().lost, 2);
+    assert_eq!(rt;
+        [interrupt, atom, full],
+        [
+            (None, None, true),
+            (oldest, None, true),
+            (oldest, oldest, false)
+        ]
+    );
+    assert_eq!(rt; lost, 2);
     Ok(())
 }
 
 #[test]
 fn one_is_counted_as_it_ends(rt: HostRuntime) {
     let entry = Entry {
-        pre: given(Some(0x1000)),
+        pre: Pre {
+            addr: Some(0x1000),
+            ..NOTHING_GIVEN
+        },
         p0: TAKEN,
     };
     let mut ledger = Ledger::new();
     let mut flipped = Uncommitted::new(entry, &mut ledger);
     flipped.flip();
-    assert_eq!(rt; flipped.entry().p0, NOT_TAKEN);
-    assert_eq!(rt; flipped.commit(&mut ledger).p0, NOT_TAKEN);
-    let cancelled = Uncommitted::new(entry, &mut ledger);
-    assert_eq!(rt; cancelled.cancel(&mut ledger), entry.pre);
+    let flipped = (flipped.entry().p0, flipped.commit(&mut ledger).p0);
+    let cancelled = Uncommitted::new(entry, &mut ledger).cancel(&mut ledger);
     let mut all = Ledger::new();
     Uncommitted::new(entry, &mut all).lose(&mut all);
     all.absorb(ledger);
-    assert_eq!(rt;
-        all.counts(),
-        Counts {
-            made: 3,
-            committed: 1,
-            cancelled: 1,
-            lost: 1,
-        }
-    );
+    assert_eq!(rt; (flipped, cancelled), ((NOT_TAKEN, NOT_TAKEN), entry.pre));
+    assert_eq!(rt; numbers(all.counts()), [3, 1, 1, 1]);
 }

@@ -4,27 +4,23 @@ ghost use Rattle.path_walker.specs.Walk.{ReturnIsAligned, ToldIsAligned};
 
 use etm_types::{Ctx, Entry, ExcMark, P0, Pre, WalkFault, Walked};
 use path_walker::Walker;
-use program_image::{Image, ImageFault};
+use program_image::Image;
 use std::alloc::Global;
 use std::process::Abort;
-use std::test::*;
-use trace_io::SafeSource;
+use std::test::Fail;
 
 /// NOP; B.EQ to 100c; NOP; B to 1000.
-const LOOP: &str = "@1000\n1f2003d5 40000054 1f2003d5 fdffff17\n";
-
-/// NOP; ERET.
-const HANDLER: &str = "@8000\n1f2003d5 e0039fd6\n";
+const LOOP: &[u8] = b"@1000\n1f2003d5 40000054 1f2003d5 fdffff17\n";
 
 /// BL to 2010; NOP; B to itself; NOP; CBZ to 2018; BL to 2020; RET; NOP; NOP; RET.
-const CALLS: &str =
-    "@2000\n04000094 1f2003d5 00000014 1f2003d5 400000b4 03000094 c0035fd6 1f2003d5 1f2003d5 c0035fd6\n";
+const CALLS: &[u8] =
+    b"@2000\n04000094 1f2003d5 00000014 1f2003d5 400000b4 03000094 c0035fd6 1f2003d5 1f2003d5 c0035fd6\n";
 
 /// BL to 3010; B to itself; NOP; NOP; BL to 3018; RET; RET.
-const NESTED: &str = "@3000\n04000094 00000014 1f2003d5 1f2003d5 02000094 c0035fd6 c0035fd6\n";
+const NESTED: &[u8] = b"@3000\n04000094 00000014 1f2003d5 1f2003d5 02000094 c0035fd6 c0035fd6\n";
 
 /// CBZ to 7008; BL to 7000; NOP; RET.
-const RECURSION: &str = "@7000\n400000b4 ffffff97 1f2003d5 c0035fd6\n";
+const RECURSION: &[u8] = b"@7000\n400000b4 ffffff97 1f2003d5 c0035fd6\n";
 
 const EL0: Ctx = Ctx {
     el: 0,
@@ -35,12 +31,55 @@ const EL0: Ctx = Ctx {
 
 const TAKEN: P0 = P0::Atom(true);
 
-fn read(alloc: Global, text: &str) -> Result<Image, ImageFault> {
-    let bytes = text
-        .as_bytes()
-        .to_vec(alloc)
-        .map_err(|_| ImageFault::Memory)?;
-    Image::read(alloc, &mut SafeSource::new(bytes, 64))
+const NOTHING_GIVEN: Pre = Pre {
+    flush: false,
+    on: false,
+    lost: false,
+    ctx: None,
+    addr: None,
+};
+
+/// Trace begins, at an address that is still to be said.
+const BEGIN: Pre = Pre {
+    flush: true,
+    on: true,
+    lost: true,
+    ctx: Some(EL0),
+    addr: None,
+};
+
+/// One instruction at an address that is still to be said.
+const ONE: Walked = Walked {
+    on: false,
+    unknown: false,
+    ctx: EL0,
+    start: 0,
+    count: 1,
+    took: false,
+    exc: None,
+};
+
+const FIRST: Walked = Walked { on: true, ..ONE };
+
+const UNKNOWN: Walked = Walked {
+    unknown: true,
+    count: 0,
+    ..ONE
+};
+
+/// An atom E before which nothing was given, and what it walks.
+const GOES_ON: Row = Row {
+    pre: NOTHING_GIVEN,
+    p0: TAKEN,
+    walked: Ok(UNKNOWN),
+};
+
+/// A P0 element with what was given before it, and what it walks.
+#[derive(Clone, Copy)]
+struct Row {
+    pre: Pre,
+    p0: P0,
+    walked: Result<Walked, WalkFault>,
 }
 
 fn is_aligned(addr: Option<u64>) -> bool
@@ -61,254 +100,375 @@ fn returns_aligned(p0: P0) -> bool
     }
 }
 
-fn walk(
+/// Walks the elements of a table over an image.
+fn follow(rt: &impl Abort, walker: &mut Walker, image: &Image, rows: &[Row]) {
+    for row in rows {
+        let (pre, p0) = (row.pre, row.p0);
+        assert!(rt; is_aligned(pre.addr) && returns_aligned(p0));
+        assert_eq!(rt; walker.walk(image, &Entry { pre, p0 }), row.walked);
+    }
+}
+
+/// Walks the elements of a table over an image, from its first one on.
+fn follow_from_first(
     rt: &impl Abort,
-    walker: &mut Walker,
-    image: &Image,
-    pre: Pre,
-    p0: P0,
-) -> Result<Walked, WalkFault> {
-    assert!(rt; is_aligned(pre.addr) && returns_aligned(p0));
-    walker.walk(image, &Entry { pre, p0 })
+    alloc: Global,
+    text: &[u8],
+    rows: &[Row],
+) -> Result<(), Fail> {
+    let image = Image::of_text(alloc, text)?;
+    follow(rt, &mut Walker::new(alloc)?, &image, rows);
+    Ok(())
 }
 
-/// Trace begins at an address, in a context.
-fn begin(addr: u64, ctx: Ctx) -> Pre {
-    Pre {
-        flush: true,
-        on: true,
-        lost: true,
-        ctx: Some(ctx),
-        addr: Some(addr),
-    }
-}
+const USER: Ctx = Ctx { ns: true, ..EL0 };
 
-fn given(addr: u64) -> Pre {
-    Pre {
-        addr: Some(addr),
-        ..Pre::nothing_told()
-    }
-}
+const SYSTEM: Ctx = Ctx { el: 1, ..USER };
 
-/// Instructions from an address on.
-fn run(ctx: Ctx, start: u64, count: u64) -> Walked {
-    Walked {
-        on: false,
-        unknown: false,
-        ctx,
-        start,
-        count,
-        took: false,
-        exc: None,
-    }
-}
+const INTERRUPT: P0 = P0::Exc {
+    kind: 14,
+    ret: 0x1004,
+};
 
-/// The last of them is a conditional branch, and was taken.
-fn taken(walked: Walked) -> Walked {
-    Walked {
-        took: true,
-        ..walked
-    }
-}
+/// The loop, and behind it the handler.
+const HANDLED: &[u8] = b"@1000\n1f2003d5 40000054 1f2003d5 fdffff17\n@8000\n1f2003d5 e0039fd6\n";
 
-fn unknown(ctx: Ctx) -> Walked {
-    Walked {
-        unknown: true,
-        ..run(ctx, 0, 0)
-    }
-}
-
-fn first(walked: Walked) -> Walked {
-    Walked { on: true, ..walked }
-}
+const AN_EXCEPTION: [Row; 3] = [
+    Row {
+        pre: Pre {
+            ctx: Some(USER),
+            addr: Some(0x1000),
+            ..BEGIN
+        },
+        p0: INTERRUPT,
+        walked: Ok(Walked {
+            ctx: USER,
+            start: 0x1000,
+            exc: Some(ExcMark {
+                kind: 14,
+                ret: 0x1004,
+            }),
+            ..FIRST
+        }),
+    },
+    Row {
+        pre: Pre {
+            ctx: Some(SYSTEM),
+            addr: Some(0x8000),
+            ..NOTHING_GIVEN
+        },
+        p0: TAKEN,
+        walked: Ok(Walked {
+            ctx: SYSTEM,
+            start: 0x8000,
+            count: 2,
+            ..ONE
+        }),
+    },
+    Row {
+        pre: Pre {
+            ctx: Some(USER),
+            addr: Some(0x1004),
+            ..NOTHING_GIVEN
+        },
+        p0: TAKEN,
+        walked: Ok(Walked {
+            ctx: USER,
+            start: 0x1004,
+            took: true,
+            ..ONE
+        }),
+    },
+];
 
 #[test]
 fn an_exception_comes_back(rt: HostRuntime) -> Result<(), Fail> {
-    let alloc = rt.alloc();
-    let (code, handler) = (read(alloc, LOOP)?, read(alloc, HANDLER)?);
-    let user = Ctx { ns: true, ..EL0 };
-    let system = Ctx { el: 1, ..user };
-    let mut walker = Walker::new(alloc)?;
-    let irq = P0::Exc {
-        kind: 14,
-        ret: 0x1004,
-    };
-    let pre = begin(0x1000, user);
-    let walked = Walked {
-        exc: Some(ExcMark {
-            kind: 14,
-            ret: 0x1004,
-        }),
-        ..first(run(user, 0x1000, 1))
-    };
-    assert_eq!(rt; walk(&rt, &mut walker, &code, pre, irq), Ok(walked));
-    let pre = Pre {
-        ctx: Some(system),
-        ..given(0x8000)
-    };
-    assert_eq!(rt;
-        walk(&rt, &mut walker, &handler, pre, TAKEN),
-        Ok(run(system, 0x8000, 2))
-    );
-    let pre = Pre {
-        ctx: Some(user),
-        ..given(0x1004)
-    };
-    assert_eq!(rt;
-        walk(&rt, &mut walker, &code, pre, TAKEN),
-        Ok(taken(run(user, 0x1004, 1)))
-    );
-    Ok(())
+    follow_from_first(&rt, rt.alloc(), HANDLED, &AN_EXCEPTION)
 }
+
+const CALLS_AND_RETURNS: [Row; 5] = [
+    Row {
+        pre: Pre {
+            addr: Some(0x3000),
+            ..BEGIN
+        },
+        p0: TAKEN,
+        walked: Ok(Walked {
+            start: 0x3000,
+            ..FIRST
+        }),
+    },
+    Row {
+        walked: Ok(Walked {
+            start: 0x3010,
+            ..ONE
+        }),
+        ..GOES_ON
+    },
+    Row {
+        walked: Ok(Walked {
+            start: 0x3018,
+            ..ONE
+        }),
+        ..GOES_ON
+    },
+    Row {
+        walked: Ok(Walked {
+            start: 0x3014,
+            ..ONE
+        }),
+        ..GOES_ON
+    },
+    Row {
+        pre: Pre {
+            addr: Some(0x3004),
+            ..NOTHING_GIVEN
+        },
+        p0: TAKEN,
+        walked: Ok(Walked {
+            start: 0x3004,
+            ..ONE
+        }),
+    },
+];
 
 #[test]
 fn a_return_pops_what_a_call_pushed(rt: HostRuntime) -> Result<(), Fail> {
-    let image = read(rt.alloc(), NESTED)?;
-    let mut walker = Walker::new(rt.alloc())?;
-    let nothing = Pre::nothing_told();
-    let walks = [
-        (begin(0x3000, EL0), first(run(EL0, 0x3000, 1))),
-        (nothing, run(EL0, 0x3010, 1)),
-        (nothing, run(EL0, 0x3018, 1)),
-        (nothing, run(EL0, 0x3014, 1)),
-        (given(0x3004), run(EL0, 0x3004, 1)),
-    ];
-    for (pre, walked) in walks {
-        assert_eq!(rt; walk(&rt, &mut walker, &image, pre, TAKEN), Ok(walked));
-    }
-    Ok(())
+    follow_from_first(&rt, rt.alloc(), NESTED, &CALLS_AND_RETURNS)
 }
+
+const FAULTS_AT_FIRST: [Row; 3] = [
+    Row {
+        pre: Pre {
+            addr: Some(0x9000),
+            ..BEGIN
+        },
+        p0: TAKEN,
+        walked: Err(WalkFault::NoCode(0x9000)),
+    },
+    Row {
+        pre: Pre {
+            addr: Some(0x1000),
+            ..BEGIN
+        },
+        p0: P0::Exc {
+            kind: 14,
+            ret: 0x1008,
+        },
+        walked: Err(WalkFault::ReturnMissed {
+            addr: 0x1004,
+            ret: 0x1008,
+        }),
+    },
+    GOES_ON,
+];
 
 #[test]
 fn a_fault_leaves_an_unknown_place_as_it_was(rt: HostRuntime) -> Result<(), Fail> {
-    let image = read(rt.alloc(), LOOP)?;
-    let mut walker = Walker::new(rt.alloc())?;
-    let nothing = Pre::nothing_told();
-    let missed = P0::Exc {
-        kind: 14,
-        ret: 0x1008,
-    };
-    let faults = [
-        (begin(0x9000, EL0), TAKEN, WalkFault::NoCode(0x9000)),
-        (
-            begin(0x1000, EL0),
-            missed,
-            WalkFault::ReturnMissed {
-                addr: 0x1004,
-                ret: 0x1008,
-            },
-        ),
-    ];
-    for (pre, p0, fault) in faults {
-        assert_eq!(rt; walk(&rt, &mut walker, &image, pre, p0), Err(fault));
-    }
-    assert_eq!(rt;
-        walk(&rt, &mut walker, &image, nothing, TAKEN),
-        Ok(unknown(EL0))
-    );
-    Ok(())
+    follow_from_first(&rt, rt.alloc(), LOOP, &FAULTS_AT_FIRST)
 }
+
+const FAULTS_BEHIND_A_BRANCH: [Row; 4] = [
+    Row {
+        pre: Pre {
+            addr: Some(0x1000),
+            ..BEGIN
+        },
+        p0: TAKEN,
+        walked: Ok(Walked {
+            took: true,
+            start: 0x1000,
+            count: 2,
+            ..FIRST
+        }),
+    },
+    Row {
+        pre: NOTHING_GIVEN,
+        p0: P0::Atom(false),
+        walked: Err(WalkFault::BadAtom(0x100c)),
+    },
+    Row {
+        pre: Pre {
+            addr: Some(0x1000),
+            ..NOTHING_GIVEN
+        },
+        p0: TAKEN,
+        walked: Err(WalkFault::AddressMismatch {
+            known: 0x100c,
+            given: 0x1000,
+        }),
+    },
+    Row {
+        walked: Ok(Walked {
+            start: 0x100c,
+            ..ONE
+        }),
+        ..GOES_ON
+    },
+];
 
 #[test]
 fn a_fault_leaves_a_known_place_as_it_was(rt: HostRuntime) -> Result<(), Fail> {
-    let image = read(rt.alloc(), LOOP)?;
-    let mut walker = Walker::new(rt.alloc())?;
-    let nothing = Pre::nothing_told();
-    let pre = begin(0x1000, EL0);
-    assert_eq!(rt;
-        walk(&rt, &mut walker, &image, pre, TAKEN),
-        Ok(first(taken(run(EL0, 0x1000, 2))))
-    );
-    let mismatch = WalkFault::AddressMismatch {
-        known: 0x100c,
-        given: 0x1000,
-    };
-    let faults = [
-        (nothing, P0::Atom(false), WalkFault::BadAtom(0x100c)),
-        (given(0x1000), TAKEN, mismatch),
-    ];
-    for (pre, p0, fault) in faults {
-        assert_eq!(rt; walk(&rt, &mut walker, &image, pre, p0), Err(fault));
-    }
-    assert_eq!(rt;
-        walk(&rt, &mut walker, &image, nothing, TAKEN),
-        Ok(run(EL0, 0x100c, 1))
-    );
-    Ok(())
+    follow_from_first(&rt, rt.alloc(), LOOP, &FAULTS_BEHIND_A_BRANCH)
 }
+
+/// At the branch of `RECURSION`, which is not taken.
+const AT_FIRST: Row = Row {
+    pre: Pre {
+        addr: Some(0x7000),
+        ..BEGIN
+    },
+    p0: P0::Atom(false),
+    walked: Ok(Walked {
+        start: 0x7000,
+        ..FIRST
+    }),
+};
+
+/// The call behind it, and the branch again, which is not taken.
+const ONE_DEEPER: [Row; 2] = [
+    Row {
+        walked: Ok(Walked {
+            start: 0x7004,
+            ..ONE
+        }),
+        ..GOES_ON
+    },
+    Row {
+        pre: NOTHING_GIVEN,
+        p0: P0::Atom(false),
+        walked: Ok(Walked {
+            start: 0x7000,
+            ..ONE
+        }),
+    },
+];
+
+/// The last call, the branch, which is taken, and the return that it leads to.
+const DEEPEST: [Row; 3] = [
+    Row {
+        walked: Ok(Walked {
+            start: 0x7004,
+            ..ONE
+        }),
+        ..GOES_ON
+    },
+    Row {
+        walked: Ok(Walked {
+            took: true,
+            start: 0x7000,
+            ..ONE
+        }),
+        ..GOES_ON
+    },
+    Row {
+        walked: Ok(Walked {
+            start: 0x7008,
+            count: 2,
+            ..ONE
+        }),
+        ..GOES_ON
+    },
+];
+
+/// A return to behind a call, and the next one.
+const RETURNS: Row = Row {
+    walked: Ok(Walked {
+        start: 0x7008,
+        count: 2,
+        ..ONE
+    }),
+    ..GOES_ON
+};
 
 #[test]
 fn fifteen_return_addresses_are_kept(rt: HostRuntime) -> Result<(), Fail> {
-    let image = read(rt.alloc(), RECURSION)?;
+    let image = Image::of_text(rt.alloc(), RECURSION)?;
     let mut walker = Walker::new(rt.alloc())?;
-    let nothing = Pre::nothing_told();
-    let mut pre = begin(0x7000, EL0);
-    for _ in 0..16 {
-        let p0 = P0::Atom(false);
-        assert!(rt;
-            matches!(
-                walk(&rt, &mut walker, &image, pre, p0),
-                Ok(walked) if walked.start == 0x7000 && !walked.took
-            )
-        );
-        pre = nothing;
-        assert_eq!(rt;
-            walk(&rt, &mut walker, &image, pre, TAKEN),
-            Ok(run(EL0, 0x7004, 1))
-        );
+    follow(&rt, &mut walker, &image, &[AT_FIRST]);
+    for _ in 0..15 {
+        follow(&rt, &mut walker, &image, &ONE_DEEPER);
     }
-    assert_eq!(rt;
-        walk(&rt, &mut walker, &image, pre, TAKEN),
-        Ok(taken(run(EL0, 0x7000, 1)))
-    );
-    for _ in 0..16 {
-        assert_eq!(rt;
-            walk(&rt, &mut walker, &image, pre, TAKEN),
-            Ok(run(EL0, 0x7008, 2))
-        );
-    }
-    assert_eq!(rt;
-        walk(&rt, &mut walker, &image, pre, TAKEN),
-        Ok(unknown(EL0))
-    );
+    follow(&rt, &mut walker, &image, &DEEPEST);
+    follow(&rt, &mut walker, &image, &[RETURNS; 15]);
+    follow(&rt, &mut walker, &image, &[GOES_ON]);
     Ok(())
 }
+
+const LOST: [Row; 4] = [
+    Row {
+        pre: Pre {
+            addr: Some(0x2000),
+            ..BEGIN
+        },
+        p0: TAKEN,
+        walked: Ok(Walked {
+            start: 0x2000,
+            ..FIRST
+        }),
+    },
+    Row {
+        pre: Pre {
+            lost: true,
+            ..NOTHING_GIVEN
+        },
+        p0: TAKEN,
+        walked: Ok(UNKNOWN),
+    },
+    Row {
+        pre: Pre {
+            addr: Some(0x2018),
+            ..NOTHING_GIVEN
+        },
+        p0: TAKEN,
+        walked: Ok(Walked {
+            start: 0x2018,
+            ..ONE
+        }),
+    },
+    GOES_ON,
+];
 
 #[test]
 fn a_lost_place_loses_the_return_addresses(rt: HostRuntime) -> Result<(), Fail> {
-    let image = read(rt.alloc(), CALLS)?;
-    let mut walker = Walker::new(rt.alloc())?;
-    let nothing = Pre::nothing_told();
-    let walks = [
-        (begin(0x2000, EL0), first(run(EL0, 0x2000, 1))),
-        (Pre::trace_missing(), unknown(EL0)),
-        (given(0x2018), run(EL0, 0x2018, 1)),
-        (nothing, unknown(EL0)),
-    ];
-    for (pre, walked) in walks {
-        assert_eq!(rt; walk(&rt, &mut walker, &image, pre, TAKEN), Ok(walked));
-    }
-    Ok(())
+    follow_from_first(&rt, rt.alloc(), CALLS, &LOST)
 }
+
+const LOST_WITH_AN_ADDRESS: [Row; 3] = [
+    Row {
+        pre: Pre {
+            addr: Some(0x2000),
+            ..BEGIN
+        },
+        p0: TAKEN,
+        walked: Ok(Walked {
+            start: 0x2000,
+            ..FIRST
+        }),
+    },
+    Row {
+        pre: Pre {
+            lost: true,
+            addr: Some(0x2018),
+            ..NOTHING_GIVEN
+        },
+        p0: TAKEN,
+        walked: Ok(Walked {
+            start: 0x2018,
+            ..ONE
+        }),
+    },
+    Row {
+        walked: Ok(Walked {
+            start: 0x2004,
+            count: 2,
+            ..ONE
+        }),
+        ..GOES_ON
+    },
+];
 
 #[test]
 fn a_lost_place_with_an_address_keeps_them(rt: HostRuntime) -> Result<(), Fail> {
-    let image = read(rt.alloc(), CALLS)?;
-    let mut walker = Walker::new(rt.alloc())?;
-    let nothing = Pre::nothing_told();
-    let walks = [
-        (begin(0x2000, EL0), first(run(EL0, 0x2000, 1))),
-        (
-            Pre {
-                lost: true,
-                ..given(0x2018)
-            },
-            run(EL0, 0x2018, 1),
-        ),
-        (nothing, run(EL0, 0x2004, 2)),
-    ];
-    for (pre, walked) in walks {
-        assert_eq!(rt; walk(&rt, &mut walker, &image, pre, TAKEN), Ok(walked));
-    }
-    Ok(())
+    follow_from_first(&rt, rt.alloc(), CALLS, &LOST_WITH_AN_ADDRESS)
 }
