@@ -310,13 +310,9 @@ fn trace_is_missing_behind_what_was_not_seen(rt: HostRuntime) -> Result<(), Fail
     Ok(())
 }
 
-/// The oldest that is held, where it is an atom; that which is committed by one atom N more; and whether that one may be held.
-fn next(queue: &Queue) -> (Option<AtomEntry>, Option<AtomEntry>, bool) {
-    (
-        queue.oldest_atom(),
-        queue.next_committed(false),
-        queue.has_room(),
-    )
+/// The oldest that is held and the next one, each where it is an atom; and whether one more may be held.
+fn oldest(queue: &Queue) -> (Option<AtomEntry>, Option<AtomEntry>, bool) {
+    (queue.atom_at(0), queue.atom_at(1), queue.has_room())
 }
 
 const AN_ATOM_BEHIND_AN_INTERRUPT: [Row; 3] = [
@@ -351,22 +347,26 @@ const PUSH_NOT_TAKEN: Row = Row {
 fn the_atom_that_is_committed_next_is_told(rt: HostRuntime) -> Result<(), Fail> {
     let mut queue = Queue::new(rt.alloc(), 2)?;
     ask(&rt, &mut queue, &[PUSH_INTERRUPT]);
-    let interrupt = next(&queue);
+    let interrupt = oldest(&queue);
     ask(&rt, &mut queue, &AN_ATOM_BEHIND_AN_INTERRUPT);
-    let atom = next(&queue);
+    let atom = oldest(&queue);
     ask(&rt, &mut queue, &[PUSH_NOT_TAKEN]);
-    let full = next(&queue);
+    let full = oldest(&queue);
     let lost = queue.close().counts().lost;
-    let oldest = Some(AtomEntry {
+    let taken = Some(AtomEntry {
         addr: Some(0x1000),
         taken: true,
+    });
+    let not_taken = Some(AtomEntry {
+        addr: None,
+        taken: false,
     });
     assert_eq!(rt;
         [interrupt, atom, full],
         [
             (None, None, true),
-            (oldest, None, true),
-            (oldest, oldest, false)
+            (taken, None, true),
+            (taken, not_taken, false)
         ]
     );
     assert_eq!(rt; lost, 2);
