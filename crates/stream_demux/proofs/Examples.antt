@@ -221,6 +221,11 @@ pub nothing_but_cut : Prints (unframed (0x03 ∷ 40 ∷ [])) (length (begun_fram
 unfolding sources
 nothing_but_cut = prints [] 2
 
+-- one byte is enough
+pub one_left_prints : Prints alone 1 (adds 1 0 40 ++ ends 1 1 ++ cut 1) true
+unfolding sources
+one_left_prints = prints alone 1
+
 -- and there is none where nothing is left over
 pub uncut_prints : Prints alone 0 (adds 1 0 40 ++ ends 1 1) false
 unfolding sources

@@ -1,6 +1,7 @@
 -- What bytes carry in each layout, worked out by hand, beside what a wrong layout would carry.
 use Rattle.std.proofs.Common.{◌≡◌, ℕ, List, [], ◌∷◌, ◌++◌, length, Result, refl, ap, arith}
 use Rattle.std.specs.Prelude.{get_or, replicate}
+use Rattle.std.proofs.lemmas.List.{map-append}
 use Rattle.stream_demux.specs.Demuxed.{raw_pairs}
 use Rattle.stream_demux.specs.Laid.{Grow, IsLaid, Rests, frames_laid, raw_laid}
 use Rattle.stream_demux.specs.Texts.{Listing}
@@ -108,6 +109,10 @@ pub sixteen_left : frames_laid.left (0x03 ∷ replicate 15 40) ≡ 0
 sixteen_left = refl
 
 -- ---- what is a layout
+
+-- bytes that are carried as they come
+pub as_they_come : Grow raw_pairs
+as_they_come = (refl, λ bytes more. (raw_pairs more, map-append (λ (byte : ℕ). (1, byte)) bytes more))
 
 -- what came last can't come first
 abbrev newest_first : List ℕ → List (ℕ × ℕ)

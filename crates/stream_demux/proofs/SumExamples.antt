@@ -1,6 +1,6 @@
 -- What is summed over streams, worked out by hand: each byte adds two items, with what its stream had before; and what was written of pairs.
-use Rattle.std.proofs.Common.{◌≡◌, ℕ, ◌+◌, ◌*◌, true, false, List, [], ◌∷◌, ◌++◌, length, map, Some, None, Result, Ok, Err, refl, ap, arith}
-use Rattle.std.specs.Prelude.{get_or}
+use Rattle.std.proofs.Common.{◌≡◌, ℕ, ◌+◌, ◌*◌, ◌==◌, Bool, true, false, List, [], ◌∷◌, ◌++◌, length, map, Some, None, Result, Ok, Err, refl, ap, arith}
+use Rattle.std.specs.Prelude.{◌||◌, get_or}
 use Rattle.etm_types.specs.Settings.{Sizes}
 use Rattle.etm_types.specs.declared.item.Item.{Item}
 use Rattle.etm_types.specs.declared.item.Item.TheVariants as item
@@ -170,9 +170,64 @@ is_ending = record {
 pub is_text : IsText summing pairs 3 (body ++ ending) true
 is_text = record { body = body; ending = ending; gained = all_gained; ended = is_ending; all = refl }
 
+-- where one byte is left over a frame is cut as well, and where none is, none
+abbrev both_ends : List Printed
+both_ends = line 1 (1 ∷ 40 ∷ 1 ∷ 10 ∷ []) ∷ line 2 (2 ∷ 50 ∷ 3 ∷ 10 ∷ []) ∷ []
+
+pub one_is_cut : IsEnding summing pairs 1 (sum ++ (both_ends ++ record { id = None; line = frame_cut_line 1 } ∷ [])) true
+unfolding sources
+one_is_cut = record { sums = sum; summed = summed; ends = both_ends; some_fault = false; ended = ends_are sources; all = refl; fault = refl }
+
+pub none_is_cut : IsEnding summing pairs 0 (sum ++ both_ends) false
+unfolding sources
+none_is_cut = record { sums = sum; summed = summed; ends = both_ends; some_fault = false; ended = ends_are sources; all = refl; fault = refl }
+
 -- a line of no stream is among the lines of none
 pub none_with_an_id : lines_with 2 (sum ++ line 2 (9 ∷ []) ∷ line 3 (8 ∷ []) ∷ line 1 (7 ∷ []) ∷ []) ≡ line 2 (9 ∷ []) ∷ []
 none_with_an_id = refl
+
+-- ---- 02 ends with a fault, and 01 does not: that is one of all
+
+abbrev faulting : Listing
+faulting = record summing { ends = λ id had line faulty. (line ≡ id ∷ 10 ∷ []) × (faulty ≡ (id == 2)) }
+
+abbrev fault_of : ℕ → List ℕ → Bool
+fault_of id [] = false
+fault_of id (b ∷ bytes) = id == 2
+
+abbrev fault_among : List ℕ → Bool
+fault_among [] = false
+fault_among (id ∷ ids) = fault_of id (of id pairs) || fault_among ids
+
+abbrev short_end : ℕ → List ℕ → List Printed
+short_end id [] = []
+short_end id (b ∷ bytes) = line id (id ∷ 10 ∷ []) ∷ []
+
+abbrev short_ends : List ℕ → List Printed
+short_ends [] = []
+short_ends (id ∷ ids) = short_end id (of id pairs) ++ short_ends ids
+
+short_end_is : (id : ℕ) (bytes : List ℕ) → StreamEnds faulting id bytes (short_end id bytes) (fault_of id bytes)
+short_end_is id [] = (refl, refl)
+short_end_is id (b ∷ bytes) = (id ∷ 10 ∷ [], (refl, refl), refl)
+
+short_ends_are : (ids : List ℕ) → EndsOf faulting pairs ids (short_ends ids) (fault_among ids)
+short_ends_are [] = (refl, refl)
+short_ends_are (id ∷ ids) =
+    let bytes = of id pairs in
+    (short_end id bytes, short_ends ids, fault_of id bytes, fault_among ids, short_end_is id bytes, short_ends_are ids, refl, refl)
+
+pub a_fault_and_no_cut : IsEnding faulting pairs 0 (sum ++ line 1 (1 ∷ 10 ∷ []) ∷ line 2 (2 ∷ 10 ∷ []) ∷ []) true
+unfolding sources
+a_fault_and_no_cut = record {
+  sums = sum;
+  summed = (items, all_added, refl);
+  ends = line 1 (1 ∷ 10 ∷ []) ∷ line 2 (2 ∷ 10 ∷ []) ∷ [];
+  some_fault = true;
+  ended = short_ends_are sources;
+  all = refl;
+  fault = refl;
+}
 
 -- ---- by the sizes of each stream
 

@@ -3,6 +3,7 @@ mod RunFileExamples
 mod SelftestExamples
 pub mod SelftestLines
 pub mod SelftestTexts
+mod ShownExamples
 pub mod SyncedFrames
 mod TracedExamples
 pub mod TracedPaths

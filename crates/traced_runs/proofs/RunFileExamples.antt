@@ -1,7 +1,8 @@
 -- The frames that are written of a small run file, from its bytes on, and what its traces show, worked out by hand, and near misses.
-use Rattle.std.proofs.Common.{◌≡◌, ℕ, true, false, List, [], ◌∷◌, ◌++◌, Option, Some, None, Ok, Err, refl, sym, ap, subst, ◌∙◌, arith, append-nil, length}
-use Rattle.std.specs.Prelude.{codes, drop, get_or}
-use Rattle.std.proofs.lemmas.List.Elements.{recursion_from_All}
+use Rattle.std.proofs.Common.{◌≡◌, ℕ, ◌-◌, ◌*◌, true, false, List, [], ◌∷◌, ◌++◌, Option, Some, None, Ok, Err, refl, sym, ap, subst, ◌∙◌}
+use Rattle.std.proofs.Common.{arith, append-nil, length}
+use Rattle.std.specs.Prelude.{All, codes, drop, get_or}
+use Rattle.std.proofs.lemmas.List.Elements.{All-from_recursion, recursion_from_All}
 use Rattle.std.specs.Str.{chars, is_utf8}
 use Rattle.a64_branches.specs.Classes.{class_of}
 use Rattle.atom_formats.specs.Bytes.{byte_of}
@@ -26,9 +27,12 @@ use Rattle.spec_run.specs.declared.event.Event.TheVariants as event
 use Rattle.spec_run.specs.declared.run_fault.RunFault.TheVariants as fault
 use Rattle.stream_demux.specs.Laws.{lines_with}
 use Rattle.stream_demux.specs.Texts.{Printed, lines_under}
+use Rattle.trace_io.specs.Bytes.{TakesAll}
 use Rattle.trace_io.specs.State.{IoState}
+use Rattle.traced_runs.proofs.TracedExamples.{HasEnd, all_traces}
 use Rattle.traced_runs.proofs.TracedStreams.{traces_are_shown}
-use Rattle.traced_runs.specs.Traced.{AreAccepted, AreWritten, IsTraceText, IsTracedFrames, ShowsTraces, Suits, trace_frames, trace_lines, with_syncs}
+use Rattle.traced_runs.specs.Traced.{AreAccepted, AreWritten, IsLastFrames, IsTraceText, IsTracedFrames, ShowsTraces, Suits, trace_frames}
+use Rattle.traced_runs.specs.Traced.{trace_lines, traces, with_syncs}
 
 -- ---- a run file of three streams, of which one has no event
 
@@ -119,10 +123,14 @@ traced = record {
   shown = traces_are_shown loop parts loop_is (parsed_good run_file parts is_parsed) are_accepted;
 }
 
+-- what was read of it to its end is all of it
+parts_of : (left file : List ℕ) (b : BenchParts) → TakesAll (shows run_file) (shows left) file → bench_of loop file ≡ Ok b → b ≡ parts
+parts_of left file b read accepted =
+    let whole : file ≡ run_file = sym (append-nil file) ∙ ap (λ (l : List ℕ). file ++ l) (sym read.1) ∙ sym read.0 in
+    let both : Ok b ≡ Ok parts = sym (subst (λ (f : List ℕ). bench_of loop f ≡ Ok b) whole accepted) ∙ bench_is in cc
+
 same_parts : (left frames : List ℕ) (is : Frames left frames) → is.bench ≡ parts
-same_parts left frames is =
-    let file : is.run_file ≡ run_file = sym (append-nil is.run_file) ∙ ap (λ (l : List ℕ). is.run_file ++ l) (sym is.read.1) ∙ sym is.read.0 in
-    let both : Ok is.bench ≡ Ok parts = sym (subst (λ (f : List ℕ). bench_of loop f ≡ Ok is.bench) file is.accepted) ∙ bench_is in cc
+same_parts left frames is = parts_of left is.run_file is.bench is.read is.accepted
 
 written_so : (left frames : List ℕ) → Frames left frames → (left ≡ []) × (frames ≡ all_frames)
 written_so left frames is = (is.read.1, is.written ∙ ap (trace_frames loop) (same_parts left frames is) ∙ frames_are)
@@ -151,10 +159,56 @@ refused = refl
 apart : (b : BenchParts) (f : ℕ × BenchWhy) → Ok b ≡ Err f → ⊥
 apart b f e = cc
 
+no_parts : (file : List ℕ) (b : BenchParts) → TakesAll (shows refused_file) (shows []) file → bench_of loop file ≡ Ok b → ⊥
+no_parts file b read accepted =
+    let whole : file ≡ refused_file = sym (append-nil file) ∙ sym read.0 in
+    apart b (3, Run fault.NotOn) (sym (subst (λ (f : List ℕ). bench_of loop f ≡ Ok b) whole accepted) ∙ refused)
+
 pub none_where_refused : (frames : List ℕ) → IsTracedFrames loop (shows refused_file) (shows []) frames → ⊥
-none_where_refused frames is =
-    let file : is.run_file ≡ refused_file = sym (append-nil is.run_file) ∙ sym is.read.0 in
-    apart is.bench (3, Run fault.NotOn) (sym (subst (λ (f : List ℕ). bench_of loop f ≡ Ok is.bench) file is.accepted) ∙ refused)
+none_where_refused frames is = no_parts is.run_file is.bench is.read is.accepted
+
+-- ---- its last frames
+
+-- so much of the run file is left, and these are the last n of the frames
+abbrev Last : List ℕ → ℕ → List ℕ → Type 0
+Last left n frames = IsLastFrames loop (shows run_file) (shows left) n frames
+
+traces_are : traces loop parts ≡ all_traces
+unfolding class_of atom_formats byte_of
+traces_are = refl
+
+-- In two frames no ID is told before the bytes of stream 05 are over, and all bytes of stream 02 but the first two stand behind its ID.
+pub last_two : Last [] 2 (third_frame ++ fourth_frame)
+last_two = record {
+  run_file = run_file;
+  read = (refl, refl);
+  bench = parts;
+  accepted = bench_is;
+  last = record {
+    written = ap (λ (l : List ℕ). drop (length l - 32) l) (sym frames_are);
+    carried = subst (All (HasEnd (third_frame ++ fourth_frame))) (sym traces_are)
+        (All-from_recursion (HasEnd (third_frame ++ fourth_frame)) all_traces
+        ((29, omega arith, refl), ((0, omega arith, refl), ((2, omega arith, refl), tt))));
+  };
+}
+
+last_so : (left : List ℕ) (n : ℕ) (frames : List ℕ) → Last left n frames
+    → (left ≡ []) × (frames ≡ drop (length all_frames - 16 * n) all_frames)
+last_so left n frames is =
+    let same = ap (trace_frames loop) (parts_of left is.run_file is.bench is.read is.accepted) ∙ frames_are in
+    (is.read.1, is.last.written ∙ ap (λ (l : List ℕ). drop (length l - 16 * n) l) same)
+
+pub no_last_before_its_end : Last (10 ∷ []) 2 (third_frame ++ fourth_frame) → ⊥
+no_last_before_its_end is = absurd (omega (arith, ap length (last_so (10 ∷ []) 2 (third_frame ++ fourth_frame) is).0))
+
+pub not_the_first_two : Last [] 2 (first_frame ++ second_frame) → ⊥
+not_the_first_two is = absurd (omega (arith, ap (λ (l : List ℕ). get_or l 0 0) (last_so [] 2 (first_frame ++ second_frame) is).1))
+
+pub not_a_last_one_more : Last [] 2 (second_frame ++ (third_frame ++ fourth_frame)) → ⊥
+not_a_last_one_more is = absurd (omega (arith, ap length (last_so [] 2 (second_frame ++ (third_frame ++ fourth_frame)) is).1))
+
+pub no_last_where_refused : (n : ℕ) (frames : List ℕ) → IsLastFrames loop (shows refused_file) (shows []) n frames → ⊥
+no_last_where_refused n frames is = no_parts is.run_file is.bench is.read is.accepted
 
 -- ---- what they show
 
@@ -205,3 +259,13 @@ pub not_without_syncs : Written (Some 3) all_frames → ⊥
 not_without_syncs is =
     let same : all_frames ≡ synced_by_threes = is.synced ∙ ap (with_syncs (Some 3)) (written_so [] is.frames is.traced).1 in
     absurd (omega (arith, ap length same))
+
+-- the last two of them
+abbrev WrittenLast : Option ℕ → List ℕ → Type 0
+WrittenLast every bytes = AreWritten loop (Some 2) every (shows run_file) (shows []) bytes
+
+pub last_among_syncs : WrittenLast (Some 1) (sync ++ (third_frame ++ (sync ++ fourth_frame)))
+last_among_syncs = record { frames = third_frame ++ fourth_frame; traced = last_two; synced = refl }
+
+pub not_all_frames : WrittenLast None all_frames → ⊥
+not_all_frames is = absurd (omega (arith, ap length (is.synced ∙ (last_so [] 2 is.frames is.traced).1)))

@@ -1,7 +1,7 @@
 -- What is read of frames, and how lines are counted, on lists that are written out.
 use Rattle.std.proofs.Common.{◌≡◌, [], ◌∷◌, ◌++◌, Some, None, refl}
 use Rattle.std.specs.Prelude.{codes}
-use Rattle.traced_runs.specs.Selftest.{kept_of, line_feeds}
+use Rattle.traced_runs.specs.Selftest.{kept_of, line_feeds, piece_of}
 
 pub front_kept : kept_of (Some 2) (7 ∷ 8 ∷ 9 ∷ []) ≡ 7 ∷ 8 ∷ []
 front_kept = refl
@@ -18,3 +18,13 @@ two_feeds = refl
 -- 9, 11 and 0 are none
 pub no_other_feeds : line_feeds (9 ∷ 10 ∷ 11 ∷ 10 ∷ 0 ∷ []) ≡ 2
 no_other_feeds = refl
+
+-- 1 to 1000 bytes are read at once, and a thousand numbers on as many again
+pub one_at_once : piece_of 0 ≡ 1
+one_at_once = refl
+
+pub most_at_once : piece_of 999 ≡ 1000
+most_at_once = refl
+
+pub one_again : piece_of 1000 ≡ 1
+one_again = refl

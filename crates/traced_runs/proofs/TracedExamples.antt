@@ -25,23 +25,23 @@ use Rattle.atom_formats.specs.Bytes.{byte_of}
 
 -- ---- three streams, of which one has no event
 
-abbrev user : Ctx
+abbrev pub user : Ctx
 user = record { el = 0; ns = false; vmid = 0; cid = 0 }
 
 -- at 0x2008: B to itself
-abbrev loop : List Part
+abbrev pub loop : List Part
 loop = record { start = 0x2008; bytes = 0x00 ∷ 0x00 ∷ 0x00 ∷ 0x14 ∷ [] } ∷ []
 
-abbrev once : Event → BenchLine
+abbrev pub once : Event → BenchLine
 once e = record { line = 9; event = e; times = 1 }
 
-abbrev sizes : ℕ → ℕ → ℕ → Sizes
+abbrev pub sizes : ℕ → ℕ → ℕ → Sizes
 sizes depth vmid_bytes cid_bytes = record { depth = depth; vmid_bytes = vmid_bytes; cid_bytes = cid_bytes }
 
-abbrev stream : ℕ → Sizes → List BenchLine → BenchStream
+abbrev pub stream : ℕ → Sizes → List BenchLine → BenchStream
 stream id settings lines = record { id = id; settings = settings; stack = 15; lines = lines }
 
-abbrev bench : BenchParts
+abbrev pub bench : BenchParts
 bench = record {
   streams =
       stream 5 (sizes 64 0 0) (once (event.On 0x2008 user) ∷ once event.Taken ∷ once (event.Retire 1) ∷ [])
@@ -52,13 +52,13 @@ bench = record {
 -- ---- their bytes
 
 -- eleven bytes 00, and 80; trace info; trace on; address and context
-abbrev beginning : List ℕ
+abbrev pub beginning : List ℕ
 beginning =
     0x00 ∷ 0x00 ∷ 0x00 ∷ 0x00 ∷ 0x00 ∷ 0x00 ∷ 0x00 ∷ 0x00 ∷ 0x00 ∷ 0x00 ∷ 0x00 ∷ 0x80 ∷ 0x01 ∷ 0x01 ∷ 0x00 ∷ 0x04
     ∷ 0x85 ∷ 0x02 ∷ 0x10 ∷ 0x00 ∷ 0x00 ∷ 0x00 ∷ 0x00 ∷ 0x00 ∷ 0x00 ∷ 0x10 ∷ []
 
 -- an atom, and a commit
-abbrev of_five : List ℕ
+abbrev pub of_five : List ℕ
 of_five = beginning ++ 0xf7 ∷ 0x2d ∷ 0x01 ∷ []
 
 pub traces_are : traces loop bench ≡ (5, of_five) ∷ (3, []) ∷ (2, beginning) ∷ []
@@ -120,18 +120,18 @@ third_frame = 0x10 ∷ 0xf7 ∷ 0x2c ∷ 0x01 ∷ 0x05 ∷ 0x00 ∷ 0x00 ∷ 0x0
 abbrev fourth_frame : List ℕ
 fourth_frame = 0x00 ∷ 0x01 ∷ 0x00 ∷ 0x04 ∷ 0x84 ∷ 0x02 ∷ 0x10 ∷ 0x00 ∷ 0x00 ∷ 0x00 ∷ 0x00 ∷ 0x00 ∷ 0x00 ∷ 0x10 ∷ 0x01 ∷ 0x05 ∷ []
 
-abbrev all_frames : List ℕ
+abbrev pub all_frames : List ℕ
 all_frames = first_frame ++ (second_frame ++ (third_frame ++ fourth_frame))
 
-frames_are : trace_frames loop bench ≡ all_frames
+pub frames_are : trace_frames loop bench ≡ all_frames
 unfolding class_of atom_formats byte_of
 frames_are = refl
 
 -- the last bytes of a trace
-abbrev HasEnd : List ℕ → ℕ × List ℕ → Type 0
+abbrev pub HasEnd : List ℕ → ℕ × List ℕ → Type 0
 HasEnd frames t = (missing : ℕ) × (missing ≤ length t.1) × (of t.0 (unframed frames) ≡ drop missing t.1)
 
-abbrev all_traces : List (ℕ × List ℕ)
+abbrev pub all_traces : List (ℕ × List ℕ)
 all_traces = (5, of_five) ∷ (3, []) ∷ (2, beginning) ∷ []
 
 -- In two frames no ID is told before the bytes of stream 05 are over, and all bytes of stream 02 but the first two stand behind its ID.
@@ -207,13 +207,13 @@ not_behind_the_last e = absurd (omega (arith, ap length e))
 
 -- ---- their lines
 
-abbrev line : ℕ → List ℕ → Printed
+abbrev pub line : ℕ → List ℕ → Printed
 line id text = record { id = Some id; line = text ++ 10 ∷ [] }
 
 abbrev five : List Printed
 five = line 5 (codes "05 on") ∷ line 5 (codes "05 ctx el0 s 0 0") ∷ line 5 (codes "05 2008") ∷ []
 
-abbrev ends : List Printed
+abbrev pub ends : List Printed
 ends = line 2 (codes "02 end") ∷ line 5 (codes "05 end") ∷ []
 
 abbrev Has : List Printed → BenchStream → Type 0
@@ -282,7 +282,7 @@ not_turned shows =
 abbrev others : Sizes
 others = sizes 1 4 4
 
-abbrev HasOwn : List Sizes → BenchStream → Type 0
+abbrev pub HasOwn : List Sizes → BenchStream → Type 0
 HasOwn table s = sizes_at table s.id ≡ s.settings
 
 -- the sizes of an ID that no stream has may be any
