@@ -39,6 +39,9 @@ class Declaration:
     def is_cited_in(self, words):
         return any(is_used(name, words) for name in self.names)
 
+    def is_lemma(self):
+        return self.file.kind == "proofs" and not self.file.is_examples
+
     def has_clause(self, line):
         """Whether a line that is not indented goes on with this declaration."""
         first, is_operator = line.split()[0], "◌" in self.name and not HEAD.match(line)[1] and " = " in line
@@ -120,10 +123,14 @@ class Crate:
         own = next((it for it in file.declarations if name in it.names), None)
         return own or next((self.found(it.module, it.name) for it in file.imports if it.local == name and it.name), None)
 
-    def slice_of(self, definition):
-        """What must stand in a copy for the examples to see a changed definition: it, what stands between, and they; and the examples."""
+    def slice_of(self, definition, near=False):
+        """What must stand in a copy for the examples to see a changed definition: it, what stands between, and they; and the examples. Or of those
+        examples alone that are near: between them and the definition stand definitions and examples, and no lemma.
+        """
         affected = reached([definition], self.cited)
         examples = {it for it in affected if it.file.is_examples}
+        if near:
+            examples = {it for it in examples if not any(by.is_lemma() for by in reached([it], self.cites, affected))}
         kept = reached(examples | {definition}, self.cites, affected)
         left = list(kept)
         while left:  # what these cite and cannot import
