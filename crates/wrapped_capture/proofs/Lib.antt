@@ -22,3 +22,4 @@ pub mod KeptFrames
 pub mod FrameExamples
 pub mod PartExamples
 pub mod LastExamples
+pub mod ShownExamples

@@ -26,7 +26,7 @@ use Rattle.program_image.specs.declared.image.Image.{Image}
 use Rattle.wrapped_capture.specs.Marks.{Mark, Marks, mark, marked, marks_at, marks_behind, old}
 use Rattle.wrapped_capture.specs.Rows.{AreAlike, BehindEntry, BehindGap, NoneSeen, Place, PreAt, Row, late_of, whole_of}
 use Rattle.wrapped_capture.specs.Part.{ShowsPart}
-use Rattle.wrapped_capture.specs.Walked.{EntryWalks, IsCause, Standing, WalkAlike, context_where, told_by}
+use Rattle.wrapped_capture.specs.Walked.{EntryWalks, IsCause, Standing, UnseenWalks, WalkAlike, context_where, told_by}
 
 abbrev number_of : Option ℕ → ℕ
 number_of None = 0
@@ -433,6 +433,16 @@ walked_alike = (
   refl,
   refl,
 )
+
+-- an unseen thing is walked by the whole, which goes on, and the late reader stays
+pub the_whole_goes_on :
+    UnseenWalks returning (record (standing NoneSeen None) { whole = record { pc = Lost; stack = 0x3004 ∷ []; ctx = kernel } }) (standing NoneSeen None)
+    (seen told_before (Atom true)) (a_jump ∷ []) []
+the_whole_goes_on = record {
+  gives = (jumped kernel, jump_shown (0x3004 ∷ []) (record { pc = Lost; stack = 0x3004 ∷ []; ctx = kernel }) told_before refl refl refl, refl);
+  none = refl;
+  stays = refl;
+}
 
 -- ---- an entry: what does not stand for what the whole shows of it
 
