@@ -1,6 +1,7 @@
 //! The P0 elements that wait: those that may still be taken back, and those that an element committed and that
 //! are still to be walked.
-ghost use Rattle.std.specs.Prelude.{◌≡◌, ◌∷◌, ◌++◌, [], List, IsTrue, IfOk, IfSome, IsSome, IsErr, ◌↔◌, None, Some, Err, false, option_to_list, length, slice_get, ◌<◌, ◌≤◌};
+ghost use Rattle.std.specs.Prelude.{◌≡◌, ◌<◌, ◌≤◌, ◌∷◌, ◌++◌, ◌↔◌, [], List, length, slice_get, option_to_list, false};
+ghost use Rattle.std.specs.Prelude.{IsTrue, IfOk, IfSome, IsSome, IsErr, None, Some, Err};
 ghost use Rattle.element_queue.specs.Counting.{Balances, counts_after, no_counts};
 ghost use Rattle.element_queue.specs.Pending.{committing, losing, taken};
 ghost use Rattle.element_queue.specs.Queued.{entry_of, things_of};

@@ -160,6 +160,38 @@ nothing_yet = record { done = []; pending = record { held = []; pre = trace_miss
 abbrev lost_once : Resolved
 lost_once = record { done = Gap ∷ []; pending = record { held = []; pre = trace_missing; informed = true } }
 
+-- there is such a part: the row of the gap, which both walk and both show
+pub a_gap_alone : (image : Image) → ShowsPart image 4 0 nothing_yet (elem.Overflow ∷ []) lost_once (item.Gap ∷ [])
+a_gap_alone image = record {
+  late = lost_once;
+  resolves = refl;
+  rows = row Gap (mark true false) Gap ∷ [];
+  done = refl;
+  shown = refl;
+  marks = refl;
+  alike = ((refl, refl), tt);
+  before = [];
+  behind = item.Gap ∷ [];
+  parts = refl;
+  state = first_state;
+  walks_before = (refl, refl);
+  late_items = item.Gap ∷ [];
+  after = first_state;
+  walks = inl (item.Gap ∷ [], [], first_state, (refl, refl), (refl, refl), refl);
+  walk_alike = (
+    record { place = BehindGap; told = false; last = None; whole = first_state; late = first_state },
+    item.Gap ∷ [],
+    [],
+    item.Gap ∷ [],
+    [],
+    record { items_are = refl; others_are = refl; stays = refl },
+    (refl, refl),
+    refl,
+    refl,
+  );
+}
+
+-- and whatever shows it, shows no more
 abbrev done_of : Result Resolved QueueFault → List Thing
 done_of (Ok r) = r.done
 done_of (Err fault) = []
@@ -214,7 +246,8 @@ module _ (image : Image) (items : List Item) (part : ShowsPart image 4 0 nothing
   pub the_whole_shows_it : items ≡ item.Gap ∷ []
   the_whole_shows_it =
       let before = shown_before part.before part.state part.walks_before in
-      part.parts ∙ ap (λ (i : List Item). i ++ part.behind) before.0 ∙ (gaps_shown (entering part.state) part.rows part.behind part.late_items its_late_thing part.walk_alike).0
+      part.parts ∙ ap (λ (i : List Item). i ++ part.behind) before.0
+      ∙ (gaps_shown (entering part.state) part.rows part.behind part.late_items its_late_thing part.walk_alike).0
 
   pub the_late_reader_shows_it : part.late_items ≡ item.Gap ∷ []
   the_late_reader_shows_it = (gaps_shown (entering part.state) part.rows part.behind part.late_items its_late_thing part.walk_alike).1
