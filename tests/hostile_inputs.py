@@ -26,13 +26,15 @@ for so many MINUTES at most. Of each it is checked that the program
   begin with 0 and grow, and each has another time than the one before, and the addresses of counts ascend.
 
 Before them captures are run that hold as much as may be held: of all 111 IDs, each at the greatest depth by a list of settings, and as many
-atoms of each as its queue has room for, or one more. `path` reads them in 62 MiB of memory and 70 MiB of addresses; in 54 MiB of addresses
-memory is refused, and nothing is printed. So does `times`, which has room for a timestamp beside each atom, in 62 MiB and 98 MiB, and in 82 MiB not.
+atoms of each as its queue has room for, or one more, by themselves or each behind an address. `path` reads them in 90 MiB of memory and 96 MiB of
+addresses; in 82 MiB of addresses memory is refused, and nothing is printed. So does `times`, which has room for a timestamp beside each atom, in
+90 MiB and 124 MiB, and in 110 MiB not.
 
 Prints how many were run, how often each status came, and the most memory and time, and the most memory of the queues that are full.
 Where one is answered otherwise it ends with 1 and standard error says which and how, and so it does where a status that may come never did.
 """
 import collections
+import itertools
 import multiprocessing
 import os
 import pathlib
@@ -63,7 +65,7 @@ MOST_INPUT, MOST_BESIDE_AN_IMAGE, MOST_IMAGE, MOST_PROGRAM = 8192, 1024, 4096, 1
 MOST_FRAMES, MOST_EVERY = 65536, 65535  # that --wrap and --last tell, and --sync
 DEEPEST = 16384
 LIMITED = ["/bin/sh", "-c", 'ulimit -v "$0" && exec "$@"']  # a program with so many KiB of addresses
-FRAME = 16
+FRAME, DATA = 16, 14  # bytes of a frame, and those of a stream in one that has its ID in front
 ENVIRONMENT = dict(os.environ)
 
 DUE = {"path": (0, 2, 4), "packets": (0, 4), "times": (0, 4), "trace": (0, 2, 3), "retired": (0, 2, 3),
@@ -751,30 +753,48 @@ IDS = range(1, 0x70)
 
 # what a command takes, in KiB: its memory, the addresses in which it ends well, and those in which it does not
 Takes = collections.namedtuple("Takes", "memory addresses few")
-FULL = {"path": Takes(62 << 10, 70 << 10, 54 << 10), "times": Takes(62 << 10, 98 << 10, 82 << 10)}
+BEGUN = SYNC + bytes.fromhex("010100 04 85 00080000 00000000 10")
+# as many atoms as are held, in rows and how often each comes: by themselves, and each with an address before it
+HELD = [[(b"\xd4" * DATA, 48), (b"\xd4" * 10 + b"\xcc", 1)],
+        [(b"\x95\x00\xf7" * DATA, DEEPEST // DATA), (b"\x95\x00\xf7" * (DEEPEST % DATA), 1)]]
+FULL = {"path": Takes(90 << 10, 96 << 10, 82 << 10), "times": Takes(90 << 10, 124 << 10, 110 << 10)}
 
 
-def full_stream(more):
-    """A stream with as many atoms as a queue holds at the greatest depth, and some more, each of which commits the oldest."""
-    head = SYNC + bytes.fromhex("010100 04 85 00080000 00000000 10")
-    return head + b"\xd4" * (DEEPEST // 24) + b"\xcc" + b"\xf7" * more
+def whole_rows(packets):
+    """The same, behind ignore packets that make their bytes a multiple of those of a frame."""
+    return b"\x70" * (-len(packets) % DATA) + packets
 
 
-def full_case(command, more):
+def framed_alone(source, packets):
+    """The frames of whole rows of bytes of one stream, each with its ID in front."""
+    frames = bytearray()
+    for at in range(0, len(packets), DATA):
+        row = bytes([source << 1 | 1]) + packets[at:at + DATA]
+        low_bits = sum((row[place] & 1) << place // 2 for place in range(2, FRAME, 2))
+        frames += bytes(byte & 0xFE if place and place % 2 == 0 else byte for place, byte in enumerate(row)) + bytes([low_bits])
+    return bytes(frames)
+
+
+def full_stream(source, held, more):
+    """The frames of a stream with as many atoms as a queue holds at the greatest depth, and some more, each of which commits the oldest."""
+    packets = [(BEGUN, 1), *held, (b"\xf7" * more, 1)]
+    return b"".join(framed_alone(source, whole_rows(row)) * count for row, count in packets)
+
+
+def full_case(command, held, more):
     """A capture of such a stream for each ID, and what must be printed."""
     settings = ",".join(f"{source:02x}:{DEEPEST}:0:0" for source in IDS)
-    given = [(source, byte) for source in IDS for byte in full_stream(more)]
     items = (LOOPED if command == "path" else ["p0 0 -"]) * more
     shown = [f"{source:02x} {item}" for source in IDS for item in items] + [f"{source:02x} end" for source in IDS]
-    frames = capture_cases.framed_freely(random.Random(SEED), given)
+    frames = b"".join(full_stream(source, held, more) for source in IDS)
     return Case([command, "--settings", settings, *["IMAGE"] * (command == "path")], LOOP, frames), "".join(line + "\n" for line in shown).encode()
 
 
 def full_queues(room, command):
     """The most memory in KiB that a command takes, and what is wrong, or None."""
     most, takes = 0, FULL[command]
-    for more in (0, 1):
-        case, wanted = full_case(command, more)
+    for held, more in itertools.product(HELD, (0, 1)):
+        case, wanted = full_case(command, held, more)
         for addresses, status, printed in ((takes.addresses, 0, wanted), (takes.few, 7, b"")):
             ended = room.run(case, [*LIMITED, str(addresses)])
             most = max(most, ended.memory)

@@ -1,17 +1,19 @@
 //! Where the branches to a register of the paths of all streams went.
-ghost use Rattle.std.specs.Prelude.{◌≡◌, ◌<◌, ◌-◌, ◌∷◌, [], ◌++◌, IfOk, List, Option, ℕ, None, Some, true};
+ghost use Rattle.std.specs.Prelude.{◌≡◌, ◌<◌, ◌-◌, ◌∷◌, [], ◌++◌, IfOk, List, Option, ℕ, None, Some, length, true};
 ghost use Rattle.etm_types.specs.Walked.{instructions, items_of};
 ghost use Rattle.etm_types.specs.declared.context.Ctx.{Ctx};
 ghost use Rattle.etm_types.specs.declared.item.Item.{Item};
+ghost use Rattle.path_counts.specs.Counts.{Counts};
 ghost use Rattle.path_counts.specs.Targets.{targets_of};
 ghost use Rattle.path_walker.specs.Walk.{is_cond, items_in};
 ghost use Rattle.program_image.specs.Blocks.{behind, class_at};
 ghost use Rattle.program_image.specs.Part.{IsImage};
+ghost use Rattle.program_image.specs.Places.{word_count};
 ghost use Rattle.stream_decoder.specs.Follows.{AreStretchesOfWords, IsStretchOfWords, ShowsWords, TakesMore, items_under};
 ghost use Rattle.count_streams.specs.Pairs.{BranchesAre, entered_by, first_entered, left_after, left_by, own_pairs, pair_by};
 
 use etm_types::{Id, Walked};
-use path_counts::{Targets, is_pointer_branch};
+use path_counts::{Counter, Targets, is_pointer_branch};
 use path_walker::{Stretch, Stretches};
 use program_image::Image;
 use std::alloc::{AllocError, Global};
@@ -66,17 +68,20 @@ impl Branches {
         self.left[place] = branch_behind(image, walked, left);
     }
 
-    /// Takes what the walks of a run of atoms show, in a context. What the stream was left at is read and written once, and a word is
-    /// looked up only where it is that of a branch to a register: a return is one too.
+    /// Takes what the walks of a run of atoms show, in a context, and lets a counter count it: each stretch by its place. One loop does both.
+    /// What the stream was left at is read and written once, and a word is looked up only where it is that of a branch to a register: a return
+    /// is one too.
     #[inline(always)]
-    pub fn take_run(&mut self, image: &Image, id: Id, run: &Stretches)
+    pub fn take_run(&mut self, image: &Image, id: Id, run: &Stretches, counter: &mut Counter)
         requires words { AreStretchesOfWords image.now run.now }
         requires image { IsImage image.now }
-        ensures { (ctx : Ctx) → TakesMore (BranchesAre image.now) self.old self.new (items_under id (items_in ctx run.now)) }
+        requires fits { length counter.old.visits ≡ word_count image.now }
+        ensures takes { (ctx : Ctx) → TakesMore (BranchesAre image.now) self.old self.new (items_under id (items_in ctx run.now)) }
+        ensures counted { (ctx : Ctx) → Counts image.now counter.old counter.new (items_in ctx run.now) }
     {
         let place = usize::from(id.get());
         let left = self.left[place];
-        self.left[place] = add_run(&mut self.targets, image, left, run);
+        self.left[place] = add_run(&mut self.targets, counter, image, left, run);
     }
 
     /// Takes an item of a stream that is at no address.
@@ -110,18 +115,27 @@ fn add_pair(targets: &mut Targets, left: Option<u64>, walked: &Walked)
     targets.add(from, to);
 }
 
-/// Counts where the branches of a run of atoms went, and that at which a stream was left before, where it was. It gives the branch at
-/// which the stream is left.
+/// Counts the instructions of a run of atoms, and where its branches went, and that at which a stream was left before, where it was. It gives
+/// the branch at which the stream is left.
 #[inline(always)]
-fn add_run(targets: &mut Targets, image: &Image, left: Option<u64>, run: &Stretches) -> Option<u64>
+fn add_run(
+    targets: &mut Targets,
+    counter: &mut Counter,
+    image: &Image,
+    left: Option<u64>,
+    run: &Stretches,
+) -> Option<u64>
     requires words { AreStretchesOfWords image.now run.now }
     requires image { IsImage image.now }
+    requires fits { length counter.old.visits ≡ word_count image.now }
     ensures pairs { (ctx : Ctx) (pairs : List (ℕ × ℕ)) → targets.old ≡ targets_of pairs
         → targets.new ≡ targets_of (pairs ++ own_pairs image.now left (items_in ctx run.now)) }
     ensures left { (ctx : Ctx) → result ≡ left_after image.now left (items_in ctx run.now) }
+    ensures counted { (ctx : Ctx) → Counts image.now counter.old counter.new (items_in ctx run.now) }
 {
     let mut at = left;
     for stretch in run.all() {
+        counter.add_words(stretch.place, stretch.count, stretch.took);
         add_target(targets, at, stretch.start);
         at = last_of(image, stretch);
     }

@@ -1,17 +1,11 @@
 //! The counts of the paths of all streams, and where their branches went.
-ghost use Rattle.std.specs.Prelude.{◌≡◌, ◌<◌, ◌^◌, [], All, IfOk, List, ℕ, length};
-ghost use Rattle.etm_types.specs.declared.context.Ctx.{Ctx};
+ghost use Rattle.std.specs.Prelude.{[], IfOk, List, ℕ};
 ghost use Rattle.etm_types.specs.declared.item.Item.{Item};
-ghost use Rattle.count_streams.specs.Counted.{CountsAre, IsCountable, items_alone};
+ghost use Rattle.count_streams.specs.Counted.{CountsAre, items_alone};
 ghost use Rattle.count_streams.specs.Pairs.{pairs_of};
 ghost use Rattle.path_counts.specs.CountLines.{items_text};
-ghost use Rattle.path_counts.specs.Counts.{Counts};
 ghost use Rattle.path_text.specs.Writing.{Writes};
-ghost use Rattle.path_walker.specs.Walk.{items_in};
-ghost use Rattle.program_image.specs.Part.{IsImage};
-ghost use Rattle.program_image.specs.Places.{word_count};
 ghost use Rattle.program_image.specs.declared.image.Image.{Image};
-ghost use Rattle.stream_decoder.specs.Follows.{AreStretchesOfWords};
 ghost use Rattle.trace_io.specs.Calls.{Serves};
 
 use crate::branches::Branches;
@@ -81,8 +75,7 @@ impl Follower for PathCounts {
     #[inline(always)]
     fn take_run(&mut self, image: &Image, id: Id, _ctx: &Ctx, run: &Stretches) {
         if self.counter.fits(image) {
-            add_run(&mut self.counter, run);
-            self.branches.take_run(image, id, run);
+            self.branches.take_run(image, id, run, &mut self.counter);
         }
     }
 
@@ -94,18 +87,5 @@ impl Follower for PathCounts {
     fn take_stop(&mut self, id: Id) {
         self.counter.add_stop();
         self.branches.take_mark(id);
-    }
-}
-
-/// Counts the instructions of a run of atoms, each stretch by its place.
-#[inline(always)]
-fn add_run(counter: &mut Counter, run: &Stretches)
-    requires small { length counter.old.visits < 2 ^ 62 }
-    requires places { All (IsCountable counter.old) run.now }
-    ensures counted { (image : Image) (ctx : Ctx) → IsImage image → length counter.old.visits ≡ word_count image
-        → AreStretchesOfWords image run.now → Counts image counter.old counter.new (items_in ctx run.now) }
-{
-    for stretch in run.all() {
-        counter.add_words(stretch.place, stretch.count, stretch.took);
     }
 }

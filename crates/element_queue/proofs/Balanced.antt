@@ -25,3 +25,20 @@ lost_one was now before held e h b =
 
 pub same_counts : (a b : Counts) → a.made ≡ b.made → a.committed ≡ b.committed → a.cancelled ≡ b.cancelled → a.lost ≡ b.lost → a ≡ b
 same_counts a b made committed cancelled lost k = record { made = made k; committed = committed k; cancelled = cancelled k; lost = lost k }
+
+-- ---- many at once
+
+pub passed_many : (was now : Counts) (n held : ℕ)
+    → now ≡ record was { made = add was.made n; committed = add was.committed n } → Balances was held → Balances now held
+passed_many was now n held e b =
+    omega (arith, ap (λ c. c.made) e, ap (λ c. c.committed) e, ap (λ c. c.cancelled) e, ap (λ c. c.lost) e)
+
+pub made_many : (was now : Counts) (n before held : ℕ)
+    → now ≡ record was { made = add was.made n } → held ≡ before + n → Balances was before → Balances now held
+made_many was now n before held e h b =
+    omega (arith, ap (λ c. c.made) e, ap (λ c. c.committed) e, ap (λ c. c.cancelled) e, ap (λ c. c.lost) e)
+
+pub committed_many : (was now : Counts) (n before held : ℕ)
+    → now ≡ record was { committed = add was.committed n } → before ≡ held + n → Balances was before → Balances now held
+committed_many was now n before held e h b =
+    omega (arith, ap (λ c. c.made) e, ap (λ c. c.committed) e, ap (λ c. c.cancelled) e, ap (λ c. c.lost) e)

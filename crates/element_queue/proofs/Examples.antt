@@ -40,7 +40,7 @@ abbrev e_atom : P0 → Bool
 e_atom (Atom taken) = taken
 e_atom (Exc kind ret) = false
 
-abbrev is_e : Thing → Bool
+abbrev pub is_e : Thing → Bool
 is_e (Seen entry) = e_atom entry.p0
 is_e thing = false
 

@@ -80,12 +80,6 @@ pub no_atom : (pre : Pre) (p0 : P0) → ((taken : Bool) → p0 ≡ Atom taken �
 no_atom pre (Atom taken) h = absurd (h taken refl)
 no_atom pre (Exc kind ret) h = refl
 
-pub seen_behind : (unseen : ℕ) (seen : List Entry) (n : ℕ) (entry : Entry) (pre : Pre) → slice_get seen n ≡ Some entry → n + 1 ≡ length seen
-    → pre_behind (things unseen seen) pre ≡ record pre { addr = None }
-seen_behind unseen seen n entry pre e h =
-    ap (λ l. pre_behind (things unseen l) pre) (newest_of seen n entry e h) ∙ ap (λ l. pre_behind l pre) (things_push unseen (take n seen) entry)
-    ∙ pre_behind_at (things unseen (take n seen)) (Seen entry) pre
-
 -- ---- nothing can be flipped
 
 same_option : {X : Type 0} (o : Option X) → option_map (λ x. x) o ≡ o
@@ -99,6 +93,27 @@ flip_newest_behind (x ∷ []) thing things = refl
 flip_newest_behind (x ∷ y ∷ others) thing things =
     ap (option_map (λ l. x ∷ l)) (flip_newest_behind (y ∷ others) thing things)
     ∙ maps (λ l. y ∷ others ++ l) (λ l. x ∷ l) (flip_newest (thing ∷ things))
+
+pub flips_behind : (unseen : ℕ) (seen after : List Entry) → 0 < length seen → flip_newest (map Seen seen) ≡ Some (map Seen after)
+    → flip_newest (things unseen seen) ≡ Some (things unseen after)
+flips_behind unseen [] after some e = absurd (omega arith)
+flips_behind unseen (entry ∷ seen) after some e =
+    flip_newest_behind (replicate unseen Unseen) (Seen entry) (map Seen seen) ∙ ap (option_map (λ l. replicate unseen Unseen ++ l)) e
+
+pre_behind_others : (others : List Thing) (thing : Thing) (things : List Thing) (pre : Pre)
+    → pre_behind (others ++ thing ∷ things) pre ≡ pre_behind (thing ∷ things) pre
+pre_behind_others [] thing things pre = refl
+pre_behind_others (x ∷ []) thing things pre = refl
+pre_behind_others (x ∷ y ∷ others) thing things pre = pre_behind_others (y ∷ others) thing things pre
+
+entries_behind : (entry : Entry) (seen : List Entry) (pre : Pre) → pre_behind (map Seen (entry ∷ seen)) pre ≡ record pre { addr = None }
+entries_behind entry [] pre = refl
+entries_behind entry (next ∷ seen) pre = entries_behind next seen pre
+
+pub seen_behind : (unseen : ℕ) (seen : List Entry) (pre : Pre) → 0 < length seen → pre_behind (things unseen seen) pre ≡ record pre { addr = None }
+seen_behind unseen [] pre some = absurd (omega arith)
+seen_behind unseen (entry ∷ seen) pre some =
+    pre_behind_others (replicate unseen Unseen) (Seen entry) (map Seen seen) pre ∙ entries_behind entry seen pre
 
 none_of : {X : Type 0} (o : Option X) → (IsSome o → false ≡ true) → o ≡ None
 none_of None h = refl

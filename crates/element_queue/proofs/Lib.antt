@@ -6,8 +6,11 @@ pub mod Examples
 pub mod Flipped
 pub mod Held
 pub mod Joined
+pub mod LowBits
+pub mod ManyAtoms
 pub mod Noted
 pub mod QueueExamples
 pub mod Runs
 pub mod RewritingExamples
 pub mod TwoStatesExamples
+pub mod EntryRuns

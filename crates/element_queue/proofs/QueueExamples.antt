@@ -1,23 +1,26 @@
 -- What contracts see of a queue and of its counts, in values; and how the fields of a packed element stand for one.
-use Rattle.std.proofs.Common.{◌≡◌, ℕ, true, false, List, [], ◌∷◌, length, ap, Option, Some, None, Ok, Err, refl, arith}
+use Rattle.std.proofs.Common.{◌≡◌, ℕ, Bool, true, false, get_or, List, [], ◌∷◌, length, ap, Option, Some, None, Ok, Err, refl, arith}
 use Rattle.std.proofs.lemmas.List.Elements.{All-cons, All-nil}
 use Rattle.std.specs.Prelude.{◌-◌, ◌^◌}
 use Rattle.etm_types.specs.declared.element.Elem.TheVariants as elem
+use Rattle.etm_types.specs.declared.element.Entry.{Entry}
 use Rattle.etm_types.specs.declared.element.P0.TheVariants.{Atom, Exc}
 use Rattle.etm_types.specs.declared.element.Pre.{Pre}
 use Rattle.etm_types.specs.declared.element.Thing.{Thing}
-use Rattle.etm_types.specs.declared.element.Thing.TheVariants.{Unseen, Gap, Stop}
+use Rattle.etm_types.specs.declared.element.Thing.TheVariants.{Seen, Unseen, Gap, Stop}
 use Rattle.element_queue.specs.Counting.{AreCounts, Balances, no_counts, sum_of}
+use Rattle.element_queue.specs.Kept.{AreOldest, entries_in}
 use Rattle.element_queue.specs.Packed.{addr_of, ctx_of, p0_of, unpacked}
 use Rattle.element_queue.specs.Pending.{Taken as Outcome, committing, nothing_gone}
-use Rattle.element_queue.specs.Queued.{IsHeld, IsQueued, Queued, Takes, TakesInfo, TakesPre, passed, pending_of, things_of}
+use Rattle.element_queue.specs.Queued.{IsHeld, IsQueued, Queued, Takes, TakesInfo, TakesPre, holding, passed, pending_of, plain_atom, rotated, things_of}
+use Rattle.element_queue.specs.declared.entries.Run.{Run}
 use Rattle.element_queue.specs.declared.ledger.Counts.{Counts}
 use Rattle.element_queue.specs.declared.packed.Context.TheVariants.{NotGiven, Secure, NonSecure}
 use Rattle.element_queue.specs.declared.packed.Element.TheVariants.{NotTaken, Taken, Exception}
 use Rattle.element_queue.specs.declared.packed.Packed.{Packed}
 use Rattle.element_queue.specs.declared.queue.Committed.TheVariants as committed
 use Rattle.element_queue.specs.declared.queue.PreElem.TheVariants as pre_elem
-use Rattle.element_queue.proofs.Examples.{first, handler, program, second, seen}
+use Rattle.element_queue.proofs.Examples.{first, handler, is_e, program, second, seen}
 
 abbrev none_given : Pre
 none_given = record { flush = false; on = false; lost = false; ctx = None; addr = None }
@@ -150,6 +153,51 @@ pub things_committed : things_of None ∷ things_of (Some committed.Unseen) ∷ 
     ≡ [] ∷ (Unseen ∷ []) ∷ (seen all_given (Exc 2 0x6000) ∷ []) ∷ []
 things_committed = refl
 
+-- ---- many atoms at once
+
+-- the address that was given before a thing
+abbrev addr_before : Thing → Option ℕ
+addr_before (Seen entry) = (entry.pre).addr
+addr_before thing = None
+
+pub plain : plain_atom true ∷ plain_atom false ∷ [] ≡ seen none_given (Atom true) ∷ seen none_given (Atom false) ∷ []
+plain = refl
+
+pub not_behind_an_address : plain_atom true ≡ seen (record none_given { addr = Some 0x4000 }) (Atom true) → ⊥
+not_behind_an_address = λ is. let addr = ap addr_before is in cc
+
+abbrev three_held : Queued
+three_held = record {
+  held = plain_atom true ∷ plain_atom true ∷ first ∷ [];
+  pre = none_given;
+  depth = 3;
+  counts = record { made = 9; committed = 2 ^ 64 - 1; cancelled = 6; lost = 1 };
+}
+
+-- two atoms more commit the two oldest
+pub two_rotated : rotated (false ∷ true ∷ []) three_held
+    ≡ record three_held { held = first ∷ plain_atom false ∷ plain_atom true ∷ []; counts = record { made = 11; committed = 1; cancelled = 6; lost = 1 } }
+two_rotated = refl
+
+pub not_the_other_way_round : (rotated (false ∷ true ∷ []) three_held).held ≡ first ∷ plain_atom true ∷ plain_atom false ∷ [] → ⊥
+not_the_other_way_round = λ is. let e = ap (λ held. is_e (get_or held 1 Unseen)) is in cc
+
+pub not_before_the_oldest : (rotated (false ∷ true ∷ []) three_held).held ≡ plain_atom false ∷ plain_atom true ∷ first ∷ [] → ⊥
+not_before_the_oldest = λ is. let addr = ap (λ held. addr_before (get_or held 0 Unseen)) is in cc
+
+-- where there is room, none is committed
+pub two_more_held : holding (false ∷ true ∷ []) (record three_held { depth = 5 })
+    ≡ record {
+      held = plain_atom true ∷ plain_atom true ∷ first ∷ plain_atom false ∷ plain_atom true ∷ [];
+      pre = none_given;
+      depth = 5;
+      counts = record { made = 11; committed = 2 ^ 64 - 1; cancelled = 6; lost = 1 };
+    }
+two_more_held = refl
+
+pub not_uncounted_where_held : (holding (false ∷ true ∷ []) three_held).counts ≡ three_held.counts → ⊥
+not_uncounted_where_held = λ is. let m = ap (λ (c : Counts). c.made) is in cc
+
 -- ---- packed elements
 
 abbrev packed : Packed
@@ -193,3 +241,35 @@ elements_unpacked = refl
 
 pub addresses_unpacked : addr_of false 0x4000 ∷ addr_of true 0x4000 ∷ [] ≡ None ∷ Some 0x4000 ∷ []
 addresses_unpacked = refl
+
+-- ---- entries as they are kept
+
+abbrev interrupt : Entry
+interrupt = record { pre = none_given; p0 = Exc 14 0x4000 }
+
+abbrev told : Entry
+told = record { pre = record none_given { addr = Some 0x4000 }; p0 = Atom false }
+
+abbrev an_atom : Bool → Entry
+an_atom taken = record { pre = none_given; p0 = Atom taken }
+
+abbrev two_runs : List Run
+two_runs = record { plain = true ∷ false ∷ []; last = interrupt } ∷ record { plain = []; last = told } ∷ []
+
+-- the atoms of a run stand before its last entry, one run stands before the next, and the other atoms behind all
+pub runs_in_order : entries_in two_runs (true ∷ []) ≡ an_atom true ∷ an_atom false ∷ interrupt ∷ told ∷ an_atom true ∷ []
+runs_in_order = refl
+
+pub not_behind_its_last : entries_in two_runs [] ≡ interrupt ∷ an_atom true ∷ an_atom false ∷ told ∷ [] → ⊥
+not_behind_its_last e = let first : Atom true ≡ Exc 14 0x4000 = ap (λ (l : List Entry). (get_or l 0 interrupt).p0) e in absurd cc
+
+pub two_oldest : AreOldest 2 (entries_in two_runs [])
+two_oldest = (true ∷ false ∷ [], refl, refl)
+
+pub no_three : AreOldest 3 (entries_in two_runs []) → ⊥
+no_three (a ∷ b ∷ c ∷ [], is, count) =
+    let third : Atom c ≡ Exc 14 0x4000 = ap (λ (l : List Entry). (get_or l 2 told).p0) is in absurd cc
+no_three ([], is, count) = absurd (omega (arith, count))
+no_three (a ∷ [], is, count) = absurd (omega (arith, count))
+no_three (a ∷ b ∷ [], is, count) = absurd (omega (arith, count))
+no_three (a ∷ b ∷ c ∷ d ∷ rest, is, count) = absurd (omega (arith, count))

@@ -1,4 +1,5 @@
 pub mod Counting
+pub mod Kept
 pub mod Packed
 pub mod Pending
 pub mod Queued

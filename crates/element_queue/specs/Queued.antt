@@ -1,5 +1,5 @@
 -- What contracts see of a queue.
-use Rattle.std.specs.Prelude.{◌≡◌, ◌≤◌, ℕ, ◌-◌, Bool, true, None, Some, Option, List, [], ◌∷◌, ◌++◌, All, length, take, Ok, Err, ⊤}
+use Rattle.std.specs.Prelude.{◌≡◌, ◌≤◌, ℕ, ◌-◌, Bool, true, None, Some, Option, List, [], ◌∷◌, ◌++◌, All, length, map, take, drop, Ok, Err, ⊤}
 use Rattle.etm_types.specs.declared.element.Elem.{Elem}
 use Rattle.etm_types.specs.declared.element.Elem.TheVariants as elem
 use Rattle.etm_types.specs.Pre.{nothing_told}
@@ -108,3 +108,25 @@ thing_of committed.Unseen = Unseen
 abbrev pub things_of : Option Committed → List Thing
 things_of None = []
 things_of (Some c) = thing_of c ∷ []
+
+-- ---- many atoms at once
+
+-- a plain atom: nothing was given before it
+abbrev pub plain_atom : Bool → Thing
+plain_atom taken = Seen (entry_of (record { addr = None; taken = taken }))
+
+-- where no more may be held and nothing was given, so many atoms more commit as many of the oldest
+abbrev pub rotated : List Bool → Queued → Queued
+rotated atoms q =
+    record q {
+      held = drop (length atoms) q.held ++ map plain_atom atoms;
+      counts = record (q.counts) { made = add (q.counts).made (length atoms); committed = add (q.counts).committed (length atoms) };
+    }
+
+-- where so many more may be held and nothing was given, so many atoms more are held
+abbrev pub holding : List Bool → Queued → Queued
+holding atoms q =
+    record q {
+      held = q.held ++ map plain_atom atoms;
+      counts = record (q.counts) { made = add (q.counts).made (length atoms) };
+    }

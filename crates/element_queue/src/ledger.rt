@@ -83,6 +83,22 @@ impl Ledger {
         self.counts.committed = self.counts.committed.wrapping_add(n);
     }
 
+    /// So many more were made.
+    #[inline(always)]
+    pub(crate) fn count_all_made(&mut self, n: u32)
+        ensures { self.new ≡ record (self.old) { made = add self.old.made n } }
+    {
+        self.counts.made = self.counts.made.wrapping_add(u64::from(n));
+    }
+
+    /// So many more were committed.
+    #[inline(always)]
+    pub(crate) fn count_all_committed(&mut self, n: u32)
+        ensures { self.new ≡ record (self.old) { committed = add self.old.committed n } }
+    {
+        self.counts.committed = self.counts.committed.wrapping_add(u64::from(n));
+    }
+
     /// One more was committed.
     pub(crate) fn count_committed(&mut self)
         ensures { self.new ≡ record (self.old) { committed = add self.old.committed 1 } }

@@ -2,17 +2,20 @@
 //!
 //! A [`Queue`] holds them up to the maximum speculation depth, with what came before each, and gives out
 //! the oldest as they are committed. Each one is an [`Uncommitted`]: it ends as committed, cancelled or lost, and a
-//! [`Ledger`] counts which. Code without `unsafe` can't forget it, and only `spend_ring` has any. `slot` and `packed` have
-//! the form in which a queue keeps it, 32 bytes.
+//! [`Ledger`] counts which. Code without `unsafe` can't forget it, and only `spend_ring` has any. `entries` has
+//! the form in which a queue keeps them: `slot` and `packed` that of one, 32 bytes, and `plain_atoms` that of atoms before which
+//! nothing was given, a bit each. Neither form has a drop.
 //!
 //! The layer above uses the contracts of [`Queue`]: each call is one case of the rules in
-//! `specs/Pending.antt`. What the rules make of a list of elements is in `specs/Resolved.antt`, and the
+//! `specs/Pending.antt`, or so many of them at once. What the rules make of a list of elements is in `specs/Resolved.antt`, and the
 //! contracts of the laws say how that goes on from list to list, and how it is counted.
 #![tactic(auto)]
 
+mod entries;
 mod laws;
 mod ledger;
 mod packed;
+mod plain_atoms;
 mod queue;
 mod slot;
 mod uncommitted;

@@ -2,6 +2,7 @@
 ghost use Rattle.std.specs.Prelude.{◌≡◌, ◌↔◌, not, true, Bool, ℕ, Option, None, IfSome, IsSome, IsTrue};
 ghost use Rattle.etm_types.specs.Pre.{nothing_told, trace_missing};
 ghost use Rattle.etm_types.specs.declared.element.P0.TheVariants.{Atom};
+ghost use Rattle.element_queue.specs.Kept.{plain_entry};
 ghost use Rattle.element_queue.specs.Packed.{ctx_of, p0_of, pre_of_packed, unpacked};
 ghost use Rattle.element_queue.specs.Queued.{entry_of, noted};
 ghost use Rattle.element_queue.specs.declared.queue.AtomEntry.{AtomEntry};
@@ -199,6 +200,28 @@ impl Packed {
         }
         let taken = matches!(self.element, Element::Taken);
         Some(AtomEntry { addr, taken })
+    }
+
+    /// Which atom it is, where it is one before which nothing was given.
+    #[inline(always)]
+    pub(crate) fn plain_atom(&self) -> Option<bool>
+        ensures { IfSome result (λ taken. unpacked self.now ≡ plain_entry taken) }
+    {
+        match self.atom() {
+            Some(AtomEntry { addr: None, taken }) => Some(taken),
+            _ => None,
+        }
+    }
+
+    /// Whether nothing was given.
+    #[inline(always)]
+    pub(crate) fn is_nothing_told(&self) -> bool
+        ensures { IsTrue result ↔ (pre_of_packed self.now ≡ nothing_told) }
+    {
+        match self.only_addr() {
+            None => false,
+            Some(addr) => addr.is_none(),
+        }
     }
 
     /// Whether it is an atom.

@@ -1,24 +1,24 @@
 //! The queue of P0 elements that are not committed.
-ghost use Rattle.std.specs.Prelude.{◌≡◌, ◌≤◌, ◌<◌, ◌-◌, ◌↔◌, ℕ, [], length, take, drop, map, slice_get, Option, Ok, Err, Some};
+ghost use Rattle.std.specs.Prelude.{◌≡◌, ◌≤◌, ◌<◌, ◌+◌, ◌-◌, ◌↔◌, ℕ, Bool, List, [], length, take, drop, map, slice_get, Option, Ok, Err, Some};
 ghost use Rattle.std.specs.Prelude.{IfOk, IfSome, IsOk, IsErr, IsSome, IsTrue, false, ◌∷◌};
+ghost use Rattle.etm_types.specs.Atoms.{atoms_in, most_atoms};
 ghost use Rattle.etm_types.specs.Pre.{nothing_told, trace_missing};
 ghost use Rattle.etm_types.specs.declared.element.Elem.TheVariants as elem;
 ghost use Rattle.etm_types.specs.declared.element.P0.TheVariants.{Atom};
 ghost use Rattle.etm_types.specs.declared.element.Thing.TheVariants.{Seen};
 ghost use Rattle.etm_types.specs.declared.queue_fault.QueueFault.{QueueFault};
 ghost use Rattle.element_queue.specs.Counting.{AreCounts, Balances, counts_after, no_counts};
-ghost use Rattle.element_queue.specs.Packed.{pre_of_packed};
-ghost use Rattle.element_queue.specs.Pending.{cancelling, committing, flip_newest, losing, nothing_gone, taken};
+ghost use Rattle.element_queue.specs.Pending.{cancelling, committing, losing, nothing_gone, taken};
 ghost use Rattle.element_queue.specs.Queued.{IsQueued, Refuses, Takes, TakesInfo, TakesPre};
-ghost use Rattle.element_queue.specs.Queued.{entry_of, given_since, noted, passed, pending_of, thing_of, things_of};
+ghost use Rattle.element_queue.specs.Queued.{entry_of, holding, noted, passed, pending_of, plain_atom, rotated, thing_of, things_of};
 ghost use Rattle.element_queue.specs.declared.queue.AtomEntry.{AtomEntry};
 
+use crate::entries::Entries;
 use crate::ledger::{Counts, Ledger};
 use crate::packed::Packed;
 use crate::slot::Slot;
 use crate::uncommitted::Uncommitted;
-use etm_types::{Ctx, Entry, P0, QueueFault};
-use spend_ring::SpendRing;
+use etm_types::{AtomRun, Ctx, Entry, P0, QueueFault};
 use std::alloc::{AllocError, Global};
 use std::marker::Model;
 
@@ -60,7 +60,7 @@ pub struct AtomEntry {
 #[must_use]
 pub struct Queue {
     unseen: u32,
-    ring: SpendRing<Slot>,
+    entries: Entries,
     /// What was given since the newest. Which element comes next is not known yet.
     next: Packed,
     depth: u32,
@@ -76,10 +76,15 @@ impl Model for Queue {
 
     ghost Value = { Queued };
 
-    ghost view = { λ q. record { held = replicate q.unseen Unseen ++ map Seen q.ring.items; pre = pre_of_packed q.next; depth = q.depth; counts = q.ledger } };
+    ghost view = { λ q. record {
+      held = replicate q.unseen Unseen ++ map Seen q.entries.items;
+      pre = pre_of_packed q.next;
+      depth = q.depth;
+      counts = q.ledger;
+    } };
 
-    ghost invariant = { λ q. (q.ring.capacity ≡ q.depth) × (q.unseen + length q.ring.items ≤ q.depth) × (q.depth < 2 ^ 32)
-        × Balances q.ledger (length q.ring.items) };
+    ghost invariant = { λ q. (q.entries.capacity ≡ q.depth) × (q.unseen + length q.entries.items ≤ q.depth) × (q.depth < 2 ^ 32)
+        × Balances q.ledger (length q.entries.items) };
 }
 
 impl Queue {
@@ -89,10 +94,10 @@ impl Queue {
         ensures empty { IfOk result (λ q. q ≡ record { held = []; pre = trace_missing; depth = depth; counts = no_counts }) }
         ensures queued { IfOk result IsQueued }
     {
-        let ring = SpendRing::with_capacity(alloc, depth as usize)?;
+        let entries = Entries::with_capacity(alloc, depth)?;
         Ok(Queue {
             unseen: 0,
-            ring,
+            entries,
             next: Packed::trace_missing(),
             depth,
             ledger: Ledger::new(),
@@ -123,7 +128,7 @@ impl Queue {
         let full = self.held() == self.depth;
         let newest = Slot::new(self.next.with(p0), &mut self.ledger);
         self.next = Packed::nothing_told();
-        if let Some(slot) = self.ring.push_back(newest) {
+        if let Some(slot) = self.entries.push_back(newest) {
             let oldest = Uncommitted::from_slot(slot);
             return Some(Committed::Seen(oldest.commit(&mut self.ledger)));
         }
@@ -148,7 +153,7 @@ impl Queue {
             Packed::nothing_told().with(P0::Atom(taken)),
             &mut self.ledger,
         );
-        match self.ring.push_back(newest) {
+        match self.entries.push_back(newest) {
             Some(slot) => {
                 let oldest = Uncommitted::from_slot(slot);
                 Committed::Seen(oldest.commit(&mut self.ledger))
@@ -198,15 +203,17 @@ impl Queue {
         self.ledger.count_passed(n);
     }
 
-    /// Which entry the one at `index` is, counted from the oldest. `None` where none is there, and where it is anything but an atom
-    /// before which nothing but an address was given.
+    /// Which atom the oldest is. `None` where nothing is held, and where the oldest is anything but an atom before which nothing but an address
+    /// was given.
     #[inline(always)]
-    pub fn atom_at(&self, index: usize) -> Option<AtomEntry>
-        ensures value { IfSome result (λ atom. slice_get self.now.held index ≡ Some (Seen (entry_of atom))) }
-        ensures some { IsSome result ↔ ((atom : AtomEntry) × (slice_get self.now.held index ≡ Some (Seen (entry_of atom)))) }
+    pub fn oldest_atom(&self) -> Option<AtomEntry>
+        ensures value { IfSome result (λ atom. slice_get self.now.held 0 ≡ Some (Seen (entry_of atom))) }
+        ensures some { IsSome result ↔ ((atom : AtomEntry) × (slice_get self.now.held 0 ≡ Some (Seen (entry_of atom)))) }
     {
-        let place = index.checked_sub(self.unseen as usize)?;
-        self.ring.get(place)?.packed().atom()
+        if self.unseen > 0 {
+            return None;
+        }
+        self.entries.oldest_atom()
     }
 
     /// Whether one more may be held, so that it commits nothing.
@@ -215,6 +222,14 @@ impl Queue {
         ensures { IsTrue result ↔ (length self.now.held < self.now.depth) }
     {
         self.held() < self.depth
+    }
+
+    /// How many more may be held, so that they commit nothing.
+    #[inline(always)]
+    pub fn room(&self) -> u32
+        ensures { result + length self.now.held ≡ self.now.depth }
+    {
+        self.depth - self.held()
     }
 
     /// Whether so many are held that can be committed.
@@ -242,13 +257,90 @@ impl Queue {
             self.unseen -= 1;
             return Some(Committed::Unseen);
         }
-        match self.ring.pop_front() {
+        match self.entries.pop_front() {
             None => None,
             Some(slot) => {
                 let oldest = Uncommitted::from_slot(slot);
                 Some(Committed::Seen(oldest.commit(&mut self.ledger)))
             }
         }
+    }
+
+    /// The oldest that are held, as atoms of one run, as far as they are kept as atoms before which nothing was given: at most 24. None
+    /// where the oldest is anything else.
+    #[inline(always)]
+    pub fn oldest_plain(&self) -> AtomRun
+        ensures atoms { map plain_atom (atoms_in result) ≡ take result.count self.now.held }
+        ensures most { result.count ≤ most_atoms }
+        ensures held { result.count ≤ length self.now.held }
+    {
+        if self.unseen > 0 {
+            return AtomRun { count: 0, bits: 0 };
+        }
+        self.entries.oldest_plain()
+    }
+
+    /// Takes atoms before which nothing was given, where no more may be held and as many of the oldest are such atoms too: each commits
+    /// one of these. Else nothing changes.
+    #[inline(always)]
+    pub fn rotate(&mut self, atoms: &AtomRun) -> bool
+        requires { atoms.now.count ≤ most_atoms }
+        ensures rotated { IsTrue result → (self.new ≡ rotated (atoms_in atoms.now) self.old) }
+        ensures full { IsTrue result → self.old.depth ≤ length self.old.held }
+        ensures given { IsTrue result → self.old.pre ≡ nothing_told }
+        ensures oldest { IsTrue result
+            → (oldest : List Bool) × (map plain_atom oldest ≡ take (atoms.now.count) self.old.held) × (length oldest ≡ atoms.now.count) }
+        ensures unchanged { result ≡ false → self.new ≡ self.old }
+        ensures queued { IsQueued self.new }
+        ensures counted { AreCounts self.old.counts }
+    {
+        if self.unseen > 0 || self.has_room() || !self.next.is_nothing_told() {
+            return false;
+        }
+        if !self.entries.rotate(atoms) {
+            return false;
+        }
+        self.ledger.count_passed(u32::from(atoms.count));
+        true
+    }
+
+    /// Holds atoms before which nothing was given, where there is room for all of them. Else nothing changes.
+    #[inline(always)]
+    pub fn hold(&mut self, atoms: &AtomRun) -> bool
+        requires { atoms.now.count ≤ most_atoms }
+        ensures holding { IsTrue result → (self.new ≡ holding (atoms_in atoms.now) self.old) }
+        ensures room { IsTrue result → length self.old.held + atoms.now.count ≤ self.old.depth }
+        ensures given { IsTrue result → self.old.pre ≡ nothing_told }
+        ensures unchanged { result ≡ false → self.new ≡ self.old }
+        ensures queued { IsQueued self.new }
+        ensures counted { AreCounts self.old.counts }
+    {
+        let count = u32::from(atoms.count);
+        if self.depth - self.held() < count || !self.next.is_nothing_told() {
+            return false;
+        }
+        if !self.entries.append_run(atoms) {
+            return false;
+        }
+        self.ledger.count_all_made(count);
+        true
+    }
+
+    /// Commits so many of the oldest, where these are kept as atoms before which nothing was given. Else nothing changes.
+    #[inline(always)]
+    pub fn commit_plain(&mut self, n: u32) -> bool
+        ensures rest { IsTrue result → (self.new
+            ≡ record (self.old) { held = drop n self.old.held; counts = counts_after self.old.counts 0 (committing (take n self.old.held)) }) }
+        ensures few { IsTrue result → n ≤ length self.old.held }
+        ensures unchanged { result ≡ false → self.new ≡ self.old }
+        ensures queued { IsQueued self.new }
+        ensures counted { AreCounts self.old.counts }
+    {
+        if self.unseen > 0 || !self.entries.drop_plain(n) {
+            return false;
+        }
+        self.ledger.count_all_committed(n);
+        true
     }
 
     /// Takes the `n` newest back, and what was given since the oldest of them.
@@ -263,14 +355,14 @@ impl Queue {
         if n > held {
             return Err(QueueFault::CancelOverrun { asked: n, held });
         }
-        let seen = (n as usize).min(self.ring.len());
-        self.next = given_before(&self.ring, self.ring.len() - seen, self.next);
+        let seen = n.min(self.entries.len());
         for _ in 0..seen {
-            if let Some(newest) = self.ring.pop_back() {
+            if let Some(newest) = self.entries.pop_back() {
+                self.next = *newest.packed();
                 Uncommitted::from_slot(newest).cancel(&mut self.ledger);
             }
         }
-        let unseen = n - seen as u32;
+        let unseen = n - seen;
         if unseen > 0 {
             self.unseen -= unseen;
             self.next = Packed::trace_missing();
@@ -287,16 +379,14 @@ impl Queue {
         ensures queued { IsQueued self.new }
         ensures counted { AreCounts self.old.counts }
     {
-        if self.ring.len() == 0 && self.unseen > 0 {
+        if self.entries.len() == 0 && self.unseen > 0 {
             self.next.lose();
             return Ok(());
         }
-        if !newest_is_atom(&self.ring) {
+        if !self.entries.newest_is_atom() {
             return Err(QueueFault::NoAtomToFlip { held: self.held() });
         }
-        if let Some(newest) = self.ring.get_mut(self.ring.len() - 1) {
-            newest.flip();
-        }
+        self.entries.flip();
         self.next.forget_addr();
         Ok(())
     }
@@ -330,7 +420,7 @@ impl Queue {
         ensures queued { IsQueued self.new }
         ensures counted { AreCounts self.old.counts }
     {
-        while let Some(oldest) = self.ring.pop_front() {
+        while let Some(oldest) = self.entries.pop_front() {
             Uncommitted::from_slot(oldest).lose(&mut self.ledger);
         }
         self.unseen = 0;
@@ -343,7 +433,7 @@ impl Queue {
         ensures value { result ≡ length self.now.held }
         ensures within { result ≤ self.now.depth }
     {
-        self.unseen + self.ring.len() as u32
+        self.unseen + self.entries.len()
     }
 
     /// What became of the P0 elements so far.
@@ -365,37 +455,12 @@ impl Queue {
         queue.discard();
         let Queue {
             unseen: _,
-            ring,
+            entries,
             next: _,
             depth: _,
             ledger,
         } = queue;
-        ring.close();
+        entries.close();
         ledger
-    }
-}
-
-/// Whether the newest is an atom.
-fn newest_is_atom(ring: &SpendRing<Slot>) -> bool
-    ensures { IsTrue result ↔ IsSome (flip_newest (map Seen ring.now.items)) }
-{
-    let seen = ring.len();
-    if seen == 0 {
-        return false;
-    }
-    match ring.get(seen - 1) {
-        None => false,
-        Some(newest) => newest.packed().is_atom(),
-    }
-}
-
-/// What was given before the one at `index`, or since the newest, `next`, where none is there.
-#[inline(always)]
-fn given_before(ring: &SpendRing<Slot>, index: usize, next: Packed) -> Packed
-    ensures { pre_of_packed result ≡ given_since (pre_of_packed next) (drop index ring.now.items) }
-{
-    match ring.get(index) {
-        Some(slot) => *slot.packed(),
-        None => next,
     }
 }

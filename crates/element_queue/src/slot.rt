@@ -1,11 +1,12 @@
 //! One P0 element as the queue keeps it.
 ghost use Rattle.std.specs.Prelude.{◌≡◌, not, Bool};
 ghost use Rattle.etm_types.specs.declared.element.P0.TheVariants.{Atom};
+ghost use Rattle.element_queue.specs.Kept.{plain_entry};
 ghost use Rattle.element_queue.specs.Packed.{unpacked};
 
 use crate::ledger::Ledger;
 use crate::packed::Packed;
-use etm_types::Entry;
+use etm_types::{Entry, P0};
 use std::marker::Model;
 
 /// An [`Uncommitted`](crate::Uncommitted) as the queue keeps it, in 32 bytes. It has no drop either. Contracts see it as
@@ -35,6 +36,16 @@ impl Slot {
     {
         ledger.count_made();
         Slot { packed }
+    }
+
+    /// One that was made before, and was kept as an atom before which nothing was given.
+    #[inline(always)]
+    pub(crate) fn from_atom(taken: bool) -> Slot
+        ensures { result ≡ plain_entry taken }
+    {
+        Slot {
+            packed: Packed::nothing_told().with(P0::Atom(taken)),
+        }
     }
 
     /// The entry, of which an [`Uncommitted`](crate::Uncommitted) is made.

@@ -224,10 +224,8 @@ impl Counter {
         ensures length { (length self.new.visits ≡ length self.old.visits) × (length self.new.taken ≡ length self.old.taken) }
     {
         self.visits.raise(place, count);
-        if took {
-            self.taken
-                .raise(last_place(place, count - 1, self.taken.len()));
-        }
+        let last = last_place(place, count - 1, self.taken.len());
+        self.taken.raise_if(took, last);
     }
 }
 

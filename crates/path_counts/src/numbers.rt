@@ -1,6 +1,6 @@
 //! Numbers at places, all 0 at first, each raised by one at a time.
 ghost use Rattle.std.specs.Prelude.{◌≡◌, ◌+◌, ◌==◌, ◌<◌, ℕ, length, get_or, replicate, IfOk};
-ghost use Rattle.path_counts.specs.Levels.{AreNumbers, one_if};
+ghost use Rattle.path_counts.specs.Levels.{AreNumbers, RaisesLast, one_if};
 
 use std::alloc::{AllocError, Global};
 use std::marker::Model;
@@ -44,6 +44,16 @@ impl Numbers {
         ensures length { length self.new ≡ length self.old }
     {
         self.of_places[place] = self.of_places[place].wrapping_add(1);
+    }
+
+    /// The same where something is so, else nothing. No jump rests on it.
+    #[inline(always)]
+    pub fn raise_if(&mut self, so: bool, place: usize)
+        requires { place < length self.old }
+        ensures raised { RaisesLast self.old self.new so place }
+        ensures length { length self.new ≡ length self.old }
+    {
+        self.of_places[place] = self.of_places[place].wrapping_add(u64::from(so));
     }
 
     /// The number at a place.

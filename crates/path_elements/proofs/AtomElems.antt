@@ -1,6 +1,6 @@
 -- Atoms as elements, and what stands after them.
 use Rattle.std.proofs.Common.{◌≡◌, ℕ, zero, suc, ◌+◌, ◌-◌, ◌/◌, ◌%◌, ◌^◌, ◌<◌, ◌≤◌, ◌==◌, Bool}
-use Rattle.std.proofs.Common.{List, [], ◌∷◌, ◌++◌, length, slice_get, Option, Some, None, All, true, false, refl, sym, ap, ◌∙◌, arith}
+use Rattle.std.proofs.Common.{List, [], ◌∷◌, ◌++◌, drop, length, slice_get, Option, Some, None, All, true, false, refl, sym, ap, ◌∙◌, arith}
 use Rattle.std.specs.Prelude.{◌↔◌, IsSome}
 use Rattle.std.proofs.lemmas.Nat.{shr-shr}
 use Rattle.std.proofs.lemmas.List.Elements.{All-nil, All-cons}
@@ -34,6 +34,28 @@ atom_at (suc n) bits (suc i) rest below =
     let same : 1 + i ≡ suc i = omega arith in
     atom_at n (bits / 2) i rest (omega arith)
     ∙ ap (λ (b : ℕ). Some (elem.P0 (p0.Atom (b % 2 == 1)))) (half ∙ ap (λ (j : ℕ). bits / 2 ^ j) same)
+
+-- fewer atoms stand before others
+front_atoms : (n bits m : ℕ) (rest : List Elem) → m ≤ n
+    → (others : List Elem) × (atoms (low_bits n bits) ++ rest ≡ atoms (low_bits m bits) ++ others)
+front_atoms n bits zero rest few = (atoms (low_bits n bits) ++ rest, refl)
+front_atoms zero bits (suc m) rest few = absurd (omega arith)
+front_atoms (suc n) bits (suc m) rest few =
+    let behind = front_atoms n (bits / 2) m rest (omega arith) in
+    (behind.0, ap (λ (l : List Elem). elem.P0 (p0.Atom (bits % 2 == 1)) ∷ l) behind.1)
+
+-- and so do those from a place on
+pub atoms_behind : (n bits i m : ℕ) (rest : List Elem) → i + m ≤ n
+    → (others : List Elem) × (drop i (atoms (low_bits n bits) ++ rest) ≡ atoms (low_bits m (bits / 2 ^ i)) ++ others)
+atoms_behind n bits zero m rest few =
+    let front = front_atoms n bits m rest (omega (arith, few)) in
+    (front.0, front.1 ∙ ap (λ (b : ℕ). atoms (low_bits m b) ++ front.0) (sym (div-one bits)))
+atoms_behind zero bits (suc i) m rest few = absurd (omega arith)
+atoms_behind (suc n) bits (suc i) m rest few =
+    let half : bits / 2 / 2 ^ i ≡ bits / 2 ^ (1 + i) = shr-shr bits 1 i in
+    let same : 1 + i ≡ suc i = omega arith in
+    let behind = atoms_behind n (bits / 2) i m rest (omega arith) in
+    (behind.0, behind.1 ∙ ap (λ (b : ℕ). atoms (low_bits m b) ++ behind.0) (half ∙ ap (λ (j : ℕ). bits / 2 ^ j) same))
 
 pub after_atoms : (n bits i : ℕ) (rest : List Elem) → n ≤ i → slice_get (atoms (low_bits n bits) ++ rest) i ≡ slice_get rest (i - n)
 after_atoms zero bits i rest past = let all : i - 0 ≡ i = omega arith in rw all refl

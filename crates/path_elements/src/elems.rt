@@ -1,5 +1,6 @@
 //! The elements of one packet.
-ghost use Rattle.std.specs.Prelude.{◌≡◌, ◌≤◌, ◌<◌, ◌+◌, ◌∷◌, ◌++◌, ◌↔◌, [], ℕ, Bool, length, replicate, slice_get, All, IfSome, IsSome, None, Some};
+ghost use Rattle.std.specs.Prelude.{◌≡◌, ◌≤◌, ◌<◌, ◌+◌, ◌∷◌, ◌++◌, ◌↔◌, [], ℕ, Bool, List, drop, length, replicate, slice_get, IfSome, IsSome, None, Some};
+ghost use Rattle.etm_types.specs.declared.element.Elem.{Elem};
 ghost use Rattle.etm_types.specs.declared.element.Elem.TheVariants as elem;
 ghost use Rattle.etm_types.specs.declared.element.P0.TheVariants.{Atom};
 ghost use Rattle.etm_types.specs.Atoms.{atoms_in, most_atoms};
@@ -112,6 +113,23 @@ impl Elems {
             Some((self.atoms.bits >> i) % 2 == 1)
         } else {
             None
+        }
+    }
+
+    /// The atoms from the one at `i` on, counted from 0, as one run of at most so many: none where no atom stands there.
+    #[inline(always)]
+    pub fn atoms_from(&self, i: usize, most: usize) -> AtomRun
+        ensures rest { (others : List Elem) × (drop i self.now ≡ atoms (atoms_in result) ++ others) }
+        ensures most { result.count ≤ most }
+        ensures few { result.count ≤ most_atoms }
+    {
+        let count = usize::from(self.atoms.count);
+        if i >= count {
+            return NO_ATOMS;
+        }
+        AtomRun {
+            count: (count - i).min(most) as u8,
+            bits: self.atoms.bits >> i,
         }
     }
 

@@ -39,7 +39,7 @@ abbrev ret : List ℕ → List ℕ
 ret words = 0xc0 ∷ 0x03 ∷ 0x5f ∷ 0xd6 ∷ words
 
 -- 1000: NOP; B.EQ to 100c; NOP; B to 1000. 8000: NOP; ERET
-abbrev code : Image
+abbrev pub code : Image
 code =
     record { start = 0x1000; bytes = nop (0x40 ∷ 0x00 ∷ 0x00 ∷ 0x54 ∷ nop (0xfd ∷ 0xff ∷ 0xff ∷ 0x17 ∷ [])) }
     ∷ record { start = 0x8000; bytes = nop (0xe0 ∷ 0x03 ∷ 0x9f ∷ 0xd6 ∷ []) }
@@ -61,7 +61,7 @@ always =
     ∷ record { start = 0xc000; bytes = 0xe0 ∷ 0x03 ∷ 0x9f ∷ 0xd6 ∷ [] }
     ∷ []
 
-abbrev user : Ctx
+abbrev pub user : Ctx
 user = record { el = 0; ns = true; vmid = 0; cid = 0 }
 
 abbrev kernel : Ctx
@@ -85,7 +85,7 @@ atom pre taken = record { pre = pre; p0 = Atom taken }
 abbrev irq : Pre → ℕ → Entry
 irq pre address = record { pre = pre; p0 = Exc 14 address }
 
-abbrev at : Pc → List ℕ → Ctx → State
+abbrev pub at : Pc → List ℕ → Ctx → State
 at pc stack ctx = record { pc = pc; stack = stack; ctx = ctx }
 
 -- so many instructions from an address on
@@ -108,7 +108,7 @@ unknown ctx exc = record { on = false; unknown = true; ctx = ctx; start = 0; cou
 none_plain : (image : Image) (address : ℕ) → IsPlainRun image address 0
 none_plain image address k below = absurd (omega (arith, below))
 
-one_plain : (image : Image) (address : ℕ) → class_at image (behind address 0) ≡ Some Plain → IsPlainRun image address 1
+pub one_plain : (image : Image) (address : ℕ) → class_at image (behind address 0) ≡ Some Plain → IsPlainRun image address 1
 one_plain image address plain zero below = plain
 one_plain image address plain (suc k) below = absurd (omega (arith, below))
 
@@ -120,14 +120,14 @@ one_before image ret address differs plain zero below = (differs, plain)
 one_before image ret address differs plain (suc k) below = absurd (omega (arith, below))
 
 -- a P0 instruction after so many plain ones
-goes : (image : Image) (address : ℕ) (stack : List ℕ) (taken : Bool) (plain : ℕ)
+pub goes : (image : Image) (address : ℕ) (stack : List ℕ) (taken : Bool) (plain : ℕ)
     (class : Class) (pc : Pc) → IsPlainRun image address plain → class_at image (behind address plain) ≡ Some class
     → next_of class (behind address plain) taken ≡ Some pc → GoesOn image address stack taken (plain + 1) pc (stack_after class (behind address plain) stack)
 goes image address stack taken plain class pc run there next = record
     { plain = plain; class = class; run = run; there = there; next = next; counted = refl; kept = refl }
 
 -- what an entry shows that leads somewhere
-shows : (image : Image) (s : State) (entry : Entry) (count : ℕ) (pc : Pc) (stack : List ℕ) → mismatch_of (pc_before s entry.pre) entry.pre.addr ≡ None
+pub shows : (image : Image) (s : State) (entry : Entry) (count : ℕ) (pc : Pc) (stack : List ℕ) → mismatch_of (pc_before s entry.pre) entry.pre.addr ≡ None
     → Leads image (start_of s entry.pre).at (start_of s entry.pre).stack entry.p0 count pc stack
     → Shows image s entry (record {
       on = entry.pre.on;

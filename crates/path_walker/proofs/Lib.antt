@@ -8,3 +8,5 @@ pub mod After
 pub mod OneTrail
 pub mod Joined
 pub mod Examples
+pub mod AtomRuns
+pub mod AtomExamples

@@ -51,6 +51,11 @@ abbrev pub start_by : Option ℕ → Pc → List ℕ → Start
 start_by (Some given) pc stack = record { at = Some given; stack = stack }
 start_by None pc stack = untold pc stack
 
+-- what is known of the address then
+abbrev pub told_pc : Option ℕ → Pc → Pc
+told_pc (Some given) pc = Known given
+told_pc None pc = pc
+
 abbrev pub start_of : State → Pre → Start
 start_of s pre = start_by pre.addr (pc_before s pre) (stack_before s pre)
 

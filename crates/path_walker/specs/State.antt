@@ -29,3 +29,7 @@ pub record IsState (s : State) : Type 0 where
   pub pc : IsPc s.pc
   pub stack : All IsAligned s.stack
   pub few : length s.stack ≤ most_addresses
+
+-- the same, but for what is known of the address
+abbrev pub standing : Pc → State → State
+standing pc s = record s { pc = pc }

@@ -1,7 +1,7 @@
 -- The walk of one entry over an image: what it shows and the state after it, or the fault with which it stops (Arm IHI 0064,
 -- "Descriptions of Trace Elements": the atom and exception elements). Which faults there are is this project's own choice.
 use Rattle.std.specs.Prelude.{◌≡◌, ◌≢◌, ◌⊎◌, ℕ, ◌+◌, ◌-◌, ◌<◌, Bool, true, false, ◌&&◌}
-use Rattle.std.specs.Prelude.{List, [], ◌∷◌, ◌++◌, Option, Some, None, is_none, slice_get, Result, Ok, Err, ⊤}
+use Rattle.std.specs.Prelude.{All, List, [], ◌∷◌, ◌++◌, length, Option, Some, None, is_none, slice_get, Result, Ok, Err, ⊤}
 use Rattle.std.specs.Option.{unwrap_or}
 use Rattle.a64_branches.specs.declared.class.Class.{Class}
 use Rattle.a64_branches.specs.declared.class.Class.TheVariants.{Cond, Ind, Plain, Odd}
@@ -22,7 +22,7 @@ use Rattle.etm_types.specs.declared.context.Ctx.{Ctx}
 use Rattle.path_walker.specs.declared.stretch.Stretch.{Stretch}
 use Rattle.path_walker.specs.declared.pc.Pc.{Pc}
 use Rattle.path_walker.specs.declared.pc.Pc.TheVariants.{Awaited, Lost}
-use Rattle.path_walker.specs.State.{State, IsAligned}
+use Rattle.path_walker.specs.State.{State, IsAligned, IsState}
 use Rattle.path_walker.specs.Start.{pc_before, context_of, mismatch_of, start_of}
 use Rattle.path_walker.specs.Steps.{next_of, stack_after}
 
@@ -161,3 +161,22 @@ ToldIsAligned (Some address) = IsAligned address
 
 abbrev pub HasAlignedAddresses : Entry → Type 0
 HasAlignedAddresses entry = ToldIsAligned entry.pre.addr × ReturnIsAligned entry.p0
+
+-- ---- atoms
+
+-- Atoms are walked one after the other, before the first of which this address was given, where one was, and nothing before the others:
+-- these are the stretches of the first of them, and the walk goes on from a state.
+abbrev pub WalksAtoms : Image → State → Option ℕ → List Bool → List Stretch → State → Type 0
+WalksAtoms image s addr atoms [] s' = s' ≡ s
+WalksAtoms image s addr [] (stretch ∷ run) s' = ⊥
+WalksAtoms image s addr (taken ∷ atoms) (stretch ∷ run) s' =
+    (next : State) × Shows image s (atom_at addr taken) (walked_in s.ctx stretch) next × IsState next × WalksAtoms image next None atoms run s'
+
+-- the stretches of so many of them stand behind those of a run
+pub record WalksRun (image : Image) (s : State) (addr : Option ℕ) (atoms : List Bool) (run : List Stretch) (n : ℕ) (s' : State)
+    (run' : List Stretch) : Type 0 where
+  pub added : List Stretch
+  pub joined : run' ≡ run ++ added
+  pub count : length added ≡ n
+  pub walks : WalksAtoms image s addr atoms added s'
+  pub placed : All (IsPlaced image) added

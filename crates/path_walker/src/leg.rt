@@ -1,9 +1,9 @@
 //! What is executed for a P0 element from an address on, and where it leads.
-ghost use Rattle.std.specs.Prelude.{◌≡◌, ◌≢◌, ℕ, ◌+◌, ◌%◌, ◌-◌, true, false, IfOk, IfSome, Some, None, Err, slice_get};
+ghost use Rattle.std.specs.Prelude.{◌≡◌, ◌≢◌, ◌+◌, ◌%◌, ◌-◌, true, false, IfOk, IfSome, Some, None, Err, slice_get};
 ghost use Rattle.a64_branches.specs.Classes.{HasWholeOffset};
 ghost use Rattle.a64_branches.specs.declared.class.Class.TheVariants.{Plain};
 ghost use Rattle.program_image.specs.Runs.{class_behind};
-ghost use Rattle.program_image.specs.Blocks.{behind, class_at, IsBlock};
+ghost use Rattle.program_image.specs.Blocks.{behind, class_at};
 ghost use Rattle.program_image.specs.Places.{word_addresses};
 ghost use Rattle.etm_types.specs.declared.element.P0.TheVariants as p0;
 ghost use Rattle.etm_types.specs.declared.walk_fault.WalkFault.{WalkFault};
@@ -26,6 +26,8 @@ pub struct Leg {
     pub count: u64,
     /// The place of the first among all words of the image, where it is an atom's.
     pub place: usize,
+    /// The place of its part among the parts of the image, where it is an atom's.
+    pub part: usize,
     /// Whether the last of them is a conditional branch, and is taken.
     pub took: bool,
     /// Whether the last of them is a branch to a register.
@@ -38,11 +40,12 @@ pub struct Leg {
 impl Leg {
     /// So many plain words, and an exception after them.
     fn to_exception(count: u64) -> Leg
-        ensures { result ≡ record { count = count; place = 0; took = false; to_register = false; next = Awaited false; link = None } }
+        ensures { result ≡ record { count = count; place = 0; part = 0; took = false; to_register = false; next = Awaited false; link = None } }
     {
         Leg {
             count,
             place: 0,
+            part: 0,
             took: false,
             to_register: false,
             next: Pc::Awaited { pops: false },
@@ -53,11 +56,20 @@ impl Leg {
     /// Plain words and the word behind them, and after them the next word.
     #[inline(always)]
     fn of_words(placed: PlacedRun, behind: u64) -> Leg
-        ensures { result ≡ record { count = placed.run.plain + 1; place = placed.place; took = false; to_register = false; next = Known behind; link = None } }
+        ensures { result ≡ record {
+          count = placed.run.plain + 1;
+          place = placed.place;
+          part = placed.part;
+          took = false;
+          to_register = false;
+          next = Known behind;
+          link = None;
+        } }
     {
         Leg {
             count: u64::from(placed.run.plain) + 1,
             place: placed.place,
+            part: placed.part,
             took: false,
             to_register: false,
             next: Pc::Known(behind),
@@ -73,13 +85,13 @@ impl Leg {
         Leg { next, ..self }
     }
 
-    /// The same, where the last one is a conditional branch that is taken to an address.
+    /// The same, where the last one is a conditional branch, taken or not, after which it goes on at an address.
     #[inline(always)]
-    fn taken_to(self, addr: u64) -> Leg
-        ensures { result ≡ record self { took = true; next = Known addr } }
+    fn conditionally(self, taken: bool, addr: u64) -> Leg
+        ensures { result ≡ record self { took = taken; next = Known addr } }
     {
         Leg {
-            took: true,
+            took: taken,
             next: Pc::Known(addr),
             ..self
         }
@@ -121,8 +133,10 @@ impl Leg {
     }
 }
 
-/// What an atom executes of plain words and the word behind them, and where it leads; or why it can't be an atom of that word. One match says
-/// all of it, since each atom goes this way.
+/// What an atom executes of plain words and the word behind them, and where it leads; or why it can't be an atom of that word.
+///
+/// Each atom goes this way. Most are of a conditional branch, and which one an atom is can't be foreseen: so both addresses are made, and one
+/// of them is chosen without a jump. One match says the rest.
 #[inline(always)]
 fn leg_behind(placed: PlacedRun, addr: u64, taken: bool) -> Result<Leg, WalkFault>
     requires address { addr % 4 ≡ 0 }
@@ -136,9 +150,12 @@ fn leg_behind(placed: PlacedRun, addr: u64, taken: bool) -> Result<Leg, WalkFaul
 {
     let behind = addr.wrapping_add(INSTRUCTION_BYTES);
     let leg = Leg::of_words(placed, behind);
+    if let WordBehind::BranchConditionally { off } = placed.run.behind {
+        let next = if taken { target(addr, off) } else { behind };
+        return Ok(leg.conditionally(taken, next));
+    }
     match (placed.run.behind, taken) {
-        (WordBehind::BranchConditionally { off }, true) => Ok(leg.taken_to(target(addr, off))),
-        (WordBehind::BranchConditionally { .. }, false) | (WordBehind::Barrier, true) => Ok(leg),
+        (WordBehind::Barrier, true) => Ok(leg),
         (WordBehind::Branch { off }, true) => Ok(leg.to(Pc::Known(target(addr, off)))),
         (WordBehind::BranchWithLink { off }, true) => {
             Ok(leg.to(Pc::Known(target(addr, off))).linking(behind))
@@ -154,9 +171,10 @@ fn leg_behind(placed: PlacedRun, addr: u64, taken: bool) -> Result<Leg, WalkFaul
     }
 }
 
-/// The plain words from an address on, and after them the P0 instruction of an atom.
+/// The plain words from an address on, and after them the P0 instruction of an atom. The part at the place `near` among those of the image is
+/// looked at first.
 #[inline(always)]
-pub fn leg_of_atom(image: &Image, pc: u64, taken: bool) -> Result<Leg, WalkFault>
+pub fn leg_of_atom(image: &Image, pc: u64, near: usize, taken: bool) -> Result<Leg, WalkFault>
     requires { pc % 4 ≡ 0 }
     ensures leads { IfOk result (IsLeg image.now (Some pc) (p0.Atom taken)) }
     ensures took { IfOk result (λ leg. leg.took ≡ takes image.now (Some pc) (p0.Atom taken) leg.count) }
@@ -165,7 +183,7 @@ pub fn leg_of_atom(image: &Image, pc: u64, taken: bool) -> Result<Leg, WalkFault
     ensures halts { (fault : WalkFault) → result ≡ Err fault → Halts image.now (Some pc) (p0.Atom taken) fault }
     ensures aligned { IfOk result IsAlignedLeg }
 {
-    let Some(placed) = image.placed_run(pc) else {
+    let Some(placed) = image.placed_run(pc, near) else {
         return Err(WalkFault::NoCode(pc));
     };
     let words = u64::from(placed.run.plain) * INSTRUCTION_BYTES;
@@ -203,11 +221,12 @@ pub fn leg_of(image: &Image, at: Option<u64>, p0: P0) -> Result<Leg, WalkFault>
     ensures aligned { IfOk result IsAlignedLeg }
 {
     match (at, p0) {
-        (Some(pc), P0::Atom(taken)) => leg_of_atom(image, pc, taken),
+        (Some(pc), P0::Atom(taken)) => leg_of_atom(image, pc, 0, taken),
         (Some(pc), P0::Exc { kind, ret }) => leg_of_exception(image, pc, kind, ret),
         (None, P0::Atom(_)) => Ok(Leg {
             count: 0,
             place: 0,
+            part: 0,
             took: false,
             to_register: false,
             next: Pc::Lost,

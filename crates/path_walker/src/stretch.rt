@@ -1,5 +1,5 @@
 //! What most atoms show.
-ghost use Rattle.std.specs.Prelude.{◌≡◌, ◌↔◌, ◌<◌, ◌∷◌, ◌++◌, [], IsTrue, length};
+ghost use Rattle.std.specs.Prelude.{◌≡◌, ◌↔◌, ◌<◌, ◌+◌, ◌∷◌, ◌++◌, [], IsTrue, length};
 ghost use Rattle.path_walker.specs.Walk.{walked_in};
 
 use etm_types::{Ctx, Walked};
@@ -106,6 +106,14 @@ impl Stretches {
         ensures { IsTrue result ↔ (length self.now < 24) }
     {
         self.len() < MOST
+    }
+
+    /// How many more have room.
+    #[inline(always)]
+    pub fn room(&self) -> usize
+        ensures { result + length self.now ≡ 24 }
+    {
+        MOST - self.len
     }
 
     /// One more.

@@ -1,16 +1,26 @@
 //! The walk of one entry after the other.
-ghost use Rattle.std.specs.Prelude.{◌≡◌, IfOk, IfSome, IsOk, IsErr, IsSome, Some, None};
+ghost use Rattle.std.specs.Prelude.{◌≡◌, ◌≤◌, IfOk, IfSome, IsOk, IsErr, IsSome, Some, None};
+ghost use Rattle.etm_types.specs.Atoms.{atoms_in};
 ghost use Rattle.etm_types.specs.declared.walk_fault.WalkFault.{WalkFault};
 
 use crate::leg::{Leg, leg_of, leg_of_atom};
 use crate::pc::Pc;
 use crate::start::{StackUse, Start, at_given, at_known};
-use crate::stretch::Stretch;
-use etm_types::{Ctx, Entry, ExcMark, P0, Pre, WalkFault, Walked};
+use crate::stretch::{Stretch, Stretches};
+use etm_types::{AtomRun, Ctx, Entry, ExcMark, P0, Pre, WalkFault, Walked};
 use program_image::Image;
 use return_stack::{MOST_ADDRESSES, ReturnStack};
 use std::alloc::{AllocError, Global};
 use std::marker::Model;
+
+/// What an atom shows, and what is known of the address behind it.
+#[derive(Clone, Copy)]
+struct AtomWalk {
+    stretch: Stretch,
+    next: Pc,
+    /// The place of its part among the parts of the image.
+    part: usize,
+}
 
 /// The walk over an image, between two entries. Contracts see it as what is known of the next
 /// instruction's address, the return addresses, and the context.
@@ -19,6 +29,8 @@ pub struct Walker {
     pc: Pc,
     stack: ReturnStack,
     ctx: Ctx,
+    /// The place of the part of the last atom's instructions among those of the image. It is looked at first, and may be any.
+    part: usize,
 }
 
 impl Model for Walker {
@@ -34,10 +46,10 @@ impl Model for Walker {
 }
 
 impl Walker {
-    ghost use Rattle.path_walker.specs.State.{IsState, IsPc, first_state};
-    ghost use Rattle.path_walker.specs.Start.{StartsAs, context_of, mismatch_of, pc_before, start_by, start_of, used};
+    ghost use Rattle.path_walker.specs.State.{IsState, IsPc, first_state, standing};
+    ghost use Rattle.path_walker.specs.Start.{StartsAs, context_of, mismatch_of, pc_before, start_of, told_pc, used};
     ghost use Rattle.path_walker.specs.Steps.{linked};
-    ghost use Rattle.path_walker.specs.Walk.{HasAlignedAddresses, HasNoStretch, IsPlaced, Shows, Stops, ToldIsAligned, atom_at, mark_of, walked_in};
+    ghost use Rattle.path_walker.specs.Walk.{HasAlignedAddresses, HasNoStretch, IsPlaced, Shows, Stops, ToldIsAligned, WalksRun, atom_at, mark_of, walked_in};
 
     /// A walk that begins at no known address. This is the one call that takes memory, and the error
     /// means want of it.
@@ -50,6 +62,7 @@ impl Walker {
             pc: Pc::Lost,
             stack,
             ctx: Ctx::initial(),
+            part: 0,
         })
     }
 
@@ -95,19 +108,57 @@ impl Walker {
         ensures context { self.new.ctx ≡ self.old.ctx }
         ensures state { IsState self.new }
     {
-        let Start { at, stack } = self.atom_start(addr)?;
-        let start = at?;
-        let Ok(leg) = leg_of_atom(image, start, taken) else {
-            return None;
+        let pc = self.pc_given(addr)?;
+        let AtomWalk {
+            stretch,
+            next,
+            part,
+        } = self.walk_from(image, pc, self.part, taken)?;
+        self.pc = next;
+        self.part = part;
+        Some(stretch)
+    }
+
+    /// Walks atoms one after the other, before the first of which this address was given, where one was, and nothing before the others: as
+    /// many as [`walk_atom`](Walker::walk_atom) walks and a run has room for. It gives how many.
+    ///
+    /// In between the address stays in registers, since the next look-up waits for it. The address that is given is a multiple of 4.
+    #[inline(always)]
+    pub fn walk_atoms(
+        &mut self,
+        image: &Image,
+        given: Option<u64>,
+        atoms: &AtomRun,
+        run: &mut Stretches,
+    ) -> usize
+        requires { ToldIsAligned given }
+        ensures walks { WalksRun image.now self.old given (atoms_in atoms.now) run.old result self.new run.new }
+        ensures most { result ≤ atoms.now.count }
+        ensures context { self.new.ctx ≡ self.old.ctx }
+        ensures state { IsState self.new }
+    {
+        let Some(mut pc) = self.pc_given(given) else {
+            return 0;
         };
-        self.go_on(stack, &leg);
-        Some(Stretch {
-            start,
-            place: leg.place,
-            count: leg.count,
-            took: leg.took,
-            to_register: leg.to_register,
-        })
+        let most = usize::from(atoms.count).min(run.room());
+        let mut part = self.part;
+        let mut bits = atoms.bits;
+        let mut n = 0;
+        while n < most {
+            let Some(walk) = self.walk_from(image, pc, part, bits % 2 == 1) else {
+                break;
+            };
+            run.push(walk.stretch);
+            pc = walk.next;
+            part = walk.part;
+            bits /= 2;
+            n += 1;
+        }
+        if n > 0 {
+            self.pc = pc;
+            self.part = part;
+        }
+        n
     }
 
     /// The context of the instructions that are walked next, where none is given.
@@ -137,24 +188,56 @@ impl Walker {
         }
     }
 
-    /// Where an entry begins before which nothing was given but, where there is one, an address. `None` where another address
-    /// is known.
+    /// What is known of the address where this one is given, if one is; or `None` where another one is known.
     #[inline(always)]
-    fn atom_start(&self, addr: Option<u64>) -> Option<Start>
-        requires { ToldIsAligned addr }
-        ensures begins { IfSome result (λ start. StartsAs start self.now.stack (start_by addr self.now.pc self.now.stack)) }
-        ensures agrees { IsSome result → mismatch_of self.now.pc addr ≡ None }
-        ensures differs { result ≡ None → (fault : WalkFault) × (mismatch_of self.now.pc addr ≡ Some fault) }
-        ensures aligned { IfSome result (λ start. ToldIsAligned start.at) }
+    fn pc_given(&self, given: Option<u64>) -> Option<Pc>
+        requires { ToldIsAligned given }
+        ensures told { IfSome result (λ pc. (pc ≡ told_pc given self.now.pc) × IsPc pc) }
+        ensures agrees { IsSome result → mismatch_of self.now.pc given ≡ None }
+        ensures differs { result ≡ None → (fault : WalkFault) × (mismatch_of self.now.pc given ≡ Some fault) }
         ensures state { IsState self.now }
     {
-        match addr {
-            None => Some(at_known(self.pc, &self.stack, false)),
-            Some(given) => match at_given(self.pc, given, false) {
-                Ok(start) => Some(start),
-                Err(_) => None,
-            },
+        let Some(addr) = given else {
+            return Some(self.pc);
+        };
+        match at_given(self.pc, addr, false) {
+            Ok(_) => Some(Pc::Known(addr)),
+            Err(_) => None,
         }
+    }
+
+    /// Walks an atom before which nothing was given, from what is told here of the address, and tells what is known then: the walk's own is not
+    /// looked at, and stays. The part at the place `near` is looked at first.
+    #[inline(always)]
+    fn walk_from(&mut self, image: &Image, pc: Pc, near: usize, taken: bool) -> Option<AtomWalk>
+        requires { IsPc pc }
+        ensures shows { IfSome result (λ walk. Shows image.now (standing pc self.old) (atom_at None taken) (walked_in self.old.ctx walk.stretch)
+            (standing walk.next self.new)) }
+        ensures placed { IfSome result (λ walk. IsPlaced image.now walk.stretch) }
+        ensures next { IfSome result (λ walk. IsPc walk.next) }
+        ensures none { result ≡ None → HasNoStretch image.now (standing pc self.old) (atom_at None taken) }
+        ensures unchanged { result ≡ None → self.new ≡ self.old }
+        ensures others { (self.new.pc ≡ self.old.pc) × (self.new.ctx ≡ self.old.ctx) }
+        ensures state { IsState self.new }
+    {
+        let Start { at, stack } = at_known(pc, &self.stack, false);
+        let start = at?;
+        let Ok(leg) = leg_of_atom(image, start, near, taken) else {
+            return None;
+        };
+        self.leave(stack, &leg);
+        let stretch = Stretch {
+            start,
+            place: leg.place,
+            count: leg.count,
+            took: leg.took,
+            to_register: leg.to_register,
+        };
+        Some(AtomWalk {
+            stretch,
+            next: leg.next,
+            part: leg.part,
+        })
     }
 
     /// Goes on after a leg, in the same context.
@@ -165,9 +248,19 @@ impl Walker {
         ensures value { self.new ≡ record (self.old) { pc = leg.now.next; stack = linked leg.now.link (used stack self.old.stack) } }
         ensures state { IsState self.new }
     {
+        self.leave(stack, leg);
+        self.pc = leg.next;
+    }
+
+    /// What becomes of the return addresses by a leg.
+    #[inline(always)]
+    fn leave(&mut self, stack: StackUse, leg: &Leg)
+        requires link { ToldIsAligned leg.now.link }
+        ensures value { self.new ≡ record (self.old) { stack = linked leg.now.link (used stack self.old.stack) } }
+        ensures state { IsState self.new }
+    {
         stack.apply(&mut self.stack);
         leg.push_link(&mut self.stack);
-        self.pc = leg.next;
     }
 }
 

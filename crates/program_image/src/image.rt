@@ -15,7 +15,7 @@ ghost use Rattle.program_image.specs.Runs.{IsRun, run_of};
 use crate::block::{Block, BlockEnd, end_at};
 use crate::draft::Draft;
 use crate::fault::{ImageFault, ImageWhy, LineFault};
-use crate::lookup::{part_at, word_at};
+use crate::lookup::{part_at, part_near, word_at};
 use crate::part::Part;
 use crate::places::Places;
 use crate::run::{PlacedRun, WordRun};
@@ -126,7 +126,7 @@ impl Image {
         ensures few { result.plain < 2 ^ 62 }
         ensures gap { HasGap self.now }
     {
-        let Some(placed) = self.placed_run(pc) else {
+        let Some(placed) = self.placed_run(pc, 0) else {
             return Block {
                 plain: 0,
                 end: BlockEnd::NoCode(pc),
@@ -140,20 +140,22 @@ impl Image {
         }
     }
 
-    /// The same as the image keeps it, and the place of the word at the address: none where no word begins there. It costs one search
-    /// of a part.
+    /// The same as the image keeps it, and the place of the word at the address: none where no word begins there. The part at the place `near`
+    /// among the parts is looked at first: whichever that is, the answer is the same, but where it is the part of the address, nothing is
+    /// searched.
     #[inline(always)]
-    pub fn placed_run(&self, pc: u64) -> Option<PlacedRun>
+    pub fn placed_run(&self, pc: u64, near: usize) -> Option<PlacedRun>
         requires { pc % 4 ≡ 0 }
         ensures run { MatchOption result (class_at self.now pc ≡ None) (λ placed. IsRun self.now pc (run_of placed.run)) }
         ensures word { IfSome result (λ _. IsSome (word_of self.now pc)) }
         ensures place { IfSome result (λ placed. slice_get (word_addresses self.now) placed.place ≡ Some pc) }
         ensures gap { HasGap self.now }
     {
-        let part = part_at(&self.parts, pc)?;
+        let part = part_near(&self.parts, near, pc)?;
         let run = self.run_in(part, pc)?;
         Some(PlacedRun {
             place: self.place_in(part, pc),
+            part,
             run,
         })
     }

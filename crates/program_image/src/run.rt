@@ -95,6 +95,8 @@ pub struct WordRun {
 #[derive(Clone, Copy, Debug, PartialEq, Eq)]
 pub struct PlacedRun {
     pub place: usize,
+    /// The place of the word's part among the parts: what is looked at first for the next word.
+    pub part: usize,
     pub run: WordRun,
 }
 

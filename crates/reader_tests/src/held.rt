@@ -1,6 +1,8 @@
 //! The queue of held elements: each method once, that it can succeed, and what it gives on lists of elements worked out by hand.
+ghost use Rattle.std.specs.Prelude.{◌≡◌};
+
 use element_queue::*;
-use etm_types::{Ctx, Entry, P0, Pre, QueueFault};
+use etm_types::{AtomRun, Ctx, Entry, P0, Pre, QueueFault};
 use std::process::Abort;
 use std::test::Fail;
 
@@ -310,9 +312,9 @@ fn trace_is_missing_behind_what_was_not_seen(rt: HostRuntime) -> Result<(), Fail
     Ok(())
 }
 
-/// The oldest that is held and the next one, each where it is an atom; and whether one more may be held.
-fn oldest(queue: &Queue) -> (Option<AtomEntry>, Option<AtomEntry>, bool) {
-    (queue.atom_at(0), queue.atom_at(1), queue.has_room())
+/// The oldest that is held, where it is an atom; and whether one more may be held.
+fn oldest(queue: &Queue) -> (Option<AtomEntry>, bool) {
+    (queue.oldest_atom(), queue.has_room())
 }
 
 const AN_ATOM_BEHIND_AN_INTERRUPT: [Row; 3] = [
@@ -357,19 +359,59 @@ fn the_atom_that_is_committed_next_is_told(rt: HostRuntime) -> Result<(), Fail> 
         addr: Some(0x1000),
         taken: true,
     });
-    let not_taken = Some(AtomEntry {
-        addr: None,
-        taken: false,
-    });
     assert_eq!(rt;
         [interrupt, atom, full],
-        [
-            (None, None, true),
-            (taken, None, true),
-            (taken, not_taken, false)
-        ]
+        [(None, true), (taken, true), (taken, false)]
     );
     assert_eq!(rt; lost, 2);
+    Ok(())
+}
+
+/// So many atoms, bit i for atom i.
+fn run(count: u8, bits: u32) -> AtomRun
+    ensures { result.count ≡ count }
+{
+    AtomRun { count, bits }
+}
+
+#[test]
+fn atoms_are_held_and_committed_as_runs(rt: HostRuntime) -> Result<(), Fail> {
+    let mut queue = Queue::new(rt.alloc(), 4)?;
+    let missing = queue.hold(&run(3, 0b011));
+    ask(&rt, &mut queue, &[PUSH_NOT_TAKEN]);
+    let behind = (
+        queue.hold(&run(3, 0b011)),
+        queue.room(),
+        queue.oldest_plain().count,
+    );
+    let other = (queue.rotate(&run(1, 0b1)), queue.commit_plain(1));
+    let first = queue.commit_one();
+    let oldest = (queue.room(), queue.oldest_plain());
+    let more = (queue.hold(&run(2, 0b00)), queue.hold(&run(1, 0b0)));
+    let turned = (queue.rotate(&run(2, 0b10)), queue.oldest_plain());
+    let gone = (
+        queue.commit_plain(3),
+        queue.oldest_plain(),
+        queue.commit_plain(2),
+    );
+    let counts = (numbers(queue.ledger()), numbers(queue.close().counts()));
+    assert_eq!(rt;
+        (missing, behind, other),
+        (false, (true, 0, 0), (false, false))
+    );
+    assert_eq!(rt;
+        first,
+        Some(Committed::Seen(Entry {
+            pre: TRACE_MISSING,
+            p0: NOT_TAKEN
+        }))
+    );
+    assert_eq!(rt; (oldest, more), ((1, run(3, 0b011)), (false, true)));
+    assert_eq!(rt;
+        (turned, gone),
+        ((true, run(4, 0b1000)), (true, run(1, 0b1), false))
+    );
+    assert_eq!(rt; counts, ([7, 6, 0, 0], [7, 6, 0, 1]));
     Ok(())
 }
 

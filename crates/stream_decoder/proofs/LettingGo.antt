@@ -1,5 +1,5 @@
 -- The oldest of what waits are walked, and then let go.
-use Rattle.std.proofs.Common.{◌≡◌, ℕ, zero, suc, ◌-◌, ◌≤◌, Bool, List, [], ◌∷◌, ◌++◌, All, length, take, drop, slice_get}
+use Rattle.std.proofs.Common.{◌≡◌, ℕ, zero, suc, ◌-◌, ◌≤◌, ◌<◌, Bool, List, [], ◌∷◌, ◌++◌, All, length, take, drop, slice_get}
 use Rattle.std.proofs.Common.{Ok, Option, Some, refl, sym, ap, subst, ◌∙◌, arith, append-nil, append_assoc, length-append}
 use Rattle.std.proofs.lemmas.List.{length-drop}
 use Rattle.std.proofs.lemmas.Option.{get_or_from_slice_get, slice_get_within}
@@ -161,6 +161,42 @@ still_full w w' taken full turned =
       length-drop 1 all,
       length-append (w.pending).held (Seen (record { pre = (w.pending).pre; p0 = Atom taken }) ∷ []),
     )
+
+-- what holds once the first of some atoms was taken
+pub record OneAfter (mid : Waiting) (remain : List Elem) (n : ℕ) : Type 0 where
+  pub due : mid.due ≡ []
+  pub full : mid.depth ≤ length (mid.pending).held
+  pub held : n ≤ length (mid.pending).held
+  pub atoms : (k : ℕ) → k < n → (taken : Bool) × (slice_get remain k ≡ Some (elem.P0 (Atom taken)))
+  pub holds : IsWaiting mid
+
+pub one_after : (w mid : Waiting) (elements remain : List Elem) (n : ℕ) → w.due ≡ [] → w.depth ≤ length (w.pending).held → IsWaiting w
+    → n ≤ length (w.pending).held → ((k : ℕ) → k < n → (taken : Bool) × (slice_get elements k ≡ Some (elem.P0 (Atom taken))))
+    → TakesAtoms w elements 1 mid remain → OneAfter mid remain (n - 1)
+one_after w mid elements remain n none full waits held atoms (t, others, next, first, commits, kept, ends) =
+    let turned = rotates w next t (few_held w none waits) full commits in
+    let after : OneAfter next others (n - 1) = record {
+      due = turned.due;
+      full = still_full w next t full turned;
+      held = omega (arith, held, still_full w next t full turned, turned.depth, few_held w none waits, full);
+      atoms = λ k below.
+          let there = atoms (suc k) (omega (arith, below)) in (there.0, sym (ap (λ (l : List Elem). slice_get l (suc k)) first) ∙ there.1);
+      holds = kept;
+    } in
+    subst (λ (es : List Elem). OneAfter mid es (n - 1)) (sym ends.1) (subst (λ (v : Waiting). OneAfter v others (n - 1)) (sym ends.0) after)
+
+-- the first is taken, and then others
+pub takes_behind : (w mid w' : Waiting) (elements remain remain' : List Elem) (n : ℕ) → TakesAtoms w elements 1 mid remain
+    → TakesAtoms mid remain n w' remain' → TakesAtoms w elements (suc n) w' remain'
+takes_behind w mid w' elements remain remain' n (t, others, next, first, commits, kept, ends) more = (
+  t,
+  others,
+  next,
+  first,
+  commits,
+  kept,
+  subst (λ (v : Waiting). TakesAtoms v others n w' remain') ends.0 (subst (λ (es : List Elem). TakesAtoms mid es n w' remain') ends.1 more),
+)
 
 same_first : (x y : Thing) (xs ys : List Thing) → x ∷ xs ≡ y ∷ ys → x ≡ y
 same_first x y xs ys e = cc

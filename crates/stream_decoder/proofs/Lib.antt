@@ -1,4 +1,5 @@
 pub mod Atoms
+pub mod AtomWalks
 pub mod Yielding
 pub mod Coming
 pub mod Dues
@@ -20,3 +21,5 @@ pub mod Along
 pub mod Examples
 pub mod Runs
 pub mod LettingGo
+pub mod Rotating
+pub mod HoldingRuns

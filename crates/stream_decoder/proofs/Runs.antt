@@ -32,7 +32,7 @@ use Rattle.stream_decoder.specs.StretchLines.{stretch_lines}
 use Rattle.stream_decoder.specs.Decoding.{Decoding, IsDecoding, decoding_of}
 use Rattle.stream_decoder.specs.Left.{Left}
 use Rattle.stream_decoder.specs.Waiting.{Commits, IsWaiting, Waiting, committed_by, counts_passed, passed}
-use Rattle.stream_decoder.specs.Yields.{Goes, WalksAtoms, left}
+use Rattle.stream_decoder.specs.Yields.{Goes, WalksNext, left}
 
 -- the address that was given before the next atom of a run
 abbrev pub addr_behind : Option ℕ → List Stretch → Option ℕ
@@ -53,9 +53,9 @@ some_stretch (x ∷ run) stretch e = absurd cc
 
 -- one atom more is walked
 pub walks_more : (image : Image) (s mid next : State) (addr : Option ℕ) (elements : List Elem) (run : List Stretch) (stretch : Stretch) (taken : Bool)
-    → WalksAtoms image s addr elements run mid → slice_get elements (length run) ≡ Some (elem.P0 (Atom taken)) → mid.ctx ≡ s.ctx
+    → WalksNext image s addr elements run mid → slice_get elements (length run) ≡ Some (elem.P0 (Atom taken)) → mid.ctx ≡ s.ctx
     → Shows image mid (atom_at (addr_behind addr run) taken) (walked_in mid.ctx stretch) next → IsState next
-    → WalksAtoms image s addr elements (run ++ stretch ∷ []) next
+    → WalksNext image s addr elements (run ++ stretch ∷ []) next
 walks_more image s mid next addr elements [] stretch taken walks there same shows state = (
   taken,
   drop 1 elements,
@@ -157,7 +157,7 @@ module _ (image : Image) (r : Standing) (t : Told) (f : Option (ℕ × Fault)) (
       )
 
   pub goes_by_run : (l : Left) (c c' : Counts) (s s' : State) (addr : Option ℕ) (elements : List Elem) (stretch : Stretch) (run : List Stretch)
-      → Inside l addr c s → WalksAtoms image s addr l.elements (stretch ∷ run) s' → elements ≡ drop (suc (length run)) l.elements
+      → Inside l addr c s → WalksNext image s addr l.elements (stretch ∷ run) s' → elements ≡ drop (suc (length run)) l.elements
       → c' ≡ counts_passed (suc (length run)) c
       → Goes image (here l addr c s) (items_in s.ctx (stretch ∷ run)) (here (record l { elements = elements }) None c' s')
       × (left (here (record l { elements = elements }) None c' s') < left (here l addr c s))
@@ -193,13 +193,13 @@ no_things [] few = refl
 no_things (x ∷ things) few = absurd (omega (arith, few))
 
 pub walks_within : (image : Image) (s s' : State) (addr : Option ℕ) (elements : List Elem) (run : List Stretch)
-    → WalksAtoms image s addr elements run s' → length run ≤ length elements
+    → WalksNext image s addr elements run s' → length run ≤ length elements
 walks_within image s s' addr elements [] walks = omega arith
 walks_within image s s' addr elements (x ∷ run) (t, others, next, is, first, state, more) =
     omega (arith, ap length is, walks_within image next s' None others run more)
 
 pub none_walked : (image : Image) (s s' : State) (addr : Option ℕ) (elements : List Elem) (run : List Stretch)
-    → WalksAtoms image s addr elements run s' → elements ≡ [] → run ≡ []
+    → WalksNext image s addr elements run s' → elements ≡ [] → run ≡ []
 none_walked image s s' addr elements [] walks none = refl
 none_walked image s s' addr elements (x ∷ run) (t, others, next, is, first, state, more) none = absurd (
     let e : [] ≡ elem.P0 (Atom t) ∷ others = sym none ∙ is in cc)
@@ -217,7 +217,7 @@ Ran image r t f s s' run l l' w w' =
 pub ran : (image : Image) (r : Standing) (t : Told) (f : Option (ℕ × Fault)) (s s' : State) (addr : Option ℕ) (run : List Stretch) (l l' : Left)
     (w w' : Waiting)
     → w.due ≡ [] → w.depth ≡ 0 → (w.pending).pre ≡ record nothing_told { addr = addr }
-    → (w.depth ≡ (r.settings).depth) × IsDecoding (decoding_of r t l w s f) → 0 < length run → WalksAtoms image s addr l.elements run s'
+    → (w.depth ≡ (r.settings).depth) × IsDecoding (decoding_of r t l w s f) → 0 < length run → WalksNext image s addr l.elements run s'
     → l' ≡ record l { elements = drop (length run) l.elements } → w' ≡ passed (length run) w → Ran image r t f s s' run l l' w w'
 ran image r t f s s' addr [] l l' w w' none zero given is some walks left_is waits_is = absurd (omega (arith, some))
 ran image r t f s s' addr (stretch ∷ run) l l' w w' none zero given is some walks left_is waits_is =

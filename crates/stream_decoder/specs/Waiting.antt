@@ -73,6 +73,13 @@ TakesAtoms w elements (suc n) w' elements' =
     (taken : Bool) × (others : List Elem) × (next : Waiting) × (elements ≡ elem.P0 (Atom taken) ∷ others)
     × Commits w (elem.P0 (Atom taken)) next (committed_by w (Atom taken)) × IsWaiting next × TakesAtoms next others n w' elements'
 
+-- so many atoms that are next are taken, one after the other, and none of them commits anything; these elements are left
+abbrev pub HoldsAtoms : Waiting → List Elem → ℕ → Waiting → List Elem → Type 0
+HoldsAtoms w elements zero w' elements' = (w' ≡ w) × (elements' ≡ elements)
+HoldsAtoms w elements (suc n) w' elements' =
+    (taken : Bool) × (others : List Elem) × (next : Waiting) × (elements ≡ elem.P0 (Atom taken) ∷ others)
+    × Commits w (elem.P0 (Atom taken)) next [] × IsWaiting next × (next.due ≡ []) × HoldsAtoms next others n w' elements'
+
 -- the oldest that is due was given out
 abbrev pub DropsOldest : Waiting → Thing → List Thing → Waiting → Type 0
 DropsOldest w thing others w' =

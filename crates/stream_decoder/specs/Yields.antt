@@ -102,11 +102,11 @@ pub record Leaves (d d' : Decoding) (thing : Option Thing) : Type 0 where
 
 -- The elements begin with atoms that were walked one after the other, each committed at once, before the first of which this address
 -- was given, where one was, and nothing before the others: these are their stretches, and the walk goes on from a state.
-abbrev pub WalksAtoms : Image → State → Option ℕ → List Elem → List Stretch → State → Type 0
-WalksAtoms image s addr elements [] s' = s' ≡ s
-WalksAtoms image s addr elements (stretch ∷ run) s' =
+abbrev pub WalksNext : Image → State → Option ℕ → List Elem → List Stretch → State → Type 0
+WalksNext image s addr elements [] s' = s' ≡ s
+WalksNext image s addr elements (stretch ∷ run) s' =
     (taken : Bool) × (others : List Elem) × (next : State) × (elements ≡ elem.P0 (Atom taken) ∷ others)
-    × Shows image s (atom_at addr taken) (walked_in s.ctx stretch) next × IsState next × WalksAtoms image next None others run s'
+    × Shows image s (atom_at addr taken) (walked_in s.ctx stretch) next × IsState next × WalksNext image next None others run s'
 
 -- The oldest of some things are atoms before which nothing but an address was given, and they were walked one after the other: these are
 -- their stretches, and the walk goes on from a state.
@@ -115,6 +115,11 @@ WalksOldest image s things [] s' = s' ≡ s
 WalksOldest image s things (stretch ∷ run) s' =
     (addr : Option ℕ) × (taken : Bool) × (others : List Thing) × (next : State) × (things ≡ Seen (atom_at addr taken) ∷ others)
     × Shows image s (atom_at addr taken) (walked_in s.ctx stretch) next × IsState next × WalksOldest image next others run s'
+
+-- so many of the oldest were, and their stretches stand behind those of a run
+abbrev pub WalksSome : Image → State → List Thing → List Stretch → ℕ → State → List Stretch → Type 0
+WalksSome image s things run n s' run' =
+    (added : List Stretch) × (run' ≡ run ++ added) × (length added ≡ n) × WalksOldest image s things added s'
 
 -- the next element has a fault
 pub record Refuses (d : Decoding) (f : QueueFault) : Type 0 where

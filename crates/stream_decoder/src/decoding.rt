@@ -19,7 +19,7 @@ ghost use Rattle.program_image.specs.declared.image.Image.{Image};
 ghost use Rattle.stream_decoder.specs.Decoding.{AtRest, Begins, IsDecoding, depth_of};
 ghost use Rattle.stream_decoder.specs.Follows.{AreStretchesOfWords, FindsWords};
 ghost use Rattle.stream_decoder.specs.Stands.{end_at};
-ghost use Rattle.stream_decoder.specs.Yields.{BegunByte, BegunFront, Ends, Goes, Leaves, OpensPacket, Refuses, Stops, WalksAtoms, WalksOn};
+ghost use Rattle.stream_decoder.specs.Yields.{BegunByte, BegunFront, Ends, Goes, Leaves, OpensPacket, Refuses, Stops, WalksNext, WalksOn};
 ghost use Rattle.stream_decoder.specs.Yields.{items_of_found, items_found, left};
 
 use crate::found::Found;
@@ -358,11 +358,33 @@ impl Decoding {
         ensures reader { self.new.reader ≡ self.old.reader }
         ensures holds { IsDecoding self.new }
     {
-        let mut some = false;
+        let mut some = self.hold_run();
         while self.hold_atom() {
             some = true;
         }
         some
+    }
+
+    /// Takes the next elements where they are atoms for which there is room, and nothing was given before them: these as a run. Else nothing
+    /// changes.
+    #[inline(always)]
+    fn hold_run(&mut self) -> bool
+        ensures goes { (image : Image) → Goes image self.old [] self.new }
+        ensures fewer { IsTrue result → left self.new < left self.old }
+        ensures unchanged { result ≡ false → self.new ≡ self.old }
+        ensures stopped { AtRest self.old → result ≡ false }
+        ensures reader { self.new.reader ≡ self.old.reader }
+        ensures holds { IsDecoding self.new }
+    {
+        let atoms = self.todo.atoms(self.waiting.room());
+        if atoms.count == 0 {
+            return false;
+        }
+        if !self.waiting.hold(&atoms) {
+            return false;
+        }
+        self.todo.advance_by(usize::from(atoms.count));
+        true
     }
 
     /// Takes the next element where it is a commit or an address that shows nothing by itself, or the next ones where they are
@@ -800,21 +822,12 @@ fn walk_run(
 )
     requires aligned { ToldIsAligned given }
     requires none { run.old ≡ [] }
-    ensures walks { WalksAtoms image.now walker.old given todo.now.elements run.new walker.new }
+    ensures walks { WalksNext image.now walker.old given todo.now.elements run.new walker.new }
     ensures words { AreStretchesOfWords image.now run.new }
     ensures few { length run.new ≤ 24 }
     ensures context { walker.new.ctx ≡ walker.old.ctx }
     ensures unchanged { run.new ≡ [] → walker.new ≡ walker.old }
 {
-    let mut addr = given;
-    while run.has_room() {
-        let Some(taken) = todo.atom(run.len()) else {
-            return;
-        };
-        let Some(stretch) = walker.walk_atom(image, addr, taken) else {
-            return;
-        };
-        run.push(stretch);
-        addr = None;
-    }
+    let atoms = todo.atoms(run.room());
+    walker.walk_atoms(image, given, &atoms, run);
 }

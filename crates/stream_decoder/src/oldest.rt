@@ -1,12 +1,11 @@
 //! The oldest of what waits: as many of them as are atoms are walked in one loop, and are then let go.
-ghost use Rattle.std.specs.Prelude.{◌≡◌, ◌≤◌, ◌<◌, ◌++◌, [], All, Bool, List, ℕ, Some, length, slice_get};
+ghost use Rattle.std.specs.Prelude.{◌≡◌, ◌≤◌, ◌<◌, [], All, Bool, IsTrue, ℕ, Some, false, length, slice_get};
 ghost use Rattle.etm_types.specs.declared.element.Elem.TheVariants as elem;
 ghost use Rattle.etm_types.specs.declared.element.P0.TheVariants.{Atom};
 ghost use Rattle.path_walker.specs.Things.{IsAlignedThing};
-ghost use Rattle.path_walker.specs.declared.stretch.Stretch.{Stretch};
 ghost use Rattle.stream_decoder.specs.Follows.{AreStretchesOfWords};
 ghost use Rattle.stream_decoder.specs.Waiting.{DropsDue, IsWaiting, TakesAtoms, all_of};
-ghost use Rattle.stream_decoder.specs.Yields.{WalksOldest};
+ghost use Rattle.stream_decoder.specs.Yields.{WalksSome};
 
 use crate::todo::Todo;
 use crate::waiting::Waiting;
@@ -15,6 +14,8 @@ use program_image::Image;
 
 /// Walks the oldest of what waits, at most so many, as far as each is an atom before which nothing but an address was given and shows a
 /// stretch, and as there is room for it. It gives how many.
+///
+/// Where nothing at all was given before them, as is so of most, they are walked as a run.
 #[inline(always)]
 pub fn walk_oldest(
     walker: &mut Walker,
@@ -24,29 +25,99 @@ pub fn walk_oldest(
     run: &mut Stretches,
 ) -> usize
     requires { All IsAlignedThing (all_of waiting.now) }
-    ensures walks { (added : List Stretch) × (run.new ≡ run.old ++ added) × (length added ≡ result)
-        × WalksOldest image.now walker.old (all_of waiting.now) added walker.new }
+    ensures walks { WalksSome image.now walker.old (all_of waiting.now) run.old result walker.new run.new }
     ensures words { AreStretchesOfWords image.now run.old → AreStretchesOfWords image.now run.new }
     ensures most { result ≤ most }
     ensures context { walker.new.ctx ≡ walker.old.ctx }
 {
-    let mut n = 0;
-    while n < most && run.has_room() {
-        let Some(atom) = waiting.atom_at(n) else {
-            return n;
-        };
-        let Some(stretch) = walker.walk_atom(image, atom.addr, atom.taken) else {
-            return n;
-        };
-        run.push(stretch);
-        n += 1;
+    let atoms = waiting.oldest_plain(most);
+    if atoms.count > 0 {
+        walker.walk_atoms(image, None, &atoms, run)
+    } else {
+        walk_first(walker, image, waiting, most, run)
     }
-    n
+}
+
+/// The same of the oldest alone, whatever address was given before it.
+#[inline(never)]
+fn walk_first(
+    walker: &mut Walker,
+    image: &Image,
+    waiting: &Waiting,
+    most: usize,
+    run: &mut Stretches,
+) -> usize
+    requires { All IsAlignedThing (all_of waiting.now) }
+    ensures walks { WalksSome image.now walker.old (all_of waiting.now) run.old result walker.new run.new }
+    ensures words { AreStretchesOfWords image.now run.old → AreStretchesOfWords image.now run.new }
+    ensures most { result ≤ most }
+    ensures context { walker.new.ctx ≡ walker.old.ctx }
+{
+    if most == 0 || !run.has_room() {
+        return 0;
+    }
+    let Some(atom) = waiting.oldest_atom() else {
+        return 0;
+    };
+    let Some(stretch) = walker.walk_atom(image, atom.addr, atom.taken) else {
+        return 0;
+    };
+    run.push(stretch);
+    1
 }
 
 /// Takes so many of the atoms that are next, where no more may be held and at least as many are: each commits the oldest, which was walked.
+///
+/// Where nothing was given before any of these, as is so of most, they are taken as a run. Something may have been given before the first
+/// alone, so behind that one a run is tried again.
 #[inline(always)]
 pub fn take_atoms(waiting: &mut Waiting, todo: &mut Todo, n: usize)
+    requires due { waiting.old.due ≡ [] }
+    requires full { waiting.old.depth ≤ length waiting.old.pending.held }
+    requires held { n ≤ length waiting.old.pending.held }
+    requires atoms { (k : ℕ) → k < n → (taken : Bool) × (slice_get todo.old.elements k ≡ Some (elem.P0 (Atom taken))) }
+    requires holds { IsWaiting waiting.old }
+    ensures takes { TakesAtoms waiting.old todo.old.elements n waiting.new todo.new.elements }
+    ensures at { todo.new.at ≡ todo.old.at }
+    ensures holds { IsWaiting waiting.new }
+{
+    if take_run(waiting, todo, n) {
+        return;
+    }
+    if n < 2 {
+        take_each(waiting, todo, n);
+        return;
+    }
+    take_each(waiting, todo, 1);
+    if !take_run(waiting, todo, n - 1) {
+        take_each(waiting, todo, n - 1);
+    }
+}
+
+/// The same as a run, where nothing was given before any of them nor before the oldest. Else nothing changes.
+#[inline(always)]
+fn take_run(waiting: &mut Waiting, todo: &mut Todo, n: usize) -> bool
+    requires due { waiting.old.due ≡ [] }
+    requires holds { IsWaiting waiting.old }
+    ensures takes { IsTrue result → TakesAtoms waiting.old todo.old.elements n waiting.new todo.new.elements }
+    ensures unchanged { result ≡ false → (waiting.new ≡ waiting.old) × (todo.new ≡ todo.old) }
+    ensures at { todo.new.at ≡ todo.old.at }
+    ensures holds { IsWaiting waiting.new }
+{
+    let atoms = todo.atoms(n);
+    if usize::from(atoms.count) != n {
+        return false;
+    }
+    if !waiting.rotate(&atoms) {
+        return false;
+    }
+    todo.advance_by(n);
+    true
+}
+
+/// The same, one by one.
+#[inline(never)]
+fn take_each(waiting: &mut Waiting, todo: &mut Todo, n: usize)
     requires due { waiting.old.due ≡ [] }
     requires full { waiting.old.depth ≤ length waiting.old.pending.held }
     requires held { n ≤ length waiting.old.pending.held }
@@ -71,9 +142,22 @@ pub fn take_atoms(waiting: &mut Waiting, todo: &mut Todo, n: usize)
     }
 }
 
-/// So many of the oldest that are due were walked, and are given out.
+/// So many of the oldest that are due were walked, and are given out: as a run where nothing was given before any of them.
 #[inline(always)]
 pub fn drop_due(waiting: &mut Waiting, n: usize)
+    requires due { n ≤ length waiting.old.due }
+    requires holds { IsWaiting waiting.old }
+    ensures drops { DropsDue waiting.old n waiting.new }
+    ensures holds { IsWaiting waiting.new }
+{
+    if !waiting.drop_plain(n) {
+        drop_each(waiting, n);
+    }
+}
+
+/// The same, one by one.
+#[inline(never)]
+fn drop_each(waiting: &mut Waiting, n: usize)
     requires due { n ≤ length waiting.old.due }
     requires holds { IsWaiting waiting.old }
     ensures drops { DropsDue waiting.old n waiting.new }

@@ -1,10 +1,12 @@
 //! The elements of a packet that are still to be taken.
-ghost use Rattle.std.specs.Prelude.{◌≡◌, ◌≤◌, ◌<◌, ◌∷◌, [], ◌↔◌, ℕ, drop, length, slice_get, Bool, IfSome, IsSome, IsTrue, List, Some, None};
+ghost use Rattle.std.specs.Prelude.{◌≡◌, ◌≤◌, ◌<◌, ◌∷◌, ◌++◌, [], ◌↔◌, ℕ, drop, length, slice_get, Bool, IfSome, IsSome, IsTrue, List, Some, None};
+ghost use Rattle.etm_types.specs.Atoms.{atoms_in, most_atoms};
 ghost use Rattle.etm_types.specs.declared.element.Elem.TheVariants as elem;
 ghost use Rattle.etm_types.specs.declared.element.P0.TheVariants.{Atom};
+ghost use Rattle.path_elements.specs.Elements.{atoms};
 ghost use Rattle.path_elements.specs.Held.{elem_of_correction};
 
-use etm_types::Elem;
+use etm_types::{AtomRun, Elem};
 use path_elements::{Correction, Elems};
 use std::marker::Model;
 
@@ -88,13 +90,14 @@ impl Todo {
         self.elems.atom_count().saturating_sub(self.next)
     }
 
-    /// The atom that stands so many places behind the next one, where an atom of a run of atoms stands there.
+    /// The atoms that are next, as one run of at most so many: none where the next element is no atom.
     #[inline(always)]
-    pub fn atom(&self, k: usize) -> Option<bool>
-        ensures { IfSome result (λ taken. slice_get self.now.elements k ≡ Some (elem.P0 (Atom taken))) }
+    pub fn atoms(&self, most: usize) -> AtomRun
+        ensures next { (others : List Elem) × (self.now.elements ≡ atoms (atoms_in result) ++ others) }
+        ensures most { result.count ≤ most }
+        ensures few { result.count ≤ most_atoms }
     {
-        let place = self.next.checked_add(k)?;
-        self.elems.atom(place)
+        self.elems.atoms_from(self.next, most)
     }
 
     /// So many are taken.

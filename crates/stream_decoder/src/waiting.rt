@@ -1,23 +1,26 @@
 //! The P0 elements that wait: those that may still be taken back, and those that an element committed and that
 //! are still to be walked.
-ghost use Rattle.std.specs.Prelude.{◌≡◌, ◌<◌, ◌≤◌, ◌∷◌, ◌++◌, ◌↔◌, [], List, length, slice_get, option_to_list, false};
+ghost use Rattle.std.specs.Prelude.{◌≡◌, ◌<◌, ◌≤◌, ◌∷◌, ◌++◌, ◌↔◌, [], List, length, map, slice_get, take, option_to_list, false};
 ghost use Rattle.std.specs.Prelude.{IsTrue, IfOk, IfSome, IsSome, IsErr, None, Some, Err};
 ghost use Rattle.element_queue.specs.Counting.{Balances, counts_after, no_counts};
 ghost use Rattle.element_queue.specs.Pending.{committing, losing, taken};
-ghost use Rattle.element_queue.specs.Queued.{entry_of, things_of};
+ghost use Rattle.element_queue.specs.Queued.{entry_of, plain_atom, things_of};
 ghost use Rattle.element_queue.specs.Resolved.{at_first};
+ghost use Rattle.etm_types.specs.Atoms.{atoms_in, most_atoms};
+ghost use Rattle.etm_types.specs.declared.element.Elem.{Elem};
 ghost use Rattle.etm_types.specs.declared.element.Elem.TheVariants as elem;
 ghost use Rattle.etm_types.specs.declared.element.P0.TheVariants.{Atom};
 ghost use Rattle.etm_types.specs.declared.element.P0.{P0};
 ghost use Rattle.etm_types.specs.declared.element.Thing.TheVariants.{Seen};
 ghost use Rattle.etm_types.specs.declared.element.Thing.{Thing};
 ghost use Rattle.etm_types.specs.declared.queue_fault.QueueFault.{QueueFault};
+ghost use Rattle.path_elements.specs.Elements.{atoms};
 ghost use Rattle.path_elements.specs.Held.{elem_of_correction};
-ghost use Rattle.stream_decoder.specs.Waiting.{Commits, IsWaiting, all_of, committed_by, passed};
+ghost use Rattle.stream_decoder.specs.Waiting.{Commits, DropsDue, HoldsAtoms, IsWaiting, TakesAtoms, all_of, committed_by, passed};
 ghost use Rattle.etm_types.specs.Pre.{nothing_told};
 
 use element_queue::{AtomEntry, Committed, Counts, Ledger, PreElem, Queue};
-use etm_types::{Elem, P0, QueueFault, Thing};
+use etm_types::{AtomRun, Elem, P0, QueueFault, Thing};
 use path_elements::Correction;
 use std::alloc::{AllocError, Global};
 use std::marker::Model;
@@ -94,14 +97,80 @@ impl Waiting {
         Ok(None)
     }
 
-    /// Which entry the one at `index` is of all that wait, counted from the oldest. `None` where none is there, and where it is anything but an
-    /// atom before which nothing but an address was given.
+    /// Which atom the oldest of all that wait is. `None` where none waits, and where the oldest is anything but an atom before which nothing but
+    /// an address was given.
     #[inline(always)]
-    pub fn atom_at(&self, index: usize) -> Option<AtomEntry>
-        ensures value { IfSome result (λ atom. slice_get (all_of self.now) index ≡ Some (Seen (entry_of atom))) }
-        ensures some { IsSome result ↔ ((atom : AtomEntry) × (slice_get (all_of self.now) index ≡ Some (Seen (entry_of atom)))) }
+    pub fn oldest_atom(&self) -> Option<AtomEntry>
+        ensures value { IfSome result (λ atom. slice_get (all_of self.now) 0 ≡ Some (Seen (entry_of atom))) }
+        ensures some { IsSome result ↔ ((atom : AtomEntry) × (slice_get (all_of self.now) 0 ≡ Some (Seen (entry_of atom)))) }
     {
-        self.queue.atom_at(index)
+        self.queue.oldest_atom()
+    }
+
+    /// The oldest of all that wait, as atoms of one run of at most so many, as far as they are kept as atoms before which nothing was given.
+    #[inline(always)]
+    pub fn oldest_plain(&self, most: usize) -> AtomRun
+        ensures atoms { map plain_atom (atoms_in result) ≡ take result.count (all_of self.now) }
+        ensures most { result.count ≤ most }
+        ensures few { result.count ≤ most_atoms }
+    {
+        let AtomRun { count, bits } = self.queue.oldest_plain();
+        AtomRun {
+            count: usize::from(count).min(most) as u8,
+            bits,
+        }
+    }
+
+    /// Takes the atoms of a run one after the other, and lets go what each commits, where no more may be held, nothing was given before them
+    /// and as many of the oldest are such atoms too. Else nothing changes.
+    #[inline(always)]
+    pub fn rotate(&mut self, run: &AtomRun) -> bool
+        requires due { self.old.due ≡ [] }
+        requires few { run.now.count ≤ most_atoms }
+        ensures takes { IsTrue result → (others : List Elem) → TakesAtoms self.old (atoms (atoms_in run.now) ++ others) run.now.count self.new others }
+        ensures unchanged { result ≡ false → self.new ≡ self.old }
+        ensures holds { IsWaiting self.new }
+    {
+        self.queue.rotate(run)
+    }
+
+    /// Takes the atoms of a run one after the other, where there is room for all of them and nothing was given before them. Else nothing
+    /// changes.
+    #[inline(always)]
+    pub fn hold(&mut self, run: &AtomRun) -> bool
+        requires due { self.old.due ≡ [] }
+        requires few { run.now.count ≤ most_atoms }
+        ensures takes { IsTrue result → (others : List Elem) → HoldsAtoms self.old (atoms (atoms_in run.now) ++ others) run.now.count self.new others }
+        ensures unchanged { result ≡ false → self.new ≡ self.old }
+        ensures holds { IsWaiting self.new }
+    {
+        self.queue.hold(run)
+    }
+
+    /// How many P0 elements more commit nothing: none where some are due.
+    #[inline(always)]
+    pub fn room(&self) -> usize
+        ensures { 0 < result → self.now.due ≡ [] }
+    {
+        if self.due > 0 {
+            return 0;
+        }
+        self.queue.room() as usize
+    }
+
+    /// So many of the oldest that are due were given out, where so many are and they are kept as atoms before which nothing was given. Else
+    /// nothing changes.
+    #[inline(always)]
+    pub fn drop_plain(&mut self, n: usize) -> bool
+        ensures drops { IsTrue result → DropsDue self.old n self.new }
+        ensures unchanged { result ≡ false → self.new ≡ self.old }
+        ensures holds { IsWaiting self.new }
+    {
+        if n > self.due as usize || !self.queue.commit_plain(n as u32) {
+            return false;
+        }
+        self.due -= n as u32;
+        true
     }
 
     /// Takes an atom, and lets go what it commits.

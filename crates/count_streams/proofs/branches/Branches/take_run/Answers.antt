@@ -7,8 +7,8 @@ use Rattle.count_streams.proofs.Pairs.{takes_all_at}
 use Rattle.count_streams.specs.Pairs.{BranchesAre, Branching}
 use Rattle.count_streams.proofs.branches.Branches.take_run.Goals as goal
 
-pub returns : goal.returns
-returns c ctx =
+pub returns-clause-takes : goal.returns-clause-takes
+returns-clause-takes c ctx =
     let inside = c.self.inside in let old : Branching = record { targets = inside.targets; left = inside.left } in
     let new : Branching = record { targets = c.add_run.new.targets; left = set inside.left c.from-place.result c.add_run.result } in
     let image = c.args.image.now in let items = items_in ctx c.args.run.now in

@@ -1,30 +1,20 @@
-use Rattle.std.proofs.Common.{◌≡◌, ◌^◌, true, false, sym, ap, arith, subst, ◌∙◌}
+use Rattle.std.proofs.Common.{◌≡◌, true, false, sym, ap, subst, ◌∙◌}
 use Rattle.path_walker.specs.Walk.{items_in}
-use Rattle.program_image.proofs.WordPlaces.{few_words}
 use Rattle.stream_decoder.specs.Follows.{TakesMore, items_under}
 use Rattle.count_streams.proofs.Adding.{takes_more}
 use Rattle.count_streams.proofs.Fitting.{counts_fit}
-use Rattle.count_streams.proofs.RunItems.{countable}
 use Rattle.count_streams.specs.Counted.{CountsAre, PathCounting, items_alone}
 use Rattle.count_streams.proofs.counts.PathCountsFollower.take_run.Goals as goal
-
-pub add_run-requires-clause-small : goal.add_run-requires-clause-small
-add_run-requires-clause-small c =
-    let fits = c.fits.ensures.value.0 c.if-fits.true in omega (arith, fits, few_words c.args.image.now (2 ^ 64) c.fits.ensures.parts)
-
-pub add_run-requires-clause-places : goal.add_run-requires-clause-places
-add_run-requires-clause-places c =
-    countable c.args.image.now c.self.inside.counter c.args.run.now c.fits.ensures.parts (c.fits.ensures.value.0 c.if-fits.true) c.requires.words
 
 pub returns-then-fits : goal.returns-then-fits
 returns-then-fits c =
     let image = c.args.image.now in let id = c.args.id in let ctx = c.args._ctx.now in let more = items_in ctx c.args.run.now in
     let inside = c.self.inside in let old : PathCounting = record { counts = inside.counter; branches = inside.branches } in
-    let new : PathCounting = record { counts = c.add_run.new.counter; branches = c.take_run.new.self } in
+    let new : PathCounting = record { counts = c.take_run.new.counter; branches = c.take_run.new.self } in
     record {
       takes = subst (λ (x : PathCounting). TakesMore (CountsAre image) x new (items_under id more)) c.self.view_is
           (takes_more image id old new more
-          (c.add_run.ensures.counted image ctx c.fits.ensures.parts (c.fits.ensures.value.0 c.if-fits.true) c.requires.words) (c.take_run.ensures ctx));
+          (c.take_run.ensures.counted ctx) (c.take_run.ensures.takes ctx));
     }
 
 -- it has the counts of no items over this image

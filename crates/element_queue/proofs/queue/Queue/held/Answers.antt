@@ -1,8 +1,5 @@
 use Rattle.std.proofs.Common.{arith}
 use Rattle.element_queue.proofs.queue.Queue.held.Goals as goal
 
-pub overflow_cast-result : goal.overflow_cast-result
-overflow_cast-result c = let i = c.self.invariant in omega arith
-
 pub overflow_add-result : goal.overflow_add-result
 overflow_add-result c = let i = c.self.invariant in omega arith

@@ -9,7 +9,7 @@ use Rattle.element_queue.proofs.queue.Queue.note.Goals as goal
 pub returns-clause-takes : goal.returns-clause-takes
 returns-clause-takes c =
     let q = c.self.inside in
-    let was : Queued = record { held = things q.unseen q.ring.items; pre = pre_of_packed q.next; depth = q.depth; counts = q.ledger } in
+    let was : Queued = record { held = things q.unseen q.entries.items; pre = pre_of_packed q.next; depth = q.depth; counts = q.ledger } in
     rw (← c.self.view_is)
     (subst (λ pre. TakesPre was c.args.elem (record was { pre = pre })) (sym c.note.ensures)
     (takes_noted was c.args.elem (same_counts _ _ (omega arith) (omega arith) (omega arith) (omega arith))))

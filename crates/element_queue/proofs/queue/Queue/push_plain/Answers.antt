@@ -6,7 +6,7 @@ use Rattle.element_queue.proofs.queue.Queue.push_plain.Goals as goal
 pub returns-in-Some-clause-queued : goal.returns-in-Some-clause-queued
 returns-in-Some-clause-queued c =
     let i = c.self.invariant in
-    let before = c.self.inside.ring.items in
+    let before = c.self.inside.entries.items in
     let pushed = length-append before (c.new-newest.result ∷ []) in
     let order = ap length c.in-Some.ensures.order in
     let made = made_one _ _ (length before) (length before + 1) c.new-newest.ensures.made refl i.3 in
@@ -16,8 +16,8 @@ pub returns-in-None-clause-queued : goal.returns-in-None-clause-queued
 returns-in-None-clause-queued c =
     let i = c.self.invariant in
     let q = c.self.inside in
-    let pushed = length-append q.ring.items (c.new-newest.result ∷ []) in
+    let pushed = length-append q.entries.items (c.new-newest.result ∷ []) in
     let order = ap length c.in-None.ensures.order in
     let held = ap (λ v. length v.held) c.self.view_is in
-    let count = length-things q.unseen q.ring.items in
+    let count = length-things q.unseen q.entries.items in
     queued _ _ _ _ _ (omega (arith, order)) (made_one _ _ _ _ c.new-newest.ensures.made (omega (arith, order)) i.3)

@@ -1,0 +1,26 @@
+-- What contracts see of the entries that a queue keeps.
+use Rattle.std.specs.Prelude.{◌≡◌, ℕ, Bool, List, [], ◌∷◌, ◌++◌, length, map, take, None}
+use Rattle.etm_types.specs.declared.element.Entry.{Entry}
+use Rattle.element_queue.specs.declared.entries.Run.{Run}
+use Rattle.element_queue.specs.Queued.{entry_of}
+
+-- the entries, oldest first, and how many there may be
+pub record Kept : Type 0 where
+  pub items : List Entry
+  pub capacity : ℕ
+
+abbrev pub kept : List Entry → ℕ → Kept
+kept items capacity = record { items = items; capacity = capacity }
+
+-- an atom before which nothing was given
+abbrev pub plain_entry : Bool → Entry
+plain_entry taken = entry_of (record { addr = None; taken = taken })
+
+-- the entries of runs, one run after the other, and atoms behind them
+abbrev pub entries_in : List Run → List Bool → List Entry
+entries_in [] plain = map plain_entry plain
+entries_in (run ∷ runs) plain = map plain_entry run.plain ++ run.last ∷ entries_in runs plain
+
+-- so many of the oldest entries are such atoms
+abbrev pub AreOldest : ℕ → List Entry → Type 0
+AreOldest n items = (oldest : List Bool) × (map plain_entry oldest ≡ take n items) × (length oldest ≡ n)

@@ -1,0 +1,72 @@
+-- Runs of atoms that were walked by hand.
+use Rattle.std.proofs.Common.{◌≡◌, ℕ, true, false, List, [], ◌∷◌, All, length, length-append, Some, None, refl, ap, arith}
+use Rattle.std.specs.Prelude.{neg_ℤ, pos}
+use Rattle.std.proofs.lemmas.List.Elements.{All-cons, All-nil}
+use Rattle.a64_branches.specs.Classes.{class_of}
+use Rattle.a64_branches.specs.declared.class.Class.TheVariants.{Cond, Jump}
+use Rattle.path_walker.proofs.Examples.{at, code, goes, one_plain, shows, user}
+use Rattle.path_walker.specs.State.{IsAligned, IsState, State}
+use Rattle.path_walker.specs.Walk.{IsPlaced, Shows, WalksAtoms, WalksRun, atom_at, walked_in}
+use Rattle.path_walker.specs.declared.pc.Pc.TheVariants.{Awaited, Known}
+use Rattle.path_walker.specs.declared.stretch.Stretch.{Stretch}
+
+-- two instructions, of which the last is no branch that was taken by its condition
+abbrev two_from : ℕ → ℕ → Stretch
+two_from start place = record { start = start; place = place; count = 2; took = false; to_register = false }
+
+abbrev known : ℕ → State
+known address = at (Known address) [] user
+
+known_is : (address : ℕ) → IsAligned address → IsState (known address)
+known_is address aligned = record { pc = aligned; stack = All-nil IsAligned; few = omega arith }
+
+-- Before the first atom the address 1008 is given. B goes back to 1000, and there B.EQ has an N atom.
+first : Shows code (at (Awaited false) [] user) (atom_at (Some 0x1008) true) (walked_in user (two_from 0x1008 2)) (known 0x1000)
+unfolding class_of
+first =
+    shows code _ _ 2 (Known 0x1000) [] refl
+    (goes code 0x1008 [] true 1 (Jump (neg_ℤ (pos 12)) false) (Known 0x1000) (one_plain code 0x1008 refl) refl refl)
+
+second : Shows code (known 0x1000) (atom_at None false) (walked_in user (two_from 0x1000 0)) (known 0x1008)
+unfolding class_of
+second = shows code _ _ 2 (Known 0x1008) [] refl (goes code 0x1000 [] false 1 (Cond (pos 8)) (Known 0x1008) (one_plain code 0x1000 refl) refl refl)
+
+abbrev both : List Stretch
+both = two_from 0x1008 2 ∷ two_from 0x1000 0 ∷ []
+
+-- the address is not given again, and of three atoms two may be walked
+walked : WalksAtoms code (at (Awaited false) [] user) (Some 0x1008) (true ∷ false ∷ true ∷ []) both (known 0x1008)
+walked = (known 0x1000, first, known_is 0x1000 refl, (known 0x1008, second, known_is 0x1008 refl, refl))
+
+first_placed : IsPlaced code (two_from 0x1008 2)
+unfolding class_of
+first_placed = record { some = omega arith; place = refl; last = refl }
+
+second_placed : IsPlaced code (two_from 0x1000 0)
+unfolding class_of
+second_placed = record { some = omega arith; place = refl; last = refl }
+
+placed : All (IsPlaced code) both
+placed =
+    All-cons (IsPlaced code) (two_from 0x1008 2) (two_from 0x1000 0 ∷ []) first_placed
+    (All-cons (IsPlaced code) (two_from 0x1000 0) [] second_placed (All-nil (IsPlaced code)))
+
+-- their stretches stand behind one that was there
+joined :
+    WalksRun code (at (Awaited false) [] user) (Some 0x1008) (true ∷ false ∷ true ∷ []) (two_from 0x8000 4 ∷ []) 2 (known 0x1008) (two_from 0x8000 4 ∷ both)
+joined = record { added = both; joined = refl; count = refl; walks = walked; placed = placed }
+
+-- and not in its place
+not_replaced : WalksRun code (at (Awaited false) [] user) (Some 0x1008) (true ∷ false ∷ []) (two_from 0x8000 4 ∷ []) 2 (known 0x1008) both → ⊥
+not_replaced w = absurd (omega (arith, ap length w.joined, length-append (two_from 0x8000 4 ∷ []) w.added, w.count))
+
+-- no stretch without an atom
+no_more_than_atoms : WalksAtoms code (known 0x1000) None [] (two_from 0x1000 0 ∷ []) (known 0x1008) → ⊥
+no_more_than_atoms walks = walks
+
+same_address : (a b : ℕ) → Known a ≡ Known b → a ≡ b
+same_address a b e = cc
+
+-- where none is walked the walk stays where it was
+not_moved : WalksAtoms code (known 0x1000) None (false ∷ []) [] (known 0x1008) → ⊥
+not_moved walks = let e = same_address 0x1008 0x1000 (ap (λ (s : State). s.pc) walks) in absurd (omega (arith, e))
