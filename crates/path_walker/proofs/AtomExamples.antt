@@ -1,14 +1,20 @@
 -- Runs of atoms that were walked by hand.
-use Rattle.std.proofs.Common.{◌≡◌, ℕ, true, false, List, [], ◌∷◌, All, length, length-append, Some, None, refl, ap, arith}
+use Rattle.std.proofs.Common.{◌≡◌, ℕ, true, false, List, [], ◌∷◌, All, length, length-append, Option, Some, None, is_none, Ok, Err}
+use Rattle.std.proofs.Common.{refl, sym, ap, ◌∙◌, inl, inr, arith}
 use Rattle.std.specs.Prelude.{neg_ℤ, pos}
 use Rattle.std.proofs.lemmas.List.Elements.{All-cons, All-nil}
 use Rattle.a64_branches.specs.Classes.{class_of}
 use Rattle.a64_branches.specs.declared.class.Class.TheVariants.{Cond, Jump}
+use Rattle.etm_types.specs.declared.element.Entry.{Entry}
+use Rattle.etm_types.specs.declared.walk_fault.WalkFault.TheVariants as fault
+use Rattle.etm_types.specs.declared.walked.Walked.{Walked}
 use Rattle.path_walker.proofs.Examples.{at, code, goes, one_plain, shows, user}
+use Rattle.path_walker.proofs.OneWalk.{one_walk}
 use Rattle.path_walker.specs.State.{IsAligned, IsState, State}
-use Rattle.path_walker.specs.Walk.{IsPlaced, Shows, WalksAtoms, WalksRun, atom_at, walked_in}
+use Rattle.path_walker.specs.Walk.{HasNoStretch, IsPlaced, Shows, WalksAtoms, WalksNoMore, WalksRun, atom_at, walked_in}
 use Rattle.path_walker.specs.declared.pc.Pc.TheVariants.{Awaited, Known}
 use Rattle.path_walker.specs.declared.stretch.Stretch.{Stretch}
+use Rattle.program_image.specs.declared.image.Image.{Image}
 
 -- two instructions, of which the last is no branch that was taken by its condition
 abbrev two_from : ℕ → ℕ → Stretch
@@ -70,3 +76,47 @@ same_address a b e = cc
 -- where none is walked the walk stays where it was
 not_moved : WalksAtoms code (known 0x1000) None (false ∷ []) [] (known 0x1008) → ⊥
 not_moved walks = let e = same_address 0x1008 0x1000 (ap (λ (s : State). s.pc) walks) in absurd (omega (arith, e))
+
+-- ---- where no more are walked
+
+-- B can have no N atom, so two of these three are walked
+no_n_at_b : WalksNoMore code (known 0x1008) (Some 0x1008) (true ∷ false ∷ false ∷ []) 2 both
+unfolding class_of
+no_n_at_b true is room = absurd cc
+no_n_at_b false is room = inr (fault.BadAtom 0x100c, inr (refl, (1, one_plain code 0x1008 refl, (refl, refl))))
+
+-- none where another address is known than the one that is given
+none_elsewhere : WalksNoMore code (known 0x1000) (Some 0x1008) (true ∷ []) 0 []
+none_elsewhere taken is room = inr (fault.AddressMismatch 0x1000 0x1008, inl refl)
+
+-- none where the address is not known
+none_lost : WalksNoMore code (at (Awaited false) [] user) None (true ∷ []) 0 []
+none_lost taken is room = inl refl
+
+-- all were walked
+none_left : WalksNoMore code (known 0x1000) None (true ∷ []) 1 []
+none_left taken is room = absurd cc
+
+-- a run of 24 has no room
+full : (run : List Stretch) → length run ≡ 24 → WalksNoMore code (known 0x1000) None (false ∷ []) 0 run
+full run count taken is room = absurd (omega (arith, count, room))
+
+-- what an entry shows from an address that is known is a stretch
+has_stretch : (image : Image) (s after : State) (entry : Entry) (walked : Walked) → Shows image s entry walked after → walked.unknown ≡ false
+    → HasNoStretch image s entry → ⊥
+has_stretch image s after entry walked shown told (inl unknown) =
+    let e : false ≡ true = sym told ∙ shown.unknown ∙ ap (λ (at : Option ℕ). is_none at) unknown in cc
+has_stretch image s after entry walked shown told (inr (f, stops)) =
+    let same = one_walk image s entry (Ok (walked, after)) (Err f) shown stops in cc
+
+-- not before the first one, which has a stretch from the address that is given
+not_before_the_first : WalksNoMore code (at (Awaited false) [] user) (Some 0x1008) (true ∷ []) 0 [] → ⊥
+not_before_the_first none = has_stretch code _ _ _ _ first refl (none true refl (omega arith))
+
+-- not behind it: the address is not given again
+not_behind_the_first : WalksNoMore code (known 0x1000) (Some 0x1008) (true ∷ false ∷ []) 1 (two_from 0x1008 2 ∷ []) → ⊥
+not_behind_the_first none = has_stretch code _ _ _ _ second refl (none false refl (omega arith))
+
+-- not in a run of 23, which has room for one more
+not_full : (run : List Stretch) → length run ≡ 23 → WalksNoMore code (known 0x1000) None (false ∷ []) 0 run → ⊥
+not_full run count none = has_stretch code _ _ _ _ second refl (none false refl (omega (arith, count)))

@@ -1,6 +1,6 @@
 -- The walk of one entry over an image: what it shows and the state after it, or the fault with which it stops (Arm IHI 0064,
 -- "Descriptions of Trace Elements": the atom and exception elements). Which faults there are is this project's own choice.
-use Rattle.std.specs.Prelude.{◌≡◌, ◌≢◌, ◌⊎◌, ℕ, ◌+◌, ◌-◌, ◌<◌, Bool, true, false, ◌&&◌}
+use Rattle.std.specs.Prelude.{◌≡◌, ◌≢◌, ◌⊎◌, ℕ, zero, suc, ◌+◌, ◌-◌, ◌<◌, Bool, true, false, ◌&&◌}
 use Rattle.std.specs.Prelude.{All, List, [], ◌∷◌, ◌++◌, length, Option, Some, None, is_none, slice_get, Result, Ok, Err, ⊤}
 use Rattle.std.specs.Option.{unwrap_or}
 use Rattle.a64_branches.specs.declared.class.Class.{Class}
@@ -180,3 +180,13 @@ pub record WalksRun (image : Image) (s : State) (addr : Option ℕ) (atoms : Lis
   pub count : length added ≡ n
   pub walks : WalksAtoms image s addr atoms added s'
   pub placed : All (IsPlaced image) added
+
+-- what is given before the atom at n, counted from 0: this address, where it is the first one and there is an address, else nothing
+abbrev pub given_before : ℕ → Option ℕ → Option ℕ
+given_before zero addr = addr
+given_before (suc n) addr = None
+
+-- n of them were walked up to a state, and no more can be: where there is another, and the run has room for it, it has no stretch there
+abbrev pub WalksNoMore : Image → State → Option ℕ → List Bool → ℕ → List Stretch → Type 0
+WalksNoMore image s' addr atoms n run' =
+    (taken : Bool) → slice_get atoms n ≡ Some taken → length run' < 24 → HasNoStretch image s' (atom_at (given_before n addr) taken)

@@ -49,7 +49,8 @@ impl Walker {
     ghost use Rattle.path_walker.specs.State.{IsState, IsPc, first_state, standing};
     ghost use Rattle.path_walker.specs.Start.{StartsAs, context_of, mismatch_of, pc_before, start_of, told_pc, used};
     ghost use Rattle.path_walker.specs.Steps.{linked};
-    ghost use Rattle.path_walker.specs.Walk.{HasAlignedAddresses, HasNoStretch, IsPlaced, Shows, Stops, ToldIsAligned, WalksRun, atom_at, mark_of, walked_in};
+    ghost use Rattle.path_walker.specs.Walk.{HasAlignedAddresses, HasNoStretch, IsPlaced, Shows, Stops, ToldIsAligned, WalksNoMore, WalksRun};
+    ghost use Rattle.path_walker.specs.Walk.{atom_at, mark_of, walked_in};
 
     /// A walk that begins at no known address. This is the one call that takes memory, and the error
     /// means want of it.
@@ -133,6 +134,7 @@ impl Walker {
     ) -> usize
         requires { ToldIsAligned given }
         ensures walks { WalksRun image.now self.old given (atoms_in atoms.now) run.old result self.new run.new }
+        ensures stops { WalksNoMore image.now self.new given (atoms_in atoms.now) result run.new }
         ensures most { result ≤ atoms.now.count }
         ensures context { self.new.ctx ≡ self.old.ctx }
         ensures state { IsState self.new }
