@@ -1,5 +1,5 @@
 -- Atoms as elements, and what stands after them.
-use Rattle.std.proofs.Common.{◌≡◌, ℕ, zero, suc, ◌+◌, ◌-◌, ◌/◌, ◌%◌, ◌^◌, ◌<◌, ◌≤◌, ◌==◌, Bool}
+use Rattle.std.proofs.Common.{◌≡◌, ◌≢◌, ℕ, zero, suc, ◌+◌, ◌-◌, ◌/◌, ◌%◌, ◌^◌, ◌<◌, ◌≤◌, ◌==◌, Bool}
 use Rattle.std.proofs.Common.{List, [], ◌∷◌, ◌++◌, drop, length, slice_get, Option, Some, None, All, true, false, refl, sym, ap, ◌∙◌, arith}
 use Rattle.std.specs.Prelude.{◌↔◌, IsSome}
 use Rattle.std.proofs.lemmas.Nat.{shr-shr}
@@ -68,7 +68,7 @@ pub atoms_are_elements : (taken : List Bool) → All IsElem (atoms taken)
 atoms_are_elements [] = All-nil IsElem
 atoms_are_elements (t ∷ taken) = All-cons IsElem (elem.P0 (p0.Atom t)) (atoms taken) tt (atoms_are_elements taken)
 
--- no kind is that of an atom, so none stands behind the atoms
+-- no kind is that of an atom, so none stands behind so many atoms
 no_atom : (values : Values) (k : Kind) (taken : Bool) → elem_of values k ≡ elem.P0 (p0.Atom taken) → ⊥
 no_atom values kind.Info taken is = cc
 no_atom values kind.On taken is = cc
@@ -81,7 +81,7 @@ no_atom values kind.Flip taken is = cc
 no_atom values kind.Overflow taken is = cc
 no_atom values kind.Discard taken is = cc
 
-pub no_atom_behind : (r : Rest) (values : Values) (i : ℕ) (taken : Bool) → slice_get (rest_in r values) i ≡ Some (elem.P0 (p0.Atom taken)) → ⊥
+no_atom_behind : (r : Rest) (values : Values) (i : ℕ) (taken : Bool) → slice_get (rest_in r values) i ≡ Some (elem.P0 (p0.Atom taken)) → ⊥
 no_atom_behind rest.Nothing values i taken is = cc
 no_atom_behind (rest.One k) values zero taken is = no_atom values k taken cc
 no_atom_behind (rest.One k) values (suc i) taken is = cc
@@ -92,6 +92,10 @@ no_atom_behind (rest.Three i j k) values zero taken is = no_atom values i taken 
 no_atom_behind (rest.Three i j k) values (suc zero) taken is = no_atom values j taken cc
 no_atom_behind (rest.Three i j k) values (suc (suc zero)) taken is = no_atom values k taken cc
 no_atom_behind (rest.Three i j k) values (suc (suc (suc n))) taken is = cc
+
+pub no_atom_from : (n bits i : ℕ) (r : Rest) (values : Values) (taken : Bool) → n ≤ i
+    → slice_get (atoms (low_bits n bits) ++ rest_in r values) i ≢ Some (elem.P0 (p0.Atom taken))
+no_atom_from n bits i r values taken past is = no_atom_behind r values (i - n) taken (sym (after_atoms n bits i (rest_in r values) past) ∙ is)
 
 -- ---- cancels and mispredicts
 

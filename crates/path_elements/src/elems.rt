@@ -1,5 +1,6 @@
 //! The elements of one packet.
-ghost use Rattle.std.specs.Prelude.{◌≡◌, ◌≤◌, ◌<◌, ◌+◌, ◌∷◌, ◌++◌, ◌↔◌, [], ℕ, Bool, List, drop, length, replicate, slice_get, IfSome, IsSome, None, Some};
+ghost use Rattle.std.specs.Prelude.{◌≡◌, ◌≢◌, ◌≤◌, ◌<◌, ◌+◌, ◌∷◌, ◌++◌, ◌↔◌, [], ℕ, Bool, List, drop, length, replicate, slice_get};
+ghost use Rattle.std.specs.Prelude.{IfSome, IsSome, None, Some};
 ghost use Rattle.etm_types.specs.declared.element.Elem.{Elem};
 ghost use Rattle.etm_types.specs.declared.element.Elem.TheVariants as elem;
 ghost use Rattle.etm_types.specs.declared.element.P0.TheVariants.{Atom};
@@ -116,11 +117,12 @@ impl Elems {
         }
     }
 
-    /// The atoms from the one at `i` on, counted from 0, as one run of at most so many: none where no atom stands there.
+    /// The atoms from the one at `i` on, counted from 0, as one run: so many, or all that stand there where those are fewer.
     #[inline(always)]
     pub fn atoms_from(&self, i: usize, most: usize) -> AtomRun
         ensures rest { (others : List Elem) × (drop i self.now ≡ atoms (atoms_in result) ++ others) }
         ensures most { result.count ≤ most }
+        ensures all { result.count < most → (taken : Bool) → slice_get self.now (i + result.count) ≢ Some (elem.P0 (Atom taken)) }
         ensures few { result.count ≤ most_atoms }
     {
         let count = usize::from(self.atoms.count);

@@ -1,7 +1,7 @@
-use Rattle.std.proofs.Common.{◌-◌, ◌<◌, ◌≤◌, List, refl, slice_get, arith, ◌∙◌, sym, ap}
+use Rattle.std.proofs.Common.{◌<◌, ◌≤◌, List, refl, slice_get, arith, ◌∙◌, sym, ap}
 use Rattle.etm_types.specs.declared.element.Elem.{Elem}
 use Rattle.path_elements.specs.Held.{rest_in}
-use Rattle.path_elements.proofs.AtomElems.{after_atoms, atom_at, count_all, no_atom_behind}
+use Rattle.path_elements.proofs.AtomElems.{atom_at, count_all, no_atom_from}
 use Rattle.path_elements.proofs.elems.Elems.atom.Goals as goal
 
 pub overflow_shr-result : goal.overflow_shr-result
@@ -23,7 +23,6 @@ returns-else-i-from-clause-some c =
     let e = c.self.inside in
     let past : e.atoms.count ≤ c.args.i = omega (arith, c.if-i-from.false, c.from.ensures) in (
       λ some. absurd cc,
-      λ told. absurd (no_atom_behind e.rest e.values (c.args.i - e.atoms.count) told.0
-          (sym (after_atoms e.atoms.count e.atoms.bits c.args.i (rest_in e.rest e.values) past)
-          ∙ ap (λ (xs : List Elem). slice_get xs c.args.i) c.self.view_is ∙ told.1)),
+      λ told. absurd (no_atom_from e.atoms.count e.atoms.bits c.args.i e.rest e.values told.0 past
+          (ap (λ (xs : List Elem). slice_get xs c.args.i) c.self.view_is ∙ told.1)),
     )
