@@ -4,6 +4,7 @@ pub mod Counted
 pub mod Deferred
 pub mod Examples
 pub mod Flipped
+pub mod Fronts
 pub mod Held
 pub mod Joined
 pub mod LowBits

@@ -1,7 +1,9 @@
 -- What contracts see of a queue and of its counts, in values; and how the fields of a packed element stand for one.
-use Rattle.std.proofs.Common.{◌≡◌, ℕ, Bool, true, false, get_or, List, [], ◌∷◌, length, ap, Option, Some, None, Ok, Err, refl, arith}
+use Rattle.std.proofs.Common.{◌≡◌, ℕ, zero, suc, Bool, true, false, get_or, List, [], ◌∷◌, length, map, slice_get, ap, Option, Some, None, Ok, Err, refl, sym, arith}
+use Rattle.std.proofs.lemmas.List.{length-map}
 use Rattle.std.proofs.lemmas.List.Elements.{All-cons, All-nil}
 use Rattle.std.specs.Prelude.{◌-◌, ◌^◌}
+use Rattle.std.specs.Option.{unwrap_or}
 use Rattle.etm_types.specs.declared.element.Elem.TheVariants as elem
 use Rattle.etm_types.specs.declared.element.Entry.{Entry}
 use Rattle.etm_types.specs.declared.element.P0.TheVariants.{Atom, Exc}
@@ -9,10 +11,10 @@ use Rattle.etm_types.specs.declared.element.Pre.{Pre}
 use Rattle.etm_types.specs.declared.element.Thing.{Thing}
 use Rattle.etm_types.specs.declared.element.Thing.TheVariants.{Seen, Unseen, Gap, Stop}
 use Rattle.element_queue.specs.Counting.{AreCounts, Balances, no_counts, sum_of}
-use Rattle.element_queue.specs.Kept.{AreOldest, entries_in}
+use Rattle.element_queue.specs.Kept.{AreOldest, IsFront, NoPlainAt, entries_in}
 use Rattle.element_queue.specs.Packed.{addr_of, ctx_of, p0_of, unpacked}
 use Rattle.element_queue.specs.Pending.{Taken as Outcome, committing, nothing_gone}
-use Rattle.element_queue.specs.Queued.{IsHeld, IsQueued, Queued, Takes, TakesInfo, TakesPre, holding, passed, pending_of, plain_atom, rotated, things_of}
+use Rattle.element_queue.specs.Queued.{AreOldestPlain, IsHeld, IsQueued, NoPlainAtomAt, Queued, Takes, TakesInfo, TakesPre, holding, passed, pending_of, plain_atom, rotated, things_of}
 use Rattle.element_queue.specs.declared.entries.Run.{Run}
 use Rattle.element_queue.specs.declared.ledger.Counts.{Counts}
 use Rattle.element_queue.specs.declared.packed.Context.TheVariants.{NotGiven, Secure, NonSecure}
@@ -163,6 +165,16 @@ addr_before thing = None
 pub plain : plain_atom true ∷ plain_atom false ∷ [] ≡ seen none_given (Atom true) ∷ seen none_given (Atom false) ∷ []
 plain = refl
 
+-- the address that was given before the thing at a place
+abbrev addr_in : Option Thing → Option ℕ
+addr_in None = None
+addr_in (Some thing) = addr_before thing
+
+plain_has_none : (atoms : List Bool) (k addr : ℕ) → addr_in (slice_get (map plain_atom atoms) k) ≡ Some addr → ⊥
+plain_has_none [] k addr is = cc
+plain_has_none (taken ∷ atoms) zero addr is = cc
+plain_has_none (taken ∷ atoms) (suc k) addr is = plain_has_none atoms k addr is
+
 pub not_behind_an_address : plain_atom true ≡ seen (record none_given { addr = Some 0x4000 }) (Atom true) → ⊥
 not_behind_an_address = λ is. let addr = ap addr_before is in cc
 
@@ -184,6 +196,27 @@ not_the_other_way_round = λ is. let e = ap (λ held. is_e (get_or held 1 Unseen
 
 pub not_before_the_oldest : (rotated (false ∷ true ∷ []) three_held).held ≡ plain_atom false ∷ plain_atom true ∷ first ∷ [] → ⊥
 not_before_the_oldest = λ is. let addr = ap (λ held. addr_before (get_or held 0 Unseen)) is in cc
+
+-- the two oldest are plain atoms, and the third is none
+pub two_plain : AreOldestPlain 2 three_held.held
+two_plain = (true ∷ true ∷ [], refl, refl)
+
+pub not_three_plain : AreOldestPlain 3 three_held.held → ⊥
+not_three_plain (oldest, is, count) =
+    let third = ap (λ (things : List Thing). addr_in (slice_get things 2)) is in
+    plain_has_none oldest 2 0x1000 third
+
+pub not_one_plain_for_two : AreOldestPlain 2 (plain_atom true ∷ []) → ⊥
+not_one_plain_for_two (oldest, is, count) = omega (arith, ap length is, length-map oldest plain_atom, count)
+
+pub none_at_the_third : NoPlainAtomAt 2 three_held.held
+none_at_the_third taken there = let addr = ap addr_in there in cc
+
+pub none_past_the_newest : NoPlainAtomAt 3 three_held.held
+none_past_the_newest taken there = cc
+
+pub not_none_at_the_second : NoPlainAtomAt 1 three_held.held → ⊥
+not_none_at_the_second none = none true refl
 
 -- where there is room, none is committed
 pub two_more_held : holding (false ∷ true ∷ []) (record three_held { depth = 5 })
@@ -273,3 +306,20 @@ no_three ([], is, count) = absurd (omega (arith, count))
 no_three (a ∷ [], is, count) = absurd (omega (arith, count))
 no_three (a ∷ b ∷ [], is, count) = absurd (omega (arith, count))
 no_three (a ∷ b ∷ c ∷ d ∷ rest, is, count) = absurd (omega (arith, count))
+
+-- the front of these entries ends at the interrupt
+pub front_of_two : IsFront (true ∷ false ∷ []) (entries_in two_runs (true ∷ []))
+front_of_two = (
+  interrupt ∷ told ∷ an_atom true ∷ [],
+  refl,
+  λ less taken there. let p0 : Exc 14 0x4000 ≡ Atom taken = ap (λ (x : Option Entry). (unwrap_or x told).p0) there in cc,
+)
+
+pub not_of_one : IsFront (true ∷ []) (entries_in two_runs (true ∷ [])) → ⊥
+not_of_one (others, is, none) = none (omega arith) false (ap (λ (l : List Entry). slice_get l 1) (sym is))
+
+pub none_at_the_interrupt : NoPlainAt 2 (entries_in two_runs [])
+none_at_the_interrupt taken there = let p0 : Exc 14 0x4000 ≡ Atom taken = ap (λ (x : Option Entry). (unwrap_or x told).p0) there in cc
+
+pub not_none_behind_all : NoPlainAt 4 (entries_in two_runs (true ∷ [])) → ⊥
+not_none_behind_all none = none true refl

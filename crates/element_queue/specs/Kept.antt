@@ -1,5 +1,6 @@
 -- What contracts see of the entries that a queue keeps.
-use Rattle.std.specs.Prelude.{◌≡◌, ℕ, Bool, List, [], ◌∷◌, ◌++◌, length, map, take, None}
+use Rattle.std.specs.Prelude.{◌≡◌, ◌≢◌, ◌<◌, ℕ, Bool, List, [], ◌∷◌, ◌++◌, length, map, take, slice_get, None, Some}
+use Rattle.etm_types.specs.Atoms.{most_atoms}
 use Rattle.etm_types.specs.declared.element.Entry.{Entry}
 use Rattle.element_queue.specs.declared.entries.Run.{Run}
 use Rattle.element_queue.specs.Queued.{entry_of}
@@ -24,3 +25,11 @@ entries_in (run ∷ runs) plain = map plain_entry run.plain ++ run.last ∷ entr
 -- so many of the oldest entries are such atoms
 abbrev pub AreOldest : ℕ → List Entry → Type 0
 AreOldest n items = (oldest : List Bool) × (map plain_entry oldest ≡ take n items) × (length oldest ≡ n)
+
+-- no such atom stands at this place
+abbrev pub NoPlainAt : ℕ → List Entry → Type 0
+NoPlainAt n items = (taken : Bool) → slice_get items n ≢ Some (plain_entry taken)
+
+-- the entries begin with these atoms: at least 24, or all of them before the first entry that is no such atom
+abbrev pub IsFront : List Bool → List Entry → Type 0
+IsFront front items = (others : List Entry) × (items ≡ map plain_entry front ++ others) × (length front < most_atoms → NoPlainAt 0 others)

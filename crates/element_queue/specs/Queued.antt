@@ -1,5 +1,5 @@
 -- What contracts see of a queue.
-use Rattle.std.specs.Prelude.{◌≡◌, ◌≤◌, ℕ, ◌-◌, Bool, true, None, Some, Option, List, [], ◌∷◌, ◌++◌, All, length, map, take, drop, Ok, Err, ⊤}
+use Rattle.std.specs.Prelude.{◌≡◌, ◌≢◌, ◌≤◌, ℕ, ◌-◌, Bool, true, None, Some, Option, List, [], ◌∷◌, ◌++◌, All, length, map, take, drop, slice_get, Ok, Err, ⊤}
 use Rattle.etm_types.specs.declared.element.Elem.{Elem}
 use Rattle.etm_types.specs.declared.element.Elem.TheVariants as elem
 use Rattle.etm_types.specs.Pre.{nothing_told}
@@ -114,6 +114,14 @@ things_of (Some c) = thing_of c ∷ []
 -- a plain atom: nothing was given before it
 abbrev pub plain_atom : Bool → Thing
 plain_atom taken = Seen (entry_of (record { addr = None; taken = taken }))
+
+-- so many of the oldest are plain atoms
+abbrev pub AreOldestPlain : ℕ → List Thing → Type 0
+AreOldestPlain n held = (oldest : List Bool) × (map plain_atom oldest ≡ take n held) × (length oldest ≡ n)
+
+-- no plain atom stands at this place
+abbrev pub NoPlainAtomAt : ℕ → List Thing → Type 0
+NoPlainAtomAt n held = (taken : Bool) → slice_get held n ≢ Some (plain_atom taken)
 
 -- where no more may be held and nothing was given, so many atoms more commit as many of the oldest
 abbrev pub rotated : List Bool → Queued → Queued

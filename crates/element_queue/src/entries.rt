@@ -3,15 +3,16 @@ ghost use Rattle.std.specs.Prelude.{◌≡◌, ◌+◌, ◌≤◌, ◌<◌, ◌�
 ghost use Rattle.std.specs.Prelude.{IfOk, IfSome, IsSome, IsTrue, None, Some, false};
 ghost use Rattle.std.specs.Option.{option_map};
 ghost use Rattle.etm_types.specs.Atoms.{atoms_in, most_atoms};
+ghost use Rattle.etm_types.specs.declared.element.Entry.{Entry};
 ghost use Rattle.etm_types.specs.declared.element.Thing.TheVariants.{Seen};
 ghost use Rattle.spend_ring.specs.Ring.{newest};
-ghost use Rattle.element_queue.specs.Kept.{AreOldest, entries_in, kept, plain_entry};
+ghost use Rattle.element_queue.specs.Kept.{AreOldest, IsFront, NoPlainAt, entries_in, kept, plain_entry};
 ghost use Rattle.element_queue.specs.Pending.{flip_newest};
 ghost use Rattle.element_queue.specs.Queued.{entry_of};
 ghost use Rattle.element_queue.specs.declared.entries.Run.{Run};
 ghost use Rattle.element_queue.specs.declared.queue.AtomEntry.{AtomEntry};
 
-use crate::plain_atoms::{MOST_PLAIN, PlainAtoms};
+use crate::plain_atoms::{MOST_OF_RUN, MOST_PLAIN, PlainAtoms};
 use crate::queue::AtomEntry;
 use crate::slot::Slot;
 use etm_types::AtomRun;
@@ -132,8 +133,7 @@ impl Entries {
         requires room { length self.old.items < self.old.capacity }
         ensures { self.new ≡ kept (self.old.items ++ last ∷ []) self.old.capacity }
     {
-        let plain = std::mem::replace(&mut self.plain, PlainAtoms::new());
-        put(&mut self.runs, Run { plain, last });
+        put_behind(&mut self.runs, &mut self.plain, last);
         self.count += 1;
     }
 
@@ -208,68 +208,105 @@ impl Entries {
         }
     }
 
-    /// The oldest, as far as they are kept as bits: at most 24.
+    /// The oldest, as far as they are atoms before which nothing was given: at most 24.
     #[inline(always)]
     pub(crate) fn oldest_plain(&self) -> AtomRun
         ensures atoms { map plain_entry (atoms_in result) ≡ take result.count self.now.items }
         ensures most { result.count ≤ most_atoms }
         ensures held { result.count ≤ length self.now.items }
+        ensures all { result.count < most_atoms → NoPlainAt result.count self.now.items }
     {
-        match self.runs.get(0) {
-            Some(run) => run.plain.front(),
-            None => self.plain.front(),
+        let Some(run) = self.runs.get(0) else {
+            return self.plain.front();
+        };
+        if run.has_front() {
+            return run.plain.front();
         }
+        front_of(&self.runs, &self.plain)
     }
 
-    /// Takes so many of the oldest out, where these are kept as bits. Else nothing changes.
+    /// Takes so many of the oldest out, where all of these are atoms before which nothing was given. Else nothing changes.
     #[inline(always)]
     pub(crate) fn drop_plain(&mut self, n: u32) -> bool
+        requires few { n ≤ most_atoms }
         ensures rest { IsTrue result → self.new ≡ kept (drop n self.old.items) self.old.capacity }
-        ensures oldest { IsTrue result → AreOldest n self.old.items }
+        ensures oldest { IsTrue result ↔ AreOldest n self.old.items }
         ensures unchanged { result ≡ false → self.new ≡ self.old }
+        ensures bounded { length self.old.items ≤ self.old.capacity }
     {
         if !drop_oldest(&mut self.runs, &mut self.plain, n) {
-            return false;
+            return self.drop_across(n);
         }
         self.count -= n;
         true
     }
 
-    /// Appends the atoms of a run, before which nothing was given, where there is room for them among the bits. Else nothing changes.
-    #[inline(always)]
-    pub(crate) fn append_run(&mut self, atoms: &AtomRun) -> bool
-        requires few { atoms.now.count ≤ most_atoms }
-        requires room { length self.old.items + atoms.now.count ≤ self.old.capacity }
-        ensures appended { IsTrue result → self.new ≡ kept (self.old.items ++ map plain_entry (atoms_in atoms.now)) self.old.capacity }
+    /// The same, where a run may end among them.
+    #[inline(never)]
+    fn drop_across(&mut self, n: u32) -> bool
+        requires few { n ≤ most_atoms }
+        ensures rest { IsTrue result → self.new ≡ kept (drop n self.old.items) self.old.capacity }
+        ensures oldest { IsTrue result ↔ AreOldest n self.old.items }
         ensures unchanged { result ≡ false → self.new ≡ self.old }
     {
-        let count = u32::from(atoms.count);
-        if self.plain.len() + count > MOST_PLAIN {
+        if u32::from(self.oldest_plain().count) < n {
             return false;
         }
-        self.plain.push_run(atoms);
-        self.count += count;
+        for _ in 0..n {
+            if let Some(oldest) = self.pop_front() {
+                oldest.take();
+            }
+        }
         true
     }
 
-    /// Takes as many of the oldest out as a run has atoms, where these are kept as bits, and appends these atoms, before which nothing was
-    /// given, where there is room for them among the bits. Else nothing changes.
+    /// Appends the atoms of a run, before which nothing was given, for which there is room.
+    #[inline(always)]
+    pub(crate) fn append_run(&mut self, atoms: &AtomRun)
+        requires few { atoms.now.count ≤ most_atoms }
+        requires room { length self.old.items + atoms.now.count ≤ self.old.capacity }
+        ensures { self.new ≡ kept (self.old.items ++ map plain_entry (atoms_in atoms.now)) self.old.capacity }
+    {
+        let count = u32::from(atoms.count);
+        if self.plain.len() + count > MOST_PLAIN {
+            return self.append_behind(atoms);
+        }
+        self.plain.push_run(atoms);
+        self.count += count;
+    }
+
+    /// The same, where there may be no room among the bits: with the first of them a run ends.
+    #[inline(never)]
+    fn append_behind(&mut self, atoms: &AtomRun)
+        requires some { 0 < atoms.now.count }
+        requires few { atoms.now.count ≤ most_atoms }
+        requires room { length self.old.items + atoms.now.count ≤ self.old.capacity }
+        ensures { self.new ≡ kept (self.old.items ++ map plain_entry (atoms_in atoms.now)) self.old.capacity }
+    {
+        let first = Slot::from_atom(atoms.bits % 2 == 1);
+        put_behind(&mut self.runs, &mut self.plain, first);
+        let others = AtomRun {
+            count: atoms.count - 1,
+            bits: atoms.bits / 2,
+        };
+        self.plain.push_run(&others);
+        self.count += u32::from(atoms.count);
+    }
+
+    /// Takes as many of the oldest out as a run has atoms, where all of these are atoms before which nothing was given, and appends the atoms of the
+    /// run, before which nothing was given either. Else nothing changes.
     #[inline(always)]
     pub(crate) fn rotate(&mut self, atoms: &AtomRun) -> bool
         requires few { atoms.now.count ≤ most_atoms }
         ensures rotated { IsTrue result
             → self.new ≡ kept (drop atoms.now.count self.old.items ++ map plain_entry (atoms_in atoms.now)) self.old.capacity }
-        ensures oldest { IsTrue result → AreOldest atoms.now.count self.old.items }
+        ensures oldest { IsTrue result ↔ AreOldest atoms.now.count self.old.items }
         ensures unchanged { result ≡ false → self.new ≡ self.old }
     {
-        let count = u32::from(atoms.count);
-        if self.plain.len() + count > MOST_PLAIN {
+        if !self.drop_plain(u32::from(atoms.count)) {
             return false;
         }
-        if !drop_oldest(&mut self.runs, &mut self.plain, count) {
-            return false;
-        }
-        self.plain.push_run(atoms);
+        self.append_run(atoms);
         true
     }
 
@@ -288,6 +325,33 @@ impl Entries {
 }
 
 impl Run {
+    /// Whether its bits are all that a front of the entries from it on has: at least 24, or the entry behind them is no such atom.
+    #[inline(always)]
+    fn has_front(&self) -> bool
+        ensures { IsTrue result → (others : List Entry) → IsFront self.now.plain (map plain_entry self.now.plain ++ self.now.last ∷ others) }
+    {
+        self.plain.len() >= MOST_OF_RUN || self.last.packed().plain_atom().is_none()
+    }
+
+    /// Adds its entries to a front that has fewer than 24 atoms, as far as they belong to it. It tells whether the entries behind it may too.
+    fn add_to(&self, front: &mut PlainAtoms) -> bool
+        requires few { length front.old < most_atoms }
+        ensures goes_on { IsTrue result → (map plain_entry front.new ≡ map plain_entry front.old ++ map plain_entry self.now.plain ++ self.now.last ∷ [])
+            × (length front.new < most_atoms) }
+        ensures ends { result ≡ false
+            → (others : List Entry) → IsFront front.new (map plain_entry front.old ++ map plain_entry self.now.plain ++ self.now.last ∷ others) }
+    {
+        front.push_run(&self.plain.front());
+        if front.len() >= MOST_OF_RUN {
+            return false;
+        }
+        let Some(taken) = self.last.packed().plain_atom() else {
+            return false;
+        };
+        front.push(taken);
+        front.len() < MOST_OF_RUN
+    }
+
     /// The oldest, where it is an atom before which nothing but an address was given.
     #[inline(always)]
     fn oldest_atom(&self) -> Option<AtomEntry>
@@ -312,6 +376,18 @@ fn plain_atom_of(taken: Option<bool>) -> Option<AtomEntry>
     }
 }
 
+/// Appends an entry of any kind, with which a run ends: the bits before it go there.
+#[inline(always)]
+fn put_behind(runs: &mut SpendRing<Run>, plain: &mut PlainAtoms, last: Slot)
+    requires room { length runs.old.items < runs.old.capacity }
+    ensures entries { entries_in runs.new.items plain.new ≡ entries_in runs.old.items plain.old ++ last ∷ [] }
+    ensures bits { plain.new ≡ [] }
+    ensures capacity { runs.new.capacity ≡ runs.old.capacity }
+{
+    let plain = std::mem::replace(plain, PlainAtoms::new());
+    put(runs, Run { plain, last });
+}
+
 /// Appends a run, where there is room for it.
 #[inline(always)]
 fn put(runs: &mut SpendRing<Run>, run: Run)
@@ -323,6 +399,27 @@ fn put(runs: &mut SpendRing<Run>, run: Run)
         None => (),
         Some(_) => unreachable!(),
     }
+}
+
+/// The oldest of some runs and the atoms behind them, as far as they are atoms before which nothing was given: at most 24.
+#[inline(never)]
+fn front_of(runs: &SpendRing<Run>, plain: &PlainAtoms) -> AtomRun
+    ensures atoms { map plain_entry (atoms_in result) ≡ take result.count (entries_in runs.now.items plain.now) }
+    ensures most { result.count ≤ most_atoms }
+    ensures held { result.count ≤ length (entries_in runs.now.items plain.now) }
+    ensures all { result.count < most_atoms → NoPlainAt result.count (entries_in runs.now.items plain.now) }
+{
+    let mut front = PlainAtoms::new();
+    for i in 0..runs.len() {
+        let Some(run) = runs.get(i) else {
+            unreachable!()
+        };
+        if !run.add_to(&mut front) {
+            return front.into_front();
+        }
+    }
+    front.push_run(&plain.front());
+    front.into_front()
 }
 
 /// Takes the oldest entry of the first run out.

@@ -205,7 +205,8 @@ impl Packed {
     /// Which atom it is, where it is one before which nothing was given.
     #[inline(always)]
     pub(crate) fn plain_atom(&self) -> Option<bool>
-        ensures { IfSome result (λ taken. unpacked self.now ≡ plain_entry taken) }
+        ensures value { IfSome result (λ taken. unpacked self.now ≡ plain_entry taken) }
+        ensures some { (taken : Bool) → unpacked self.now ≡ plain_entry taken → IsSome result }
     {
         match self.atom() {
             Some(AtomEntry { addr: None, taken }) => Some(taken),

@@ -9,7 +9,7 @@ use std::marker::Model;
 pub(crate) const MOST_PLAIN: u32 = 64;
 
 /// The most atoms of one run.
-const MOST_OF_RUN: u32 = 24;
+pub(crate) const MOST_OF_RUN: u32 = 24;
 
 /// At most 64 atoms before which nothing was given. Contracts see them as a list, oldest first. It has no drop: `close` ends it, so
 /// that none is forgotten.
@@ -132,12 +132,25 @@ impl PlainAtoms {
         ensures atoms { atoms_in result ≡ take result.count self.now }
         ensures most { result.count ≤ most_atoms }
         ensures within { result.count ≤ length self.now }
+        ensures all { result.count < most_atoms → result.count ≡ length self.now }
     {
         let count = self.count.min(MOST_OF_RUN);
         AtomRun {
             count: count as u8,
             bits: (self.bits % (1 << count)) as u32,
         }
+    }
+
+    /// The same of atoms that are copies, which end.
+    pub(crate) fn into_front(self) -> AtomRun
+        ensures atoms { atoms_in result ≡ take result.count self }
+        ensures most { result.count ≤ most_atoms }
+        ensures within { result.count ≤ length self }
+        ensures all { result.count < most_atoms → result.count ≡ length self }
+    {
+        let front = self.front();
+        let PlainAtoms { count: _, bits: _ } = self;
+        front
     }
 
     /// Ends it, where no atom is left.

@@ -9,7 +9,7 @@ ghost use Rattle.etm_types.specs.declared.element.Thing.TheVariants.{Seen};
 ghost use Rattle.etm_types.specs.declared.queue_fault.QueueFault.{QueueFault};
 ghost use Rattle.element_queue.specs.Counting.{AreCounts, Balances, counts_after, no_counts};
 ghost use Rattle.element_queue.specs.Pending.{cancelling, committing, losing, nothing_gone, taken};
-ghost use Rattle.element_queue.specs.Queued.{IsQueued, Refuses, Takes, TakesInfo, TakesPre};
+ghost use Rattle.element_queue.specs.Queued.{AreOldestPlain, IsQueued, NoPlainAtomAt, Refuses, Takes, TakesInfo, TakesPre};
 ghost use Rattle.element_queue.specs.Queued.{entry_of, holding, noted, passed, pending_of, plain_atom, rotated, thing_of, things_of};
 ghost use Rattle.element_queue.specs.declared.queue.AtomEntry.{AtomEntry};
 
@@ -266,13 +266,13 @@ impl Queue {
         }
     }
 
-    /// The oldest that are held, as atoms of one run, as far as they are kept as atoms before which nothing was given: at most 24. None
-    /// where the oldest is anything else.
+    /// The oldest that are held, as atoms of one run, as far as they are atoms before which nothing was given: at most 24.
     #[inline(always)]
     pub fn oldest_plain(&self) -> AtomRun
         ensures atoms { map plain_atom (atoms_in result) ≡ take result.count self.now.held }
         ensures most { result.count ≤ most_atoms }
         ensures held { result.count ≤ length self.now.held }
+        ensures all { result.count < most_atoms → NoPlainAtomAt result.count self.now.held }
     {
         if self.unseen > 0 {
             return AtomRun { count: 0, bits: 0 };
@@ -286,21 +286,23 @@ impl Queue {
     pub fn rotate(&mut self, atoms: &AtomRun) -> bool
         requires { atoms.now.count ≤ most_atoms }
         ensures rotated { IsTrue result → (self.new ≡ rotated (atoms_in atoms.now) self.old) }
-        ensures full { IsTrue result → self.old.depth ≤ length self.old.held }
-        ensures given { IsTrue result → self.old.pre ≡ nothing_told }
-        ensures oldest { IsTrue result
-            → (oldest : List Bool) × (map plain_atom oldest ≡ take (atoms.now.count) self.old.held) × (length oldest ≡ atoms.now.count) }
+        ensures when { IsTrue result ↔ ((self.old.depth ≤ length self.old.held) × (self.old.pre ≡ nothing_told)
+            × AreOldestPlain atoms.now.count self.old.held) }
         ensures unchanged { result ≡ false → self.new ≡ self.old }
         ensures queued { IsQueued self.new }
         ensures counted { AreCounts self.old.counts }
     {
-        if self.unseen > 0 || self.has_room() || !self.next.is_nothing_told() {
+        if self.has_room() || !self.next.is_nothing_told() {
+            return false;
+        }
+        let count = u32::from(atoms.count);
+        if self.unseen > 0 && count > 0 {
             return false;
         }
         if !self.entries.rotate(atoms) {
             return false;
         }
-        self.ledger.count_passed(u32::from(atoms.count));
+        self.ledger.count_passed(count);
         true
     }
 
@@ -309,8 +311,7 @@ impl Queue {
     pub fn hold(&mut self, atoms: &AtomRun) -> bool
         requires { atoms.now.count ≤ most_atoms }
         ensures holding { IsTrue result → (self.new ≡ holding (atoms_in atoms.now) self.old) }
-        ensures room { IsTrue result → length self.old.held + atoms.now.count ≤ self.old.depth }
-        ensures given { IsTrue result → self.old.pre ≡ nothing_told }
+        ensures when { IsTrue result ↔ ((length self.old.held + atoms.now.count ≤ self.old.depth) × (self.old.pre ≡ nothing_told)) }
         ensures unchanged { result ≡ false → self.new ≡ self.old }
         ensures queued { IsQueued self.new }
         ensures counted { AreCounts self.old.counts }
@@ -319,24 +320,26 @@ impl Queue {
         if self.depth - self.held() < count || !self.next.is_nothing_told() {
             return false;
         }
-        if !self.entries.append_run(atoms) {
-            return false;
-        }
+        self.entries.append_run(atoms);
         self.ledger.count_all_made(count);
         true
     }
 
-    /// Commits so many of the oldest, where these are kept as atoms before which nothing was given. Else nothing changes.
+    /// Commits so many of the oldest, at most 24, where all of these are atoms before which nothing was given. Else nothing changes.
     #[inline(always)]
     pub fn commit_plain(&mut self, n: u32) -> bool
+        requires { n ≤ most_atoms }
         ensures rest { IsTrue result → (self.new
             ≡ record (self.old) { held = drop n self.old.held; counts = counts_after self.old.counts 0 (committing (take n self.old.held)) }) }
-        ensures few { IsTrue result → n ≤ length self.old.held }
+        ensures when { IsTrue result ↔ AreOldestPlain n self.old.held }
         ensures unchanged { result ≡ false → self.new ≡ self.old }
         ensures queued { IsQueued self.new }
         ensures counted { AreCounts self.old.counts }
     {
-        if self.unseen > 0 || !self.entries.drop_plain(n) {
+        if self.unseen > 0 && n > 0 {
+            return false;
+        }
+        if !self.entries.drop_plain(n) {
             return false;
         }
         self.ledger.count_all_committed(n);

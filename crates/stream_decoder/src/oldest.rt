@@ -1,5 +1,6 @@
 //! The oldest of what waits: as many of them as are atoms are walked in one loop, and are then let go.
 ghost use Rattle.std.specs.Prelude.{◌≡◌, ◌≤◌, ◌<◌, [], All, Bool, IsTrue, ℕ, Some, false, length, slice_get};
+ghost use Rattle.etm_types.specs.Atoms.{most_atoms};
 ghost use Rattle.etm_types.specs.declared.element.Elem.TheVariants as elem;
 ghost use Rattle.etm_types.specs.declared.element.P0.TheVariants.{Atom};
 ghost use Rattle.path_walker.specs.Things.{IsAlignedThing};
@@ -28,6 +29,7 @@ pub fn walk_oldest(
     ensures walks { WalksSome image.now walker.old (all_of waiting.now) run.old result walker.new run.new }
     ensures words { AreStretchesOfWords image.now run.old → AreStretchesOfWords image.now run.new }
     ensures most { result ≤ most }
+    ensures few { result ≤ most_atoms }
     ensures context { walker.new.ctx ≡ walker.old.ctx }
 {
     let atoms = waiting.oldest_plain(most);
@@ -51,6 +53,7 @@ fn walk_first(
     ensures walks { WalksSome image.now walker.old (all_of waiting.now) run.old result walker.new run.new }
     ensures words { AreStretchesOfWords image.now run.old → AreStretchesOfWords image.now run.new }
     ensures most { result ≤ most }
+    ensures few { result ≤ most_atoms }
     ensures context { walker.new.ctx ≡ walker.old.ctx }
 {
     if most == 0 || !run.has_room() {
@@ -142,9 +145,10 @@ fn take_each(waiting: &mut Waiting, todo: &mut Todo, n: usize)
     }
 }
 
-/// So many of the oldest that are due were walked, and are given out: as a run where nothing was given before any of them.
+/// So many of the oldest that are due, at most 24, were walked, and are given out: as a run where nothing was given before any of them.
 #[inline(always)]
 pub fn drop_due(waiting: &mut Waiting, n: usize)
+    requires few { n ≤ most_atoms }
     requires due { n ≤ length waiting.old.due }
     requires holds { IsWaiting waiting.old }
     ensures drops { DropsDue waiting.old n waiting.new }

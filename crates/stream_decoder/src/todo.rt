@@ -1,5 +1,5 @@
 //! The elements of a packet that are still to be taken.
-ghost use Rattle.std.specs.Prelude.{◌≡◌, ◌≤◌, ◌<◌, ◌∷◌, ◌++◌, [], ◌↔◌, ℕ, drop, length, slice_get, Bool, IfSome, IsSome, IsTrue, List, Some, None};
+ghost use Rattle.std.specs.Prelude.{◌≡◌, ◌≢◌, ◌≤◌, ◌<◌, ◌∷◌, ◌++◌, [], ◌↔◌, ℕ, drop, length, slice_get, Bool, IfSome, IsSome, IsTrue, List, Some, None};
 ghost use Rattle.etm_types.specs.Atoms.{atoms_in, most_atoms};
 ghost use Rattle.etm_types.specs.declared.element.Elem.TheVariants as elem;
 ghost use Rattle.etm_types.specs.declared.element.P0.TheVariants.{Atom};
@@ -96,6 +96,7 @@ impl Todo {
         ensures next { (others : List Elem) × (self.now.elements ≡ atoms (atoms_in result) ++ others) }
         ensures most { result.count ≤ most }
         ensures few { result.count ≤ most_atoms }
+        ensures all { result.count < most → (taken : Bool) → slice_get self.now.elements result.count ≢ Some (elem.P0 (Atom taken)) }
     {
         self.elems.atoms_from(self.next, most)
     }

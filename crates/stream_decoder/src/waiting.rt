@@ -107,7 +107,7 @@ impl Waiting {
         self.queue.oldest_atom()
     }
 
-    /// The oldest of all that wait, as atoms of one run of at most so many, as far as they are kept as atoms before which nothing was given.
+    /// The oldest of all that wait, as atoms of one run of at most so many, as far as they are atoms before which nothing was given.
     #[inline(always)]
     pub fn oldest_plain(&self, most: usize) -> AtomRun
         ensures atoms { map plain_atom (atoms_in result) ≡ take result.count (all_of self.now) }
@@ -158,10 +158,11 @@ impl Waiting {
         self.queue.room() as usize
     }
 
-    /// So many of the oldest that are due were given out, where so many are and they are kept as atoms before which nothing was given. Else
+    /// So many of the oldest that are due, at most 24, were given out, where so many are and they are atoms before which nothing was given. Else
     /// nothing changes.
     #[inline(always)]
     pub fn drop_plain(&mut self, n: usize) -> bool
+        requires few { n ≤ most_atoms }
         ensures drops { IsTrue result → DropsDue self.old n self.new }
         ensures unchanged { result ≡ false → self.new ≡ self.old }
         ensures holds { IsWaiting self.new }

@@ -1,4 +1,4 @@
-use Rattle.std.proofs.Common.{◌≡◌, ◌+◌, ◌++◌, ap, arith, length, length-append, map, ◌∙◌}
+use Rattle.std.proofs.Common.{◌≡◌, ◌++◌, ap, arith, length, length-append, map, ◌∙◌}
 use Rattle.std.proofs.lemmas.List.{length-map}
 use Rattle.etm_types.specs.Atoms.{atoms_in}
 use Rattle.element_queue.specs.Kept.{Kept, entries_in, plain_entry}
@@ -24,7 +24,7 @@ invariant_of-self c =
       i.2,
     )
 
-pub returns-clause-appended : goal.returns-clause-appended
-returns-clause-appended c done =
+pub returns : goal.returns
+returns c =
     same_kept _ _ _ _ (more c ∙ ap (λ (k : Kept). k.items ++ map plain_entry (atoms_in c.args.atoms.now)) c.self.view_is)
     (ap (λ (k : Kept). k.capacity) c.self.view_is)

@@ -1,28 +1,39 @@
-use Rattle.std.proofs.Common.{Bool, List, ap, arith, length, map, sym, take, ◌∙◌}
-use Rattle.element_queue.specs.Kept.{Kept, plain_entry}
-use Rattle.element_queue.proofs.EntryRuns.{first_few, first_oldest, no_fewer, none_there, plain_oldest}
+use Rattle.std.proofs.Common.{ap, subst, sym}
+use Rattle.element_queue.specs.Kept.{IsFront, Kept}
+use Rattle.element_queue.proofs.EntryRuns.{none_there}
+use Rattle.element_queue.proofs.Fronts.{first_front, front_all, front_atoms, front_held, plain_front}
+use Rattle.element_queue.proofs.entries.Entries.oldest_plain.Goals.{After-front, After-front-then-has_front}
 use Rattle.element_queue.proofs.entries.Entries.oldest_plain.Goals as goal
 
-pub returns-in-Some-clause-atoms : goal.returns-in-Some-clause-atoms
-returns-in-Some-clause-atoms c =
-    let q = c.self.inside in let run = c.in-Some.run'.now in let n = c.front.result.count in
-    ap (λ (l : List Bool). map plain_entry l) c.front.ensures.atoms
-    ∙ first_oldest q.runs.items run n q.plain (sym c.in-Some.ensures.value) c.front.ensures.within
-    ∙ ap (λ (k : Kept). take n k.items) c.self.view_is
+-- there are bits alone
+only_bits : (c : After-front) → IsFront c.self.inside.plain c.args.self.now.items
+only_bits c =
+    let q = c.self.inside in
+    subst (IsFront q.plain) (ap (λ (k : Kept). k.items) c.self.view_is) (plain_front q.runs.items q.plain (none_there q.runs.items c.in_default.ensures.value))
 
-pub returns-in-Some-clause-held : goal.returns-in-Some-clause-held
-returns-in-Some-clause-held c =
-    let q = c.self.inside in let few = first_few q.runs.items c.in-Some.run'.now q.plain (sym c.in-Some.ensures.value) in
-    omega (arith, few, c.front.ensures.within, ap (λ (k : Kept). length k.items) c.self.view_is)
+pub returns-in_default-clause-atoms : goal.returns-in_default-clause-atoms
+returns-in_default-clause-atoms c =
+    front_atoms c.self.inside.plain _ _ c.front.result.count (only_bits c) c.front.ensures.atoms c.front.ensures.within
 
-pub returns-in-None-clause-atoms : goal.returns-in-None-clause-atoms
-returns-in-None-clause-atoms c =
-    let q = c.self.inside in let n = c.front-in-None.result.count in
-    ap (λ (l : List Bool). map plain_entry l) c.front-in-None.ensures.atoms
-    ∙ plain_oldest q.runs.items n q.plain (none_there q.runs.items c.in-None.ensures.value)
-    ∙ ap (λ (k : Kept). take n k.items) c.self.view_is
+pub returns-in_default-clause-held : goal.returns-in_default-clause-held
+returns-in_default-clause-held c = front_held c.self.inside.plain _ c.front.result.count (only_bits c) c.front.ensures.within
 
-pub returns-in-None-clause-held : goal.returns-in-None-clause-held
-returns-in-None-clause-held c =
-    let q = c.self.inside in let all = no_fewer q.runs.items q.plain (none_there q.runs.items c.in-None.ensures.value) in
-    omega (arith, all, c.front-in-None.ensures.within, ap (λ (k : Kept). length k.items) c.self.view_is)
+pub returns-in_default-clause-all : goal.returns-in_default-clause-all
+returns-in_default-clause-all c = front_all c.self.inside.plain _ c.front.result.count (only_bits c) c.front.ensures.all
+
+-- the bits of the first run are all
+run_bits : (c : After-front-then-has_front) → IsFront c.in-Some.run'.now.plain c.args.self.now.items
+run_bits c =
+    let q = c.self.inside in let run = c.in-Some.run'.now in
+    subst (IsFront run.plain) (ap (λ (k : Kept). k.items) c.self.view_is)
+    (first_front q.runs.items run q.plain (sym c.in-Some.ensures.value) (c.has_front.ensures c.if-has_front.true))
+
+pub returns-then-has_front-clause-atoms : goal.returns-then-has_front-clause-atoms
+returns-then-has_front-clause-atoms c =
+    front_atoms c.in-Some.run'.now.plain _ _ c.front-then-has_front.result.count (run_bits c) c.front-then-has_front.ensures.atoms c.front-then-has_front.ensures.within
+
+pub returns-then-has_front-clause-held : goal.returns-then-has_front-clause-held
+returns-then-has_front-clause-held c = front_held c.in-Some.run'.now.plain _ c.front-then-has_front.result.count (run_bits c) c.front-then-has_front.ensures.within
+
+pub returns-then-has_front-clause-all : goal.returns-then-has_front-clause-all
+returns-then-has_front-clause-all c = front_all c.in-Some.run'.now.plain _ c.front-then-has_front.result.count (run_bits c) c.front-then-has_front.ensures.all

@@ -16,3 +16,8 @@ pub returns-clause-within : goal.returns-clause-within
 returns-clause-within c =
     let size = low_bits-length c.self.inside.count c.self.inside.bits in
     omega (arith, c.min-count.ensures, size, ap length c.self.view_is)
+
+pub returns-clause-all : goal.returns-clause-all
+returns-clause-all c less =
+    let size = low_bits-length c.self.inside.count c.self.inside.bits in
+    omega (arith, less, c.min-count.ensures, size, ap length c.self.view_is)

@@ -18,16 +18,12 @@ longer n items now atoms many is = omega (arith, many, ap length is, length-appe
 pub returns-then-self-held-clause-queued : goal.returns-then-self-held-clause-queued
 returns-then-self-held-clause-queued c = let i = c.self.invariant in subst IsQueued c.self.view_is (queued _ _ _ _ _ i.1 i.3)
 
-pub returns-then-not-append_run-clause-queued : goal.returns-then-not-append_run-clause-queued
-returns-then-not-append_run-clause-queued c =
-    let i = c.self.invariant in rw (c.append_run.ensures.unchanged c.if-not-append_run.true) (queued _ _ _ _ _ i.1 i.3)
-
-pub invariant_of-self-2 : goal.invariant_of-self-2
-invariant_of-self-2 c =
+pub invariant_of-self : goal.invariant_of-self
+invariant_of-self c =
     let i = c.self.invariant in
     let q = c.self.inside in
     let run = c.args.atoms.now in
-    let now = c.append_run.ensures.appended c.if-not-append_run.false in
+    let now = c.append_run.ensures in
     let more = longer run.count q.entries.items c.append_run.new.self.items (atoms_in run) (low_bits-length run.count run.bits) (ap (λ k. k.items) now) in
     let size = length-things q.unseen q.entries.items in
     let view = ap (λ v. length v.held) c.self.view_is in
@@ -43,7 +39,7 @@ returns-clause-holding c ok =
     let q = c.self.inside in
     let run = c.args.atoms.now in
     let atoms = atoms_in run in
-    let held = ap (λ k. things q.unseen k.items) (c.append_run.ensures.appended c.if-not-append_run.false) ∙ held_behind q.unseen q.entries.items atoms in
+    let held = ap (λ k. things q.unseen k.items) c.append_run.ensures ∙ held_behind q.unseen q.entries.items atoms in
     let counts = c.count_all_made.ensures
     ∙ ap (λ n. record (q.ledger) { made = add q.ledger.made n }) (c.from-count.ensures ∙ sym (low_bits-length run.count run.bits)) in
     rw (← c.self.view_is) (λ k. record { held = held k; pre = pre_of_packed q.next; depth = q.depth; counts = counts k })
@@ -53,7 +49,7 @@ returns-clause-queued c =
     let i = c.self.invariant in
     let q = c.self.inside in
     let run = c.args.atoms.now in
-    let now = c.append_run.ensures.appended c.if-not-append_run.false in
+    let now = c.append_run.ensures in
     let more = longer run.count q.entries.items c.append_run.new.self.items (atoms_in run) (low_bits-length run.count run.bits) (ap (λ k. k.items) now) in
     let size = length-things q.unseen q.entries.items in
     let view = ap (λ v. length v.held) c.self.view_is in
