@@ -42,3 +42,8 @@ pub committed_many : (was now : Counts) (n before held : ℕ)
     → now ≡ record was { committed = add was.committed n } → before ≡ held + n → Balances was before → Balances now held
 committed_many was now n before held e h b =
     omega (arith, ap (λ c. c.made) e, ap (λ c. c.committed) e, ap (λ c. c.cancelled) e, ap (λ c. c.lost) e)
+
+pub cancelled_many : (was now : Counts) (n before held : ℕ)
+    → now ≡ record was { cancelled = add was.cancelled n } → before ≡ held + n → Balances was before → Balances now held
+cancelled_many was now n before held e h b =
+    omega (arith, ap (λ c. c.made) e, ap (λ c. c.committed) e, ap (λ c. c.cancelled) e, ap (λ c. c.lost) e)

@@ -1,16 +1,18 @@
 -- The entries of runs, and the atoms behind them that are kept as bits.
-use Rattle.std.proofs.Common.{◌≡◌, ℕ, ◌+◌, ◌≤◌, ◌<◌, Bool, not, List, [], ◌∷◌, ◌++◌, length, map, take, drop, Option, Some, None, refl, sym, ap, subst, ◌∙◌, arith}
+use Rattle.std.proofs.Common.{◌≡◌, ℕ, ◌+◌, ◌-◌, ◌≤◌, ◌<◌, Bool, not, List, [], ◌∷◌, ◌++◌, length, map, take, drop, Option, Some, None, refl, sym, ap, subst, ◌∙◌, arith}
 use Rattle.std.proofs.Common.{append_assoc, length-append, slice_get}
 use Rattle.std.specs.Prelude.{IfSome, IsSome, option_to_list, slice_set}
-use Rattle.std.proofs.lemmas.List.{drop-map, length-map, length-take-le, map-append, take-append-le, drop-append-le, take-map}
+use Rattle.std.proofs.lemmas.List.{drop-map, length-drop, length-map, length-take-le, map-append, take-append-drop, take-append-le, drop-append-le, take-map}
+use Rattle.etm_types.specs.Pre.{nothing_told}
 use Rattle.etm_types.specs.declared.element.Entry.{Entry}
 use Rattle.etm_types.specs.declared.element.P0.{P0}
 use Rattle.etm_types.specs.declared.element.P0.TheVariants.{Atom}
 use Rattle.etm_types.specs.declared.element.Pre.{Pre}
 use Rattle.etm_types.specs.declared.element.Thing.{Thing}
 use Rattle.etm_types.specs.declared.element.Thing.TheVariants.{Seen}
-use Rattle.element_queue.specs.Kept.{AreOldest, entries_in, kept, plain_entry}
+use Rattle.element_queue.specs.Kept.{AreNewest, AreOldest, entries_in, kept, plain_entry}
 use Rattle.element_queue.specs.Pending.{flip_newest}
+use Rattle.element_queue.specs.Queued.{given_since}
 use Rattle.element_queue.specs.declared.entries.Run.{Run}
 use Rattle.element_queue.proofs.Flipped.{flip_newest_at}
 
@@ -239,3 +241,22 @@ first_few runs run plain is =
 
 pub no_fewer : (runs : List Run) (plain : List Bool) → length runs ≡ 0 → length plain ≡ length (entries_in runs plain)
 no_fewer runs plain none = omega (arith, ap length (only_plain runs plain none), length-map plain plain_entry)
+
+-- so many of the newest are taken out
+pub newest_dropped : (runs : List Run) (plain left : List Bool) (n : ℕ) → left ≡ take (length plain - n) plain → n ≤ length plain
+    → AreNewest n (entries_in runs left) (entries_in runs plain)
+newest_dropped runs plain left n is within =
+    let m = length plain - n in (
+      drop m plain,
+      ap (entries_in runs) (sym (take-append-drop m plain)) ∙ more_plain runs (take m plain) (drop m plain)
+          ∙ ap (λ (l : List Bool). entries_in runs l ++ map plain_entry (drop m plain)) (sym is),
+      omega (arith, length-drop m plain, within),
+    )
+
+pub as_many : (n : ℕ) (left items : List Entry) → AreNewest n left items → length items ≡ length left + n
+as_many n left items (newest, is, count) =
+    omega (arith, ap length is, length-append left (map plain_entry newest), length-map newest plain_entry, count)
+
+pub given_plain : (pre : Pre) (newest : List Bool) → 0 < length newest → given_since pre (map plain_entry newest) ≡ nothing_told
+given_plain pre [] some = absurd (omega (arith, some))
+given_plain pre (taken ∷ newest) some = refl

@@ -26,6 +26,10 @@ entries_in (run ∷ runs) plain = map plain_entry run.plain ++ run.last ∷ entr
 abbrev pub AreOldest : ℕ → List Entry → Type 0
 AreOldest n items = (oldest : List Bool) × (map plain_entry oldest ≡ take n items) × (length oldest ≡ n)
 
+-- so many of the newest are, and these are left before them
+abbrev pub AreNewest : ℕ → List Entry → List Entry → Type 0
+AreNewest n left items = (newest : List Bool) × (items ≡ left ++ map plain_entry newest) × (length newest ≡ n)
+
 -- no such atom stands at this place
 abbrev pub NoPlainAt : ℕ → List Entry → Type 0
 NoPlainAt n items = (taken : Bool) → slice_get items n ≢ Some (plain_entry taken)

@@ -6,7 +6,7 @@ ghost use Rattle.etm_types.specs.Atoms.{atoms_in, most_atoms};
 ghost use Rattle.etm_types.specs.declared.element.Entry.{Entry};
 ghost use Rattle.etm_types.specs.declared.element.Thing.TheVariants.{Seen};
 ghost use Rattle.spend_ring.specs.Ring.{newest};
-ghost use Rattle.element_queue.specs.Kept.{AreOldest, IsFront, NoPlainAt, entries_in, kept, plain_entry};
+ghost use Rattle.element_queue.specs.Kept.{AreNewest, AreOldest, IsFront, NoPlainAt, entries_in, kept, plain_entry};
 ghost use Rattle.element_queue.specs.Pending.{flip_newest};
 ghost use Rattle.element_queue.specs.Queued.{entry_of};
 ghost use Rattle.element_queue.specs.declared.entries.Run.{Run};
@@ -257,6 +257,21 @@ impl Entries {
                 oldest.take();
             }
         }
+        true
+    }
+
+    /// Takes so many of the newest out, where these are kept as bits behind all runs. Else nothing changes.
+    #[inline(always)]
+    pub(crate) fn drop_newest(&mut self, n: u32) -> bool
+        ensures rest { IsTrue result → AreNewest n self.new.items self.old.items }
+        ensures capacity { self.new.capacity ≡ self.old.capacity }
+        ensures unchanged { result ≡ false → self.new ≡ self.old }
+    {
+        if self.plain.len() < n {
+            return false;
+        }
+        self.plain.drop_back(n);
+        self.count -= n;
         true
     }
 

@@ -99,6 +99,14 @@ impl Ledger {
         self.counts.committed = self.counts.committed.wrapping_add(u64::from(n));
     }
 
+    /// So many more were cancelled.
+    #[inline(always)]
+    pub(crate) fn count_all_cancelled(&mut self, n: u32)
+        ensures { self.new ≡ record (self.old) { cancelled = add self.old.cancelled n } }
+    {
+        self.counts.cancelled = self.counts.cancelled.wrapping_add(u64::from(n));
+    }
+
     /// One more was committed.
     pub(crate) fn count_committed(&mut self)
         ensures { self.new ≡ record (self.old) { committed = add self.old.committed 1 } }

@@ -1,5 +1,5 @@
 //! Atoms before which nothing was given, as bits.
-ghost use Rattle.std.specs.Prelude.{◌≡◌, ◌+◌, ◌≤◌, ◌<◌, [], ◌∷◌, ◌++◌, length, take, drop, slice_get, option_to_list, ◌↔◌, IsSome};
+ghost use Rattle.std.specs.Prelude.{◌≡◌, ◌+◌, ◌-◌, ◌≤◌, ◌<◌, [], ◌∷◌, ◌++◌, length, take, drop, slice_get, option_to_list, ◌↔◌, IsSome};
 ghost use Rattle.etm_types.specs.Atoms.{atoms_in, most_atoms};
 
 use etm_types::AtomRun;
@@ -109,6 +109,18 @@ impl PlainAtoms {
     {
         self.bits = if n < MOST_PLAIN { self.bits >> n } else { 0 };
         self.count -= n;
+    }
+
+    /// Takes so many of the newest out.
+    #[inline(always)]
+    pub(crate) fn drop_back(&mut self, n: u32)
+        requires { n ≤ length self.old }
+        ensures { self.new ≡ take (length self.old - n) self.old }
+    {
+        self.count -= n;
+        if self.count < MOST_PLAIN {
+            self.bits %= 1 << self.count;
+        }
     }
 
     /// The atoms of a run more.

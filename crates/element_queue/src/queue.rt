@@ -354,10 +354,40 @@ impl Queue {
         ensures queued { IsQueued self.new }
         ensures counted { AreCounts self.old.counts }
     {
+        if self.cancel_plain(n) {
+            return Ok(());
+        }
         let held = self.held();
         if n > held {
             return Err(QueueFault::CancelOverrun { asked: n, held });
         }
+        self.cancel_each(n);
+        Ok(())
+    }
+
+    /// Takes the `n` newest back, at least one, where these are kept as atoms before which nothing was given. Else nothing changes.
+    #[inline(always)]
+    fn cancel_plain(&mut self, n: u32) -> bool
+        ensures takes { IsTrue result → Takes self.old (elem.Cancel n) (cancelling (drop (length self.old.held - n) self.old.held)) self.new }
+        ensures unchanged { result ≡ false → self.new ≡ self.old }
+        ensures queued { IsQueued self.new }
+        ensures counted { AreCounts self.old.counts }
+    {
+        if n == 0 || !self.entries.drop_newest(n) {
+            return false;
+        }
+        self.next = Packed::nothing_told();
+        self.ledger.count_all_cancelled(n);
+        true
+    }
+
+    /// Takes the `n` newest back, one by one.
+    fn cancel_each(&mut self, n: u32)
+        requires { n ≤ length self.old.held }
+        ensures takes { Takes self.old (elem.Cancel n) (cancelling (drop (length self.old.held - n) self.old.held)) self.new }
+        ensures queued { IsQueued self.new }
+        ensures counted { AreCounts self.old.counts }
+    {
         let seen = n.min(self.entries.len());
         for _ in 0..seen {
             if let Some(newest) = self.entries.pop_back() {
@@ -370,7 +400,6 @@ impl Queue {
             self.unseen -= unseen;
             self.next = Packed::trace_missing();
         }
-        Ok(())
     }
 
     /// A mispredict: the newest, an atom, is the other one, and no address is given any more. Of one that was

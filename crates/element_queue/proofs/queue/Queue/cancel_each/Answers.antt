@@ -1,14 +1,10 @@
-use Rattle.std.proofs.Common.{◌≡◌, ◌-◌, [], length, subst, arith, ap, sym, ◌∙◌, length-append}
+use Rattle.std.proofs.Common.{◌≡◌, ◌-◌, [], length, arith, ap, sym, ◌∙◌, length-append}
 use Rattle.std.proofs.lemmas.List.{nil_from_length}
 use Rattle.element_queue.specs.Packed.{pre_of_packed}
-use Rattle.element_queue.specs.Queued.{IsQueued}
 use Rattle.element_queue.proofs.Balanced.{same_counts}
 use Rattle.element_queue.proofs.Cancelled.{given_behind, missing_behind, parts, takes_cancel}
 use Rattle.element_queue.proofs.Held.{entries-things, length-things, queued}
-use Rattle.element_queue.proofs.queue.Queue.cancel.Goals as goal
-
-pub returns-then-n-held-clause-queued : goal.returns-then-n-held-clause-queued
-returns-then-n-held-clause-queued c = let i = c.self.invariant in subst IsQueued c.self.view_is (queued _ _ _ _ _ i.1 i.3)
+use Rattle.element_queue.proofs.queue.Queue.cancel_each.Goals as goal
 
 pub returns-then-unseen-gt0-clause-queued : goal.returns-then-unseen-gt0-clause-queued
 returns-then-unseen-gt0-clause-queued c =
@@ -26,8 +22,8 @@ returns-else-unseen-gt0-clause-queued c =
     let joined = length-append c.loop.self-inside.entries.items c.loop.invariant.0 in
     queued _ _ _ _ _ (omega (arith, size, joined)) (omega (arith, size, joined))
 
-pub returns-then-unseen-gt0-clause-ok : goal.returns-then-unseen-gt0-clause-ok
-returns-then-unseen-gt0-clause-ok c ok =
+pub returns-then-unseen-gt0-clause-takes : goal.returns-then-unseen-gt0-clause-takes
+returns-then-unseen-gt0-clause-takes c =
     let was = c.self.inside in
     let pre = pre_of_packed was.next in
     let now = c.loop.self-inside in
@@ -49,8 +45,8 @@ returns-then-unseen-gt0-clause-ok c ok =
     (c.trace_missing-self-inside.ensures ∙ sym (missing_behind pre more gone c.if-unseen-gt0.true))
     (same_counts _ _ (omega arith) (omega arith) (omega (arith, went)) (omega arith)))
 
-pub returns-else-unseen-gt0-clause-ok : goal.returns-else-unseen-gt0-clause-ok
-returns-else-unseen-gt0-clause-ok c ok =
+pub returns-else-unseen-gt0-clause-takes : goal.returns-else-unseen-gt0-clause-takes
+returns-else-unseen-gt0-clause-takes c =
     let was = c.self.inside in
     let pre = pre_of_packed was.next in
     let now = c.loop.self-inside in

@@ -2,7 +2,7 @@ use Rattle.std.proofs.Common.{◌≡◌, ◌+◌, ◌%◌, ◌^◌, List, ◌++�
 use Rattle.etm_types.specs.declared.element.Entry.{Entry}
 use Rattle.element_queue.specs.Packed.{pre_of_packed}
 use Rattle.element_queue.specs.Queued.{given_since}
-use Rattle.element_queue.proofs.queue.Queue.cancel.Given as goal
+use Rattle.element_queue.proofs.queue.Queue.cancel_each.Given as goal
 
 abbrev pub invariant-loop : goal.invariant-loop
 invariant-loop l =
