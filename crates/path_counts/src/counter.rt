@@ -1,5 +1,5 @@
 //! How often each word of an image, and each item that is no instruction, stands in paths.
-ghost use Rattle.std.specs.Prelude.{◌≡◌, ◌-◌, ◌∷◌, [], ◌^◌, ◌<◌, ◌≤◌, ◌↔◌, ℕ, false, length, slice_get, IfOk, IsTrue, List, Some, if◌then◌else◌};
+ghost use Rattle.std.specs.Prelude.{◌≡◌, ◌+◌, ◌-◌, ◌∷◌, [], ◌^◌, ◌<◌, ◌≤◌, ◌↔◌, ℕ, false, length, slice_get, IfOk, IsTrue, List, Some, if◌then◌else◌};
 ghost use Rattle.etm_types.specs.Walked.{exception, instructions, items_of};
 ghost use Rattle.etm_types.specs.declared.context.Ctx.{Ctx};
 ghost use Rattle.etm_types.specs.declared.item.Item.{Item};
@@ -108,8 +108,10 @@ impl Counter {
             → (ctx : Ctx) → Counts image self.old self.new (instructions ctx start count took) }
         ensures length { length self.new.visits ≡ length self.old.visits }
     {
-        if count <= self.taken.len() as u64 {
-            self.add_places(place, count as usize, took);
+        if count < (self.taken.len() - place) as u64 {
+            self.add_within(place, count as usize, took);
+        } else {
+            self.add_round(place, count, took);
         }
     }
 
@@ -209,6 +211,37 @@ impl Counter {
             Some(place) => self.add_words(place, count, took),
             None => (),
         }
+    }
+
+    /// The same as [`add_words`](Counter::add_words), where the words may go past the last place, as few do.
+    #[inline(never)]
+    fn add_round(&mut self, place: usize, count: u64, took: bool)
+        requires small { length self.old.visits < 2 ^ 62 }
+        requires place { place < length self.old.visits }
+        requires some { 0 < count }
+        ensures counted { (image : List Part) (start : ℕ) → IsImage image → length self.old.visits ≡ word_count image
+            → slice_get (word_addresses image) place ≡ Some start → AreWords image start count
+            → (ctx : Ctx) → Counts image self.old self.new (instructions ctx start count took) }
+        ensures length { length self.new.visits ≡ length self.old.visits }
+    {
+        if count <= self.taken.len() as u64 {
+            self.add_places(place, count as usize, took);
+        }
+    }
+
+    /// Counts the instructions at so many places from one on, which end before the last place.
+    #[inline(always)]
+    fn add_within(&mut self, place: usize, count: usize, took: bool)
+        requires small { length self.old.visits < 2 ^ 62 }
+        requires some { 0 < count }
+        requires within { place + count < length self.old.visits }
+        ensures visits { RaisesRun self.old.visits self.new.visits place count }
+        ensures taken { RaisesLast self.old.taken self.new.taken took (place_behind (length self.old.visits) place (count - 1)) }
+        ensures marks { self.new.marks ≡ self.old.marks }
+        ensures length { (length self.new.visits ≡ length self.old.visits) × (length self.new.taken ≡ length self.old.taken) }
+    {
+        self.visits.raise_within(place, count);
+        self.taken.raise_if(took, place + count - 1);
     }
 
     /// Counts the instructions at so many places from one on, round the ring.

@@ -60,6 +60,19 @@ impl Levels {
         }
     }
 
+    /// The same, where these places end before the last one.
+    #[inline(always)]
+    pub fn raise_within(&mut self, from: usize, count: usize)
+        requires within { from + count < length self.old }
+        requires small { length self.old < 2 ^ 62 }
+        ensures raised { (f : ℕ → ℕ) → AreLevels self.old f
+            → AreLevels self.new (λ j. f j + one_if (is_within (length self.old) from count j)) }
+        ensures length { length self.new ≡ length self.old }
+    {
+        self.up_from(from);
+        self.down_at(from + count);
+    }
+
     /// Raises by one the numbers from a place on.
     #[inline(always)]
     fn up_from(&mut self, place: usize)
@@ -76,9 +89,19 @@ impl Levels {
         ensures lowered { (f : ℕ → ℕ) → AreLevels self.old f → AreLevels self.new (λ j. f j + (2 ^ 64 - 1) * one_if (nat_le place j)) }
         ensures length { length self.new ≡ length self.old }
     {
-        if place < self.steps.len() {
-            self.steps[place] = self.steps[place].wrapping_sub(1);
+        if place < self.len() {
+            self.down_at(place);
         }
+    }
+
+    /// Lowers by one the numbers from a place on, which is there.
+    #[inline(always)]
+    fn down_at(&mut self, place: usize)
+        requires { place < length self.old }
+        ensures lowered { (f : ℕ → ℕ) → AreLevels self.old f → AreLevels self.new (λ j. f j + (2 ^ 64 - 1) * one_if (nat_le place j)) }
+        ensures length { length self.new ≡ length self.old }
+    {
+        self.steps[place] = self.steps[place].wrapping_sub(1);
     }
 
     /// The numbers themselves: one pass over all places.

@@ -91,7 +91,7 @@ fn place_of(entries: &[Target], from: u64, to: u64) -> usize
     ensures value { IsPartitionPoint (λ e. pair_lt (pair_of e) (from, to) ≡ true) (λ e. pair_lt (pair_of e) (from, to) ≡ false) entries.now result }
     ensures within { result ≤ length entries.now }
 {
-    entries.partition_point(|e| e.from < from || e.from == from && e.to < to)
+    entries.partition_point(|e| (e.from < from) | ((e.from == from) & (e.to < to)))
 }
 
 /// Whether the entry at a place is that of a pair.

@@ -561,6 +561,9 @@ impl Decoding {
         ensures holds { IsDecoding self.new }
     {
         let most = self.todo.atom_count();
+        if most == 0 {
+            return false;
+        }
         let n = walk_oldest(&mut self.walker, image, &self.waiting, most, run);
         if n == 0 {
             return false;

@@ -87,14 +87,29 @@ pub fn take_atoms(waiting: &mut Waiting, todo: &mut Todo, n: usize)
     if take_run(waiting, todo, n) {
         return;
     }
-    if n < 2 {
-        take_each(waiting, todo, n);
+    if n == 0 {
         return;
     }
-    take_each(waiting, todo, 1);
-    if !take_run(waiting, todo, n - 1) {
+    take_first(waiting, todo);
+    if n > 1 && !take_run(waiting, todo, n - 1) {
         take_each(waiting, todo, n - 1);
     }
+}
+
+/// Takes the atom that is next, where no more may be held: it commits the oldest, which was walked.
+#[inline(never)]
+fn take_first(waiting: &mut Waiting, todo: &mut Todo)
+    requires due { waiting.old.due ≡ [] }
+    requires atom { (taken : Bool) × (slice_get todo.old.elements 0 ≡ Some (elem.P0 (Atom taken))) }
+    ensures takes { TakesAtoms waiting.old todo.old.elements 1 waiting.new todo.new.elements }
+    ensures at { todo.new.at ≡ todo.old.at }
+    ensures holds { IsWaiting waiting.new }
+{
+    let Some(taken) = todo.first_atom() else {
+        unreachable!()
+    };
+    waiting.take_atom(taken);
+    todo.advance();
 }
 
 /// The same as a run, where nothing was given before any of them nor before the oldest. Else nothing changes.
