@@ -12,6 +12,8 @@ pub mod Runs
 pub mod Tables
 pub mod WordsBelow
 pub mod WordPlaces
+pub mod NearParts
 pub mod Examples
 pub mod PlaceExamples
+pub mod NearExamples
 pub mod TextExamples

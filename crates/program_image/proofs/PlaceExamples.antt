@@ -53,7 +53,7 @@ not_of_256 is = let below : 256 < 256 = All-head IsByte 256 (0 ∷ 0 ∷ 0 ∷ [
 -- ---- their places
 
 -- two words and one
-abbrev three : List Part
+abbrev pub three : List Part
 three = part 0x1000 (word (word [])) ∷ part 0x2000 (word []) ∷ []
 
 pub addresses : word_addresses three ≡ 0x1000 ∷ 0x1004 ∷ 0x2000 ∷ []

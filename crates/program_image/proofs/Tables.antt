@@ -292,11 +292,11 @@ all_tabled parts rest table start run none tabled =
 
 -- ---- what a table tells
 
-record RunsOf (image : List Part) (part : Part) (runs : List Run) : Type 0 where
-  all : AreRuns image part.start runs
-  size : 4 * length runs ≡ length part.bytes
+pub record RunsOf (image : List Part) (part : Part) (runs : List Run) : Type 0 where
+  pub all : AreRuns image part.start runs
+  pub size : 4 * length runs ≡ length part.bytes
 
-runs_of_part : (image parts : List Part) (table : List (List Run)) (k : ℕ) (d : Part) (e : List Run) → IsTable image parts table → k < length parts
+pub runs_of_part : (image parts : List Part) (table : List (List Run)) (k : ℕ) (d : Part) (e : List Run) → IsTable image parts table → k < length parts
     → RunsOf image (get_or parts k d) (get_or table k e)
 runs_of_part image [] table k d e is within = absurd (omega (arith, within))
 runs_of_part image (part ∷ parts) [] k d e is within = absurd is
@@ -309,7 +309,7 @@ same_length image [] (runs ∷ table) is = absurd is
 same_length image (part ∷ parts) [] is = absurd is
 same_length image (part ∷ parts) (runs ∷ table) is = ap suc (same_length image parts table is.2)
 
-run_of_word : (image : List Part) (address k : ℕ) (runs : List Run) → AreRuns image address runs → k < length runs
+pub run_of_word : (image : List Part) (address k : ℕ) (runs : List Run) → AreRuns image address runs → k < length runs
     → IsRun image (address + 4 * k) (get_or runs k no_word)
 run_of_word image address k [] are within = absurd (omega (arith, within))
 run_of_word image address zero (run ∷ runs) are within =

@@ -7,3 +7,4 @@ pub mod Answers
 pub mod Blocks
 pub mod Runs
 pub mod Places
+pub mod Near

@@ -11,11 +11,13 @@ ghost use Rattle.program_image.specs.ImageText.{add_lines, image_of, most_text};
 ghost use Rattle.program_image.specs.Answers.{AnswersText, TakesImage, TakesNoImage};
 ghost use Rattle.program_image.specs.Blocks.{HasGap, IsBlock, class_at};
 ghost use Rattle.program_image.specs.Runs.{IsRun, run_of};
+ghost use Rattle.program_image.specs.Near.{IsNear, IsOfPart};
 
 use crate::block::{Block, BlockEnd, end_at};
 use crate::draft::Draft;
 use crate::fault::{ImageFault, ImageWhy, LineFault};
 use crate::lookup::{part_at, part_near, word_at};
+use crate::near_part::NearPart;
 use crate::part::Part;
 use crate::places::Places;
 use crate::run::{PlacedRun, WordRun};
@@ -158,6 +160,21 @@ impl Image {
             part,
             run,
         })
+    }
+
+    /// The part at a place among the parts, kept at hand for what looks up one address of it after the other. A place behind the parts gives one
+    /// without words.
+    #[inline(always)]
+    pub fn near_part(&self, part: usize) -> NearPart<'_>
+        ensures near { IsNear self.now result }
+        ensures part { MatchOption (slice_get self.now part) (result.runs ≡ []) (IsOfPart part result) }
+    {
+        if part >= self.parts.len() {
+            return NearPart::without_words();
+        }
+        let start = self.parts[part].start();
+        let runs = self.table[part].entries();
+        NearPart::new(start, runs, self.places.count_before(part), part)
     }
 
     /// How many words there are.

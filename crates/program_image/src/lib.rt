@@ -11,6 +11,7 @@
 //! - [`Image::word_at`]: the instruction word at an address.
 //! - [`Image::block`]: the plain words from an address on, and what stands after them; and [`Image::placed_run`], the same as
 //!   the image keeps it, with the place of the first.
+//! - [`Image::near_part`]: a part at hand, in which [`NearPart::run_at`] finds the same without a search.
 //! - [`Image::place_at`] and [`Image::address_of`]: the place of a word among all words of the image, and back.
 //! - the laws: what a text spells, and what holds of every image.
 #![tactic(auto)]
@@ -22,6 +23,7 @@ mod image;
 mod laws;
 mod line_bytes;
 mod lookup;
+mod near_part;
 mod part;
 mod places;
 mod run;
@@ -34,4 +36,5 @@ pub use laws::{
     a_fault_is_that_of_the_first_line, each_image_has_a_gap, reads_what_is_spelled,
     words_are_of_their_parts, words_have_places,
 };
+pub use near_part::NearPart;
 pub use run::{PlacedRun, WordBehind, WordRun};

@@ -40,10 +40,15 @@ impl Runs {
     pub fn kept_at(&self, word: usize) -> Option<WordRun>
         ensures { MatchOption result (slice_get self.now word ≡ None) (λ run. slice_get self.now word ≡ Some (run_of run)) }
     {
-        match self.of_words.get(word) {
-            Some(entry) => Some(entry.kept()),
-            None => None,
-        }
+        kept_at(&self.of_words, word)
+    }
+
+    /// The entries of the words.
+    #[inline(always)]
+    pub fn entries(&self) -> &[TableEntry]
+        ensures { result.now ≡ self.now }
+    {
+        &self.of_words
     }
 
     /// The run from a word on; words count from 0.
@@ -80,6 +85,17 @@ impl Runs {
         }
         of_words.reverse();
         Ok(Runs { of_words })
+    }
+}
+
+/// The run from a word on, as entries keep it; words count from 0.
+#[inline(always)]
+pub fn kept_at(entries: &[TableEntry], word: usize) -> Option<WordRun>
+    ensures { MatchOption result (slice_get entries.now word ≡ None) (λ run. slice_get entries.now word ≡ Some (run_of run)) }
+{
+    match entries.get(word) {
+        Some(entry) => Some(entry.kept()),
+        None => None,
     }
 }
 
