@@ -1,13 +1,15 @@
 -- Atoms of a run are walked one after the other.
-use Rattle.std.proofs.Common.{◌≡◌, ℕ, zero, suc, ◌-◌, ◌/◌, ◌%◌, ◌<◌, ◌≤◌, ◌+◌, Bool, List, [], ◌∷◌, ◌++◌, length, drop, slice_get}
-use Rattle.std.proofs.Common.{Option, Some, None, refl, sym, ap, subst, ◌∙◌, inl, inr, arith}
+use Rattle.std.proofs.Common.{◌≡◌, ℕ, zero, suc, ◌-◌, ◌/◌, ◌%◌, ◌^◌, ◌<◌, ◌≤◌, ◌+◌, Bool, List, [], ◌∷◌, ◌++◌, length, drop, slice_get}
+use Rattle.std.proofs.Common.{Option, Some, None, refl, sym, ap, subst, ◌∙◌, arith, append-nil, append_assoc, length-append}
 use Rattle.std.specs.Prelude.{◌==◌}
+use Rattle.std.proofs.Math.Nat.{div-one}
 use Rattle.std.proofs.lemmas.List.{drop-drop}
+use Rattle.std.proofs.lemmas.List.Elements.{All-append, All-nil}
+use Rattle.std.proofs.lemmas.Nat.{shr-shr}
+use Rattle.std.proofs.lemmas.Option.{slice_get_within}
 use Rattle.etm_types.specs.Atoms.{low_bits}
-use Rattle.path_walker.specs.declared.pc.Pc.{Pc}
-use Rattle.path_walker.specs.Start.{mismatch_of, told_pc}
-use Rattle.path_walker.specs.State.{State, IsState, standing}
-use Rattle.path_walker.specs.Walk.{HasNoStretch, Shows, WalksAtoms, atom_at, given_before, walked_in}
+use Rattle.path_walker.specs.State.{State, IsState}
+use Rattle.path_walker.specs.Walk.{HasNoStretch, IsPlaced, Shows, WalksAtoms, WalksNoMore, WalksRun, atom_at, given_before, walked_in}
 use Rattle.path_walker.specs.declared.stretch.Stretch.{Stretch}
 use Rattle.program_image.specs.declared.image.Image.{Image}
 
@@ -29,39 +31,6 @@ walks_more image s mid next [] others (x ∷ run) stretch taken walks there same
 walks_more image s mid next (t ∷ atoms) others (x ∷ run) stretch taken (after, first, kept_state, rest) there same shows state =
     (after, first, kept_state, walks_more image after mid next atoms others run stretch taken rest there (same ∙ sym first.kept) shows state)
 
--- an atom before which an address is given is walked as from that address
-shows_given : (image : Image) (s next : State) (given : Option ℕ) (taken : Bool) (stretch : Stretch) → mismatch_of s.pc given ≡ None
-    → Shows image (standing (told_pc given s.pc) s) (atom_at None taken) (walked_in s.ctx stretch) next
-    → Shows image s (atom_at given taken) (walked_in s.ctx stretch) next
-shows_given image s next None taken stretch agrees shows = shows
-shows_given image s next (Some address) taken stretch agrees shows = record {
-  agrees = agrees;
-  leads = shows.leads;
-  on = shows.on;
-  unknown = shows.unknown;
-  start = shows.start;
-  ctx = shows.ctx;
-  kept = shows.kept;
-  exc = shows.exc;
-  took = shows.took;
-}
-
-pub given_first : (image : Image) (s s' : State) (given : Option ℕ) (atoms : List Bool) (stretch : Stretch) (run : List Stretch)
-    → mismatch_of s.pc given ≡ None → WalksAtoms image (standing (told_pc given s.pc) s) None atoms (stretch ∷ run) s'
-    → WalksAtoms image s given atoms (stretch ∷ run) s'
-given_first image s s' given [] stretch run agrees walks = absurd walks
-given_first image s s' given (taken ∷ atoms) stretch run agrees (next, shows, state, rest) =
-    (next, shows_given image s next given taken stretch agrees shows, state, rest)
-
--- of some atoms, where one at least is walked
-pub given_all : (image : Image) (s s' : State) (given : Option ℕ) (pc : Pc) (atoms : List Bool) (run : List Stretch) (n : ℕ) → length run ≡ n → 0 < n
-    → pc ≡ told_pc given s.pc → mismatch_of s.pc given ≡ None → WalksAtoms image (standing pc s) None atoms run s'
-    → WalksAtoms image s given atoms run s'
-given_all image s s' given pc atoms [] n count some told agrees walks = absurd (omega (arith, count, some))
-given_all image s s' given pc atoms (stretch ∷ run) n count some told agrees walks =
-    given_first image s s' given atoms stretch run agrees
-    (subst (λ (p : Pc). WalksAtoms image (standing p s) None atoms (stretch ∷ run) s') told walks)
-
 -- the bits of the atoms that are left: the next one, and the others
 pub next_bit : (count n bits : ℕ) → n < count → low_bits (count - n) bits ≡ (bits % 2 == 1) ∷ low_bits (count - (n + 1)) (bits / 2)
 next_bit count n bits lt = let more : count - n ≡ suc (count - (n + 1)) = omega (arith, lt) in ap (λ k. low_bits k bits) more
@@ -69,46 +38,127 @@ next_bit count n bits lt = let more : count - n ≡ suc (count - (n + 1)) = omeg
 pub drop_next : {X : Type 0} (n : ℕ) (xs ys : List X) (x : X) → drop n xs ≡ x ∷ ys → drop (n + 1) xs ≡ ys
 drop_next n xs ys x there = sym (drop-drop 1 n xs) ∙ ap (drop 1) there
 
+-- ---- atoms behind atoms that were walked
+
+-- more of them change nothing
+walks_of_more : (image : Image) (s s' : State) (addr : Option ℕ) (atoms more : List Bool) (run : List Stretch) → WalksAtoms image s addr atoms run s'
+    → WalksAtoms image s addr (atoms ++ more) run s'
+walks_of_more image s s' addr [] more [] walks = walks
+walks_of_more image s s' addr [] more (x ∷ run) walks = absurd walks
+walks_of_more image s s' addr (t ∷ atoms) more [] walks = walks
+walks_of_more image s s' addr (t ∷ atoms) more (x ∷ run) (next, shows, state, rest) =
+    (next, shows, state, walks_of_more image next s' None atoms more run rest)
+
+pub none_before : (n : ℕ) → given_before n None ≡ None
+none_before zero = refl
+none_before (suc n) = refl
+
+-- those that are left are walked from where the first ones lead
+walks_joined : (image : Image) (s mid s' : State) (addr : Option ℕ) (atoms : List Bool) (run more : List Stretch)
+    → WalksAtoms image s addr atoms run mid → WalksAtoms image mid None (drop (length run) atoms) more s' → given_before (length run) addr ≡ None
+    → WalksAtoms image s addr atoms (run ++ more) s'
+walks_joined image s mid s' addr atoms [] more walks rest none =
+    subst (λ (a : Option ℕ). WalksAtoms image s a atoms more s') (sym none) (subst (λ (m : State). WalksAtoms image m None atoms more s') walks rest)
+walks_joined image s mid s' addr [] (x ∷ run) more walks rest none = absurd walks
+walks_joined image s mid s' addr (t ∷ atoms) (x ∷ run) more (next, shows, state, walks) rest none =
+    (next, shows, state, walks_joined image next mid s' None atoms run more walks rest (none_before (length run)))
+
+-- ---- atoms as bits
+
+half_of : (n bits : ℕ) → bits / 2 / 2 ^ n ≡ bits / 2 ^ suc n
+half_of n bits = let same : 1 + n ≡ suc n = omega arith in shr-shr bits 1 n ∙ ap (λ (j : ℕ). bits / 2 ^ j) same
+
+-- those that are left behind n atoms
+drop_bits : (n count bits : ℕ) → n ≤ count → drop n (low_bits count bits) ≡ low_bits (count - n) (bits / 2 ^ n)
+drop_bits zero count bits within =
+    let all : count ≡ count - 0 = omega arith in ap (low_bits count) (sym (div-one bits)) ∙ ap (λ (k : ℕ). low_bits k (bits / 1)) all
+drop_bits (suc n) zero bits within = absurd (omega (arith, within))
+drop_bits (suc n) (suc count) bits within =
+    let left : count - n ≡ suc count - suc n = omega arith in
+    drop_bits n count (bits / 2) (omega (arith, within)) ∙ ap (low_bits (count - n)) (half_of n bits)
+    ∙ ap (λ (k : ℕ). low_bits k (bits / 2 ^ suc n)) left
+
+-- the atom at n
+bit_at : (n count bits : ℕ) (taken : Bool) → slice_get (low_bits count bits) n ≡ Some taken → (bits / 2 ^ n % 2 == 1) ≡ taken
+bit_at n zero bits taken there = absurd cc
+bit_at zero (suc count) bits taken there =
+    let first : (bits % 2 == 1) ≡ taken = cc in ap (λ (b : ℕ). b % 2 == 1) (div-one bits) ∙ first
+bit_at (suc n) (suc count) bits taken there =
+    ap (λ (b : ℕ). b % 2 == 1) (sym (half_of n bits)) ∙ bit_at n count (bits / 2) taken there
+
+-- fewer bits have the first of the atoms
+first_bits : (few count bits : ℕ) → few ≤ count → (more : List Bool) × (low_bits count bits ≡ low_bits few bits ++ more)
+first_bits zero count bits within = (low_bits count bits, refl)
+first_bits (suc few) zero bits within = absurd (omega (arith, within))
+first_bits (suc few) (suc count) bits within =
+    let rest = first_bits few count (bits / 2) (omega (arith, within)) in
+    (rest.0, ap (λ (atoms : List Bool). (bits % 2 == 1) ∷ atoms) rest.1)
+
+low_bits_length : (count bits : ℕ) → length (low_bits count bits) ≡ count
+low_bits_length zero bits = refl
+low_bits_length (suc count) bits = ap suc (low_bits_length count (bits / 2))
+
+-- ---- runs
+
+pub run_of_none : (image : Image) (s : State) (addr : Option ℕ) (atoms : List Bool) (run : List Stretch) → WalksRun image s addr atoms run 0 s run
+run_of_none image s addr [] run =
+    record { added = []; joined = sym (append-nil run); count = refl; walks = refl; placed = All-nil (IsPlaced image) }
+run_of_none image s addr (t ∷ atoms) run =
+    record { added = []; joined = sym (append-nil run); count = refl; walks = refl; placed = All-nil (IsPlaced image) }
+
+-- of more atoms
+pub run_of_more : (image : Image) (s s' : State) (addr : Option ℕ) (few count bits n : ℕ) (run run' : List Stretch) → few ≤ count
+    → WalksRun image s addr (low_bits few bits) run n s' run' → WalksRun image s addr (low_bits count bits) run n s' run'
+run_of_more image s s' addr few count bits n run run' within walked =
+    let first = first_bits few count bits within in
+    record {
+      added = walked.added;
+      joined = walked.joined;
+      count = walked.count;
+      walks = subst (λ (atoms : List Bool). WalksAtoms image s addr atoms walked.added s') (sym first.1)
+          (walks_of_more image s s' addr (low_bits few bits) first.0 walked.added walked.walks);
+      placed = walked.placed;
+    }
+
+-- and behind them of those that are left
+pub run_joined : (image : Image) (s mid s' : State) (addr : Option ℕ) (count bits n m : ℕ) (run run1 run' : List Stretch) → n ≤ count
+    → given_before n addr ≡ None → WalksRun image s addr (low_bits count bits) run n mid run1
+    → WalksRun image mid None (low_bits (count - n) (bits / 2 ^ n)) run1 m s' run' → WalksRun image s addr (low_bits count bits) run (n + m) s' run'
+run_joined image s mid s' addr count bits n m run run1 run' within none first rest =
+    let left : low_bits (count - n) (bits / 2 ^ n) ≡ drop (length first.added) (low_bits count bits) =
+    sym (drop_bits n count bits within) ∙ ap (λ (k : ℕ). drop k (low_bits count bits)) (sym first.count) in
+    record {
+      added = first.added ++ rest.added;
+      joined = rest.joined ∙ ap (λ (r : List Stretch). r ++ rest.added) first.joined ∙ append_assoc run first.added rest.added;
+      count = omega (arith, length-append first.added rest.added, first.count, rest.count);
+      walks = walks_joined image s mid s' addr (low_bits count bits) first.added rest.added first.walks
+          (subst (λ (atoms : List Bool). WalksAtoms image mid None atoms rest.added s') left rest.walks)
+          (ap (λ (k : ℕ). given_before k addr) first.count ∙ none);
+      placed = All-append (IsPlaced image) first.added rest.added first.placed rest.placed;
+    }
+
 -- ---- where no more are walked
 
--- an atom has no stretch behind an address that is given, where it has none at that address
-no_stretch_given : (image : Image) (s : State) (given : Option ℕ) (taken : Bool) → mismatch_of s.pc given ≡ None
-    → HasNoStretch image (standing (told_pc given s.pc) s) (atom_at None taken) → HasNoStretch image s (atom_at given taken)
-no_stretch_given image s None taken agrees none = none
-no_stretch_given image s (Some address) taken agrees (inl unknown) = absurd cc
-no_stretch_given image s (Some address) taken agrees (inr (f, inl differs)) = absurd cc
-no_stretch_given image s (Some address) taken agrees (inr (f, inr halts)) = inr (f, inr (agrees, halts.1))
+-- the first atom, where an address was given
+pub no_more_first : (image : Image) (s : State) (addr : Option ℕ) (most count bits room : ℕ) (run : List Stretch) → (0 < count → 0 < room → 0 < most)
+    → room + length run ≡ 24 → (0 < most → HasNoStretch image s (atom_at addr (bits % 2 == 1)))
+    → WalksNoMore image s addr (low_bits count bits) 0 run
+no_more_first image s addr most zero bits room run some all none taken there short = absurd cc
+no_more_first image s addr most (suc count) bits room run some all none taken there short =
+    let first : (bits % 2 == 1) ≡ taken = cc in
+    subst (λ (t : Bool). HasNoStretch image s (atom_at addr t)) first (none (some (omega arith) (omega (arith, all, short))))
 
--- the first atom, where none was walked
-pub none_first : (image : Image) (s s' : State) (given : Option ℕ) (pc next : Pc) (n : ℕ) (atoms : List Bool) (run : List Stretch) (taken : Bool)
-    → length run ≡ n → n ≤ 0 → pc ≡ told_pc given s.pc → mismatch_of s.pc given ≡ None → s'.pc ≡ s.pc
-    → WalksAtoms image (standing pc s) None atoms run (standing next s') → HasNoStretch image (standing next s') (atom_at None taken)
-    → HasNoStretch image s' (atom_at (given_before n given) taken)
-none_first image s s' given pc next (suc n) atoms run taken count none told agrees same walks has_none = absurd (omega (arith, none))
-none_first image s s' given pc next zero atoms (stretch ∷ run) taken count none told agrees same walks has_none = absurd (omega (arith, count))
-none_first image s s' given pc next zero atoms [] taken count none told agrees same walks has_none =
-    let began : standing next s' ≡ standing (told_pc given s.pc) s = walks ∙ ap (λ (p : Pc). standing p s) told in
-    let is : s' ≡ s = ap (λ (x : State). standing s'.pc x) walks ∙ ap (λ (p : Pc). standing p s) same in
-    subst (λ (x : State). HasNoStretch image x (atom_at given taken)) (sym is) (no_stretch_given image s given taken agrees
-    (subst (λ (x : State). HasNoStretch image x (atom_at None taken)) began has_none))
+behind_none : (n m : ℕ) (addr : Option ℕ) → given_before n addr ≡ None → given_before (n + m) addr ≡ None
+behind_none zero m addr none = ap (given_before (0 + m)) none ∙ none_before (0 + m)
+behind_none (suc n) m addr none = let more : suc n + m ≡ suc (n + m) = omega arith in ap (λ (k : ℕ). given_before k addr) more
 
--- an atom behind others
-pub none_next : (image : Image) (s : State) (given : Option ℕ) (n : ℕ) (taken : Bool) → 0 < n → HasNoStretch image s (atom_at None taken)
-    → HasNoStretch image s (atom_at (given_before n given) taken)
-none_next image s given zero taken some has_none = absurd (omega (arith, some))
-none_next image s given (suc n) taken some has_none = has_none
-
--- the atom at n, and the first of the bits that are left behind n atoms
-first_left : {X : Type 0} (n : ℕ) (xs : List X) (x : X) → slice_get xs n ≡ Some x → (others : List X) × (drop n xs ≡ x ∷ others)
-first_left n [] x there = absurd cc
-first_left zero (y ∷ xs) x there = (xs, cc)
-first_left (suc n) (y ∷ xs) x there = first_left n xs x there
-
-first_bit : (left bits : ℕ) (taken : Bool) (others : List Bool) → low_bits left bits ≡ taken ∷ others → (0 < left) × ((bits % 2 == 1) ≡ taken)
-first_bit zero bits taken others is = absurd cc
-first_bit (suc n) bits taken others is = (omega arith, cc)
-
-pub bit_there : (n left bits : ℕ) (atoms : List Bool) (taken : Bool) → drop n atoms ≡ low_bits left bits → slice_get atoms n ≡ Some taken
-    → (0 < left) × ((bits % 2 == 1) ≡ taken)
-bit_there n left bits atoms taken is there =
-    let first = first_left n atoms taken there in first_bit left bits taken first.0 (sym is ∙ first.1)
+-- those behind n atoms and m more
+pub no_more_behind : (image : Image) (s' : State) (addr : Option ℕ) (most count bits n m : ℕ) (run' : List Stretch) → given_before n addr ≡ None
+    → (n + m < count → length run' < 24 → n + m < most)
+    → (m < most - n → HasNoStretch image s' (atom_at None (bits / 2 ^ n / 2 ^ m % 2 == 1))) → WalksNoMore image s' addr (low_bits count bits) (n + m) run'
+no_more_behind image s' addr most count bits n m run' first some none taken there short =
+    let within : n + m < count = omega (arith, slice_get_within (low_bits count bits) (n + m) taken there, low_bits_length count bits) in
+    let below : m < most - n = let lt = some within short in omega (arith, lt) in
+    let bit : (bits / 2 ^ n / 2 ^ m % 2 == 1) ≡ taken = ap (λ (b : ℕ). b % 2 == 1) (shr-shr bits n m) ∙ bit_at (n + m) count bits taken there in
+    subst (λ (t : Bool). HasNoStretch image s' (atom_at (given_before (n + m) addr) t)) bit
+    (subst (λ (a : Option ℕ). HasNoStretch image s' (atom_at a (bits / 2 ^ n / 2 ^ m % 2 == 1))) (sym (behind_none n m addr first)) (none below))

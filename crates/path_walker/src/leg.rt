@@ -2,9 +2,10 @@
 ghost use Rattle.std.specs.Prelude.{◌≡◌, ◌≢◌, ◌+◌, ◌%◌, ◌-◌, true, false, IfOk, IfSome, Some, None, Err, slice_get};
 ghost use Rattle.a64_branches.specs.Classes.{HasWholeOffset};
 ghost use Rattle.a64_branches.specs.declared.class.Class.TheVariants.{Plain};
-ghost use Rattle.program_image.specs.Runs.{class_behind};
+ghost use Rattle.program_image.specs.Runs.{IsRun, class_behind, run_of};
 ghost use Rattle.program_image.specs.Blocks.{behind, class_at};
 ghost use Rattle.program_image.specs.Places.{word_addresses};
+ghost use Rattle.program_image.specs.Near.{IsNear};
 ghost use Rattle.etm_types.specs.declared.element.P0.TheVariants as p0;
 ghost use Rattle.etm_types.specs.declared.walk_fault.WalkFault.{WalkFault};
 ghost use Rattle.path_walker.specs.declared.pc.Pc.TheVariants.{Awaited, Known};
@@ -16,7 +17,7 @@ ghost use Rattle.path_walker.specs.Walk.{Halts, Refuses, is_to_register, takes, 
 use crate::pc::Pc;
 use a64_branches::{INSTRUCTION_BYTES, target};
 use etm_types::{P0, WalkFault};
-use program_image::{BlockEnd, Image, PlacedRun, WordBehind};
+use program_image::{BlockEnd, Image, NearPart, PlacedRun, WordBehind};
 use return_stack::ReturnStack;
 
 /// What is executed for a P0 element, and where it leads.
@@ -171,6 +172,23 @@ fn leg_behind(placed: PlacedRun, addr: u64, taken: bool) -> Result<Leg, WalkFaul
     }
 }
 
+/// A run of plain words from an address on, and after it the P0 instruction of an atom.
+#[inline(always)]
+fn leg_along(image: &Image, pc: u64, placed: PlacedRun, taken: bool) -> Result<Leg, WalkFault>
+    requires start { pc % 4 ≡ 0 }
+    requires run { IsRun image.now pc (run_of placed.run) }
+    requires place { slice_get (word_addresses image.now) placed.place ≡ Some pc }
+    ensures leads { IfOk result (IsLeg image.now (Some pc) (p0.Atom taken)) }
+    ensures took { IfOk result (λ leg. leg.took ≡ takes image.now (Some pc) (p0.Atom taken) leg.count) }
+    ensures placed { IfOk result (λ leg. slice_get (word_addresses image.now) leg.place ≡ Some pc) }
+    ensures register { IfOk result (λ leg. leg.to_register ≡ is_to_register (class_at image.now (behind pc (leg.count - 1)))) }
+    ensures halts { (fault : WalkFault) → result ≡ Err fault → Halts image.now (Some pc) (p0.Atom taken) fault }
+    ensures aligned { IfOk result IsAlignedLeg }
+{
+    let words = u64::from(placed.run.plain) * INSTRUCTION_BYTES;
+    leg_behind(placed, pc.wrapping_add(words), taken)
+}
+
 /// The plain words from an address on, and after them the P0 instruction of an atom. The part at the place `near` among those of the image is
 /// looked at first.
 #[inline(always)]
@@ -186,8 +204,22 @@ pub fn leg_of_atom(image: &Image, pc: u64, near: usize, taken: bool) -> Result<L
     let Some(placed) = image.placed_run(pc, near) else {
         return Err(WalkFault::NoCode(pc));
     };
-    let words = u64::from(placed.run.plain) * INSTRUCTION_BYTES;
-    leg_behind(placed, pc.wrapping_add(words), taken)
+    leg_along(image, pc, placed, taken)
+}
+
+/// The same, where the words begin in the part that is at hand, and there is no fault.
+#[inline(always)]
+pub fn leg_near(image: &Image, near: &NearPart, pc: u64, taken: bool) -> Option<Leg>
+    requires start { pc % 4 ≡ 0 }
+    requires near { IsNear image.now near.now }
+    ensures leads { IfSome result (IsLeg image.now (Some pc) (p0.Atom taken)) }
+    ensures took { IfSome result (λ leg. leg.took ≡ takes image.now (Some pc) (p0.Atom taken) leg.count) }
+    ensures placed { IfSome result (λ leg. slice_get (word_addresses image.now) leg.place ≡ Some pc) }
+    ensures register { IfSome result (λ leg. leg.to_register ≡ is_to_register (class_at image.now (behind pc (leg.count - 1)))) }
+    ensures aligned { IfSome result IsAlignedLeg }
+{
+    let placed = near.run_at(pc)?;
+    leg_along(image, pc, placed, taken).ok()
 }
 
 /// The plain words from an address on, up to the preferred return address of an exception.

@@ -1,14 +1,15 @@
 //! The walk of one entry after the other.
-ghost use Rattle.std.specs.Prelude.{◌≡◌, ◌≤◌, IfOk, IfSome, IsOk, IsErr, IsSome, Some, None};
-ghost use Rattle.etm_types.specs.Atoms.{atoms_in};
+ghost use Rattle.std.specs.Prelude.{◌≡◌, ◌≤◌, ◌<◌, ◌+◌, ◌/◌, ◌%◌, ◌^◌, ◌==◌, ◌∷◌, [], length, false, IfOk, IfSome, IsOk, IsErr, IsSome, IsTrue, Some, None};
+ghost use Rattle.etm_types.specs.Atoms.{atoms_in, low_bits};
+ghost use Rattle.program_image.specs.Near.{IsNear};
 ghost use Rattle.etm_types.specs.declared.walk_fault.WalkFault.{WalkFault};
 
-use crate::leg::{Leg, leg_of, leg_of_atom};
+use crate::leg::{Leg, leg_near, leg_of, leg_of_atom};
 use crate::pc::Pc;
 use crate::start::{StackUse, Start, at_given, at_known};
 use crate::stretch::{Stretch, Stretches};
 use etm_types::{AtomRun, Ctx, Entry, ExcMark, P0, Pre, WalkFault, Walked};
-use program_image::Image;
+use program_image::{Image, NearPart};
 use return_stack::{MOST_ADDRESSES, ReturnStack};
 use std::alloc::{AllocError, Global};
 use std::marker::Model;
@@ -20,6 +21,30 @@ struct AtomWalk {
     next: Pc,
     /// The place of its part among the parts of the image.
     part: usize,
+}
+
+impl AtomWalk {
+    /// That along a leg from an address.
+    #[inline(always)]
+    fn along(start: u64, leg: Leg) -> AtomWalk
+        ensures { result ≡ record {
+          stretch = record { start = start; place = leg.place; count = leg.count; took = leg.took; to_register = leg.to_register };
+          next = leg.next;
+          part = leg.part;
+        } }
+    {
+        AtomWalk {
+            stretch: Stretch {
+                start,
+                place: leg.place,
+                count: leg.count,
+                took: leg.took,
+                to_register: leg.to_register,
+            },
+            next: leg.next,
+            part: leg.part,
+        }
+    }
 }
 
 /// The walk over an image, between two entries. Contracts see it as what is known of the next
@@ -50,7 +75,7 @@ impl Walker {
     ghost use Rattle.path_walker.specs.Start.{StartsAs, context_of, mismatch_of, pc_before, start_of, told_pc, used};
     ghost use Rattle.path_walker.specs.Steps.{linked};
     ghost use Rattle.path_walker.specs.Walk.{HasAlignedAddresses, HasNoStretch, IsPlaced, Shows, Stops, ToldIsAligned, WalksNoMore, WalksRun};
-    ghost use Rattle.path_walker.specs.Walk.{atom_at, mark_of, walked_in};
+    ghost use Rattle.path_walker.specs.Walk.{atom_at, given_before, mark_of, walked_in};
 
     /// A walk that begins at no known address. This is the one call that takes memory, and the error
     /// means want of it.
@@ -123,7 +148,8 @@ impl Walker {
     /// Walks atoms one after the other, before the first of which this address was given, where one was, and nothing before the others: as
     /// many as [`walk_atom`](Walker::walk_atom) walks and a run has room for. It gives how many.
     ///
-    /// In between the address stays in registers, since the next look-up waits for it. The address that is given is a multiple of 4.
+    /// As long as they stay in one part of the image, nothing of it is searched, and the address stays in registers, since the next look-up
+    /// waits for it. The address that is given is a multiple of 4.
     #[inline(always)]
     pub fn walk_atoms(
         &mut self,
@@ -139,28 +165,11 @@ impl Walker {
         ensures context { self.new.ctx ≡ self.old.ctx }
         ensures state { IsState self.new }
     {
-        let Some(mut pc) = self.pc_given(given) else {
+        let most = usize::from(atoms.count).min(run.room());
+        let Some(first) = self.walk_given(image, given, atoms.bits, most, run) else {
             return 0;
         };
-        let most = usize::from(atoms.count).min(run.room());
-        let mut part = self.part;
-        let mut bits = atoms.bits;
-        let mut n = 0;
-        while n < most {
-            let Some(walk) = self.walk_from(image, pc, part, bits % 2 == 1) else {
-                break;
-            };
-            run.push(walk.stretch);
-            pc = walk.next;
-            part = walk.part;
-            bits /= 2;
-            n += 1;
-        }
-        if n > 0 {
-            self.pc = pc;
-            self.part = part;
-        }
-        n
+        first + self.walk_on(image, atoms.bits >> first, most - first, run)
     }
 
     /// The context of the instructions that are walked next, where none is given.
@@ -228,18 +237,144 @@ impl Walker {
             return None;
         };
         self.leave(stack, &leg);
-        let stretch = Stretch {
-            start,
-            place: leg.place,
-            count: leg.count,
-            took: leg.took,
-            to_register: leg.to_register,
+        Some(AtomWalk::along(start, leg))
+    }
+
+    /// Walks an atom of the part that is at hand, before which nothing was given, from what is told here of the address. It does so where that is
+    /// known and there is no fault.
+    #[inline(always)]
+    fn walk_from_near(
+        &mut self,
+        image: &Image,
+        near: &NearPart,
+        pc: Pc,
+        taken: bool,
+    ) -> Option<AtomWalk>
+        requires pc { IsPc pc }
+        requires near { IsNear image.now near.now }
+        ensures shows { IfSome result (λ walk. Shows image.now (standing pc self.old) (atom_at None taken) (walked_in self.old.ctx walk.stretch)
+            (standing walk.next self.new)) }
+        ensures placed { IfSome result (λ walk. IsPlaced image.now walk.stretch) }
+        ensures next { IfSome result (λ walk. IsPc walk.next) }
+        ensures unchanged { result ≡ None → self.new ≡ self.old }
+        ensures others { (self.new.pc ≡ self.old.pc) × (self.new.ctx ≡ self.old.ctx) }
+        ensures state { IsState self.new }
+    {
+        let _ = &self.stack;
+        let Pc::Known(start) = pc else {
+            return None;
         };
-        Some(AtomWalk {
-            stretch,
-            next: leg.next,
-            part: leg.part,
-        })
+        let leg = leg_near(image, near, start, taken)?;
+        self.leave(StackUse::Keep, &leg);
+        Some(AtomWalk::along(start, leg))
+    }
+
+    /// Walks the first of some atoms, where an address was given before it. It gives how many were walked, or `None` where an address was given
+    /// and no atom is walked there.
+    #[inline(always)]
+    fn walk_given(
+        &mut self,
+        image: &Image,
+        given: Option<u64>,
+        bits: u32,
+        most: usize,
+        run: &mut Stretches,
+    ) -> Option<usize>
+        requires told { ToldIsAligned given }
+        requires room { most + length run.old ≤ 24 }
+        ensures walks { IfSome result (λ n. WalksRun image.now self.old given (low_bits most bits) run.old n self.new run.new) }
+        ensures behind { IfSome result (λ n. given_before n given ≡ None) }
+        ensures most { IfSome result (λ n. n ≤ most) }
+        ensures none { result ≡ None → 0 < most → HasNoStretch image.now self.old (atom_at given (bits % 2 == 1)) }
+        ensures unchanged { result ≡ None → (self.new ≡ self.old) × (run.new ≡ run.old) }
+        ensures context { self.new.ctx ≡ self.old.ctx }
+        ensures state { IsState self.new }
+    {
+        let _ = &self.stack;
+        if given.is_none() {
+            return Some(0);
+        }
+        if most == 0 || !self.walk_other(image, given, bits % 2 == 1, run) {
+            return None;
+        }
+        Some(1)
+    }
+
+    /// Walks atoms before which nothing was given, one after the other, as many as can be and at most so many. It gives how many.
+    #[inline(always)]
+    fn walk_on(&mut self, image: &Image, bits: u32, most: usize, run: &mut Stretches) -> usize
+        requires { most + length run.old ≤ 24 }
+        ensures walks { WalksRun image.now self.old None (low_bits most bits) run.old result self.new run.new }
+        ensures stops { result < most → HasNoStretch image.now self.new (atom_at None (bits / 2 ^ result % 2 == 1)) }
+        ensures most { result ≤ most }
+        ensures context { self.new.ctx ≡ self.old.ctx }
+        ensures state { IsState self.new }
+    {
+        let _ = &self.stack;
+        let mut n = 0;
+        while n < most {
+            n += self.walk_near(image, bits >> n, most - n, run);
+            if n == most {
+                break;
+            }
+            if !self.walk_other(image, None, (bits >> n) % 2 == 1, run) {
+                break;
+            }
+            n += 1;
+        }
+        n
+    }
+
+    /// The same, as long as the address is known and they are of the part of the last atom.
+    #[inline(always)]
+    fn walk_near(&mut self, image: &Image, bits: u32, most: usize, run: &mut Stretches) -> usize
+        requires { most + length run.old ≤ 24 }
+        ensures walks { WalksRun image.now self.old None (low_bits most bits) run.old result self.new run.new }
+        ensures most { result ≤ most }
+        ensures context { self.new.ctx ≡ self.old.ctx }
+        ensures state { IsState self.new }
+    {
+        let near = image.near_part(self.part);
+        let mut pc = self.pc;
+        let mut left = bits;
+        let mut n = 0;
+        while n < most {
+            let Some(walk) = self.walk_from_near(image, &near, pc, left % 2 == 1) else {
+                break;
+            };
+            run.push(walk.stretch);
+            pc = walk.next;
+            left /= 2;
+            n += 1;
+        }
+        self.pc = pc;
+        n
+    }
+
+    /// Walks one atom of any kind, and says whether it was walked.
+    #[inline(never)]
+    fn walk_other(
+        &mut self,
+        image: &Image,
+        given: Option<u64>,
+        taken: bool,
+        run: &mut Stretches,
+    ) -> bool
+        requires told { ToldIsAligned given }
+        requires room { length run.old < 24 }
+        ensures walks { IsTrue result → WalksRun image.now self.old given (taken ∷ []) run.old 1 self.new run.new }
+        ensures none { result ≡ false → HasNoStretch image.now self.old (atom_at given taken) }
+        ensures unchanged { result ≡ false → (self.new ≡ self.old) × (run.new ≡ run.old) }
+        ensures context { self.new.ctx ≡ self.old.ctx }
+        ensures state { IsState self.new }
+    {
+        match self.walk_atom(image, given, taken) {
+            Some(stretch) => {
+                run.push(stretch);
+                true
+            }
+            None => false,
+        }
     }
 
     /// Goes on after a leg, in the same context.

@@ -1,99 +1,45 @@
-use Rattle.std.proofs.Common.{◌≡◌, ◌-◌, ◌+◌, ◌/◌, ◌%◌, ◌<◌, ◌++◌, ◌∷◌, [], Bool, List, None, Some, ap, append_assoc, arith, drop}
-use Rattle.std.proofs.Common.{length, length-append, refl, slice_get, subst, sym, ◌∙◌}
-use Rattle.std.specs.Prelude.{◌==◌}
-use Rattle.std.proofs.lemmas.List.Elements.{All-append, All-cons, All-nil}
-use Rattle.etm_types.specs.Atoms.{atoms_in, low_bits}
-use Rattle.path_walker.specs.State.{IsState, State, standing}
-use Rattle.path_walker.specs.Walk.{HasNoStretch, IsPlaced, WalksAtoms, atom_at, given_before}
+use Rattle.std.proofs.Common.{◌<◌, ◌+◌, ap, arith, length, length-append, List, refl, subst, sym}
+use Rattle.etm_types.specs.Atoms.{low_bits}
+use Rattle.path_walker.specs.State.{State}
+use Rattle.path_walker.specs.Walk.{WalksNoMore}
 use Rattle.path_walker.specs.declared.stretch.Stretch.{Stretch}
-use Rattle.path_walker.proofs.AtomRuns.{bit_there, drop_next, given_all, next_bit, none_first, none_next, walks_more}
-use Rattle.path_walker.proofs.walker.Walker.walk_atoms.Goals.{After-self-2, else-loop-n-test, then-loop-n-test+in_default-walk_from}
+use Rattle.path_walker.proofs.AtomRuns.{no_more_behind, no_more_first, run_joined, run_of_more}
 use Rattle.path_walker.proofs.walker.Walker.walk_atoms.Goals as goal
 
-pub loop-n-preserved : goal.loop-n-preserved
-loop-n-preserved c =
-    let l = c.loop-n in let i = l.invariant in let image = c.args.image.now in let atoms = atoms_in c.args.atoms.now in
-    let walk = c.in-Some-walk_from.walk in let stretch = walk.stretch in let added = i.walks.0 in
-    let mid = standing l.pc l.self in let next = standing walk.next c.walk_from.new.self in
-    let taken : Bool = l.bits % 2 == 1 in let others = low_bits (c.args.atoms.now.count - (l.n + 1)) (l.bits / 2) in
-    let below : l.n < c.args.atoms.now.count = omega (arith, c.loop-n-test.true, c.min-most.ensures, c.from.ensures) in
-    let there : drop l.n atoms ≡ taken ∷ others = i.left ∙ next_bit c.args.atoms.now.count l.n l.bits below in
-    let there' : drop (length added) atoms ≡ taken ∷ others = subst (λ n. drop n atoms ≡ taken ∷ others) (sym i.walks.2) there in
-    let state : IsState next =
-    record { pc = c.in-Some-walk_from.ensures.next; stack = c.in-Some-walk_from.ensures.state.stack; few = c.in-Some-walk_from.ensures.state.few } in
-    record {
-      walks = (
-        added ++ stretch ∷ [],
-        c.push.ensures ∙ ap (λ (r : List Stretch). r ++ stretch ∷ []) i.walks.1 ∙ append_assoc c.args.run.now added (stretch ∷ []),
-        omega (arith, length-append added (stretch ∷ []), i.walks.2),
-        walks_more image (standing c.in-Some.pc c.args.self.now) mid next atoms others added stretch taken i.walks.3 there' i.context
-            c.in-Some-walk_from.ensures.shows state,
-        All-append (IsPlaced image) added (stretch ∷ []) i.walks.4
-            (All-cons (IsPlaced image) stretch [] c.in-Some-walk_from.ensures.placed (All-nil (IsPlaced image))),
-      );
-      left = drop_next l.n atoms others taken there;
-      pc = c.in-Some-walk_from.ensures.next;
-      kept = c.in-Some-walk_from.ensures.others.0 ∙ i.kept;
-      context = c.in-Some-walk_from.ensures.others.1 ∙ i.context;
-      most = omega (arith, c.loop-n-test.true);
-      room = omega (arith, i.room, c.loop-n-test.true, length-append l.run (stretch ∷ []), ap length c.push.ensures);
-    }
+pub returns-in_default-clause-stops : goal.returns-in_default-clause-stops
+returns-in_default-clause-stops c =
+    let image = c.args.image.now in let s = c.args.self.now in let given = c.args.given in let run = c.args.run.now in
+    let bits = c.args.atoms.now.bits in let count = c.args.atoms.now.count in
+    let same = c.in_default.ensures.unchanged refl in
+    let some : 0 < count → 0 < c.room.result → 0 < c.min-most.result = λ any room. omega (arith, any, room, c.min-most.ensures, c.from.ensures) in
+    subst (λ (r : List Stretch). WalksNoMore image c.walk_given.new.self given (low_bits count bits) 0 r) (sym same.1)
+    (subst (λ (x : State). WalksNoMore image x given (low_bits count bits) 0 run) (sym same.0)
+    (no_more_first image s given c.min-most.result count bits c.room.result run some c.room.ensures (c.in_default.ensures.none refl)))
 
--- where the loop has ended, the last try has changed nothing
-ended : (c : After-self-2) → c.loop-n-test.self ≡ c.loop-n.self
-ended c = elim c.loop-n-test.branch [
-  | else-loop-n-test w ↦ w.self-is
-  | then-loop-n-test+in_default-walk_from w ↦ w.self-is ∙ w.in_default-walk_from.ensures.unchanged refl
-]
+pub returns-clause-walks : goal.returns-clause-walks
+returns-clause-walks c =
+    let image = c.args.image.now in let s = c.args.self.now in let bits = c.args.atoms.now.bits in let count = c.args.atoms.now.count in
+    let given = c.args.given in let first = c.in-Some.first in let most = c.min-most.result in
+    run_of_more image s c.walk_on.new.self given most count bits (first + c.walk_on.result) c.args.run.now c.walk_on.new.run
+    (omega (arith, c.min-most.ensures, c.from.ensures))
+    (run_joined image s c.walk_given.new.self c.walk_on.new.self given most bits first c.walk_on.result c.args.run.now c.walk_given.new.run c.walk_on.new.run
+    c.in-Some.ensures.most c.in-Some.ensures.behind c.in-Some.ensures.walks c.walk_on.ensures.walks)
 
-pub returns-then-n-gt0-clause-walks : goal.returns-then-n-gt0-clause-walks
-returns-then-n-gt0-clause-walks c =
-    let i = c.loop-n.invariant in let image = c.args.image.now in let s = c.args.self.now in let told = c.in-Some.ensures in
-    record {
-      added = i.walks.0;
-      joined = i.walks.1;
-      count = i.walks.2;
-      walks = subst (λ (next : State). WalksAtoms image s c.args.given (atoms_in c.args.atoms.now) i.walks.0 next)
-          (sym (ap (λ (x : State). standing c.loop-n.pc x) (c.self-2.view_is ∙ ended (goal.at.returns-then-n-gt0-clause-walks c).After-self-2)))
-          (given_all image s (standing c.loop-n.pc c.loop-n.self) c.args.given c.in-Some.pc (atoms_in c.args.atoms.now) i.walks.0 c.loop-n.n i.walks.2
-          c.if-n-gt0.true told.told.0 (told.agrees refl) i.walks.3);
-      placed = i.walks.4;
-    }
-
--- where the loop has ended, an atom that comes next has no stretch there
-next_has_none : (c : After-self-2) (taken : Bool) → slice_get (atoms_in c.args.atoms.now) c.loop-n.n ≡ Some taken → length c.loop-n.run < 24
-    → HasNoStretch c.args.image.now (standing c.loop-n.pc c.loop-n.self) (atom_at None taken)
-next_has_none c taken there room =
-    let l = c.loop-n in let i = l.invariant in let s = standing l.pc l.self in
-    let bit = bit_there l.n (c.args.atoms.now.count - l.n) l.bits (atoms_in c.args.atoms.now) taken i.left there in
-    elim c.loop-n-test.branch [
-      | else-loop-n-test w ↦ absurd (omega (
-        arith,
-        bit.0,
-        room,
-        i.walks.2,
-        ap length i.walks.1,
-        length-append c.args.run.now i.walks.0,
-        w.loop-n-test.false,
-        c.min-most.ensures,
-        c.from.ensures,
-        c.room.ensures,
-      ))
-      | then-loop-n-test+in_default-walk_from w ↦ subst (λ (t : Bool). HasNoStretch c.args.image.now s (atom_at None t)) bit.1
-          (w.in_default-walk_from.ensures.none refl)
-    ]
-
-pub returns-then-n-gt0-clause-stops : goal.returns-then-n-gt0-clause-stops
-returns-then-n-gt0-clause-stops c taken there room =
-    let at = (goal.at.returns-then-n-gt0-clause-stops c).After-self-2 in let image = c.args.image.now in let l = c.loop-n in
-    subst (λ (s : State). HasNoStretch image s (atom_at (given_before l.n c.args.given) taken))
-    (sym (ap (λ (x : State). standing l.pc x) (c.self-2.view_is ∙ ended at)))
-    (none_next image (standing l.pc l.self) c.args.given l.n taken c.if-n-gt0.true (next_has_none at taken there room))
-
-pub returns-else-n-gt0-clause-stops : goal.returns-else-n-gt0-clause-stops
-returns-else-n-gt0-clause-stops c taken there room =
-    let at = (goal.at.returns-else-n-gt0-clause-stops c).After-self-2 in let image = c.args.image.now in let s = c.args.self.now in
-    let l = c.loop-n in let i = l.invariant in let told = c.in-Some.ensures in
-    subst (λ (x : State). HasNoStretch image x (atom_at (given_before l.n c.args.given) taken)) (sym (ended at))
-    (none_first image s l.self c.args.given c.in-Some.pc l.pc l.n (atoms_in c.args.atoms.now) i.walks.0 taken i.walks.2 c.if-n-gt0.false told.told.0
-    (told.agrees refl) i.kept i.walks.3 (next_has_none at taken there room))
+pub returns-clause-stops : goal.returns-clause-stops
+returns-clause-stops c =
+    let bits = c.args.atoms.now.bits in let count = c.args.atoms.now.count in let walked = returns-clause-walks c in
+    let first = c.in-Some.first in let more = c.walk_on.result in let run' = c.walk_on.new.run in
+    let some : first + more < count → length run' < 24 → first + more < c.min-most.result = λ any short.
+    omega (
+      arith,
+      any,
+      short,
+      walked.count,
+      ap length walked.joined,
+      length-append c.args.run.now walked.added,
+      c.min-most.ensures,
+      c.from.ensures,
+      c.room.ensures,
+    ) in
+    no_more_behind c.args.image.now c.walk_on.new.self c.args.given c.min-most.result count bits first more run' c.in-Some.ensures.behind some
+    c.walk_on.ensures.stops

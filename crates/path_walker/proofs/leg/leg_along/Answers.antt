@@ -13,7 +13,7 @@ use Rattle.path_walker.specs.declared.leg.Leg.{Leg}
 use Rattle.path_walker.specs.Leg.{IsLeg, IsLegBehind}
 use Rattle.path_walker.specs.Steps.{next_of, stack_after}
 use Rattle.path_walker.specs.Walk.{Refuses}
-use Rattle.path_walker.proofs.leg.leg_of_atom.Goals as goal
+use Rattle.path_walker.proofs.leg.leg_along.Goals as goal
 
 -- a word has an offset of whole instructions
 whole_word : (word : Option ℕ) → IfSome (option_map class_of word) HasWholeOffset
@@ -45,22 +45,22 @@ if_both (Err f) P Q R p q so = cc
 pub leg_behind-requires-clause-whole : goal.leg_behind-requires-clause-whole
 leg_behind-requires-clause-whole c =
     let image = c.args.image.now in
-    let run = c.in-Some.ensures.run in
+    let run = c.requires.run in
     subst (λ word. IfSome word HasWholeOffset) run.1 (whole_word _)
 
 pub returns-clause-leads : goal.returns-clause-leads
 returns-clause-leads c =
     let image = c.args.image.now in
-    let run = c.in-Some.ensures.run in
-    let plain = c.in-Some.placed.run.plain in
+    let run = c.requires.run in
+    let plain = c.args.placed.run.plain in
     let place : behind c.args.pc plain ≡ (c.args.pc + c.from-words.result * 4) % 2 ^ 64 = omega (arith, c.from-words.ensures) in
     if_both c.leg_behind.result _ _ _ c.leg_behind.ensures.leads c.leg_behind.ensures.count
-    (λ leg is count. is_leg image c.args.pc plain _ (class_behind c.in-Some.placed.run.behind) c.args.taken leg run.0.0 run.1 place is count)
+    (λ leg is count. is_leg image c.args.pc plain _ (class_behind c.args.placed.run.behind) c.args.taken leg run.0.0 run.1 place is count)
 
 pub returns-clause-halts : goal.returns-clause-halts
 returns-clause-halts c = λ f is.
-    let run = c.in-Some.ensures.run in
-    let plain = c.in-Some.placed.run.plain in
+    let run = c.requires.run in
+    let plain = c.args.placed.run.plain in
     let place : behind c.args.pc plain ≡ (c.args.pc + c.from-words.result * 4) % 2 ^ 64 = omega (arith, c.from-words.ensures) in
     let refuses = subst (λ word. Refuses word ((c.args.pc + c.from-words.result * 4) % 2 ^ 64) c.args.taken f) (sym run.1)
     (c.leg_behind.ensures.halts f is) in
