@@ -1,15 +1,16 @@
 -- Atoms of a run are walked one after the other.
 use Rattle.std.proofs.Common.{◌≡◌, ℕ, zero, suc, ◌-◌, ◌/◌, ◌%◌, ◌^◌, ◌<◌, ◌≤◌, ◌+◌, Bool, List, [], ◌∷◌, ◌++◌, length, drop, slice_get}
-use Rattle.std.proofs.Common.{Option, Some, None, refl, sym, ap, subst, ◌∙◌, arith, append-nil, append_assoc, length-append}
+use Rattle.std.proofs.Common.{All, Option, Some, None, refl, sym, ap, subst, ◌∙◌, arith, append-nil, append_assoc, length-append}
 use Rattle.std.specs.Prelude.{◌==◌}
 use Rattle.std.proofs.Math.Nat.{div-one}
 use Rattle.std.proofs.lemmas.List.{drop-drop}
-use Rattle.std.proofs.lemmas.List.Elements.{All-append, All-nil}
+use Rattle.std.proofs.lemmas.List.Elements.{All-append, All-cons, All-nil}
 use Rattle.std.proofs.lemmas.Nat.{shr-shr}
 use Rattle.std.proofs.lemmas.Option.{slice_get_within}
 use Rattle.etm_types.specs.Atoms.{low_bits}
-use Rattle.path_walker.specs.State.{State, IsState}
+use Rattle.path_walker.specs.State.{State, IsState, standing}
 use Rattle.path_walker.specs.Walk.{HasNoStretch, IsPlaced, Shows, WalksAtoms, WalksNoMore, WalksRun, atom_at, given_before, walked_in}
+use Rattle.path_walker.specs.declared.pc.Pc.{Pc}
 use Rattle.path_walker.specs.declared.stretch.Stretch.{Stretch}
 use Rattle.program_image.specs.declared.image.Image.{Image}
 
@@ -30,6 +31,31 @@ walks_more image s mid next (t ∷ atoms) others [] stretch taken walks there sa
 walks_more image s mid next [] others (x ∷ run) stretch taken walks there same shows state = absurd walks
 walks_more image s mid next (t ∷ atoms) others (x ∷ run) stretch taken (after, first, kept_state, rest) there same shows state =
     (after, first, kept_state, walks_more image after mid next atoms others run stretch taken rest there (same ∙ sym first.kept) shows state)
+
+pub same_standing : (s : State) (pc : Pc) → s.pc ≡ pc → standing pc s ≡ s
+same_standing s pc is k = record { pc = sym is k; stack = s.stack; ctx = s.ctx }
+
+-- the stretches of so many of them stand behind those of a run
+abbrev pub Added : Image → State → List Bool → List Stretch → List Stretch → ℕ → State → Type 0
+Added image s atoms was run n s' =
+    (added : List Stretch) × (run ≡ was ++ added) × (length added ≡ n) × WalksAtoms image s None atoms added s' × All (IsPlaced image) added
+
+pub one_added : (image : Image) (s mid next : State) (atoms others : List Bool) (was run run' : List Stretch) (stretch : Stretch) (taken : Bool) (n : ℕ)
+    → Added image s atoms was run n mid → drop n atoms ≡ taken ∷ others → mid.ctx ≡ s.ctx
+    → Shows image mid (atom_at None taken) (walked_in mid.ctx stretch) next → IsState next → IsPlaced image stretch → run' ≡ run ++ stretch ∷ []
+    → Added image s atoms was run' (n + 1) next
+one_added image s mid next atoms others was run run' stretch taken n (added, joined, count, walks, placed) there same shows state is made = (
+  added ++ stretch ∷ [],
+  made ∙ ap (λ (r : List Stretch). r ++ stretch ∷ []) joined ∙ append_assoc was added (stretch ∷ []),
+  omega (arith, length-append added (stretch ∷ []), count),
+  walks_more image s mid next atoms others added stretch taken walks (subst (λ (k : ℕ). drop k atoms ≡ taken ∷ others) (sym count) there) same shows state,
+  All-append (IsPlaced image) added (stretch ∷ []) placed (All-cons (IsPlaced image) stretch [] is (All-nil (IsPlaced image))),
+)
+
+pub as_run : (image : Image) (s s' : State) (atoms : List Bool) (was run : List Stretch) (n : ℕ) → Added image s atoms was run n s'
+    → WalksRun image s None atoms was n s' run
+as_run image s s' atoms was run n (added, joined, count, walks, placed) =
+    record { added = added; joined = joined; count = count; walks = walks; placed = placed }
 
 -- the bits of the atoms that are left: the next one, and the others
 pub next_bit : (count n bits : ℕ) → n < count → low_bits (count - n) bits ≡ (bits % 2 == 1) ∷ low_bits (count - (n + 1)) (bits / 2)

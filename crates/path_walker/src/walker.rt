@@ -3,6 +3,7 @@ ghost use Rattle.std.specs.Prelude.{◌≡◌, ◌≤◌, ◌<◌, ◌+◌, ◌/
 ghost use Rattle.etm_types.specs.Atoms.{atoms_in, low_bits};
 ghost use Rattle.program_image.specs.Near.{IsNear};
 ghost use Rattle.etm_types.specs.declared.walk_fault.WalkFault.{WalkFault};
+ghost use Rattle.path_walker.specs.declared.pc.Pc.TheVariants.{Known};
 
 use crate::leg::{Leg, leg_near, leg_of, leg_of_atom};
 use crate::pc::Pc;
@@ -240,19 +241,18 @@ impl Walker {
         Some(AtomWalk::along(start, leg))
     }
 
-    /// Walks an atom of the part that is at hand, before which nothing was given, from what is told here of the address. It does so where that is
-    /// known and there is no fault.
+    /// Walks an atom of the part that is at hand, before which nothing was given, from an address. It does so where there is no fault.
     #[inline(always)]
     fn walk_from_near(
         &mut self,
         image: &Image,
         near: &NearPart,
-        pc: Pc,
+        start: u64,
         taken: bool,
     ) -> Option<AtomWalk>
-        requires pc { IsPc pc }
+        requires start { start % 4 ≡ 0 }
         requires near { IsNear image.now near.now }
-        ensures shows { IfSome result (λ walk. Shows image.now (standing pc self.old) (atom_at None taken) (walked_in self.old.ctx walk.stretch)
+        ensures shows { IfSome result (λ walk. Shows image.now (standing (Known start) self.old) (atom_at None taken) (walked_in self.old.ctx walk.stretch)
             (standing walk.next self.new)) }
         ensures placed { IfSome result (λ walk. IsPlaced image.now walk.stretch) }
         ensures next { IfSome result (λ walk. IsPc walk.next) }
@@ -261,9 +261,6 @@ impl Walker {
         ensures state { IsState self.new }
     {
         let _ = &self.stack;
-        let Pc::Known(start) = pc else {
-            return None;
-        };
         let leg = leg_near(image, near, start, taken)?;
         self.leave(StackUse::Keep, &leg);
         Some(AtomWalk::along(start, leg))
@@ -334,8 +331,10 @@ impl Walker {
         ensures context { self.new.ctx ≡ self.old.ctx }
         ensures state { IsState self.new }
     {
+        let Pc::Known(mut pc) = self.pc else {
+            return 0;
+        };
         let near = image.near_part(self.part);
-        let mut pc = self.pc;
         let mut left = bits;
         let mut n = 0;
         while n < most {
@@ -343,11 +342,15 @@ impl Walker {
                 break;
             };
             run.push(walk.stretch);
-            pc = walk.next;
-            left /= 2;
             n += 1;
+            let Pc::Known(next) = walk.next else {
+                self.pc = walk.next;
+                return n;
+            };
+            pc = next;
+            left /= 2;
         }
-        self.pc = pc;
+        self.pc = Pc::Known(pc);
         n
     }
 

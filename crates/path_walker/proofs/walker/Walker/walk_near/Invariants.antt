@@ -1,8 +1,8 @@
-use Rattle.std.proofs.Common.{◌≡◌, ◌≤◌, ◌-◌, ◌+◌, ◌++◌, All, List, None, drop, length}
+use Rattle.std.proofs.Common.{◌≡◌, ◌≤◌, ◌-◌, ◌+◌, ◌%◌, drop, length}
 use Rattle.etm_types.specs.Atoms.{low_bits}
-use Rattle.path_walker.specs.State.{IsPc, standing}
-use Rattle.path_walker.specs.Walk.{IsPlaced, WalksAtoms}
-use Rattle.path_walker.specs.declared.stretch.Stretch.{Stretch}
+use Rattle.path_walker.specs.State.{standing}
+use Rattle.path_walker.specs.declared.pc.Pc.TheVariants.{Known}
+use Rattle.path_walker.proofs.AtomRuns.{Added}
 use Rattle.path_walker.proofs.walker.Walker.walk_near.Given as goal
 
 abbrev pub decreases-loop-n : goal.decreases-loop-n
@@ -11,10 +11,9 @@ decreases-loop-n l = l.most - l.n
 abbrev pub invariant-loop-n : goal.invariant-loop-n
 invariant-loop-n l =
     record {
-      walks : (added : List Stretch) × (l.run ≡ l.fn.run ++ added) × (length added ≡ l.n)
-          × WalksAtoms l.image l.fn.self None (low_bits l.most l.fn.bits) added (standing l.pc l.self) × All (IsPlaced l.image) added;
+      walks : Added l.image l.fn.self (low_bits l.most l.fn.bits) l.fn.run l.run l.n (standing (Known l.pc) l.self);
       left : drop l.n (low_bits l.most l.fn.bits) ≡ low_bits (l.most - l.n) l.left;
-      pc : IsPc l.pc;
+      pc : l.pc % 4 ≡ 0;
       kept : l.self.pc ≡ l.fn.self.pc;
       context : l.self.ctx ≡ l.fn.self.ctx;
       most : l.n ≤ l.most;
