@@ -14,55 +14,8 @@ use Rattle.path_walker.specs.declared.pc.Pc.{Pc}
 use Rattle.path_walker.specs.declared.stretch.Stretch.{Stretch}
 use Rattle.program_image.specs.declared.image.Image.{Image}
 
--- one atom more is walked
-pub walks_more : (image : Image) (s mid next : State) (atoms others : List Bool) (run : List Stretch) (stretch : Stretch) (taken : Bool)
-    → WalksAtoms image s None atoms run mid → drop (length run) atoms ≡ taken ∷ others → mid.ctx ≡ s.ctx
-    → Shows image mid (atom_at None taken) (walked_in mid.ctx stretch) next → IsState next
-    → WalksAtoms image s None atoms (run ++ stretch ∷ []) next
-walks_more image s mid next [] others [] stretch taken walks there same shows state = absurd cc
-walks_more image s mid next (t ∷ atoms) others [] stretch taken walks there same shows state =
-    let is : taken ≡ t = cc in (
-      next,
-      subst (λ (u : Bool). Shows image s (atom_at None u) (walked_in s.ctx stretch) next) is
-          (subst (λ (m : State). Shows image m (atom_at None taken) (walked_in m.ctx stretch) next) walks shows),
-      state,
-      refl,
-    )
-walks_more image s mid next [] others (x ∷ run) stretch taken walks there same shows state = absurd walks
-walks_more image s mid next (t ∷ atoms) others (x ∷ run) stretch taken (after, first, kept_state, rest) there same shows state =
-    (after, first, kept_state, walks_more image after mid next atoms others run stretch taken rest there (same ∙ sym first.kept) shows state)
-
 pub same_standing : (s : State) (pc : Pc) → s.pc ≡ pc → standing pc s ≡ s
 same_standing s pc is k = record { pc = sym is k; stack = s.stack; ctx = s.ctx }
-
--- the stretches of so many of them stand behind those of a run
-abbrev pub Added : Image → State → List Bool → List Stretch → List Stretch → ℕ → State → Type 0
-Added image s atoms was run n s' =
-    (added : List Stretch) × (run ≡ was ++ added) × (length added ≡ n) × WalksAtoms image s None atoms added s' × All (IsPlaced image) added
-
-pub one_added : (image : Image) (s mid next : State) (atoms others : List Bool) (was run run' : List Stretch) (stretch : Stretch) (taken : Bool) (n : ℕ)
-    → Added image s atoms was run n mid → drop n atoms ≡ taken ∷ others → mid.ctx ≡ s.ctx
-    → Shows image mid (atom_at None taken) (walked_in mid.ctx stretch) next → IsState next → IsPlaced image stretch → run' ≡ run ++ stretch ∷ []
-    → Added image s atoms was run' (n + 1) next
-one_added image s mid next atoms others was run run' stretch taken n (added, joined, count, walks, placed) there same shows state is made = (
-  added ++ stretch ∷ [],
-  made ∙ ap (λ (r : List Stretch). r ++ stretch ∷ []) joined ∙ append_assoc was added (stretch ∷ []),
-  omega (arith, length-append added (stretch ∷ []), count),
-  walks_more image s mid next atoms others added stretch taken walks (subst (λ (k : ℕ). drop k atoms ≡ taken ∷ others) (sym count) there) same shows state,
-  All-append (IsPlaced image) added (stretch ∷ []) placed (All-cons (IsPlaced image) stretch [] is (All-nil (IsPlaced image))),
-)
-
-pub as_run : (image : Image) (s s' : State) (atoms : List Bool) (was run : List Stretch) (n : ℕ) → Added image s atoms was run n s'
-    → WalksRun image s None atoms was n s' run
-as_run image s s' atoms was run n (added, joined, count, walks, placed) =
-    record { added = added; joined = joined; count = count; walks = walks; placed = placed }
-
--- the bits of the atoms that are left: the next one, and the others
-pub next_bit : (count n bits : ℕ) → n < count → low_bits (count - n) bits ≡ (bits % 2 == 1) ∷ low_bits (count - (n + 1)) (bits / 2)
-next_bit count n bits lt = let more : count - n ≡ suc (count - (n + 1)) = omega (arith, lt) in ap (λ k. low_bits k bits) more
-
-pub drop_next : {X : Type 0} (n : ℕ) (xs ys : List X) (x : X) → drop n xs ≡ x ∷ ys → drop (n + 1) xs ≡ ys
-drop_next n xs ys x there = sym (drop-drop 1 n xs) ∙ ap (drop 1) there
 
 -- ---- atoms behind atoms that were walked
 
@@ -188,3 +141,21 @@ no_more_behind image s' addr most count bits n m run' first some none taken ther
     let bit : (bits / 2 ^ n / 2 ^ m % 2 == 1) ≡ taken = ap (λ (b : ℕ). b % 2 == 1) (shr-shr bits n m) ∙ bit_at (n + m) count bits taken there in
     subst (λ (t : Bool). HasNoStretch image s' (atom_at (given_before (n + m) addr) t)) bit
     (subst (λ (a : Option ℕ). HasNoStretch image s' (atom_at a (bits / 2 ^ n / 2 ^ m % 2 == 1))) (sym (behind_none n m addr first)) (none below))
+
+-- ---- one atom more
+
+-- the bits that are left behind one more
+pub next_left : (bits left n : ℕ) → left ≡ bits / 2 ^ n → left / 2 ≡ bits / 2 ^ (n + 1)
+next_left bits left n is = ap (λ (b : ℕ). b / 2) is ∙ shr-shr bits n 1
+
+pub one_more : (image : Image) (s mid next : State) (most bits left n : ℕ) (was run run' : List Stretch) → n < most → left ≡ bits / 2 ^ n
+    → WalksRun image s None (low_bits most bits) was n mid run → WalksRun image mid None ((left % 2 == 1) ∷ []) run 1 next run'
+    → WalksRun image s None (low_bits most bits) was (n + 1) next run'
+one_more image s mid next most bits left n was run run' within is walked one =
+    run_joined image s mid next None most bits n 1 was run run' (omega (arith, within)) (none_before n) walked
+    (run_of_more image mid next None 1 (most - n) (bits / 2 ^ n) 1 run run' (omega (arith, within))
+    (subst (λ (b : ℕ). WalksRun image mid None ((b % 2 == 1) ∷ []) run 1 next run') is one))
+
+pub longer : (image : Image) (s s' : State) (addr : Option ℕ) (atoms : List Bool) (run run' : List Stretch) (n : ℕ)
+    → WalksRun image s addr atoms run n s' run' → length run' ≡ length run + n
+longer image s s' addr atoms run run' n w = ap length w.joined ∙ length-append run w.added ∙ ap (λ (m : ℕ). length run + m) w.count

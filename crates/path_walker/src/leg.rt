@@ -174,7 +174,7 @@ fn leg_behind(placed: PlacedRun, addr: u64, taken: bool) -> Result<Leg, WalkFaul
 
 /// A run of plain words from an address on, and after it the P0 instruction of an atom.
 #[inline(always)]
-fn leg_along(image: &Image, pc: u64, placed: PlacedRun, taken: bool) -> Result<Leg, WalkFault>
+pub fn leg_along(image: &Image, pc: u64, placed: PlacedRun, taken: bool) -> Result<Leg, WalkFault>
     requires start { pc % 4 ≡ 0 }
     requires run { IsRun image.now pc (run_of placed.run) }
     requires place { slice_get (word_addresses image.now) placed.place ≡ Some pc }
@@ -207,19 +207,35 @@ pub fn leg_of_atom(image: &Image, pc: u64, near: usize, taken: bool) -> Result<L
     leg_along(image, pc, placed, taken)
 }
 
-/// The same, where the words begin in the part that is at hand, and there is no fault.
+/// The run of the words from an address on, where they begin in the part that is at hand.
 #[inline(always)]
-pub fn leg_near(image: &Image, near: &NearPart, pc: u64, taken: bool) -> Option<Leg>
+pub fn run_near(image: &Image, near: &NearPart, pc: u64) -> Option<PlacedRun>
     requires start { pc % 4 ≡ 0 }
     requires near { IsNear image.now near.now }
+    ensures run { IfSome result (λ placed. IsRun image.now pc (run_of placed.run)) }
+    ensures place { IfSome result (λ placed. slice_get (word_addresses image.now) placed.place ≡ Some pc) }
+{
+    let _ = image;
+    let placed = near.run_at(pc)?;
+    Some(placed)
+}
+
+/// A run of plain words from an address on, and after it the P0 instruction of an atom, where that is a conditional branch.
+#[inline(always)]
+pub fn conditional_leg_along(image: &Image, pc: u64, placed: PlacedRun, taken: bool) -> Option<Leg>
+    requires start { pc % 4 ≡ 0 }
+    requires run { IsRun image.now pc (run_of placed.run) }
+    requires place { slice_get (word_addresses image.now) placed.place ≡ Some pc }
     ensures leads { IfSome result (IsLeg image.now (Some pc) (p0.Atom taken)) }
     ensures took { IfSome result (λ leg. leg.took ≡ takes image.now (Some pc) (p0.Atom taken) leg.count) }
     ensures placed { IfSome result (λ leg. slice_get (word_addresses image.now) leg.place ≡ Some pc) }
     ensures register { IfSome result (λ leg. leg.to_register ≡ is_to_register (class_at image.now (behind pc (leg.count - 1)))) }
     ensures aligned { IfSome result IsAlignedLeg }
 {
-    let placed = near.run_at(pc)?;
-    leg_along(image, pc, placed, taken).ok()
+    match placed.run.behind {
+        WordBehind::BranchConditionally { .. } => leg_along(image, pc, placed, taken).ok(),
+        _ => None,
+    }
 }
 
 /// The plain words from an address on, up to the preferred return address of an exception.

@@ -122,7 +122,13 @@ impl Stretches {
         requires { length self.old < 24 }
         ensures { self.new ≡ self.old ++ stretch ∷ [] }
     {
-        self.all[self.len] = stretch;
+        // Each field by itself: what is unused of a place need not be written.
+        let place = &mut self.all[self.len];
+        place.start = stretch.start;
+        place.place = stretch.place;
+        place.count = stretch.count;
+        place.took = stretch.took;
+        place.to_register = stretch.to_register;
         self.len += 1;
     }
 

@@ -1,16 +1,18 @@
 //! The walk of one entry after the other.
-ghost use Rattle.std.specs.Prelude.{◌≡◌, ◌≤◌, ◌<◌, ◌+◌, ◌/◌, ◌%◌, ◌^◌, ◌==◌, ◌∷◌, [], length, false, IfOk, IfSome, IsOk, IsErr, IsSome, IsTrue, Some, None};
+ghost use Rattle.std.specs.Prelude.{◌≡◌, ◌≤◌, ◌<◌, ◌+◌, ◌/◌, ◌%◌, ◌^◌, ◌==◌, ◌∷◌, [], length, false, IfOk, IfSome, IsOk, IsErr, IsSome, IsTrue, Some, None, slice_get};
 ghost use Rattle.etm_types.specs.Atoms.{atoms_in, low_bits};
 ghost use Rattle.program_image.specs.Near.{IsNear};
+ghost use Rattle.program_image.specs.Places.{word_addresses};
+ghost use Rattle.program_image.specs.Runs.{IsRun, run_of};
 ghost use Rattle.etm_types.specs.declared.walk_fault.WalkFault.{WalkFault};
 ghost use Rattle.path_walker.specs.declared.pc.Pc.TheVariants.{Known};
 
-use crate::leg::{Leg, leg_near, leg_of, leg_of_atom};
+use crate::leg::{Leg, conditional_leg_along, leg_along, leg_of, leg_of_atom, run_near};
 use crate::pc::Pc;
 use crate::start::{StackUse, Start, at_given, at_known};
 use crate::stretch::{Stretch, Stretches};
 use etm_types::{AtomRun, Ctx, Entry, ExcMark, P0, Pre, WalkFault, Walked};
-use program_image::{Image, NearPart};
+use program_image::{Image, NearPart, PlacedRun};
 use return_stack::{MOST_ADDRESSES, ReturnStack};
 use std::alloc::{AllocError, Global};
 use std::marker::Model;
@@ -241,17 +243,18 @@ impl Walker {
         Some(AtomWalk::along(start, leg))
     }
 
-    /// Walks an atom of the part that is at hand, before which nothing was given, from an address. It does so where there is no fault.
+    /// Walks an atom before which nothing was given along the run of words from an address. It does so where there is no fault.
     #[inline(always)]
-    fn walk_from_near(
+    fn atom_along(
         &mut self,
         image: &Image,
-        near: &NearPart,
         start: u64,
+        placed: PlacedRun,
         taken: bool,
     ) -> Option<AtomWalk>
         requires start { start % 4 ≡ 0 }
-        requires near { IsNear image.now near.now }
+        requires run { IsRun image.now start (run_of placed.run) }
+        requires place { slice_get (word_addresses image.now) placed.place ≡ Some start }
         ensures shows { IfSome result (λ walk. Shows image.now (standing (Known start) self.old) (atom_at None taken) (walked_in self.old.ctx walk.stretch)
             (standing walk.next self.new)) }
         ensures placed { IfSome result (λ walk. IsPlaced image.now walk.stretch) }
@@ -261,8 +264,60 @@ impl Walker {
         ensures state { IsState self.new }
     {
         let _ = &self.stack;
-        let leg = leg_near(image, near, start, taken)?;
+        let leg = leg_along(image, start, placed, taken).ok()?;
         self.leave(StackUse::Keep, &leg);
+        Some(AtomWalk::along(start, leg))
+    }
+
+    /// The same of an atom of a conditional branch alone: what it shows, and the address behind it.
+    #[inline(always)]
+    fn conditional_along(
+        &mut self,
+        image: &Image,
+        start: u64,
+        placed: PlacedRun,
+        taken: bool,
+    ) -> Option<(Stretch, u64)>
+        requires start { start % 4 ≡ 0 }
+        requires run { IsRun image.now start (run_of placed.run) }
+        requires place { slice_get (word_addresses image.now) placed.place ≡ Some start }
+        ensures shows { IfSome result (λ walk. Shows image.now (standing (Known start) self.old) (atom_at None taken) (walked_in self.old.ctx walk.0)
+            (standing (Known walk.1) self.new)) }
+        ensures placed { IfSome result (λ walk. IsPlaced image.now walk.0) }
+        ensures next { IfSome result (λ walk. walk.1 % 4 ≡ 0) }
+        ensures unchanged { result ≡ None → self.new ≡ self.old }
+        ensures others { (self.new.pc ≡ self.old.pc) × (self.new.ctx ≡ self.old.ctx) }
+        ensures state { IsState self.new }
+    {
+        let _ = &self.stack;
+        let branch = conditional_leg_along(image, start, placed, taken)?;
+        let Pc::Known(next) = branch.next else {
+            return None;
+        };
+        self.leave(StackUse::Keep, &branch);
+        Some((AtomWalk::along(start, branch).stretch, next))
+    }
+
+    /// The same from the newest return address, where that is awaited.
+    #[inline(always)]
+    fn return_near(&mut self, image: &Image, near: &NearPart, taken: bool) -> Option<AtomWalk>
+        requires near { IsNear image.now near.now }
+        ensures shows { IfSome result (λ walk. Shows image.now self.old (atom_at None taken) (walked_in self.old.ctx walk.stretch)
+            (standing walk.next self.new)) }
+        ensures placed { IfSome result (λ walk. IsPlaced image.now walk.stretch) }
+        ensures next { IfSome result (λ walk. IsPc walk.next) }
+        ensures unchanged { result ≡ None → self.new ≡ self.old }
+        ensures others { (self.new.pc ≡ self.old.pc) × (self.new.ctx ≡ self.old.ctx) }
+        ensures state { IsState self.new }
+    {
+        let Pc::Awaited { pops: true } = self.pc else {
+            return None;
+        };
+        let Start { at, stack } = at_known(self.pc, &self.stack, false);
+        let start = at?;
+        let placed = run_near(image, near, start)?;
+        let leg = leg_along(image, start, placed, taken).ok()?;
+        self.leave(stack, &leg);
         Some(AtomWalk::along(start, leg))
     }
 
@@ -322,7 +377,7 @@ impl Walker {
         n
     }
 
-    /// The same, as long as the address is known and they are of the part of the last atom.
+    /// The same, as long as they are of the part of the last atom, and begin at an address that is known or at a return address.
     #[inline(always)]
     fn walk_near(&mut self, image: &Image, bits: u32, most: usize, run: &mut Stretches) -> usize
         requires { most + length run.old ≤ 24 }
@@ -331,27 +386,147 @@ impl Walker {
         ensures context { self.new.ctx ≡ self.old.ctx }
         ensures state { IsState self.new }
     {
+        let near = image.near_part(self.part);
+        let mut n = 0;
+        while n < most {
+            n += self.walk_known(image, &near, bits >> n, most - n, run);
+            if n == most {
+                break;
+            }
+            if !self.walk_return(image, &near, (bits >> n) % 2 == 1, run) {
+                break;
+            }
+            n += 1;
+        }
+        n
+    }
+
+    /// The same, as long as the address is known. It stays in a register, since the next look-up waits for it. Most atoms are of a conditional
+    /// branch, so that is tried first.
+    #[inline(always)]
+    fn walk_known(
+        &mut self,
+        image: &Image,
+        near: &NearPart,
+        bits: u32,
+        most: usize,
+        run: &mut Stretches,
+    ) -> usize
+        requires near { IsNear image.now near.now }
+        requires room { most + length run.old ≤ 24 }
+        ensures walks { WalksRun image.now self.old None (low_bits most bits) run.old result self.new run.new }
+        ensures most { result ≤ most }
+        ensures context { self.new.ctx ≡ self.old.ctx }
+        ensures state { IsState self.new }
+    {
         let Pc::Known(mut pc) = self.pc else {
             return 0;
         };
-        let near = image.near_part(self.part);
         let mut left = bits;
         let mut n = 0;
         while n < most {
-            let Some(walk) = self.walk_from_near(image, &near, pc, left % 2 == 1) else {
+            let Some(placed) = run_near(image, near, pc) else {
                 break;
             };
-            run.push(walk.stretch);
+            let taken = left % 2 == 1;
+            left /= 2;
+            if let Some(next) = self.walk_conditional(image, pc, placed, taken, run) {
+                pc = next;
+                n += 1;
+                continue;
+            }
+            if !self.walk_along(image, pc, placed, taken, run) {
+                return n;
+            }
             n += 1;
-            let Pc::Known(next) = walk.next else {
-                self.pc = walk.next;
+            let Pc::Known(next) = self.pc else {
                 return n;
             };
             pc = next;
-            left /= 2;
         }
         self.pc = Pc::Known(pc);
         n
+    }
+
+    /// Walks the atom of a conditional branch along the run of words from an address, and gives where it goes on. Where that is no such branch,
+    /// nothing changes. What is known of the address is not looked at, and stays.
+    #[inline(always)]
+    fn walk_conditional(
+        &mut self,
+        image: &Image,
+        pc: u64,
+        placed: PlacedRun,
+        taken: bool,
+        run: &mut Stretches,
+    ) -> Option<u64>
+        requires pc { pc % 4 ≡ 0 }
+        requires run { IsRun image.now pc (run_of placed.run) }
+        requires place { slice_get (word_addresses image.now) placed.place ≡ Some pc }
+        requires room { length run.old < 24 }
+        ensures walks { IfSome result (λ next. WalksRun image.now (standing (Known pc) self.old) None (taken ∷ []) run.old 1
+            (standing (Known next) self.new) run.new) }
+        ensures next { IfSome result (λ next. next % 4 ≡ 0) }
+        ensures unchanged { result ≡ None → (self.new ≡ self.old) × (run.new ≡ run.old) }
+        ensures context { self.new.ctx ≡ self.old.ctx }
+        ensures state { IsState self.new }
+    {
+        let _ = &self.stack;
+        let (stretch, next) = self.conditional_along(image, pc, placed, taken)?;
+        run.push(stretch);
+        Some(next)
+    }
+
+    /// Walks an atom of any kind along the run of words from an address, and says whether it was walked. If not, the walk stands there.
+    #[inline(always)]
+    fn walk_along(
+        &mut self,
+        image: &Image,
+        start: u64,
+        placed: PlacedRun,
+        taken: bool,
+        run: &mut Stretches,
+    ) -> bool
+        requires start { start % 4 ≡ 0 }
+        requires run { IsRun image.now start (run_of placed.run) }
+        requires place { slice_get (word_addresses image.now) placed.place ≡ Some start }
+        requires room { length run.old < 24 }
+        ensures walks { IsTrue result → WalksRun image.now (standing (Known start) self.old) None (taken ∷ []) run.old 1 self.new run.new }
+        ensures unchanged { result ≡ false → (self.new ≡ standing (Known start) self.old) × (run.new ≡ run.old) }
+        ensures context { self.new.ctx ≡ self.old.ctx }
+        ensures state { IsState self.new }
+    {
+        self.pc = Pc::Known(start);
+        let Some(walk) = self.atom_along(image, start, placed, taken) else {
+            return false;
+        };
+        self.pc = walk.next;
+        run.push(walk.stretch);
+        true
+    }
+
+    /// The same from the newest return address, where that is awaited.
+    #[inline(always)]
+    fn walk_return(
+        &mut self,
+        image: &Image,
+        near: &NearPart,
+        taken: bool,
+        run: &mut Stretches,
+    ) -> bool
+        requires near { IsNear image.now near.now }
+        requires room { length run.old < 24 }
+        ensures walks { IsTrue result → WalksRun image.now self.old None (taken ∷ []) run.old 1 self.new run.new }
+        ensures unchanged { result ≡ false → (self.new ≡ self.old) × (run.new ≡ run.old) }
+        ensures context { self.new.ctx ≡ self.old.ctx }
+        ensures state { IsState self.new }
+    {
+        let _ = &self.stack;
+        let Some(walk) = self.return_near(image, near, taken) else {
+            return false;
+        };
+        self.pc = walk.next;
+        run.push(walk.stretch);
+        true
     }
 
     /// Walks one atom of any kind, and says whether it was walked.

@@ -1,76 +1,53 @@
-use Rattle.std.proofs.Common.{◌≡◌, ◌-◌, ◌+◌, ◌/◌, ◌%◌, ◌∷◌, [], ℕ, Bool, None, ap, append-nil, arith, drop, length, length-append, refl, subst, sym, ◌∙◌}
-use Rattle.std.specs.Prelude.{◌==◌}
-use Rattle.std.proofs.lemmas.List.Elements.{All-nil}
+use Rattle.std.proofs.Common.{◌∙◌, ◌<◌, ◌-◌, ◌+◌, ◌/◌, ◌^◌, None, List, arith, refl, subst, sym}
 use Rattle.etm_types.specs.Atoms.{low_bits}
-use Rattle.path_walker.specs.State.{IsPc, IsState, State, standing}
-use Rattle.path_walker.specs.Walk.{IsPlaced, WalksRun}
-use Rattle.path_walker.specs.declared.pc.Pc.{Pc}
-use Rattle.path_walker.specs.declared.pc.Pc.TheVariants.{Known}
-use Rattle.path_walker.proofs.AtomRuns.{Added, as_run, drop_next, next_bit, one_added, same_standing}
-use Rattle.path_walker.proofs.walker.Walker.walk_near.Goals.{else-loop-n-test, then-loop-n-test+in_default-walk_from_near}
+use Rattle.path_walker.specs.State.{IsState, State}
+use Rattle.path_walker.specs.Walk.{WalksRun}
+use Rattle.path_walker.specs.declared.stretch.Stretch.{Stretch}
+use Rattle.path_walker.proofs.AtomRuns.{none_before, run_joined, run_of_more, run_of_none}
+use Rattle.path_walker.proofs.walker.Walker.walk_near.Goals.{After-walk_known-n}
 use Rattle.path_walker.proofs.walker.Walker.walk_near.Goals as goal
 
 pub loop-n-init : goal.loop-n-init
-loop-n-init c =
-    let s = c.args.self.now in
-    let known = ap (λ (x : State). x.pc) (sym c.self.view_is) ∙ c.in-Known.is in let all : c.args.most ≡ c.args.most - 0 = omega arith in
-    record {
-      walks = ([], sym (append-nil c.args.run.now), refl, same_standing s (Known c.in-Known.pc) known, All-nil (IsPlaced c.args.image.now));
-      left = ap (λ (m : ℕ). low_bits m c.args.bits) all;
-      pc = subst IsPc c.in-Known.is c.self.invariant.0.pc;
-      kept = refl;
-      context = refl;
-      most = omega arith;
-      room = omega (arith, c.requires);
-    }
+loop-n-init c = record {
+  walks = run_of_none c.args.image.now c.args.self.now None (low_bits c.args.most c.args.bits) c.args.run.now;
+  most = omega arith;
+  context = refl;
+  state = subst IsState c.self.view_is c.self.invariant.0;
+}
 
-pub returns-in_default-next : goal.returns-in_default-next
-returns-in_default-next c =
-    let l = c.loop-n in let i = l.invariant in let image = c.args.image.now in let s = c.args.self.now in let is = c.in-Some.ensures in
-    let atoms = low_bits c.args.most c.args.bits in let walk = c.in-Some.walk in
-    let mid = standing (Known l.pc) l.self in let next = standing walk.next c.walk_from_near.new.self in
-    let taken : Bool = l.left % 2 == 1 in let others = low_bits (c.args.most - (l.n + 1)) (l.left / 2) in
-    let there : drop l.n atoms ≡ taken ∷ others = i.left ∙ next_bit c.args.most l.n l.left c.loop-n-test.true in
-    let state : IsState next = record { pc = is.next; stack = is.state.stack; few = is.state.few } in
-    let added = one_added image s mid next atoms others c.args.run.now l.run c.push.new.self walk.stretch taken l.n i.walks there i.context is.shows state
-    is.placed c.push.ensures in
-    let view = ap (λ (x : State). standing walk.next x) c.self-in-loop-n.view_is in
-    record {
-      walks = subst (λ (x : State). WalksRun image s None atoms c.args.run.now (l.n + 1) x c.push.new.self) (sym view)
-          (as_run image s next atoms c.args.run.now c.push.new.self (l.n + 1) added);
-      most = omega (arith, c.loop-n-test.true);
-      context = ap (λ (x : State). x.ctx) view ∙ is.others.1 ∙ i.context;
-      state = subst IsState (sym view) state;
-    }
+-- the atoms of the part that is near
+near : (c : After-walk_known-n)
+    → WalksRun c.args.image.now c.args.self.now None (low_bits c.args.most c.args.bits) c.args.run.now (c.loop-n.n + c.walk_known-n.result)
+    c.walk_known-n.new.self
+    c.walk_known-n.new.run
+near c =
+    let l = c.loop-n in let next = c.walk_known-n in
+    run_joined c.args.image.now c.args.self.now l.self next.new.self None c.args.most c.args.bits l.n next.result c.args.run.now l.run next.new.run
+    l.invariant.most (none_before l.n) l.invariant.walks next.ensures.walks
 
 pub loop-n-preserved : goal.loop-n-preserved
 loop-n-preserved c =
-    let l = c.loop-n in let i = l.invariant in let image = c.args.image.now in let s = c.args.self.now in let is = c.in-Some.ensures in
-    let atoms = low_bits c.args.most c.args.bits in let walk = c.in-Some.walk in
-    let mid = standing (Known l.pc) l.self in let next = standing walk.next c.walk_from_near.new.self in
-    let taken : Bool = l.left % 2 == 1 in let others = low_bits (c.args.most - (l.n + 1)) (l.left / 2) in
-    let there : drop l.n atoms ≡ taken ∷ others = i.left ∙ next_bit c.args.most l.n l.left c.loop-n-test.true in
-    let state : IsState next = record { pc = is.next; stack = is.state.stack; few = is.state.few } in
-    let added = one_added image s mid next atoms others c.args.run.now l.run c.push.new.self walk.stretch taken l.n i.walks there i.context is.shows state
-    is.placed c.push.ensures in
+    let image = c.args.image.now in let s = c.args.self.now in let bits = c.args.bits in let most = c.args.most in
+    let next = c.walk_known-n in let other = c.walk_return in let n = c.loop-n.n + next.result in
+    let below : n < most = omega (arith, next.ensures.most, c.loop-n.invariant.most, c.if-n-most.false) in
+    let one : WalksRun image next.new.self None (low_bits (most - n) (bits / 2 ^ n)) next.new.run 1 other.new.self other.new.run =
+    run_of_more image next.new.self other.new.self None 1 (most - n) (bits / 2 ^ n) 1 next.new.run other.new.run (omega (arith, below))
+    (c.if-not-walk_return.ensures.walks refl) in
     record {
-      walks = subst (λ (p : Pc). Added image s atoms c.args.run.now c.push.new.self (l.n + 1) (standing p c.walk_from_near.new.self)) c.in-Known-next.is
-          added;
-      left = drop_next l.n atoms others taken there;
-      pc = subst IsPc c.in-Known-next.is is.next;
-      kept = is.others.0 ∙ i.kept;
-      context = is.others.1 ∙ i.context;
-      most = omega (arith, c.loop-n-test.true);
-      room = omega (arith, i.room, c.loop-n-test.true, length-append l.run (walk.stretch ∷ []), ap length c.push.ensures);
+      walks = run_joined image s next.new.self other.new.self None most bits n 1 c.args.run.now next.new.run other.new.run (omega (arith, below))
+          (none_before n) (near (goal.at.loop-n-preserved c).After-walk_known-n) one;
+      most = omega (arith, below);
+      context = other.ensures.context ∙ next.ensures.context ∙ c.loop-n.invariant.context;
+      state = other.ensures.state;
     }
 
-pub returns-clause-walks : goal.returns-clause-walks
-returns-clause-walks c =
-    let l = c.loop-n in let image = c.args.image.now in let s = c.args.self.now in let atoms = low_bits c.args.most c.args.bits in
-    let last : c.loop-n-test.self ≡ l.self = elim c.loop-n-test.branch [
-      | else-loop-n-test w ↦ w.self-is
-      | then-loop-n-test+in_default-walk_from_near w ↦ w.self-is ∙ w.in_default-walk_from_near.ensures.unchanged refl
-    ] in
-    subst (λ (x : State). WalksRun image s None atoms c.args.run.now l.n x l.run)
-    (sym (ap (λ (x : State). standing (Known l.pc) x) (c.self-2.view_is ∙ last)))
-    (as_run image s (standing (Known l.pc) l.self) atoms c.args.run.now l.run l.n l.invariant.walks)
+pub returns-then-n-most-clause-walks : goal.returns-then-n-most-clause-walks
+returns-then-n-most-clause-walks c = near (goal.at.returns-then-n-most-clause-walks c).After-walk_known-n
+
+pub returns-then-not-walk_return-clause-walks : goal.returns-then-not-walk_return-clause-walks
+returns-then-not-walk_return-clause-walks c =
+    let image = c.args.image.now in let s = c.args.self.now in let run = c.args.run.now in let atoms = low_bits c.args.most c.args.bits in
+    let n = c.loop-n.n + c.walk_known-n.result in let same = c.if-not-walk_return.ensures.unchanged refl in
+    subst (λ (r : List Stretch). WalksRun image s None atoms run n c.walk_return.new.self r) (sym same.1)
+    (subst (λ (x : State). WalksRun image s None atoms run n x c.walk_known-n.new.run) (sym same.0)
+    (near (goal.at.returns-then-not-walk_return-clause-walks c).After-walk_known-n))
