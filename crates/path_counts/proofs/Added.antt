@@ -12,7 +12,7 @@ use Rattle.std.proofs.lemmas.List.Folds.{list_any_at, list_any_none}
 use Rattle.path_counts.specs.declared.targets.Target.{Target}
 use Rattle.path_counts.specs.Levels.{one_if}
 use Rattle.path_counts.specs.Targets.{Rises, Targeting, entry_of, how_many, kept_within, outside, pair_lt, pair_of, same_pair, targets_within, with_pair}
-use Rattle.path_counts.proofs.Kept.{IsNewAt, IsPlace, all_kept, how_many_more, kept_more, kept_rises, none_came, not_among}
+use Rattle.path_counts.proofs.Kept.{IsNewAt, IsPlace, all_kept, how_many_more, kept_more, kept_rises, none_came, not_among, place_of_one}
 use Rattle.path_counts.proofs.Kept.{outside_more, outside_with, place_tail, with_new, with_old, with_rises}
 use Rattle.path_counts.proofs.PairOrder.{lt_lt, lt_not_same, not_same_either, pair_same}
 
@@ -111,6 +111,13 @@ place_among entries i p at le =
           let short : k < length entries = omega (arith, to, length-map entries pair_of) in
           ap (λ q. pair_lt q p) (get_or-map pair_of entries k d e short) ∙ at.1 k d from short;
     }
+
+-- the place where it stands
+pub stands_among : (entries : List Target) (i : ℕ) (p : ℕ × ℕ) → Rises (map pair_of entries) → i < length entries
+    → ((d : Target) → pair_of (get_or entries i d) ≡ p) → IsPlace p (map pair_of entries) i
+stands_among entries i p rises within there =
+    place_of_one p (map pair_of entries) i rises (omega (arith, within, length-map entries pair_of))
+    (λ e. get_or-map pair_of entries i (entry p 0) e within ∙ there (entry p 0))
 
 pub new_among : (entries : List Target) (i : ℕ) (p : ℕ × ℕ)
     → (i < length entries → (d : Target) → same_pair p (pair_of (get_or entries i d)) ≡ false) → IsNewAt p (map pair_of entries) i

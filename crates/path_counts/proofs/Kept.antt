@@ -4,10 +4,10 @@ use Rattle.std.proofs.Common.{get_or, ◌||◌}
 use Rattle.std.specs.Prelude.{All, nat_lt, if◌then◌else◌}
 use Rattle.std.specs.List.{insert, list_any}
 use Rattle.std.proofs.lemmas.Bool.{lt-ltb, false_from_ne_true}
-use Rattle.std.proofs.lemmas.List.Elements.{All-cons, All-head, All-nil, All-tail, All-weaker}
+use Rattle.std.proofs.lemmas.List.Elements.{All-cons, All-get_or, All-head, All-nil, All-tail, All-weaker}
 use Rattle.path_counts.specs.Levels.{one_if}
 use Rattle.path_counts.specs.Targets.{Rises, how_many, kept_from, outside, pair_lt, same_pair, with_pair}
-use Rattle.path_counts.proofs.PairOrder.{lt_lt, lt_not_behind, lt_not_same, lt_otherwise, not_same_either, pair_equal, pair_same}
+use Rattle.path_counts.proofs.PairOrder.{lt_lt, lt_not_behind, lt_not_same, lt_otherwise, not_itself, not_same_either, pair_equal, pair_same}
 
 -- ---- a pair comes to some that stand in order
 
@@ -216,3 +216,30 @@ not_among (q ∷ kept) zero p r at new =
 not_among (q ∷ kept) (suc i) p r at new =
     All-cons (λ x. same_pair p x ≡ false) q kept (lt_not_same q p (at.low 0 q (omega arith)))
     (not_among kept i p r.1 (place_tail p q kept i at) (new_tail p q kept i new))
+
+-- of pairs in order, one stands at its place
+pub place_of_one : (p : ℕ × ℕ) (kept : List (ℕ × ℕ)) (i : ℕ) → Rises kept → i < length kept → ((d : ℕ × ℕ) → get_or kept i d ≡ p)
+    → IsPlace p kept i
+place_of_one p [] i r within is = absurd (omega (arith, within))
+place_of_one p (q ∷ kept) zero r within is = record {
+  low = λ k d lt. absurd (omega (arith, lt));
+  high = not_before;
+}
+  where
+    not_before : (k : ℕ) (d : ℕ × ℕ) → 0 ≤ k → k < length (q ∷ kept) → pair_lt (get_or (q ∷ kept) k d) p ≡ false
+    not_before zero d from to = subst (λ x. pair_lt q x ≡ false) (is q) (not_itself q)
+    not_before (suc k) d from to =
+        let behind = All-get_or (λ x. pair_lt q x ≡ true) kept k d (omega (arith, to)) r.0 in
+        subst (λ x. pair_lt (get_or kept k d) x ≡ false) (is q) (lt_not_behind q (get_or kept k d) behind)
+place_of_one p (q ∷ kept) (suc i) r within is =
+    let rest = place_of_one p kept i r.1 (omega (arith, within)) is in
+    record { low = first rest; high = others rest }
+  where
+    first : IsPlace p kept i → (k : ℕ) (d : ℕ × ℕ) → k < suc i → pair_lt (get_or (q ∷ kept) k d) p ≡ true
+    first rest zero d lt =
+        subst (λ x. pair_lt q x ≡ true) (is q) (All-get_or (λ x. pair_lt q x ≡ true) kept i q (omega (arith, within)) r.0)
+    first rest (suc k) d lt = rest.low k d (omega (arith, lt))
+
+    others : IsPlace p kept i → (k : ℕ) (d : ℕ × ℕ) → suc i ≤ k → k < length (q ∷ kept) → pair_lt (get_or (q ∷ kept) k d) p ≡ false
+    others rest zero d from to = absurd (omega (arith, from))
+    others rest (suc k) d from to = rest.high k d (omega (arith, from)) (omega (arith, to))

@@ -58,3 +58,10 @@ other_same a b c d other = grind (arith, nat_tests, other)
 
 pub not_same_either : (p q : ℕ × ℕ) → same_pair p q ≡ false → same_pair q p ≡ false
 not_same_either (a, b) (c, d) other = other_same a b c d other
+
+-- none stands before itself
+itself : (a b : ℕ) → pair_lt (a, b) (a, b) ≡ false
+itself a b = grind (arith, nat_tests)
+
+pub not_itself : (p : ℕ × ℕ) → pair_lt p p ≡ false
+not_itself (a, b) = itself a b

@@ -1,27 +1,18 @@
-use Rattle.std.proofs.Common.{◌≡◌, ◌∙◌, ◌<◌, ◌≤◌, ℕ, List, ap, arith, length, map, get_or, sym, subst}
-use Rattle.std.specs.Prelude.{IsFalse, IsTrue}
+use Rattle.std.proofs.Common.{◌≡◌, ◌∙◌, ◌<◌, ◌≤◌, ℕ, List, ap, arith, length, map, sym, subst}
+use Rattle.std.specs.Prelude.{IsFalse}
 use Rattle.std.specs.List.{insert}
-use Rattle.std.proofs.lemmas.List.{length-set}
 use Rattle.std.proofs.lemmas.List.Edits.{length-insert}
 use Rattle.path_counts.specs.declared.targets.Target.{Target}
 use Rattle.path_counts.specs.Targets.{Rises, most_pairs, pair_of}
-use Rattle.path_counts.proofs.Added.{Comes, entry, pair_again, pair_new, pair_over, new_among, place_among, rises_again, rises_new, rising_fronts, table}
+use Rattle.path_counts.proofs.Added.{Comes, entry, pair_new, pair_over, new_among, place_among, rises_new, rising_fronts, table}
 use Rattle.path_counts.proofs.Kept.{IsNewAt, IsPlace}
-use Rattle.path_counts.proofs.targets.Targets.add.Goals as goal
+use Rattle.path_counts.proofs.targets.Targets.add_by_bisection.Goals as goal
 
 pub place_of-place-requires : goal.place_of-place-requires
 place_of-place-requires c =
     let p : ℕ × ℕ = (c.args.from, c.args.to) in
     let r : Rises (map pair_of c.deref.result.now) = subst (λ (l : List Target). Rises (map pair_of l)) (sym c.deref.ensures.value) c.self.invariant.0 in
     rising_fronts c.deref.result.now p r
-
-pub invariant_of-self : goal.invariant_of-self
-invariant_of-self c = (
-  rises_again c.self.inside.entries.items c.place_of-place.result _ c.index_mut-target.result.now
-      (ap pair_of c.index_mut-target.ensures.value) c.self.invariant.0,
-  subst (λ n. n ≤ most_pairs) (sym (length-set c.self.inside.entries.items c.place_of-place.result _)) c.self.invariant.1,
-  c.self.invariant.2,
-)
 
 pub invariant_of-self-in-Ok : goal.invariant_of-self-in-Ok
 invariant_of-self-in-Ok c =
@@ -44,23 +35,7 @@ invariant_of-self-in-Ok c =
     )
 
 pub returns-then-is_at : goal.returns-then-is_at
-returns-then-is_at c = λ pairs is.
-    let p : ℕ × ℕ = (c.args.from, c.args.to) in
-    let items = c.self.inside.entries.items in
-    let i = c.place_of-place.result in
-    let place : IsPlace p (map pair_of items) i =
-    subst (λ (l : List Target). IsPlace p (map pair_of l) i) c.deref.ensures.value
-    (place_among c.deref.result.now i p c.place_of-place.ensures.value c.place_of-place.ensures.within) in
-    let found : IsTrue c.is_at.result = c.if-is_at.true in
-    let there = c.is_at.ensures.there found in
-    let long = ap (λ (l : List Target). length l) c.deref-2.ensures.value in
-    let short : i < length items = omega (arith, there.0, long) in
-    let e = c.index_mut-target.result.now in
-    let is_it = c.index_mut-target.ensures.value in
-    let pair : pair_of e ≡ p = ap pair_of (is_it ∙ ap (λ (l : List Target). get_or l i e) (sym c.deref-2.ensures.value)) ∙ there.1 e in
-    let comes : Comes most_pairs pairs (table items c.self.inside.more) p i =
-    record { table = c.self.view_is ∙ is; within = omega (arith, short); place = place } in
-    pair_again most_pairs pairs (table items c.self.inside.more) p i e comes short pair is_it
+returns-then-is_at c = λ pairs is. c.add_at.ensures pairs (c.self.view_is ∙ is)
 
 pub returns-in-Ok : goal.returns-in-Ok
 returns-in-Ok c = λ pairs is.
