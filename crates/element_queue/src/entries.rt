@@ -487,6 +487,7 @@ fn plain_count(runs: &SpendRing<Run>) -> u32
 /// Takes so many of the oldest out of some runs and the atoms behind them, where these are kept as bits. Else nothing changes.
 #[inline(always)]
 fn drop_oldest(runs: &mut SpendRing<Run>, plain: &mut PlainAtoms, n: u32) -> bool
+    requires few { n ≤ most_atoms }
     ensures rest { IsTrue result → entries_in runs.new.items plain.new ≡ drop n (entries_in runs.old.items plain.old) }
     ensures oldest { IsTrue result → AreOldest n (entries_in runs.old.items plain.old) }
     ensures fewer { length plain.new ≤ length plain.old }
@@ -506,6 +507,7 @@ fn drop_oldest(runs: &mut SpendRing<Run>, plain: &mut PlainAtoms, n: u32) -> boo
 /// The same of the first run.
 #[inline(always)]
 fn drop_first(runs: &mut SpendRing<Run>, n: u32) -> bool
+    requires few { n ≤ most_atoms }
     requires some { 0 < length runs.old.items }
     ensures rest { IsTrue result → (plain : List Bool) → entries_in runs.new.items plain ≡ drop n (entries_in runs.old.items plain) }
     ensures oldest { IsTrue result → (plain : List Bool) → AreOldest n (entries_in runs.old.items plain) }

@@ -104,10 +104,11 @@ impl PlainAtoms {
     /// Takes so many of the oldest out.
     #[inline(always)]
     pub(crate) fn drop_front(&mut self, n: u32)
-        requires { n ≤ length self.old }
+        requires few { n ≤ most_atoms }
+        requires within { n ≤ length self.old }
         ensures { self.new ≡ drop n self.old }
     {
-        self.bits = if n < MOST_PLAIN { self.bits >> n } else { 0 };
+        self.bits >>= n;
         self.count -= n;
     }
 
@@ -130,11 +131,8 @@ impl PlainAtoms {
         requires room { length self.old + atoms.now.count ≤ 64 }
         ensures { self.new ≡ self.old ++ atoms_in atoms.now }
     {
-        if atoms.count == 0 {
-            return;
-        }
         let bits = atoms.bits % (1 << atoms.count);
-        self.bits += u64::from(bits) << self.count;
+        self.bits += u64::from(bits).wrapping_shl(self.count);
         self.count += u32::from(atoms.count);
     }
 
