@@ -1,7 +1,8 @@
 -- Atoms as elements, and what stands after them.
 use Rattle.std.proofs.Common.{◌≡◌, ◌≢◌, ℕ, zero, suc, ◌+◌, ◌-◌, ◌/◌, ◌%◌, ◌^◌, ◌<◌, ◌≤◌, ◌==◌, Bool}
-use Rattle.std.proofs.Common.{List, [], ◌∷◌, ◌++◌, drop, length, slice_get, Option, Some, None, All, true, false, refl, sym, ap, ◌∙◌, arith}
+use Rattle.std.proofs.Common.{List, [], ◌∷◌, ◌++◌, drop, length, slice_get, Option, Some, None, All, true, false, refl, sym, ap, ◌∙◌, arith, inl, inr}
 use Rattle.std.specs.Prelude.{◌↔◌, IsSome}
+use Rattle.std.proofs.lemmas.Bool.Decides.{leb_tells}
 use Rattle.std.proofs.lemmas.Nat.{shr-shr}
 use Rattle.std.proofs.lemmas.List.Elements.{All-nil, All-cons}
 use Rattle.std.proofs.Math.Nat.{div-one}
@@ -96,6 +97,22 @@ no_atom_behind (rest.Three i j k) values (suc (suc (suc n))) taken is = cc
 pub no_atom_from : (n bits i : ℕ) (r : Rest) (values : Values) (taken : Bool) → n ≤ i
     → slice_get (atoms (low_bits n bits) ++ rest_in r values) i ≢ Some (elem.P0 (p0.Atom taken))
 no_atom_from n bits i r values taken past is = no_atom_behind r values (i - n) taken (sym (after_atoms n bits i (rest_in r values) past) ∙ is)
+
+-- so an atom stands among the first so many
+atom_within : (n bits i : ℕ) (r : Rest) (values : Values) (taken : Bool)
+    → slice_get (atoms (low_bits n bits) ++ rest_in r values) i ≡ Some (elem.P0 (p0.Atom taken)) → i < n
+atom_within n bits i r values taken is = elim (leb_tells n i) [
+  | inl past ↦ absurd (no_atom_from n bits i r values taken past.1 is)
+  | inr below ↦ below.1
+]
+
+-- and so do all of some atoms
+pub atoms_within : (n bits i m : ℕ) (r : Rest) (values : Values) (now : List Elem) → atoms (low_bits n bits) ++ rest_in r values ≡ now → 0 < m
+    → ((k : ℕ) → k < m → (taken : Bool) × (slice_get now (i + k) ≡ Some (elem.P0 (p0.Atom taken)))) → i + m ≤ n
+atoms_within n bits i m r values now shown some all =
+    let last = all (m - 1) (omega (arith, some)) in
+    let within = atom_within n bits (i + (m - 1)) r values last.0 (ap (λ (xs : List Elem). slice_get xs (i + (m - 1))) shown ∙ last.1) in
+    omega (arith, within, some)
 
 -- ---- cancels and mispredicts
 

@@ -135,6 +135,22 @@ impl Elems {
         }
     }
 
+    /// So many atoms from the one at `i` on, counted from 0, as one run. They must be atoms.
+    #[inline(always)]
+    pub fn atoms_at(&self, i: usize, n: usize) -> AtomRun
+        requires some { 0 < n }
+        requires atoms { (k : ℕ) → k < n → (taken : Bool) × (slice_get self.now (i + k) ≡ Some (elem.P0 (Atom taken))) }
+        ensures rest { (others : List Elem) × (drop i self.now ≡ atoms (atoms_in result) ++ others) }
+        ensures count { result.count ≡ n }
+        ensures few { result.count ≤ most_atoms }
+    {
+        let bits = self.atoms.bits >> i;
+        AtomRun {
+            count: n as u8,
+            bits,
+        }
+    }
+
     /// How many the commit at `i`, counted from 0, commits, where one stands there alone.
     #[inline(always)]
     pub fn commit(&self, i: usize) -> Option<u32>
