@@ -497,7 +497,7 @@ impl Decoding {
 
     /// Walks the oldest that are due; or, where nothing is due, takes the next elements where they are atoms, and walks what they commit. It
     /// does so as far as these are atoms before which nothing but an address was given, and the address of each is known. Says whether there
-    /// was one. Else, and where the walk has a fault, nothing changes: [`next`](Decoding::next) goes on from there.
+    /// may be more. Where there is none, and where the walk has a fault, nothing changes: [`next`](Decoding::next) goes on from there.
     ///
     /// Most elements are such, and what they show is small.
     #[inline(always)]
@@ -505,9 +505,9 @@ impl Decoding {
         ensures walks { WalksOn image.now self.old run.old self.new run.new }
         ensures words { AreStretchesOfWords image.now run.old → AreStretchesOfWords image.now run.new }
         ensures fewer { IsTrue result → left self.new < left self.old }
-        ensures unchanged { result ≡ false → (self.new ≡ self.old) × (run.new ≡ run.old) }
+        ensures at_most { left self.new ≤ left self.old }
         ensures none { run.new ≡ [] → self.new ≡ self.old }
-        ensures stopped { AtRest self.old → result ≡ false }
+        ensures stopped { AtRest self.old → (result ≡ false) × (self.new ≡ self.old) × (run.new ≡ run.old) }
         ensures context { self.new.walk.ctx ≡ self.old.walk.ctx }
         ensures reader { self.new.reader ≡ self.old.reader }
         ensures holds { IsDecoding self.new }
@@ -521,16 +521,16 @@ impl Decoding {
         false
     }
 
-    /// Walks the oldest that are due.
+    /// Walks the oldest that are due. Says whether there was one, behind which there may be more.
     #[inline(always)]
     fn walk_due(&mut self, image: &Image, run: &mut Stretches) -> bool
         requires holds { IsDecoding self.old }
         ensures walks { WalksOn image.now self.old run.old self.new run.new }
         ensures words { AreStretchesOfWords image.now run.old → AreStretchesOfWords image.now run.new }
         ensures fewer { IsTrue result → left self.new < left self.old }
-        ensures unchanged { result ≡ false → (self.new ≡ self.old) × (run.new ≡ run.old) }
+        ensures at_most { left self.new ≤ left self.old }
         ensures none { run.new ≡ [] → self.new ≡ self.old }
-        ensures stopped { AtRest self.old → result ≡ false }
+        ensures stopped { AtRest self.old → (result ≡ false) × (self.new ≡ self.old) × (run.new ≡ run.old) }
         ensures context { self.new.walk.ctx ≡ self.old.walk.ctx }
         ensures reader { self.new.reader ≡ self.old.reader }
         ensures holds { IsDecoding self.new }
@@ -544,7 +544,8 @@ impl Decoding {
         true
     }
 
-    /// Takes the next elements where they are atoms, and walks the oldest, which they commit. No more may be held.
+    /// Takes the next elements where they are atoms, and walks the oldest, which they commit. No more may be held. Says whether there may be
+    /// more: not where all the atoms that are next were walked.
     #[inline(always)]
     fn walk_taken(&mut self, image: &Image, run: &mut Stretches) -> bool
         requires due { self.old.due ≡ [] }
@@ -553,9 +554,9 @@ impl Decoding {
         ensures walks { WalksOn image.now self.old run.old self.new run.new }
         ensures words { AreStretchesOfWords image.now run.old → AreStretchesOfWords image.now run.new }
         ensures fewer { IsTrue result → left self.new < left self.old }
-        ensures unchanged { result ≡ false → (self.new ≡ self.old) × (run.new ≡ run.old) }
+        ensures at_most { left self.new ≤ left self.old }
         ensures none { run.new ≡ [] → self.new ≡ self.old }
-        ensures stopped { AtRest self.old → result ≡ false }
+        ensures stopped { AtRest self.old → (result ≡ false) × (self.new ≡ self.old) × (run.new ≡ run.old) }
         ensures context { self.new.walk.ctx ≡ self.old.walk.ctx }
         ensures reader { self.new.reader ≡ self.old.reader }
         ensures holds { IsDecoding self.new }
@@ -569,7 +570,7 @@ impl Decoding {
             return false;
         }
         take_atoms(&mut self.waiting, &mut self.todo, n);
-        true
+        n < most
     }
 
     /// Walks what is due, and then the next elements, as long as these are atoms before which nothing but an address was given: at most 24.

@@ -1,15 +1,17 @@
 //! The oldest of what waits: as many of them as are atoms are walked in one loop, and are then let go.
-ghost use Rattle.std.specs.Prelude.{◌≡◌, ◌≤◌, ◌<◌, [], All, Bool, IsTrue, ℕ, Some, false, length, slice_get};
-ghost use Rattle.etm_types.specs.Atoms.{most_atoms};
+ghost use Rattle.std.specs.Prelude.{◌≡◌, ◌≤◌, ◌<◌, [], All, Bool, IsTrue, ℕ, None, Some, false, length, slice_get};
+ghost use Rattle.etm_types.specs.Atoms.{atoms_in, most_atoms};
 ghost use Rattle.etm_types.specs.declared.element.Elem.TheVariants as elem;
 ghost use Rattle.etm_types.specs.declared.element.P0.TheVariants.{Atom};
 ghost use Rattle.path_walker.specs.Things.{IsAlignedThing};
+ghost use Rattle.path_walker.specs.Walk.{WalksRun};
 ghost use Rattle.stream_decoder.specs.Follows.{AreStretchesOfWords};
 ghost use Rattle.stream_decoder.specs.Waiting.{DropsDue, IsWaiting, TakesAtoms, all_of};
 ghost use Rattle.stream_decoder.specs.Yields.{WalksSome};
 
 use crate::todo::Todo;
 use crate::waiting::Waiting;
+use etm_types::AtomRun;
 use path_walker::{Stretches, Walker};
 use program_image::Image;
 
@@ -34,10 +36,20 @@ pub fn walk_oldest(
 {
     let atoms = waiting.oldest_plain(most);
     if atoms.count > 0 {
-        walker.walk_atoms(image, None, &atoms, run)
+        walk_plain(walker, image, atoms, run)
     } else {
         walk_first(walker, image, waiting, most, run)
     }
+}
+
+/// The same of atoms before which nothing was given. It is a function of its own, so that its loop has the registers to itself.
+#[inline(never)]
+fn walk_plain(walker: &mut Walker, image: &Image, atoms: AtomRun, run: &mut Stretches) -> usize
+    ensures walks { WalksRun image.now walker.old None (atoms_in atoms) run.old result walker.new run.new }
+    ensures most { result ≤ atoms.count }
+    ensures context { walker.new.ctx ≡ walker.old.ctx }
+{
+    walker.walk_atoms(image, None, &atoms, run)
 }
 
 /// The same of the oldest alone, whatever address was given before it.
@@ -75,6 +87,7 @@ fn walk_first(
 /// alone, so behind that one a run is tried again.
 #[inline(always)]
 pub fn take_atoms(waiting: &mut Waiting, todo: &mut Todo, n: usize)
+    requires some { 0 < n }
     requires due { waiting.old.due ≡ [] }
     requires full { waiting.old.depth ≤ length waiting.old.pending.held }
     requires held { n ≤ length waiting.old.pending.held }
@@ -85,9 +98,6 @@ pub fn take_atoms(waiting: &mut Waiting, todo: &mut Todo, n: usize)
     ensures holds { IsWaiting waiting.new }
 {
     if take_run(waiting, todo, n) {
-        return;
-    }
-    if n == 0 {
         return;
     }
     take_first(waiting, todo);
@@ -115,17 +125,16 @@ fn take_first(waiting: &mut Waiting, todo: &mut Todo)
 /// The same as a run, where nothing was given before any of them nor before the oldest. Else nothing changes.
 #[inline(always)]
 fn take_run(waiting: &mut Waiting, todo: &mut Todo, n: usize) -> bool
+    requires some { 0 < n }
     requires due { waiting.old.due ≡ [] }
+    requires atoms { (k : ℕ) → k < n → (taken : Bool) × (slice_get todo.old.elements k ≡ Some (elem.P0 (Atom taken))) }
     requires holds { IsWaiting waiting.old }
     ensures takes { IsTrue result → TakesAtoms waiting.old todo.old.elements n waiting.new todo.new.elements }
     ensures unchanged { result ≡ false → (waiting.new ≡ waiting.old) × (todo.new ≡ todo.old) }
     ensures at { todo.new.at ≡ todo.old.at }
     ensures holds { IsWaiting waiting.new }
 {
-    let atoms = todo.atoms(n);
-    if usize::from(atoms.count) != n {
-        return false;
-    }
+    let atoms = todo.first_atoms(n);
     if !waiting.rotate(&atoms) {
         return false;
     }

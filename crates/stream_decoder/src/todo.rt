@@ -101,15 +101,27 @@ impl Todo {
         self.elems.atoms_from(self.next, most)
     }
 
+    /// So many atoms that are next, as one run. They must be atoms.
+    #[inline(always)]
+    pub fn first_atoms(&self, n: usize) -> AtomRun
+        requires some { 0 < n }
+        requires atoms { (k : ℕ) → k < n → (taken : Bool) × (slice_get self.now.elements k ≡ Some (elem.P0 (Atom taken))) }
+        ensures next { (others : List Elem) × (self.now.elements ≡ atoms (atoms_in result) ++ others) }
+        ensures count { result.count ≡ n }
+        ensures few { result.count ≤ most_atoms }
+    {
+        self.elems.atoms_at(self.next, n)
+    }
+
     /// So many are taken.
     #[inline(always)]
     pub fn advance_by(&mut self, n: usize)
         requires { n ≤ length self.old.elements }
         ensures { self.new ≡ record (self.old) { elements = drop n self.old.elements } }
     {
-        if n <= self.elems.len() - self.next {
-            self.next += n;
-        }
+        // nothing of this is left in the machine's code: it tells the proof that the sum fits
+        let _ = self.elems.len();
+        self.next += n;
     }
 
     /// How many the next one commits, where it is a commit and the first of its packet.

@@ -15,6 +15,14 @@ as_before w was mid l before elements same takes =
     subst (λ (v : Waiting). TakesAtoms v l.elements 1 mid elements) same.0
     (subst (λ (x : Left). TakesAtoms was x.elements 1 mid elements) same.1 takes)
 
+pub take_run-requires-then-n-gt1-clause-atoms : goal.take_run-requires-then-n-gt1-clause-atoms
+take_run-requires-then-n-gt1-clause-atoms c k below =
+    let w = c.args.waiting.now in let l = c.args.todo.now in let mid = c.take_first.new.waiting in let r = c.requires in
+    let first = as_before w c.take_run.new.waiting mid l c.take_run.new.todo c.take_first.new.todo.elements (c.if-take_run.ensures.unchanged refl)
+    c.take_first.ensures.takes in
+    let after = one_after w mid l.elements c.take_first.new.todo.elements c.args.n r.due r.full r.holds r.held r.atoms first in
+    after.atoms k below
+
 pub take_each-requires-clause-atoms : goal.take_each-requires-clause-atoms
 take_each-requires-clause-atoms c k below =
     let w = c.args.waiting.now in let l = c.args.todo.now in let mid = c.take_first.new.waiting in let r = c.requires in
@@ -36,6 +44,6 @@ returns-else-n-gt1-clause-takes c =
           (subst (λ (n : ℕ). TakesAtoms w l.elements n w' left) all
           (takes_behind w mid w' l.elements remain left (c.args.n - 1) first (b.if-not-take_run.ensures.takes refl)))
       | else-n-gt1-via-else-n-gt1 b ↦
-          let one : 1 ≡ c.args.n = omega (arith, b.if-n-gt1, c.if-n-eq0.false) in
+          let one : 1 ≡ c.args.n = omega (arith, b.if-n-gt1, c.requires.some) in
           rw (b.waiting-is, b.todo-is) (subst (λ (n : ℕ). TakesAtoms w l.elements n mid remain) one first)
     ]

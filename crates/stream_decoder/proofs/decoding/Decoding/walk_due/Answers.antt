@@ -1,4 +1,4 @@
-use Rattle.std.proofs.Common.{◌<◌, [], append-nil, sym, subst, ◌∙◌}
+use Rattle.std.proofs.Common.{◌<◌, [], append-nil, refl, sym, ap, subst, ◌∙◌, arith}
 use Rattle.etm_types.specs.declared.context.Ctx.{Ctx}
 use Rattle.path_walker.specs.State.{State}
 use Rattle.path_walker.specs.Walk.{items_in}
@@ -7,6 +7,7 @@ use Rattle.stream_decoder.specs.Waiting.{all_of}
 use Rattle.stream_decoder.specs.Yields.{Goes, left}
 use Rattle.stream_decoder.proofs.LettingGo.{none_more, ran_by_dropping, some_more}
 use Rattle.stream_decoder.proofs.Runs.{Ran}
+use Rattle.stream_decoder.proofs.Stepping.{nothing_left}
 use Rattle.stream_decoder.proofs.Yielding.{goes_nowhere}
 use Rattle.stream_decoder.proofs.decoding.Decoding.walk_due.Goals as goal
 
@@ -59,3 +60,31 @@ pub returns-clause-none : goal.returns-clause-none
 returns-clause-none c empty =
     let walks = c.walk_oldest-n.ensures.walks in
     absurd (some_more c.args.run.now walks.0 c.walk_oldest-n.new.run c.walk_oldest-n.result walks.2 c.if-n-eq0.false walks.1 empty)
+
+pub returns-then-n-eq0-clause-at_most : goal.returns-then-n-eq0-clause-at_most
+returns-then-n-eq0-clause-at_most c =
+    let i = c.self.inside in let walks = c.walk_oldest-n.ensures.walks in
+    let none = none_more c.args.image.now i.walker c.walk_oldest-n.new.walker (all_of i.waiting) c.args.run.now walks.0 c.walk_oldest-n.new.run
+    c.walk_oldest-n.result walks.2 c.if-n-eq0.true walks.1 walks.3 in
+    let same = ap (λ (s : State). decoding_of i.reader i.maker i.todo i.waiting s i.fault) none.0 ∙ c.self.view_is in
+    omega (arith, ap left same)
+
+pub returns-then-n-eq0-clause-stopped : goal.returns-then-n-eq0-clause-stopped
+returns-then-n-eq0-clause-stopped c rest =
+    let i = c.self.inside in let walks = c.walk_oldest-n.ensures.walks in
+    let none = none_more c.args.image.now i.walker c.walk_oldest-n.new.walker (all_of i.waiting) c.args.run.now walks.0 c.walk_oldest-n.new.run
+    c.walk_oldest-n.result walks.2 c.if-n-eq0.true walks.1 walks.3 in
+    let same = ap (λ (s : State). decoding_of i.reader i.maker i.todo i.waiting s i.fault) none.0 ∙ c.self.view_is in
+    (refl, same, none.1)
+
+pub returns-clause-at_most : goal.returns-clause-at_most
+returns-clause-at_most c =
+    let i = c.self.inside in let last = decoding_of i.reader i.maker i.todo c.drop_due.new.waiting c.walk_oldest-n.new.walker i.fault in
+    let fewer = subst (λ (d : Decoding). left last < left d) c.self.view_is (ran c).1 in omega (arith, fewer)
+
+-- something was left
+pub returns-clause-stopped : goal.returns-clause-stopped
+returns-clause-stopped c rest =
+    let i = c.self.inside in let last = decoding_of i.reader i.maker i.todo c.drop_due.new.waiting c.walk_oldest-n.new.walker i.fault in
+    let fewer = subst (λ (d : Decoding). left last < left d) c.self.view_is (ran c).1 in
+    absurd (nothing_left c.args.self.now rest (omega (arith, fewer)))
