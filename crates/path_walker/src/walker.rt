@@ -1,5 +1,6 @@
 //! The walk of one entry after the other.
-ghost use Rattle.std.specs.Prelude.{◌≡◌, ◌≤◌, ◌<◌, ◌+◌, ◌/◌, ◌%◌, ◌^◌, ◌==◌, ◌∷◌, [], length, false, IfOk, IfSome, IsOk, IsErr, IsSome, IsTrue, Some, None, slice_get};
+ghost use Rattle.std.specs.Prelude.{◌≡◌, ◌≤◌, ◌<◌, ◌+◌, ◌/◌, ◌%◌, ◌^◌, ◌==◌, ◌∷◌, []};
+ghost use Rattle.std.specs.Prelude.{length, false, IfOk, IfSome, IsOk, IsErr, IsSome, IsTrue, Some, None, slice_get};
 ghost use Rattle.etm_types.specs.Atoms.{atoms_in, low_bits};
 ghost use Rattle.program_image.specs.Near.{IsNear};
 ghost use Rattle.program_image.specs.Places.{word_addresses};
