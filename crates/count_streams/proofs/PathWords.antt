@@ -20,8 +20,8 @@ use Rattle.program_image.specs.Blocks.{behind}
 use Rattle.program_image.specs.Part.{word_of}
 use Rattle.program_image.specs.Places.{AreWords}
 use Rattle.program_image.specs.declared.image.Image.{Image}
-use Rattle.stream_decoder.proofs.Worded.{shows_words}
-use Rattle.stream_decoder.specs.Follows.{ShowsWords}
+use Rattle.path_walker.proofs.Worded.{shows_words}
+use Rattle.path_walker.specs.Walk.{ShowsWords}
 
 -- a word stands where an item has an instruction
 abbrev pub HasWord : Image → Item → Type 0

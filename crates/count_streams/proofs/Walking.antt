@@ -18,7 +18,7 @@ use Rattle.program_image.specs.Blocks.{IsPlainRun, behind, class_at}
 use Rattle.program_image.proofs.WordSearch.{outside}
 use Rattle.program_image.specs.Part.{IsPart, Part, word_of}
 use Rattle.program_image.specs.declared.image.Image.{Image}
-use Rattle.stream_decoder.specs.Follows.{ShowsWords}
+use Rattle.path_walker.specs.Walk.{ShowsWords}
 use Rattle.count_streams.proofs.Pairs.{left-append}
 use Rattle.count_streams.proofs.PointerClass.{cond_is_none, other_is_none, plain_is_none}
 use Rattle.count_streams.specs.Pairs.{branch_at, left_after, left_by, own_pairs}

@@ -1,6 +1,6 @@
 -- What is printed of streams whose paths are counted: nothing by a byte; once no more come, how often all paths have what is counted, and
 -- where their branches to a register went; and how each stream ends.
-use Rattle.std.specs.Prelude.{◌≡◌, ℕ, ◌+◌, ◌==◌, ◌<◌, if◌then◌else◌, List, [], ◌∷◌, ◌++◌, codes, length, map}
+use Rattle.std.specs.Prelude.{◌≡◌, ℕ, ◌+◌, ◌==◌, if◌then◌else◌, List, [], ◌∷◌, ◌++◌, codes, map}
 use Rattle.etm_types.specs.Settings.{Sizes}
 use Rattle.etm_types.specs.declared.item.Item.{Item}
 use Rattle.path_counts.specs.CountLines.{at_key, from_entries, mark_key, taken_key, to_key}
@@ -8,7 +8,6 @@ use Rattle.path_counts.specs.Counts.{Counting, counts_of}
 use Rattle.path_counts.specs.Targets.{Targeting, targets_of}
 use Rattle.path_counts.specs.declared.targets.Target.{Target}
 use Rattle.path_text.specs.Lines.{decimal}
-use Rattle.path_walker.specs.declared.stretch.Stretch.{Stretch}
 use Rattle.program_image.specs.Places.{word_addresses}
 use Rattle.program_image.specs.declared.image.Image.{Image}
 use Rattle.stream_decoder.specs.Follows.{GrowsBy}
@@ -62,11 +61,6 @@ counted image s = record {
   adds = λ id bytes byte items. GrowsBy image s bytes byte items;
   sums = λ items. counts_lines image (counts_of image (items_alone items)) (targets_of (pairs_of image items));
 }
-
--- some words from a place on that has a number
-pub record IsCountable (c : Counting) (stretch : Stretch) : Type 0 where
-  pub some : 0 < stretch.count
-  pub place : stretch.place < length c.visits
 
 -- what is kept of all paths
 pub record PathCounting : Type 0 where

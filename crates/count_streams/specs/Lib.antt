@@ -1,3 +1,4 @@
 pub mod CountLaws
 pub mod Counted
 pub mod Pairs
+pub mod Taking

@@ -3,18 +3,16 @@ ghost use Rattle.std.specs.Prelude.{◌≡◌, ◌<◌, ◌-◌, ◌∷◌, [], 
 ghost use Rattle.etm_types.specs.Walked.{instructions, items_of};
 ghost use Rattle.etm_types.specs.declared.context.Ctx.{Ctx};
 ghost use Rattle.etm_types.specs.declared.item.Item.{Item};
-ghost use Rattle.path_counts.specs.Counts.{Counts};
 ghost use Rattle.path_counts.specs.Targets.{targets_of};
-ghost use Rattle.path_walker.specs.Walk.{is_cond, items_in};
+ghost use Rattle.path_walker.specs.Walk.{IsStretchOfWords, ShowsWords, is_cond, walked_in};
 ghost use Rattle.program_image.specs.Blocks.{behind, class_at};
 ghost use Rattle.program_image.specs.Part.{IsImage};
-ghost use Rattle.program_image.specs.Places.{word_count};
-ghost use Rattle.stream_decoder.specs.Follows.{AreStretchesOfWords, IsStretchOfWords, ShowsWords, TakesMore, items_under};
+ghost use Rattle.stream_decoder.specs.Follows.{TakesMore, items_under};
 ghost use Rattle.count_streams.specs.Pairs.{BranchesAre, entered_by, first_entered, left_after, left_by, own_pairs, pair_by};
 
 use etm_types::{Id, Walked};
-use path_counts::{Counter, Targets, is_pointer_branch};
-use path_walker::{Stretch, Stretches};
+use path_counts::{Targets, is_pointer_branch};
+use path_walker::Stretch;
 use program_image::Image;
 use std::alloc::{AllocError, Global};
 use std::marker::Model;
@@ -68,20 +66,16 @@ impl Branches {
         self.left[place] = branch_behind(image, walked, left);
     }
 
-    /// Takes what the walks of a run of atoms show, in a context, and lets a counter count it: each stretch by its place. One loop does both.
-    /// What the stream was left at is read and written once, and a word is looked up only where it is that of a branch to a register: a return
-    /// is one too.
+    /// Takes the stretch of an atom of a stream. A word is looked up only where it is that of a branch to a register: a return is one too.
     #[inline(always)]
-    pub fn take_run(&mut self, image: &Image, id: Id, run: &Stretches, counter: &mut Counter)
-        requires words { AreStretchesOfWords image.now run.now }
+    pub fn take_stretch(&mut self, image: &Image, id: Id, stretch: &Stretch)
+        requires words { IsStretchOfWords image.now stretch.now }
         requires image { IsImage image.now }
-        requires fits { length counter.old.visits ≡ word_count image.now }
-        ensures takes { (ctx : Ctx) → TakesMore (BranchesAre image.now) self.old self.new (items_under id (items_in ctx run.now)) }
-        ensures counted { (ctx : Ctx) → Counts image.now counter.old counter.new (items_in ctx run.now) }
+        ensures { (ctx : Ctx) → TakesMore (BranchesAre image.now) self.old self.new (items_under id (items_of (walked_in ctx stretch.now))) }
     {
         let place = usize::from(id.get());
-        let left = self.left[place];
-        self.left[place] = add_run(&mut self.targets, counter, image, left, run);
+        add_target(&mut self.targets, self.left[place], stretch.start);
+        self.left[place] = last_of(image, stretch);
     }
 
     /// Takes an item of a stream that is at no address.
@@ -113,33 +107,6 @@ fn add_pair(targets: &mut Targets, left: Option<u64>, walked: &Walked)
         return;
     };
     targets.add(from, to);
-}
-
-/// Counts the instructions of a run of atoms, and where its branches went, and that at which a stream was left before, where it was. It gives
-/// the branch at which the stream is left.
-#[inline(always)]
-fn add_run(
-    targets: &mut Targets,
-    counter: &mut Counter,
-    image: &Image,
-    left: Option<u64>,
-    run: &Stretches,
-) -> Option<u64>
-    requires words { AreStretchesOfWords image.now run.now }
-    requires image { IsImage image.now }
-    requires fits { length counter.old.visits ≡ word_count image.now }
-    ensures pairs { (ctx : Ctx) (pairs : List (ℕ × ℕ)) → targets.old ≡ targets_of pairs
-        → targets.new ≡ targets_of (pairs ++ own_pairs image.now left (items_in ctx run.now)) }
-    ensures left { (ctx : Ctx) → result ≡ left_after image.now left (items_in ctx run.now) }
-    ensures counted { (ctx : Ctx) → Counts image.now counter.old counter.new (items_in ctx run.now) }
-{
-    let mut at = left;
-    for stretch in run.all() {
-        counter.add_words(stretch.place, stretch.count, stretch.took);
-        add_target(targets, at, stretch.start);
-        at = last_of(image, stretch);
-    }
-    at
 }
 
 /// Counts that a branch, where one was left, went to an address.

@@ -11,12 +11,15 @@ ghost use Rattle.trace_io.specs.Calls.{Serves};
 use crate::branches::Branches;
 use etm_types::{Ctx, Id, Walked};
 use path_counts::Counter;
-use path_walker::Stretches;
+use path_walker::{Stretch, StretchTaker};
 use program_image::Image;
 use std::alloc::{AllocError, Global};
 use std::marker::Model;
 use stream_decoder::Follower;
 use trace_io::{Failed, Sink};
+
+/// As many stretches as are taken at once: a packet has no more atoms.
+const MOST_ATOMS: usize = 24;
 
 /// How often the paths have what is counted, and where their branches to a register went. It follows each of them.
 #[derive(Drop)]
@@ -72,13 +75,6 @@ impl Follower for PathCounts {
         }
     }
 
-    #[inline(always)]
-    fn take_run(&mut self, image: &Image, id: Id, _ctx: &Ctx, run: &Stretches) {
-        if self.counter.fits(image) {
-            self.branches.take_run(image, id, run, &mut self.counter);
-        }
-    }
-
     fn take_gap(&mut self, id: Id) {
         self.counter.add_gap();
         self.branches.take_mark(id);
@@ -88,4 +84,35 @@ impl Follower for PathCounts {
         self.counter.add_stop();
         self.branches.take_mark(id);
     }
+
+    ghost shows = { λ image id ctx old new run adds. adds };
+}
+
+/// The stretches that it took are their items.
+impl StretchTaker for PathCounts {
+    ghost use Rattle.path_walker.specs.Walk.{items_in};
+    ghost use Rattle.stream_decoder.specs.Follows.{TakesMore, items_under};
+    ghost use Rattle.count_streams.specs.Taking.{takes_joined, takes_none};
+
+    ghost adds = { λ image id ctx old run new. TakesMore (CountsAre image) old new (items_under id (items_in ctx run)) };
+
+    ghost space = { λ counts. 24 };
+
+    #[inline(always)]
+    fn room(&self) -> usize {
+        MOST_ATOMS
+    }
+
+    #[inline(always)]
+    fn take_stretch(&mut self, image: &Image, id: Id, _ctx: &Ctx, stretch: Stretch) {
+        if self.counter.fits(image) {
+            self.counter
+                .add_words(stretch.place, stretch.count, stretch.took);
+            self.branches.take_stretch(image, id, &stretch);
+        }
+    }
+
+    ghost none = { λ image id ctx counts. takes_none (CountsAre image) counts };
+
+    ghost joins = { λ image id ctx a b c xs ys first rest. takes_joined (CountsAre image) id ctx a b c xs ys first rest };
 }

@@ -1,5 +1,5 @@
 -- Runs of atoms that were walked by hand.
-use Rattle.std.proofs.Common.{◌≡◌, ℕ, true, false, List, [], ◌∷◌, All, length, length-append, Option, Some, None, is_none, Ok, Err}
+use Rattle.std.proofs.Common.{◌≡◌, ℕ, true, false, List, [], ◌∷◌, ◌++◌, All, length, length-append, Option, Some, None, is_none, Ok, Err}
 use Rattle.std.proofs.Common.{refl, sym, ap, ◌∙◌, inl, inr, arith}
 use Rattle.std.specs.Prelude.{neg_ℤ, pos}
 use Rattle.std.proofs.lemmas.List.Elements.{All-cons, All-nil}
@@ -57,14 +57,19 @@ placed =
     All-cons (IsPlaced code) (two_from 0x1008 2) (two_from 0x1000 0 ∷ []) first_placed
     (All-cons (IsPlaced code) (two_from 0x1000 0) [] second_placed (All-nil (IsPlaced code)))
 
+-- what takes stretches may keep them, in order
+abbrev Keeps : List Stretch → List Stretch → List Stretch → Type 0
+Keeps old run new = new ≡ old ++ run
+
 -- their stretches stand behind one that was there
 joined :
-    WalksRun code (at (Awaited false) [] user) (Some 0x1008) (true ∷ false ∷ true ∷ []) (two_from 0x8000 4 ∷ []) 2 (known 0x1008) (two_from 0x8000 4 ∷ both)
-joined = record { added = both; joined = refl; count = refl; walks = walked; placed = placed }
+    WalksRun Keeps code (at (Awaited false) [] user) (Some 0x1008) (true ∷ false ∷ true ∷ []) (two_from 0x8000 4 ∷ []) 2 (known 0x1008)
+    (two_from 0x8000 4 ∷ both)
+joined = record { added = both; takes = refl; count = refl; walks = walked; placed = placed }
 
 -- and not in its place
-not_replaced : WalksRun code (at (Awaited false) [] user) (Some 0x1008) (true ∷ false ∷ []) (two_from 0x8000 4 ∷ []) 2 (known 0x1008) both → ⊥
-not_replaced w = absurd (omega (arith, ap length w.joined, length-append (two_from 0x8000 4 ∷ []) w.added, w.count))
+not_replaced : WalksRun Keeps code (at (Awaited false) [] user) (Some 0x1008) (true ∷ false ∷ []) (two_from 0x8000 4 ∷ []) 2 (known 0x1008) both → ⊥
+not_replaced w = absurd (omega (arith, ap length w.takes, length-append (two_from 0x8000 4 ∷ []) w.added, w.count))
 
 -- no stretch without an atom
 no_more_than_atoms : WalksAtoms code (known 0x1000) None [] (two_from 0x1000 0 ∷ []) (known 0x1008) → ⊥
@@ -80,26 +85,26 @@ not_moved walks = let e = same_address 0x1008 0x1000 (ap (λ (s : State). s.pc) 
 -- ---- where no more are walked
 
 -- B can have no N atom, so two of these three are walked
-no_n_at_b : WalksNoMore code (known 0x1008) (Some 0x1008) (true ∷ false ∷ false ∷ []) 2 both
+no_n_at_b : WalksNoMore code (known 0x1008) (Some 0x1008) (true ∷ false ∷ false ∷ []) 2 24
 unfolding class_of
 no_n_at_b true is room = absurd cc
 no_n_at_b false is room = inr (fault.BadAtom 0x100c, inr (refl, (1, one_plain code 0x1008 refl, (refl, refl))))
 
 -- none where another address is known than the one that is given
-none_elsewhere : WalksNoMore code (known 0x1000) (Some 0x1008) (true ∷ []) 0 []
+none_elsewhere : WalksNoMore code (known 0x1000) (Some 0x1008) (true ∷ []) 0 24
 none_elsewhere taken is room = inr (fault.AddressMismatch 0x1000 0x1008, inl refl)
 
 -- none where the address is not known
-none_lost : WalksNoMore code (at (Awaited false) [] user) None (true ∷ []) 0 []
+none_lost : WalksNoMore code (at (Awaited false) [] user) None (true ∷ []) 0 24
 none_lost taken is room = inl refl
 
 -- all were walked
-none_left : WalksNoMore code (known 0x1000) None (true ∷ []) 1 []
+none_left : WalksNoMore code (known 0x1000) None (true ∷ []) 1 24
 none_left taken is room = absurd cc
 
--- a run of 24 has no room
-full : (run : List Stretch) → length run ≡ 24 → WalksNoMore code (known 0x1000) None (false ∷ []) 0 run
-full run count taken is room = absurd (omega (arith, count, room))
+-- there was no room for it
+full : WalksNoMore code (known 0x1000) None (false ∷ []) 0 0
+full taken is room = absurd (omega (arith, room))
 
 -- what an entry shows from an address that is known is a stretch
 has_stretch : (image : Image) (s after : State) (entry : Entry) (walked : Walked) → Shows image s entry walked after → walked.unknown ≡ false
@@ -110,13 +115,13 @@ has_stretch image s after entry walked shown told (inr (f, stops)) =
     let same = one_walk image s entry (Ok (walked, after)) (Err f) shown stops in cc
 
 -- not before the first one, which has a stretch from the address that is given
-not_before_the_first : WalksNoMore code (at (Awaited false) [] user) (Some 0x1008) (true ∷ []) 0 [] → ⊥
+not_before_the_first : WalksNoMore code (at (Awaited false) [] user) (Some 0x1008) (true ∷ []) 0 24 → ⊥
 not_before_the_first none = has_stretch code _ _ _ _ first refl (none true refl (omega arith))
 
 -- not behind it: the address is not given again
-not_behind_the_first : WalksNoMore code (known 0x1000) (Some 0x1008) (true ∷ false ∷ []) 1 (two_from 0x1008 2 ∷ []) → ⊥
+not_behind_the_first : WalksNoMore code (known 0x1000) (Some 0x1008) (true ∷ false ∷ []) 1 24 → ⊥
 not_behind_the_first none = has_stretch code _ _ _ _ second refl (none false refl (omega arith))
 
--- not in a run of 23, which has room for one more
-not_full : (run : List Stretch) → length run ≡ 23 → WalksNoMore code (known 0x1000) None (false ∷ []) 0 run → ⊥
-not_full run count none = has_stretch code _ _ _ _ second refl (none false refl (omega (arith, count)))
+-- not where there was room for one more
+not_full : WalksNoMore code (known 0x1000) None (false ∷ []) 0 1 → ⊥
+not_full none = has_stretch code _ _ _ _ second refl (none false refl (omega arith))

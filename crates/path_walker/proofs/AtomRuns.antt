@@ -8,6 +8,7 @@ use Rattle.std.proofs.lemmas.List.Elements.{All-append, All-cons, All-nil}
 use Rattle.std.proofs.lemmas.Nat.{shr-shr}
 use Rattle.std.proofs.lemmas.Option.{slice_get_within}
 use Rattle.etm_types.specs.Atoms.{low_bits}
+use Rattle.etm_types.specs.declared.context.Ctx.{Ctx}
 use Rattle.path_walker.specs.State.{State, IsState, standing}
 use Rattle.path_walker.specs.Walk.{HasNoStretch, IsPlaced, Shows, WalksAtoms, WalksNoMore, WalksRun, atom_at, given_before, walked_in}
 use Rattle.path_walker.specs.declared.pc.Pc.{Pc}
@@ -79,83 +80,83 @@ low_bits_length (suc count) bits = ap suc (low_bits_length count (bits / 2))
 
 -- ---- runs
 
-pub run_of_none : (image : Image) (s : State) (addr : Option ℕ) (atoms : List Bool) (run : List Stretch) → WalksRun image s addr atoms run 0 s run
-run_of_none image s addr [] run =
-    record { added = []; joined = sym (append-nil run); count = refl; walks = refl; placed = All-nil (IsPlaced image) }
-run_of_none image s addr (t ∷ atoms) run =
-    record { added = []; joined = sym (append-nil run); count = refl; walks = refl; placed = All-nil (IsPlaced image) }
+module _ {V : Type 0} (Takes : Ctx → V → List Stretch → V → Type 0) (none : (ctx : Ctx) (v : V) → Takes ctx v [] v)
+    (joins : (ctx : Ctx) (a b c : V) (xs ys : List Stretch) → Takes ctx a xs b → Takes ctx b ys c → Takes ctx a (xs ++ ys) c) where
+  pub run_of_none : (image : Image) (s : State) (addr : Option ℕ) (atoms : List Bool) (v : V) → WalksRun (Takes s.ctx) image s addr atoms v 0 s v
+  run_of_none image s addr [] v =
+      record { added = []; takes = none s.ctx v; count = refl; walks = refl; placed = All-nil (IsPlaced image) }
+  run_of_none image s addr (t ∷ atoms) v =
+      record { added = []; takes = none s.ctx v; count = refl; walks = refl; placed = All-nil (IsPlaced image) }
 
--- of more atoms
-pub run_of_more : (image : Image) (s s' : State) (addr : Option ℕ) (few count bits n : ℕ) (run run' : List Stretch) → few ≤ count
-    → WalksRun image s addr (low_bits few bits) run n s' run' → WalksRun image s addr (low_bits count bits) run n s' run'
-run_of_more image s s' addr few count bits n run run' within walked =
-    let first = first_bits few count bits within in
-    record {
-      added = walked.added;
-      joined = walked.joined;
-      count = walked.count;
-      walks = subst (λ (atoms : List Bool). WalksAtoms image s addr atoms walked.added s') (sym first.1)
-          (walks_of_more image s s' addr (low_bits few bits) first.0 walked.added walked.walks);
-      placed = walked.placed;
-    }
+  -- of more atoms
+  pub run_of_more : (image : Image) (ctx : Ctx) (s s' : State) (addr : Option ℕ) (few count bits n : ℕ) (old new : V) → few ≤ count
+      → WalksRun (Takes ctx) image s addr (low_bits few bits) old n s' new → WalksRun (Takes ctx) image s addr (low_bits count bits) old n s' new
+  run_of_more image ctx s s' addr few count bits n old new within walked =
+      let first = first_bits few count bits within in
+      record {
+        added = walked.added;
+        takes = walked.takes;
+        count = walked.count;
+        walks = subst (λ (atoms : List Bool). WalksAtoms image s addr atoms walked.added s') (sym first.1)
+            (walks_of_more image s s' addr (low_bits few bits) first.0 walked.added walked.walks);
+        placed = walked.placed;
+      }
 
--- and behind them of those that are left
-pub run_joined : (image : Image) (s mid s' : State) (addr : Option ℕ) (count bits n m : ℕ) (run run1 run' : List Stretch) → n ≤ count
-    → given_before n addr ≡ None → WalksRun image s addr (low_bits count bits) run n mid run1
-    → WalksRun image mid None (low_bits (count - n) (bits / 2 ^ n)) run1 m s' run' → WalksRun image s addr (low_bits count bits) run (n + m) s' run'
-run_joined image s mid s' addr count bits n m run run1 run' within none first rest =
-    let left : low_bits (count - n) (bits / 2 ^ n) ≡ drop (length first.added) (low_bits count bits) =
-    sym (drop_bits n count bits within) ∙ ap (λ (k : ℕ). drop k (low_bits count bits)) (sym first.count) in
-    record {
-      added = first.added ++ rest.added;
-      joined = rest.joined ∙ ap (λ (r : List Stretch). r ++ rest.added) first.joined ∙ append_assoc run first.added rest.added;
-      count = omega (arith, length-append first.added rest.added, first.count, rest.count);
-      walks = walks_joined image s mid s' addr (low_bits count bits) first.added rest.added first.walks
-          (subst (λ (atoms : List Bool). WalksAtoms image mid None atoms rest.added s') left rest.walks)
-          (ap (λ (k : ℕ). given_before k addr) first.count ∙ none);
-      placed = All-append (IsPlaced image) first.added rest.added first.placed rest.placed;
-    }
+  -- and behind them of those that are left
+  pub run_joined : (image : Image) (s mid s' : State) (addr : Option ℕ) (count bits n m : ℕ) (old between new : V) → n ≤ count
+      → given_before n addr ≡ None → mid.ctx ≡ s.ctx → WalksRun (Takes s.ctx) image s addr (low_bits count bits) old n mid between
+      → WalksRun (Takes mid.ctx) image mid None (low_bits (count - n) (bits / 2 ^ n)) between m s' new
+      → WalksRun (Takes s.ctx) image s addr (low_bits count bits) old (n + m) s' new
+  run_joined image s mid s' addr count bits n m old between new within none same first rest =
+      let left : low_bits (count - n) (bits / 2 ^ n) ≡ drop (length first.added) (low_bits count bits) =
+      sym (drop_bits n count bits within) ∙ ap (λ (k : ℕ). drop k (low_bits count bits)) (sym first.count) in
+      record {
+        added = first.added ++ rest.added;
+        takes = joins s.ctx old between new first.added rest.added first.takes
+            (subst (λ (c : Ctx). Takes c between rest.added new) same rest.takes);
+        count = omega (arith, length-append first.added rest.added, first.count, rest.count);
+        walks = walks_joined image s mid s' addr (low_bits count bits) first.added rest.added first.walks
+            (subst (λ (atoms : List Bool). WalksAtoms image mid None atoms rest.added s') left rest.walks)
+            (ap (λ (k : ℕ). given_before k addr) first.count ∙ none);
+        placed = All-append (IsPlaced image) first.added rest.added first.placed rest.placed;
+      }
+
+  -- one atom more
+  pub one_more : (image : Image) (s mid next : State) (most bits left n : ℕ) (old between new : V) → n < most → left ≡ bits / 2 ^ n → mid.ctx ≡ s.ctx
+      → WalksRun (Takes s.ctx) image s None (low_bits most bits) old n mid between
+      → WalksRun (Takes mid.ctx) image mid None ((left % 2 == 1) ∷ []) between 1 next new
+      → WalksRun (Takes s.ctx) image s None (low_bits most bits) old (n + 1) next new
+  one_more image s mid next most bits left n old between new within is same walked one =
+      run_joined image s mid next None most bits n 1 old between new (omega (arith, within)) (none_before n) same walked
+      (run_of_more image mid.ctx mid next None 1 (most - n) (bits / 2 ^ n) 1 between new (omega (arith, within))
+      (subst (λ (b : ℕ). WalksRun (Takes mid.ctx) image mid None ((b % 2 == 1) ∷ []) between 1 next new) is one))
+
+-- the bits that are left behind one more
+pub next_left : (bits left n : ℕ) → left ≡ bits / 2 ^ n → left / 2 ≡ bits / 2 ^ (n + 1)
+next_left bits left n is = ap (λ (b : ℕ). b / 2) is ∙ shr-shr bits n 1
 
 -- ---- where no more are walked
 
 -- the first atom, where an address was given
-pub no_more_first : (image : Image) (s : State) (addr : Option ℕ) (most count bits room : ℕ) (run : List Stretch) → (0 < count → 0 < room → 0 < most)
-    → room + length run ≡ 24 → (0 < most → HasNoStretch image s (atom_at addr (bits % 2 == 1)))
-    → WalksNoMore image s addr (low_bits count bits) 0 run
-no_more_first image s addr most zero bits room run some all none taken there short = absurd cc
-no_more_first image s addr most (suc count) bits room run some all none taken there short =
+pub no_more_first : (image : Image) (s : State) (addr : Option ℕ) (most count bits room : ℕ) → (0 < count → 0 < room → 0 < most)
+    → (0 < most → HasNoStretch image s (atom_at addr (bits % 2 == 1)))
+    → WalksNoMore image s addr (low_bits count bits) 0 room
+no_more_first image s addr most zero bits room some none taken there short = absurd cc
+no_more_first image s addr most (suc count) bits room some none taken there short =
     let first : (bits % 2 == 1) ≡ taken = cc in
-    subst (λ (t : Bool). HasNoStretch image s (atom_at addr t)) first (none (some (omega arith) (omega (arith, all, short))))
+    subst (λ (t : Bool). HasNoStretch image s (atom_at addr t)) first (none (some (omega arith) short))
 
 behind_none : (n m : ℕ) (addr : Option ℕ) → given_before n addr ≡ None → given_before (n + m) addr ≡ None
 behind_none zero m addr none = ap (given_before (0 + m)) none ∙ none_before (0 + m)
 behind_none (suc n) m addr none = let more : suc n + m ≡ suc (n + m) = omega arith in ap (λ (k : ℕ). given_before k addr) more
 
 -- those behind n atoms and m more
-pub no_more_behind : (image : Image) (s' : State) (addr : Option ℕ) (most count bits n m : ℕ) (run' : List Stretch) → given_before n addr ≡ None
-    → (n + m < count → length run' < 24 → n + m < most)
-    → (m < most - n → HasNoStretch image s' (atom_at None (bits / 2 ^ n / 2 ^ m % 2 == 1))) → WalksNoMore image s' addr (low_bits count bits) (n + m) run'
-no_more_behind image s' addr most count bits n m run' first some none taken there short =
+pub no_more_behind : (image : Image) (s' : State) (addr : Option ℕ) (most count bits n m room : ℕ) → given_before n addr ≡ None
+    → (n + m < count → n + m < room → n + m < most)
+    → (m < most - n → HasNoStretch image s' (atom_at None (bits / 2 ^ n / 2 ^ m % 2 == 1))) → WalksNoMore image s' addr (low_bits count bits) (n + m) room
+no_more_behind image s' addr most count bits n m room first some none taken there short =
     let within : n + m < count = omega (arith, slice_get_within (low_bits count bits) (n + m) taken there, low_bits_length count bits) in
     let below : m < most - n = let lt = some within short in omega (arith, lt) in
     let bit : (bits / 2 ^ n / 2 ^ m % 2 == 1) ≡ taken = ap (λ (b : ℕ). b % 2 == 1) (shr-shr bits n m) ∙ bit_at (n + m) count bits taken there in
     subst (λ (t : Bool). HasNoStretch image s' (atom_at (given_before (n + m) addr) t)) bit
     (subst (λ (a : Option ℕ). HasNoStretch image s' (atom_at a (bits / 2 ^ n / 2 ^ m % 2 == 1))) (sym (behind_none n m addr first)) (none below))
-
--- ---- one atom more
-
--- the bits that are left behind one more
-pub next_left : (bits left n : ℕ) → left ≡ bits / 2 ^ n → left / 2 ≡ bits / 2 ^ (n + 1)
-next_left bits left n is = ap (λ (b : ℕ). b / 2) is ∙ shr-shr bits n 1
-
-pub one_more : (image : Image) (s mid next : State) (most bits left n : ℕ) (was run run' : List Stretch) → n < most → left ≡ bits / 2 ^ n
-    → WalksRun image s None (low_bits most bits) was n mid run → WalksRun image mid None ((left % 2 == 1) ∷ []) run 1 next run'
-    → WalksRun image s None (low_bits most bits) was (n + 1) next run'
-one_more image s mid next most bits left n was run run' within is walked one =
-    run_joined image s mid next None most bits n 1 was run run' (omega (arith, within)) (none_before n) walked
-    (run_of_more image mid next None 1 (most - n) (bits / 2 ^ n) 1 run run' (omega (arith, within))
-    (subst (λ (b : ℕ). WalksRun image mid None ((b % 2 == 1) ∷ []) run 1 next run') is one))
-
-pub longer : (image : Image) (s s' : State) (addr : Option ℕ) (atoms : List Bool) (run run' : List Stretch) (n : ℕ)
-    → WalksRun image s addr atoms run n s' run' → length run' ≡ length run + n
-longer image s s' addr atoms run run' n w = ap length w.joined ∙ length-append run w.added ∙ ap (λ (m : ℕ). length run + m) w.count

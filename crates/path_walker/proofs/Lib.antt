@@ -8,5 +8,6 @@ pub mod After
 pub mod OneTrail
 pub mod Joined
 pub mod Examples
+pub mod Worded
 pub mod AtomRuns
 pub mod AtomExamples

@@ -1,12 +1,12 @@
 -- The walk of one entry over an image: what it shows and the state after it, or the fault with which it stops (Arm IHI 0064,
 -- "Descriptions of Trace Elements": the atom and exception elements). Which faults there are is this project's own choice.
 use Rattle.std.specs.Prelude.{◌≡◌, ◌≢◌, ◌⊎◌, ℕ, zero, suc, ◌+◌, ◌-◌, ◌<◌, Bool, true, false, ◌&&◌}
-use Rattle.std.specs.Prelude.{All, List, [], ◌∷◌, ◌++◌, length, Option, Some, None, is_none, slice_get, Result, Ok, Err, ⊤}
+use Rattle.std.specs.Prelude.{if◌then◌else◌, All, List, [], ◌∷◌, ◌++◌, length, Option, Some, None, is_none, slice_get, Result, Ok, Err, ⊤}
 use Rattle.std.specs.Option.{unwrap_or}
 use Rattle.a64_branches.specs.declared.class.Class.{Class}
 use Rattle.a64_branches.specs.declared.class.Class.TheVariants.{Cond, Ind, Plain, Odd}
 use Rattle.program_image.specs.Blocks.{class_at, behind, IsPlainRun}
-use Rattle.program_image.specs.Places.{word_addresses}
+use Rattle.program_image.specs.Places.{AreWords, word_addresses}
 use Rattle.program_image.specs.declared.image.Image.{Image}
 use Rattle.etm_types.specs.declared.element.P0.{P0}
 use Rattle.etm_types.specs.declared.element.P0.TheVariants.{Atom, Exc}
@@ -172,11 +172,11 @@ WalksAtoms image s addr [] (stretch ∷ run) s' = ⊥
 WalksAtoms image s addr (taken ∷ atoms) (stretch ∷ run) s' =
     (next : State) × Shows image s (atom_at addr taken) (walked_in s.ctx stretch) next × IsState next × WalksAtoms image next None atoms run s'
 
--- the stretches of so many of them stand behind those of a run
-pub record WalksRun (image : Image) (s : State) (addr : Option ℕ) (atoms : List Bool) (run : List Stretch) (n : ℕ) (s' : State)
-    (run' : List Stretch) : Type 0 where
+-- the stretches of so many of them were taken, one after the other
+pub record WalksRun {V : Type 0} (Takes : V → List Stretch → V → Type 0) (image : Image) (s : State) (addr : Option ℕ) (atoms : List Bool) (old : V)
+    (n : ℕ) (s' : State) (new : V) : Type 0 where
   pub added : List Stretch
-  pub joined : run' ≡ run ++ added
+  pub takes : Takes old added new
   pub count : length added ≡ n
   pub walks : WalksAtoms image s addr atoms added s'
   pub placed : All (IsPlaced image) added
@@ -186,7 +186,26 @@ abbrev pub given_before : ℕ → Option ℕ → Option ℕ
 given_before zero addr = addr
 given_before (suc n) addr = None
 
--- n of them were walked up to a state, and no more can be: where there is another, and the run has room for it, it has no stretch there
-abbrev pub WalksNoMore : Image → State → Option ℕ → List Bool → ℕ → List Stretch → Type 0
-WalksNoMore image s' addr atoms n run' =
-    (taken : Bool) → slice_get atoms n ≡ Some taken → length run' < 24 → HasNoStretch image s' (atom_at (given_before n addr) taken)
+-- n of them were walked up to a state, and no more can be: where there is another, and there was room for it, it has no stretch there
+abbrev pub WalksNoMore : Image → State → Option ℕ → List Bool → ℕ → ℕ → Type 0
+WalksNoMore image s' addr atoms n room =
+    (taken : Bool) → slice_get atoms n ≡ Some taken → n < room → HasNoStretch image s' (atom_at (given_before n addr) taken)
+
+-- ---- words
+
+-- so many words of an image from an address on, of which so many are plain, and the last is a conditional branch where it was taken
+pub record AreWalked (image : Image) (start count plain : ℕ) (taken : Bool) : Type 0 where
+  pub words : AreWords image start count
+  pub run : IsPlainRun image start plain
+  pub cond : taken ≡ true → is_cond (class_at image (behind start (count - 1))) ≡ true
+
+-- All instructions of an atom but the last are plain, and so are all before an exception.
+abbrev pub ShowsWords : Image → Walked → Type 0
+ShowsWords image walked =
+    walked.unknown ≡ false
+    → AreWalked image walked.start walked.count (if is_none walked.exc then walked.count - 1 else walked.count) walked.took
+
+-- the same of the stretch of an atom, with its place
+abbrev pub IsStretchOfWords : Image → Stretch → Type 0
+IsStretchOfWords image stretch =
+    AreWalked image stretch.start stretch.count (stretch.count - 1) stretch.took × IsPlaced image stretch

@@ -2,7 +2,9 @@
 ghost use Rattle.std.specs.Prelude.{◌≡◌, ◌↔◌, ◌<◌, ◌+◌, ◌∷◌, ◌++◌, [], IsTrue, length};
 ghost use Rattle.path_walker.specs.Walk.{walked_in};
 
-use etm_types::{Ctx, Walked};
+use crate::taker::StretchTaker;
+use etm_types::{Ctx, Id, Walked};
+use program_image::Image;
 use std::marker::Model;
 
 /// The most stretches that are kept: a packet has no more atoms.
@@ -100,22 +102,6 @@ impl Stretches {
         self.len() == 0
     }
 
-    /// Whether one more has room.
-    #[inline(always)]
-    pub fn has_room(&self) -> bool
-        ensures { IsTrue result ↔ (length self.now < 24) }
-    {
-        self.len() < MOST
-    }
-
-    /// How many more have room.
-    #[inline(always)]
-    pub fn room(&self) -> usize
-        ensures { result + length self.now ≡ 24 }
-    {
-        MOST - self.len
-    }
-
     /// One more.
     #[inline(always)]
     pub fn push(&mut self, stretch: Stretch)
@@ -139,4 +125,28 @@ impl Stretches {
     {
         &self.all[..self.len]
     }
+}
+
+/// They are kept as they come, whatever the stream and the context.
+impl StretchTaker for Stretches {
+    ghost use Rattle.std.specs.Prelude.{◌≡◌, ◌-◌, ◌++◌, length};
+    ghost use Rattle.std.proofs.Common.{append-nil, append_assoc, ap, sym, ◌∙◌};
+
+    ghost adds = { λ image id ctx old run new. new ≡ old ++ run };
+
+    ghost space = { λ run. 24 - length run };
+
+    #[inline(always)]
+    fn room(&self) -> usize {
+        MOST - self.len
+    }
+
+    #[inline(always)]
+    fn take_stretch(&mut self, _image: &Image, _id: Id, _ctx: &Ctx, stretch: Stretch) {
+        self.push(stretch);
+    }
+
+    ghost none = { λ image id ctx t. sym (append-nil t) };
+
+    ghost joins = { λ image id ctx a b c xs ys first rest. rest ∙ ap (λ r. r ++ ys) first ∙ append_assoc a xs ys };
 }

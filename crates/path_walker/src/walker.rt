@@ -11,8 +11,9 @@ ghost use Rattle.path_walker.specs.declared.pc.Pc.TheVariants.{Known};
 use crate::leg::{Leg, conditional_leg_along, leg_along, leg_of, leg_of_atom, run_near};
 use crate::pc::Pc;
 use crate::start::{StackUse, Start, at_given, at_known};
-use crate::stretch::{Stretch, Stretches};
-use etm_types::{AtomRun, Ctx, Entry, ExcMark, P0, Pre, WalkFault, Walked};
+use crate::stretch::Stretch;
+use crate::taker::StretchTaker;
+use etm_types::{AtomRun, Ctx, Entry, ExcMark, Id, P0, Pre, WalkFault, Walked};
 use program_image::{Image, NearPart, PlacedRun};
 use return_stack::{MOST_ADDRESSES, ReturnStack};
 use std::alloc::{AllocError, Global};
@@ -155,25 +156,26 @@ impl Walker {
     /// As long as they stay in one part of the image, nothing of it is searched, and the address stays in registers, since the next look-up
     /// waits for it. The address that is given is a multiple of 4.
     #[inline(always)]
-    pub fn walk_atoms(
+    pub fn walk_atoms<T: StretchTaker>(
         &mut self,
         image: &Image,
+        id: Id,
         given: Option<u64>,
         atoms: &AtomRun,
-        run: &mut Stretches,
+        taker: &mut T,
     ) -> usize
         requires { ToldIsAligned given }
-        ensures walks { WalksRun image.now self.old given (atoms_in atoms.now) run.old result self.new run.new }
-        ensures stops { WalksNoMore image.now self.new given (atoms_in atoms.now) result run.new }
+        ensures walks { WalksRun (T.adds image.now id self.old.ctx) image.now self.old given (atoms_in atoms.now) taker.old result self.new taker.new }
+        ensures stops { WalksNoMore image.now self.new given (atoms_in atoms.now) result (T.space taker.old) }
         ensures most { result ≤ atoms.now.count }
         ensures context { self.new.ctx ≡ self.old.ctx }
         ensures state { IsState self.new }
     {
-        let most = usize::from(atoms.count).min(run.room());
-        let Some(first) = self.walk_given(image, given, atoms.bits, most, run) else {
+        let most = usize::from(atoms.count).min(taker.room());
+        let Some(first) = self.walk_given(image, id, given, atoms.bits, most, taker) else {
             return 0;
         };
-        first + self.walk_on(image, atoms.bits >> first, most - first, run)
+        first + self.walk_on(image, id, atoms.bits >> first, most - first, taker)
     }
 
     /// The context of the instructions that are walked next, where none is given.
@@ -325,21 +327,24 @@ impl Walker {
     /// Walks the first of some atoms, where an address was given before it. It gives how many were walked, or `None` where an address was given
     /// and no atom is walked there.
     #[inline(always)]
-    fn walk_given(
+    fn walk_given<T: StretchTaker>(
         &mut self,
         image: &Image,
+        id: Id,
         given: Option<u64>,
         bits: u32,
         most: usize,
-        run: &mut Stretches,
+        taker: &mut T,
     ) -> Option<usize>
         requires told { ToldIsAligned given }
-        requires room { most + length run.old ≤ 24 }
-        ensures walks { IfSome result (λ n. WalksRun image.now self.old given (low_bits most bits) run.old n self.new run.new) }
+        requires room { most ≤ T.space taker.old }
+        ensures walks { IfSome result (λ n. WalksRun (T.adds image.now id self.old.ctx)
+            image.now self.old given (low_bits most bits) taker.old n self.new taker.new) }
         ensures behind { IfSome result (λ n. given_before n given ≡ None) }
         ensures most { IfSome result (λ n. n ≤ most) }
         ensures none { result ≡ None → 0 < most → HasNoStretch image.now self.old (atom_at given (bits % 2 == 1)) }
-        ensures unchanged { result ≡ None → (self.new ≡ self.old) × (run.new ≡ run.old) }
+        ensures unchanged { result ≡ None → (self.new ≡ self.old) × (taker.new ≡ taker.old) }
+        ensures space { IfSome result (λ n. T.space taker.old ≤ T.space taker.new + n) }
         ensures context { self.new.ctx ≡ self.old.ctx }
         ensures state { IsState self.new }
     {
@@ -347,7 +352,7 @@ impl Walker {
         if given.is_none() {
             return Some(0);
         }
-        if most == 0 || !self.walk_other(image, given, bits % 2 == 1, run) {
+        if most == 0 || !self.walk_other(image, id, given, bits % 2 == 1, taker) {
             return None;
         }
         Some(1)
@@ -355,22 +360,31 @@ impl Walker {
 
     /// Walks atoms before which nothing was given, one after the other, as many as can be and at most so many. It gives how many.
     #[inline(always)]
-    fn walk_on(&mut self, image: &Image, bits: u32, most: usize, run: &mut Stretches) -> usize
-        requires { most + length run.old ≤ 24 }
-        ensures walks { WalksRun image.now self.old None (low_bits most bits) run.old result self.new run.new }
+    fn walk_on<T: StretchTaker>(
+        &mut self,
+        image: &Image,
+        id: Id,
+        bits: u32,
+        most: usize,
+        taker: &mut T,
+    ) -> usize
+        requires few { most ≤ 24 }
+        requires room { most ≤ T.space taker.old }
+        ensures walks { WalksRun (T.adds image.now id self.old.ctx) image.now self.old None (low_bits most bits) taker.old result self.new taker.new }
         ensures stops { result < most → HasNoStretch image.now self.new (atom_at None (bits / 2 ^ result % 2 == 1)) }
         ensures most { result ≤ most }
+        ensures space { T.space taker.old ≤ T.space taker.new + result }
         ensures context { self.new.ctx ≡ self.old.ctx }
         ensures state { IsState self.new }
     {
         let _ = &self.stack;
         let mut n = 0;
         while n < most {
-            n += self.walk_near(image, bits >> n, most - n, run);
+            n += self.walk_near(image, id, bits >> n, most - n, taker);
             if n == most {
                 break;
             }
-            if !self.walk_other(image, None, (bits >> n) % 2 == 1, run) {
+            if !self.walk_other(image, id, None, (bits >> n) % 2 == 1, taker) {
                 break;
             }
             n += 1;
@@ -380,21 +394,30 @@ impl Walker {
 
     /// The same, as long as they are of the part of the last atom, and begin at an address that is known or at a return address.
     #[inline(always)]
-    fn walk_near(&mut self, image: &Image, bits: u32, most: usize, run: &mut Stretches) -> usize
-        requires { most + length run.old ≤ 24 }
-        ensures walks { WalksRun image.now self.old None (low_bits most bits) run.old result self.new run.new }
+    fn walk_near<T: StretchTaker>(
+        &mut self,
+        image: &Image,
+        id: Id,
+        bits: u32,
+        most: usize,
+        taker: &mut T,
+    ) -> usize
+        requires few { most ≤ 24 }
+        requires room { most ≤ T.space taker.old }
+        ensures walks { WalksRun (T.adds image.now id self.old.ctx) image.now self.old None (low_bits most bits) taker.old result self.new taker.new }
         ensures most { result ≤ most }
+        ensures space { T.space taker.old ≤ T.space taker.new + result }
         ensures context { self.new.ctx ≡ self.old.ctx }
         ensures state { IsState self.new }
     {
         let near = image.near_part(self.part);
         let mut n = 0;
         while n < most {
-            n += self.walk_known(image, &near, bits >> n, most - n, run);
+            n += self.walk_known(image, id, &near, bits >> n, most - n, taker);
             if n == most {
                 break;
             }
-            if !self.walk_return(image, &near, (bits >> n) % 2 == 1, run) {
+            if !self.walk_return(image, id, &near, (bits >> n) % 2 == 1, taker) {
                 break;
             }
             n += 1;
@@ -405,18 +428,20 @@ impl Walker {
     /// The same, as long as the address is known. It stays in a register, since the next look-up waits for it. Most atoms are of a conditional
     /// branch, so that is tried first.
     #[inline(always)]
-    fn walk_known(
+    fn walk_known<T: StretchTaker>(
         &mut self,
         image: &Image,
+        id: Id,
         near: &NearPart,
         bits: u32,
         most: usize,
-        run: &mut Stretches,
+        taker: &mut T,
     ) -> usize
         requires near { IsNear image.now near.now }
-        requires room { most + length run.old ≤ 24 }
-        ensures walks { WalksRun image.now self.old None (low_bits most bits) run.old result self.new run.new }
+        requires room { most ≤ T.space taker.old }
+        ensures walks { WalksRun (T.adds image.now id self.old.ctx) image.now self.old None (low_bits most bits) taker.old result self.new taker.new }
         ensures most { result ≤ most }
+        ensures space { T.space taker.old ≤ T.space taker.new + result }
         ensures context { self.new.ctx ≡ self.old.ctx }
         ensures state { IsState self.new }
     {
@@ -431,12 +456,12 @@ impl Walker {
             };
             let taken = left % 2 == 1;
             left /= 2;
-            if let Some(next) = self.walk_conditional(image, pc, placed, taken, run) {
+            if let Some(next) = self.walk_conditional(image, id, pc, placed, taken, taker) {
                 pc = next;
                 n += 1;
                 continue;
             }
-            if !self.walk_along(image, pc, placed, taken, run) {
+            if !self.walk_along(image, id, pc, placed, taken, taker) {
                 return n;
             }
             n += 1;
@@ -452,47 +477,53 @@ impl Walker {
     /// Walks the atom of a conditional branch along the run of words from an address, and gives where it goes on. Where that is no such branch,
     /// nothing changes. What is known of the address is not looked at, and stays.
     #[inline(always)]
-    fn walk_conditional(
+    fn walk_conditional<T: StretchTaker>(
         &mut self,
         image: &Image,
+        id: Id,
         pc: u64,
         placed: PlacedRun,
         taken: bool,
-        run: &mut Stretches,
+        taker: &mut T,
     ) -> Option<u64>
         requires pc { pc % 4 ≡ 0 }
         requires run { IsRun image.now pc (run_of placed.run) }
         requires place { slice_get (word_addresses image.now) placed.place ≡ Some pc }
-        requires room { length run.old < 24 }
-        ensures walks { IfSome result (λ next. WalksRun image.now (standing (Known pc) self.old) None (taken ∷ []) run.old 1
-            (standing (Known next) self.new) run.new) }
+        requires room { 0 < T.space taker.old }
+        ensures walks { IfSome result (λ next. WalksRun (T.adds image.now id self.old.ctx)
+            image.now (standing (Known pc) self.old) None (taken ∷ []) taker.old 1
+            (standing (Known next) self.new) taker.new) }
         ensures next { IfSome result (λ next. next % 4 ≡ 0) }
-        ensures unchanged { result ≡ None → (self.new ≡ self.old) × (run.new ≡ run.old) }
+        ensures unchanged { result ≡ None → (self.new ≡ self.old) × (taker.new ≡ taker.old) }
+        ensures space { T.space taker.old ≤ T.space taker.new + 1 }
         ensures context { self.new.ctx ≡ self.old.ctx }
         ensures state { IsState self.new }
     {
         let _ = &self.stack;
         let (stretch, next) = self.conditional_along(image, pc, placed, taken)?;
-        run.push(stretch);
+        taker.take_stretch(image, id, &self.ctx, stretch);
         Some(next)
     }
 
     /// Walks an atom of any kind along the run of words from an address, and says whether it was walked. If not, the walk stands there.
     #[inline(always)]
-    fn walk_along(
+    fn walk_along<T: StretchTaker>(
         &mut self,
         image: &Image,
+        id: Id,
         start: u64,
         placed: PlacedRun,
         taken: bool,
-        run: &mut Stretches,
+        taker: &mut T,
     ) -> bool
         requires start { start % 4 ≡ 0 }
         requires run { IsRun image.now start (run_of placed.run) }
         requires place { slice_get (word_addresses image.now) placed.place ≡ Some start }
-        requires room { length run.old < 24 }
-        ensures walks { IsTrue result → WalksRun image.now (standing (Known start) self.old) None (taken ∷ []) run.old 1 self.new run.new }
-        ensures unchanged { result ≡ false → (self.new ≡ standing (Known start) self.old) × (run.new ≡ run.old) }
+        requires room { 0 < T.space taker.old }
+        ensures walks { IsTrue result → WalksRun (T.adds image.now id self.old.ctx)
+            image.now (standing (Known start) self.old) None (taken ∷ []) taker.old 1 self.new taker.new }
+        ensures unchanged { result ≡ false → (self.new ≡ standing (Known start) self.old) × (taker.new ≡ taker.old) }
+        ensures space { T.space taker.old ≤ T.space taker.new + 1 }
         ensures context { self.new.ctx ≡ self.old.ctx }
         ensures state { IsState self.new }
     {
@@ -501,23 +532,25 @@ impl Walker {
             return false;
         };
         self.pc = walk.next;
-        run.push(walk.stretch);
+        taker.take_stretch(image, id, &self.ctx, walk.stretch);
         true
     }
 
     /// The same from the newest return address, where that is awaited.
     #[inline(always)]
-    fn walk_return(
+    fn walk_return<T: StretchTaker>(
         &mut self,
         image: &Image,
+        id: Id,
         near: &NearPart,
         taken: bool,
-        run: &mut Stretches,
+        taker: &mut T,
     ) -> bool
         requires near { IsNear image.now near.now }
-        requires room { length run.old < 24 }
-        ensures walks { IsTrue result → WalksRun image.now self.old None (taken ∷ []) run.old 1 self.new run.new }
-        ensures unchanged { result ≡ false → (self.new ≡ self.old) × (run.new ≡ run.old) }
+        requires room { 0 < T.space taker.old }
+        ensures walks { IsTrue result → WalksRun (T.adds image.now id self.old.ctx) image.now self.old None (taken ∷ []) taker.old 1 self.new taker.new }
+        ensures unchanged { result ≡ false → (self.new ≡ self.old) × (taker.new ≡ taker.old) }
+        ensures space { T.space taker.old ≤ T.space taker.new + 1 }
         ensures context { self.new.ctx ≡ self.old.ctx }
         ensures state { IsState self.new }
     {
@@ -526,30 +559,32 @@ impl Walker {
             return false;
         };
         self.pc = walk.next;
-        run.push(walk.stretch);
+        taker.take_stretch(image, id, &self.ctx, walk.stretch);
         true
     }
 
     /// Walks one atom of any kind, and says whether it was walked.
     #[inline(never)]
-    fn walk_other(
+    fn walk_other<T: StretchTaker>(
         &mut self,
         image: &Image,
+        id: Id,
         given: Option<u64>,
         taken: bool,
-        run: &mut Stretches,
+        taker: &mut T,
     ) -> bool
         requires told { ToldIsAligned given }
-        requires room { length run.old < 24 }
-        ensures walks { IsTrue result → WalksRun image.now self.old given (taken ∷ []) run.old 1 self.new run.new }
+        requires room { 0 < T.space taker.old }
+        ensures walks { IsTrue result → WalksRun (T.adds image.now id self.old.ctx) image.now self.old given (taken ∷ []) taker.old 1 self.new taker.new }
         ensures none { result ≡ false → HasNoStretch image.now self.old (atom_at given taken) }
-        ensures unchanged { result ≡ false → (self.new ≡ self.old) × (run.new ≡ run.old) }
+        ensures unchanged { result ≡ false → (self.new ≡ self.old) × (taker.new ≡ taker.old) }
+        ensures space { T.space taker.old ≤ T.space taker.new + 1 }
         ensures context { self.new.ctx ≡ self.old.ctx }
         ensures state { IsState self.new }
     {
         match self.walk_atom(image, given, taken) {
             Some(stretch) => {
-                run.push(stretch);
+                taker.take_stretch(image, id, &self.ctx, stretch);
                 true
             }
             None => false,

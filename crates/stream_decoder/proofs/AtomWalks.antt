@@ -1,17 +1,14 @@
 -- The walk of a run of atoms, where they are elements that are next, or the oldest things that wait.
-use Rattle.std.proofs.Common.{◌≡◌, ℕ, Bool, List, [], ◌∷◌, ◌++◌, All, map, take, drop, Option, None, ap, subst, ◌∙◌, refl}
+use Rattle.std.proofs.Common.{◌≡◌, ℕ, Bool, List, [], ◌∷◌, ◌++◌, map, take, drop, Option, None, ap, subst, ◌∙◌, refl}
 use Rattle.std.proofs.lemmas.List.{take-append-drop}
-use Rattle.std.proofs.lemmas.List.Elements.{All-cons, All-head, All-nil, All-tail}
 use Rattle.element_queue.specs.Queued.{plain_atom}
 use Rattle.etm_types.specs.declared.element.Elem.{Elem}
 use Rattle.etm_types.specs.declared.element.Thing.{Thing}
 use Rattle.path_elements.specs.Elements.{atoms}
 use Rattle.path_walker.specs.State.{State}
-use Rattle.path_walker.specs.Walk.{IsPlaced, WalksAtoms, atom_at}
+use Rattle.path_walker.specs.Walk.{WalksAtoms}
 use Rattle.path_walker.specs.declared.stretch.Stretch.{Stretch}
 use Rattle.program_image.specs.declared.image.Image.{Image}
-use Rattle.stream_decoder.proofs.Worded.{shows_stretch}
-use Rattle.stream_decoder.specs.Follows.{AreStretchesOfWords, IsStretchOfWords}
 use Rattle.stream_decoder.specs.Yields.{WalksNext, WalksOldest}
 
 module _ (image : Image) where
@@ -36,13 +33,3 @@ module _ (image : Image) where
   walks_oldest s s' run n things added oldest walks =
       subst (λ (l : List Thing). WalksOldest image s l added s')
       (ap (λ (l : List Thing). l ++ drop n things) oldest ∙ take-append-drop n things) (walks_first s s' run (drop n things) added walks)
-
-  -- their stretches are words
-  pub words_walked : (s s' : State) (addr : Option ℕ) (run : List Bool) (added : List Stretch)
-      → WalksAtoms image s addr run added s' → All (IsPlaced image) added → AreStretchesOfWords image added
-  words_walked s s' addr run [] walks placed = All-nil (IsStretchOfWords image)
-  words_walked s s' addr [] (stretch ∷ added) walks placed = absurd walks
-  words_walked s s' addr (taken ∷ run) (stretch ∷ added) (next, shows, state, walks) placed =
-      All-cons (IsStretchOfWords image) stretch added
-      (shows_stretch image s next (atom_at addr taken) s.ctx stretch shows (All-head (IsPlaced image) stretch added placed))
-      (words_walked next s' None run added walks (All-tail (IsPlaced image) stretch added placed))

@@ -27,11 +27,11 @@ use Rattle.stream_decoder.proofs.Atoms.{fewer_by_atom, goes_by_atom, holds_by_at
 use Rattle.stream_decoder.proofs.Dues.{fewer_by_due, goes_by_due, holds_by_due}
 use Rattle.stream_decoder.proofs.Runs.{Ran}
 use Rattle.stream_decoder.proofs.Waits.{next_at}
-use Rattle.stream_decoder.proofs.Yielding.{goes_on}
-use Rattle.stream_decoder.specs.Decoding.{IsDecoding, decoding_of}
+use Rattle.stream_decoder.proofs.Yielding.{goes_nowhere, goes_on}
+use Rattle.stream_decoder.specs.Decoding.{AtRest, Decoding, IsDecoding, decoding_of}
 use Rattle.stream_decoder.specs.Left.{Left}
 use Rattle.stream_decoder.specs.Waiting.{Commits, DropsDue, DropsOldest, IsWaiting, TakesAtoms, Waiting, all_of, committed_by}
-use Rattle.stream_decoder.specs.Yields.{Goes, WalksOldest, left}
+use Rattle.stream_decoder.specs.Yields.{Goes, WalksNext, WalksOldest, WalksOn, left}
 
 -- ---- one more
 
@@ -314,22 +314,58 @@ pub waits_in : (r : Standing) (t : Told) (l : Left) (w : Waiting) (s : State) (f
     → IsDecoding (decoding_of r t l w s f) → IsWaiting w
 waits_in r t l w s f depth is = record { few = omega (arith, is.few, depth); balanced = is.balanced; range = is.range }
 
--- where none was walked nothing changed
-pub none_more : (image : Image) (s s' : State) (things : List Thing) (run added run' : List Stretch) (n : ℕ) → length added ≡ n → n ≡ 0
-    → run' ≡ run ++ added → WalksOldest image s things added s' → (s' ≡ s) × (run' ≡ run)
-none_more image s s' things run [] run' n count none joined walks = (walks, joined ∙ append-nil run)
-none_more image s s' things run (x ∷ added) run' n count none joined walks = absurd (omega (arith, count, none))
+-- where none was walked the walk stays where it was
+pub none_more : (image : Image) (s s' : State) (things : List Thing) (added : List Stretch) (n : ℕ) → length added ≡ n → n ≡ 0
+    → WalksOldest image s things added s' → (s' ≡ s) × (added ≡ [])
+none_more image s s' things [] n count none walks = (walks, refl)
+none_more image s s' things (x ∷ added) n count none walks = absurd (omega (arith, count, none))
 
--- where some were walked the run is not empty
-pub some_more : (run added run' : List Stretch) (n : ℕ) → length added ≡ n → (n ≡ 0 → ⊥) → run' ≡ run ++ added → run' ≡ [] → ⊥
-some_more run added run' n count some joined none = some (omega (arith, count, ap length joined, ap length none, length-append run added))
+pub none_passed : (image : Image) (s s' : State) (addr : Option ℕ) (elements : List Elem) (added : List Stretch) → length added ≤ 0
+    → WalksNext image s addr elements added s' → (s' ≡ s) × (added ≡ [])
+none_passed image s s' addr elements [] few walks = (walks, refl)
+none_passed image s s' addr elements (x ∷ added) few walks = absurd (omega (arith, few))
 
-pub none_before : (run added run' : List Stretch) → run' ≡ run ++ added → run' ≡ [] → run ≡ []
-none_before [] added run' joined none = refl
-none_before (x ∷ run) added run' joined none = absurd (let e : x ∷ (run ++ added) ≡ [] = sym joined ∙ none in cc)
+-- where some were walked there are stretches
+pub some_more : (added : List Stretch) (n : ℕ) → length added ≡ n → (n ≡ 0 → ⊥) → added ≡ [] → ⊥
+some_more added n count some none = some (omega (arith, count, ap length none))
+
+pub both_none : (xs ys : List Stretch) → xs ++ ys ≡ [] → (xs ≡ []) × (ys ≡ [])
+both_none [] ys none = (refl, none)
+both_none (x ∷ xs) ys none = absurd cc
 
 pub items_joined : (ctx : Ctx) (run added : List Stretch) → items_in ctx run ++ items_in ctx added ≡ items_in ctx (run ++ added)
 items_joined ctx [] added = refl
 items_joined ctx (x ∷ run) added =
     append_assoc (items_of (walked_in ctx x)) (items_in ctx run) (items_in ctx added)
     ∙ ap (λ (items : List Item). items_of (walked_in ctx x) ++ items) (items_joined ctx run added)
+
+-- nothing is done
+pub walks_nowhere : {V : Type 0} (Takes : V → List Stretch → V → Type 0) (image : Image) (d : Decoding) (v : V) → Takes v [] v → WalksOn Takes image d v d v
+walks_nowhere Takes image d v none = record {
+  added = [];
+  takes = none;
+  goes = goes_nowhere image d;
+  none = λ same. refl;
+  stopped = λ done. refl;
+}
+
+module _ {V : Type 0} (Takes : Ctx → V → List Stretch → V → Type 0)
+    (joins : (ctx : Ctx) (a b c : V) (xs ys : List Stretch) → Takes ctx a xs b → Takes ctx b ys c → Takes ctx a (xs ++ ys) c) where
+  -- some more is done
+  pub walks_on : (image : Image) (d mid last : Decoding) (old between new : V) → (mid.walk).ctx ≡ (d.walk).ctx → (last.walk).ctx ≡ (mid.walk).ctx
+      → WalksOn (Takes (d.walk).ctx) image d old mid between → WalksOn (Takes (mid.walk).ctx) image mid between last new
+      → WalksOn (Takes (d.walk).ctx) image d old last new
+  walks_on image d mid last old between new same still first rest =
+      let ctx = (last.walk).ctx in
+      let so_far = subst (λ (x : Ctx). Goes image d (items_in x first.added) mid) (sym still) first.goes in
+      record {
+        added = first.added ++ rest.added;
+        takes = joins (d.walk).ctx old between new first.added rest.added first.takes
+            (subst (λ (x : Ctx). Takes x between rest.added new) same rest.takes);
+        goes = subst (λ (items : List Item). Goes image d items last) (items_joined ctx first.added rest.added)
+            (goes_on image d mid last (items_in ctx first.added) (items_in ctx rest.added) so_far rest.goes);
+        none = λ empty. let both = both_none first.added rest.added empty in rest.none both.1 ∙ first.none both.0;
+        stopped = λ done.
+            let none = first.stopped done in
+            ap (λ (run : List Stretch). run ++ rest.added) none ∙ rest.stopped (subst AtRest (sym (first.none none)) done);
+      }

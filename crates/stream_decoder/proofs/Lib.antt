@@ -13,7 +13,6 @@ pub mod Printing
 pub mod Quiet
 pub mod Following
 pub mod FollowedRuns
-pub mod Worded
 pub mod Standing
 pub mod Growing
 pub mod Fronts

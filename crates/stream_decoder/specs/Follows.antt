@@ -1,14 +1,10 @@
 -- What follows paths takes of them, and at which bytes a stream stands whose path is followed.
-use Rattle.std.specs.Prelude.{◌≡◌, ℕ, ◌+◌, ◌-◌, Bool, true, false, if◌then◌else◌, All, List, [], ◌∷◌, ◌++◌, length, map, is_none, ⊤}
+use Rattle.std.specs.Prelude.{◌≡◌, ℕ, ◌+◌, List, [], ◌∷◌, ◌++◌, length, map, ⊤}
 use Rattle.etm_types.specs.Settings.{Sizes}
 use Rattle.etm_types.specs.declared.item.Item.{Item}
-use Rattle.etm_types.specs.declared.walked.Walked.{Walked}
 use Rattle.packet_grammar.specs.declared.end.End.{End}
 use Rattle.path_elements.specs.Path.{IsPath}
-use Rattle.path_walker.specs.Walk.{IsPlaced, is_cond}
-use Rattle.path_walker.specs.declared.stretch.Stretch.{Stretch}
-use Rattle.program_image.specs.Blocks.{IsPlainRun, behind, class_at}
-use Rattle.program_image.specs.Places.{AreWords}
+use Rattle.path_walker.specs.Walk.{ShowsWords}
 use Rattle.program_image.specs.declared.image.Image.{Image}
 use Rattle.stream_decoder.specs.Decoding.{Decoding}
 use Rattle.stream_decoder.specs.Stands.{Came}
@@ -24,31 +20,11 @@ items_under id items = map (λ (i : Item). (id, i)) items
 abbrev pub TakesMore : {F : Type 0} → (F → List (ℕ × Item) → Type 0) → F → F → List (ℕ × Item) → Type 0
 TakesMore took old new more = (items : List (ℕ × Item)) → took old items → took new (items ++ more)
 
--- so many words of an image from an address on, of which so many are plain, and the last is a conditional branch where it was taken
-pub record AreWalked (image : Image) (start count plain : ℕ) (taken : Bool) : Type 0 where
-  pub words : AreWords image start count
-  pub run : IsPlainRun image start plain
-  pub cond : taken ≡ true → is_cond (class_at image (behind start (count - 1))) ≡ true
-
--- All instructions of an atom but the last are plain, and so are all before an exception.
-abbrev pub ShowsWords : Image → Walked → Type 0
-ShowsWords image walked =
-    walked.unknown ≡ false
-    → AreWalked image walked.start walked.count (if is_none walked.exc then walked.count - 1 else walked.count) walked.took
-
--- the same of what was found
+-- the instructions of what was found are words of the image
 abbrev pub FindsWords : Image → Found → Type 0
 FindsWords image (found.Walked walked) = ShowsWords image walked
 FindsWords image found.Gap = ⊤
 FindsWords image found.Stop = ⊤
-
--- and of the stretches of atoms, each with its place
-abbrev pub IsStretchOfWords : Image → Stretch → Type 0
-IsStretchOfWords image stretch =
-    AreWalked image stretch.start stretch.count (stretch.count - 1) stretch.took × IsPlaced image stretch
-
-abbrev pub AreStretchesOfWords : Image → List Stretch → Type 0
-AreStretchesOfWords image run = All (IsStretchOfWords image) run
 
 -- some of what is left to do of a stream is done, without a fault, and the items that it showed were taken
 pub record Follows {F : Type 0} (took : F → List (ℕ × Item) → Type 0) (image : Image) (id : ℕ) (d d' : Decoding) (old new : F) : Type 0 where

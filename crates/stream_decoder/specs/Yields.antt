@@ -116,10 +116,10 @@ WalksOldest image s things (stretch ∷ run) s' =
     (addr : Option ℕ) × (taken : Bool) × (others : List Thing) × (next : State) × (things ≡ Seen (atom_at addr taken) ∷ others)
     × Shows image s (atom_at addr taken) (walked_in s.ctx stretch) next × IsState next × WalksOldest image next others run s'
 
--- so many of the oldest were, and their stretches stand behind those of a run
-abbrev pub WalksSome : Image → State → List Thing → List Stretch → ℕ → State → List Stretch → Type 0
-WalksSome image s things run n s' run' =
-    (added : List Stretch) × (run' ≡ run ++ added) × (length added ≡ n) × WalksOldest image s things added s'
+-- so many of the oldest were, and their stretches were taken
+abbrev pub WalksSome : {V : Type 0} → (V → List Stretch → V → Type 0) → Image → State → List Thing → V → ℕ → State → V → Type 0
+WalksSome Takes image s things old n s' new =
+    (added : List Stretch) × Takes old added new × (length added ≡ n) × WalksOldest image s things added s'
 
 -- the next element has a fault
 pub record Refuses (d : Decoding) (f : QueueFault) : Type 0 where
@@ -161,11 +161,13 @@ pub record Goes (image : Image) (d : Decoding) (items : List Item) (d' : Decodin
       → Yields image d (items ++ rest) outcome (with_offset d.at took ++ more)
   pub rest : d' ≡ record d { pending = d'.pending; due = d'.due; walk = d'.walk; todo = d'.todo; counts = d'.counts }
 
--- some of it is done, without a fault, and the stretches that it showed stand behind those of a run
-pub record WalksOn (image : Image) (d : Decoding) (run : List Stretch) (d' : Decoding) (run' : List Stretch) : Type 0 where
+-- some of it is done, without a fault, and the stretches that it showed were taken: none where nothing was done, or nothing was left to do
+pub record WalksOn {V : Type 0} (Takes : V → List Stretch → V → Type 0) (image : Image) (d : Decoding) (old : V) (d' : Decoding) (new : V) : Type 0 where
   pub added : List Stretch
-  pub joined : run' ≡ run ++ added
+  pub takes : Takes old added new
   pub goes : Goes image d (items_in (d'.walk).ctx added) d'
+  pub none : added ≡ [] → d' ≡ d
+  pub stopped : AtRest d → added ≡ []
 
 abbrev pub is_walk_fault : Option (ℕ × Fault) → Bool
 is_walk_fault (Some (at, fault.Walk f)) = true

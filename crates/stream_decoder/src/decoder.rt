@@ -366,7 +366,8 @@ fn write_atoms<K: Sink>(
     ensures id { line.new.id ≡ line.old.id }
     ensures holds { IsDecoding decoding.new }
 {
-    decoding.next_run(image, run);
+    run.clear();
+    decoding.next_run(image, line.id(), run);
     if run.is_empty() {
         return Ok(());
     }

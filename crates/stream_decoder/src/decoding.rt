@@ -14,10 +14,11 @@ ghost use Rattle.packet_reader.specs.Stands as stands;
 ghost use Rattle.path_elements.specs.Held.{CanBeTaken};
 ghost use Rattle.path_walker.specs.Things.{IsAlignedThing, Walks};
 ghost use Rattle.path_walker.specs.State.{IsState};
-ghost use Rattle.path_walker.specs.Walk.{ToldIsAligned, items_in};
+ghost use Rattle.path_walker.specs.Walk.{ToldIsAligned};
+ghost use Rattle.path_walker.specs.declared.stretch.Stretch.{Stretch};
 ghost use Rattle.program_image.specs.declared.image.Image.{Image};
 ghost use Rattle.stream_decoder.specs.Decoding.{AtRest, Begins, IsDecoding, depth_of};
-ghost use Rattle.stream_decoder.specs.Follows.{AreStretchesOfWords, FindsWords};
+ghost use Rattle.stream_decoder.specs.Follows.{FindsWords};
 ghost use Rattle.stream_decoder.specs.Stands.{end_at};
 ghost use Rattle.stream_decoder.specs.Yields.{BegunByte, BegunFront, Ends, Goes, Leaves, OpensPacket, Refuses, Stops, WalksNext, WalksOn};
 ghost use Rattle.stream_decoder.specs.Yields.{items_of_found, items_found, left};
@@ -27,12 +28,12 @@ use crate::oldest::{drop_due, take_atoms, walk_oldest};
 use crate::todo::Todo;
 use crate::waiting::Waiting;
 use element_queue::{Counts, Ledger};
-use etm_types::{AtomRun, Ctx, QueueFault, Settings, Thing};
+use etm_types::{AtomRun, Ctx, Id, QueueFault, Settings, Thing};
 use packet_grammar::headers::ATOMS;
 use packet_grammar::{End, Fault, Packet};
 use packet_reader::{Address, PacketReader, Step};
 use path_elements::{Awaited, ElemMaker};
-use path_walker::{Stretches, Walker};
+use path_walker::{StretchTaker, Walker};
 use program_image::Image;
 use std::alloc::{AllocError, Global};
 use std::marker::Model;
@@ -501,42 +502,36 @@ impl Decoding {
     ///
     /// Most elements are such, and what they show is small.
     #[inline(always)]
-    fn walk_some(&mut self, image: &Image, run: &mut Stretches) -> bool
-        ensures walks { WalksOn image.now self.old run.old self.new run.new }
-        ensures words { AreStretchesOfWords image.now run.old → AreStretchesOfWords image.now run.new }
+    fn walk_some<T: StretchTaker>(&mut self, image: &Image, id: Id, taker: &mut T) -> bool
+        ensures walks { WalksOn (T.adds image.now id self.old.walk.ctx) image.now self.old taker.old self.new taker.new }
         ensures fewer { IsTrue result → left self.new < left self.old }
         ensures at_most { left self.new ≤ left self.old }
-        ensures none { run.new ≡ [] → self.new ≡ self.old }
-        ensures stopped { AtRest self.old → (result ≡ false) × (self.new ≡ self.old) × (run.new ≡ run.old) }
         ensures context { self.new.walk.ctx ≡ self.old.walk.ctx }
         ensures reader { self.new.reader ≡ self.old.reader }
         ensures holds { IsDecoding self.new }
     {
         if self.waiting.is_due() {
-            return self.walk_due(image, run);
+            return self.walk_due(image, id, taker);
         }
         if self.waiting.is_full() {
-            return self.walk_taken(image, run);
+            return self.walk_taken(image, id, taker);
         }
         false
     }
 
     /// Walks the oldest that are due. Says whether there was one, behind which there may be more.
     #[inline(always)]
-    fn walk_due(&mut self, image: &Image, run: &mut Stretches) -> bool
+    fn walk_due<T: StretchTaker>(&mut self, image: &Image, id: Id, taker: &mut T) -> bool
         requires holds { IsDecoding self.old }
-        ensures walks { WalksOn image.now self.old run.old self.new run.new }
-        ensures words { AreStretchesOfWords image.now run.old → AreStretchesOfWords image.now run.new }
+        ensures walks { WalksOn (T.adds image.now id self.old.walk.ctx) image.now self.old taker.old self.new taker.new }
         ensures fewer { IsTrue result → left self.new < left self.old }
         ensures at_most { left self.new ≤ left self.old }
-        ensures none { run.new ≡ [] → self.new ≡ self.old }
-        ensures stopped { AtRest self.old → (result ≡ false) × (self.new ≡ self.old) × (run.new ≡ run.old) }
         ensures context { self.new.walk.ctx ≡ self.old.walk.ctx }
         ensures reader { self.new.reader ≡ self.old.reader }
         ensures holds { IsDecoding self.new }
     {
         let most = self.waiting.due_count();
-        let n = walk_oldest(&mut self.walker, image, &self.waiting, most, run);
+        let n = walk_oldest(&mut self.walker, image, id, &self.waiting, most, taker);
         if n == 0 {
             return false;
         }
@@ -547,16 +542,13 @@ impl Decoding {
     /// Takes the next elements where they are atoms, and walks the oldest, which they commit. No more may be held. Says whether there may be
     /// more: not where all the atoms that are next were walked.
     #[inline(always)]
-    fn walk_taken(&mut self, image: &Image, run: &mut Stretches) -> bool
+    fn walk_taken<T: StretchTaker>(&mut self, image: &Image, id: Id, taker: &mut T) -> bool
         requires due { self.old.due ≡ [] }
         requires full { depth_of self.old ≤ length self.old.pending.held }
         requires holds { IsDecoding self.old }
-        ensures walks { WalksOn image.now self.old run.old self.new run.new }
-        ensures words { AreStretchesOfWords image.now run.old → AreStretchesOfWords image.now run.new }
+        ensures walks { WalksOn (T.adds image.now id self.old.walk.ctx) image.now self.old taker.old self.new taker.new }
         ensures fewer { IsTrue result → left self.new < left self.old }
         ensures at_most { left self.new ≤ left self.old }
-        ensures none { run.new ≡ [] → self.new ≡ self.old }
-        ensures stopped { AtRest self.old → (result ≡ false) × (self.new ≡ self.old) × (run.new ≡ run.old) }
         ensures context { self.new.walk.ctx ≡ self.old.walk.ctx }
         ensures reader { self.new.reader ≡ self.old.reader }
         ensures holds { IsDecoding self.new }
@@ -565,7 +557,7 @@ impl Decoding {
         if most == 0 {
             return false;
         }
-        let n = walk_oldest(&mut self.walker, image, &self.waiting, most, run);
+        let n = walk_oldest(&mut self.walker, image, id, &self.waiting, most, taker);
         if n == 0 {
             return false;
         }
@@ -577,58 +569,55 @@ impl Decoding {
     /// Where each is committed as it is made, those of a packet are walked in one loop. Where there is none, and where the first is not
     /// walked, nothing changes: [`next`](Decoding::next) goes on from there.
     #[inline(always)]
-    pub fn next_run(&mut self, image: &Image, run: &mut Stretches)
-        ensures goes { Goes image.now self.old (items_in self.new.walk.ctx run.new) self.new }
-        ensures words { AreStretchesOfWords image.now run.new }
+    pub fn next_run<T: StretchTaker>(&mut self, image: &Image, id: Id, taker: &mut T)
+        ensures walks { WalksOn (T.adds image.now id self.old.walk.ctx) image.now self.old taker.old self.new taker.new }
         ensures fewer { left self.new ≤ left self.old }
-        ensures none { run.new ≡ [] → self.new ≡ self.old }
-        ensures stopped { AtRest self.old → run.new ≡ [] }
+        ensures context { self.new.walk.ctx ≡ self.old.walk.ctx }
         ensures reader { self.new.reader ≡ self.old.reader }
         ensures holds { IsDecoding self.new }
     {
-        run.clear();
         match self.waiting.passing() {
-            Some(given) => self.walk_passing(image, given, run),
-            None => self.walk_held(image, run),
+            Some(given) => self.walk_passing(image, id, given, taker),
+            None => self.walk_held(image, id, taker),
         }
     }
 
     /// The same, of what is held. It is a function of its own, as the next one is: the loop with all that it does is one piece of code then, and no
     /// atom costs a call.
     #[inline(never)]
-    fn walk_held(&mut self, image: &Image, run: &mut Stretches)
-        requires none { run.old ≡ [] }
+    fn walk_held<T: StretchTaker>(&mut self, image: &Image, id: Id, taker: &mut T)
         requires holds { IsDecoding self.old }
-        ensures goes { Goes image.now self.old (items_in self.new.walk.ctx run.new) self.new }
-        ensures words { AreStretchesOfWords image.now run.new }
+        ensures walks { WalksOn (T.adds image.now id self.old.walk.ctx) image.now self.old taker.old self.new taker.new }
         ensures fewer { left self.new ≤ left self.old }
-        ensures none { run.new ≡ [] → self.new ≡ self.old }
-        ensures stopped { AtRest self.old → run.new ≡ [] }
+        ensures context { self.new.walk.ctx ≡ self.old.walk.ctx }
         ensures reader { self.new.reader ≡ self.old.reader }
         ensures holds { IsDecoding self.new }
     {
-        while self.walk_some(image, run) {}
+        while self.walk_some(image, id, taker) {}
     }
 
     /// The same, where this address was given before the first atom, or none.
     #[inline(never)]
-    fn walk_passing(&mut self, image: &Image, given: Option<u64>, run: &mut Stretches)
-        requires none { run.old ≡ [] }
+    fn walk_passing<T: StretchTaker>(
+        &mut self,
+        image: &Image,
+        id: Id,
+        given: Option<u64>,
+        taker: &mut T,
+    )
         requires due { self.old.due ≡ [] }
         requires depth { self.old.reader.settings.depth ≡ 0 }
         requires given { self.old.pending.pre ≡ record nothing_told { addr = given } }
-        ensures goes { Goes image.now self.old (items_in self.new.walk.ctx run.new) self.new }
-        ensures words { AreStretchesOfWords image.now run.new }
+        ensures walks { WalksOn (T.adds image.now id self.old.walk.ctx) image.now self.old taker.old self.new taker.new }
         ensures fewer { left self.new ≤ left self.old }
-        ensures none { run.new ≡ [] → self.new ≡ self.old }
-        ensures stopped { AtRest self.old → run.new ≡ [] }
+        ensures context { self.new.walk.ctx ≡ self.old.walk.ctx }
         ensures reader { self.new.reader ≡ self.old.reader }
         ensures holds { IsDecoding self.new }
     {
-        walk_run(&mut self.walker, image, &self.todo, given, run);
-        if !run.is_empty() {
-            self.waiting.pass_many(run.len() as u32);
-            self.todo.advance_by(run.len());
+        let n = walk_run(&mut self.walker, image, id, &self.todo, given, taker);
+        if n > 0 {
+            self.waiting.pass_many(n as u32);
+            self.todo.advance_by(n);
         }
     }
 
@@ -817,21 +806,20 @@ impl Decoding {
 /// Walks the atoms that are next, one after the other, as far as each shows a stretch: before the first this address was given, where
 /// one was, and nothing before the others.
 #[inline(always)]
-fn walk_run(
+fn walk_run<T: StretchTaker>(
     walker: &mut Walker,
     image: &Image,
+    id: Id,
     todo: &Todo,
     given: Option<u64>,
-    run: &mut Stretches,
-)
+    taker: &mut T,
+) -> usize
     requires aligned { ToldIsAligned given }
-    requires none { run.old ≡ [] }
-    ensures walks { WalksNext image.now walker.old given todo.now.elements run.new walker.new }
-    ensures words { AreStretchesOfWords image.now run.new }
-    ensures few { length run.new ≤ 24 }
+    ensures walks { (run : List Stretch) × T.adds image.now id walker.old.ctx taker.old run taker.new × (length run ≡ result)
+        × WalksNext image.now walker.old given todo.now.elements run walker.new }
+    ensures few { result ≤ 24 }
     ensures context { walker.new.ctx ≡ walker.old.ctx }
-    ensures unchanged { run.new ≡ [] → walker.new ≡ walker.old }
 {
-    let atoms = todo.atoms(run.room());
-    walker.walk_atoms(image, given, &atoms, run);
+    let atoms = todo.atoms(taker.room());
+    walker.walk_atoms(image, id, given, &atoms, taker)
 }

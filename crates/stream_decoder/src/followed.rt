@@ -22,7 +22,6 @@ use crate::ending::finish;
 use crate::follower::{Follower, follow_rest};
 use element_queue::{Counts, Ledger};
 use etm_types::{Id, Settings};
-use path_walker::Stretches;
 use program_image::Image;
 use std::alloc::{AllocError, Global};
 use std::marker::Model;
@@ -35,8 +34,6 @@ use trace_io::{Failed, Sink};
 #[must_use]
 pub struct FollowedStream {
     decoding: Decoding,
-    /// The atoms that were walked last in one loop. It stands here so that it is not made anew for each byte.
-    run: Stretches,
 }
 
 impl Model for FollowedStream {
@@ -59,7 +56,6 @@ impl FollowedStream {
     {
         Ok(FollowedStream {
             decoding: Decoding::new(alloc, settings)?,
-            run: Stretches::new(),
         })
     }
 
@@ -80,7 +76,7 @@ impl FollowedStream {
         ensures most { length (self.new.due ++ self.new.pending.held) ≤ self.new.reader.settings.depth }
     {
         self.decoding.begin(byte);
-        follow_rest(&mut self.decoding, &mut self.run, image, id, follower);
+        follow_rest(&mut self.decoding, image, id, follower);
     }
 
     /// Takes the next bytes, and gives a follower the items by which the path grows, as [`take`](FollowedStream::take) does of each.
@@ -99,7 +95,7 @@ impl FollowedStream {
         ensures balanced { Balances self.new.counts (entries (self.new.due ++ self.new.pending.held)) }
         ensures most { length (self.new.due ++ self.new.pending.held) ≤ self.new.reader.settings.depth }
     {
-        follow_bytes(&mut self.decoding, &mut self.run, image, id, run, follower);
+        follow_bytes(&mut self.decoding, image, id, run, follower);
     }
 
     /// How many bytes were taken.
@@ -137,7 +133,7 @@ impl FollowedStream {
         ensures nothing { self.reader.taken ≡ 0 → IfOk result (λ whole. whole ≡ true) }
         ensures serves { Serves (K.state sink.old) (K.state sink.new) result }
     {
-        let FollowedStream { decoding, run: _ } = self;
+        let FollowedStream { decoding } = self;
         finish(decoding, id, sink)
     }
 
@@ -146,7 +142,7 @@ impl FollowedStream {
         ensures value { result ≡ counts_after self.counts 0 (losing (self.due ++ self.pending.held)) }
         ensures balanced { Balances result 0 }
     {
-        let FollowedStream { decoding, run: _ } = self;
+        let FollowedStream { decoding } = self;
         decoding.close()
     }
 }
@@ -154,7 +150,6 @@ impl FollowedStream {
 /// Takes the next bytes, and gives a follower what they show.
 fn follow_bytes<F: Follower>(
     decoding: &mut Decoding,
-    atoms: &mut Stretches,
     image: &Image,
     id: Id,
     run: &[u8],
@@ -172,6 +167,6 @@ fn follow_bytes<F: Follower>(
     let mut rest = run;
     while let Some(behind) = decoding.begin_front(rest) {
         rest = behind;
-        follow_rest(decoding, atoms, image, id, follower);
+        follow_rest(decoding, image, id, follower);
     }
 }

@@ -3,20 +3,24 @@ ghost use Rattle.std.specs.Prelude.{◌≡◌, ◌≤◌, ◌∷◌, [], List, �
 ghost use Rattle.etm_types.specs.Walked.{items_of};
 ghost use Rattle.etm_types.specs.declared.item.Item.{Item};
 ghost use Rattle.etm_types.specs.declared.item.Item.TheVariants as item;
-ghost use Rattle.path_walker.specs.Walk.{items_in};
+ghost use Rattle.etm_types.specs.declared.context.Ctx.{Ctx};
+ghost use Rattle.path_walker.specs.Walk.{ShowsWords, items_in};
+ghost use Rattle.path_walker.specs.declared.stretch.Stretch.{Stretch};
 ghost use Rattle.program_image.specs.declared.image.Image.{Image};
 ghost use Rattle.stream_decoder.specs.Decoding.{AtRest, IsDecoding};
-ghost use Rattle.stream_decoder.specs.Follows.{AreStretchesOfWords, FindsWords, Follows, ShowsWords, TakesMore, items_under};
+ghost use Rattle.stream_decoder.specs.Follows.{FindsWords, Follows, TakesMore, items_under};
 ghost use Rattle.stream_decoder.specs.Yields.{Ends, items_of_found, left};
 
 use crate::decoding::Decoding;
 use crate::found::Found;
-use etm_types::{Ctx, Id, Walked};
-use path_walker::Stretches;
+use etm_types::{Id, Walked};
+use path_walker::StretchTaker;
 use program_image::Image;
 
 /// What takes the items of the paths of streams over an image, one after the other. It can't fail.
-pub trait Follower {
+///
+/// The stretches of atoms are given to it one by one, as they are walked.
+pub trait Follower: StretchTaker {
     /// It took these items, each with the ID of its stream, in the order in which they came, over this image.
     ghost took: { Image → Self → List (ℕ × Item) → Type 0 };
 
@@ -25,11 +29,6 @@ pub trait Follower {
         requires words { ShowsWords image.now walked.now }
         ensures takes { TakesMore (took image.now) self.old self.new (items_under id (items_of walked.now)) };
 
-    /// Takes what the walks of a run of atoms show, in a context.
-    fn take_run(&mut self, image: &Image, id: Id, ctx: &Ctx, run: &Stretches)
-        requires words { AreStretchesOfWords image.now run.now }
-        ensures takes { TakesMore (took image.now) self.old self.new (items_under id (items_in ctx.now run.now)) };
-
     /// Takes trace of a stream that was lost by an overflow.
     fn take_gap(&mut self, id: Id)
         ensures takes { (image : Image) → TakesMore (took image) self.old self.new (items_under id (item.Gap ∷ [])) };
@@ -37,17 +36,15 @@ pub trait Follower {
     /// Takes a stop of tracing of a stream.
     fn take_stop(&mut self, id: Id)
         ensures takes { (image : Image) → TakesMore (took image) self.old self.new (items_under id (item.Stop ∷ [])) };
+
+    /// Where it took stretches, it took the items that they show.
+    ghost shows: { (image : Image) (id : ℕ) (ctx : Ctx) (old new : Self) (run : List Stretch) → Self.adds image id ctx old run new
+        → TakesMore (took image) old new (items_under id (items_in ctx run)) };
 }
 
 /// Gives a follower what all that is left to do of a stream shows. Many bytes leave nothing to do.
 #[inline(always)]
-pub fn follow_rest<F: Follower>(
-    decoding: &mut Decoding,
-    run: &mut Stretches,
-    image: &Image,
-    id: Id,
-    follower: &mut F,
-)
+pub fn follow_rest<F: Follower>(decoding: &mut Decoding, image: &Image, id: Id, follower: &mut F)
     requires holds { IsDecoding decoding.old }
     ensures follows { decoding.old.fault ≡ None → (items : List Item) × Ends image.now decoding.old items decoding.new
         × TakesMore (F.took image.now) follower.old follower.new (items_under id items) }
@@ -59,19 +56,13 @@ pub fn follow_rest<F: Follower>(
     if decoding.is_at_rest() {
         return;
     }
-    follow_some(decoding, run, image, id, follower);
+    follow_some(decoding, image, id, follower);
 }
 
 /// The same, where something is left to do: as much as goes the short way; where that ends, one thing that is found the long way;
 /// and so on.
 #[inline(always)]
-fn follow_some<F: Follower>(
-    decoding: &mut Decoding,
-    run: &mut Stretches,
-    image: &Image,
-    id: Id,
-    follower: &mut F,
-)
+fn follow_some<F: Follower>(decoding: &mut Decoding, image: &Image, id: Id, follower: &mut F)
     requires holds { IsDecoding decoding.old }
     ensures follows { decoding.old.fault ≡ None → (items : List Item) × Ends image.now decoding.old items decoding.new
         × TakesMore (F.took image.now) follower.old follower.new (items_under id items) }
@@ -80,7 +71,7 @@ fn follow_some<F: Follower>(
     ensures holds { IsDecoding decoding.new }
 {
     loop {
-        follow_atoms(decoding, run, image, id, follower);
+        follow_atoms(decoding, image, id, follower);
         if decoding.is_at_rest() {
             return;
         }
@@ -97,21 +88,14 @@ fn follow_some<F: Follower>(
 /// Gives a follower what goes the short way: what is due, and what the next elements show, as long as these are atoms before which
 /// nothing but an address was given, and at most 24.
 #[inline(always)]
-fn follow_atoms<F: Follower>(
-    decoding: &mut Decoding,
-    run: &mut Stretches,
-    image: &Image,
-    id: Id,
-    follower: &mut F,
-)
+fn follow_atoms<F: Follower>(decoding: &mut Decoding, image: &Image, id: Id, follower: &mut F)
     requires holds { IsDecoding decoding.old }
     ensures follows { Follows (F.took image.now) image.now id decoding.old decoding.new follower.old follower.new }
     ensures fewer { left decoding.new ≤ left decoding.old }
     ensures reader { decoding.new.reader ≡ decoding.old.reader }
     ensures holds { IsDecoding decoding.new }
 {
-    decoding.next_run(image, run);
-    follower.take_run(image, id, &decoding.context(), run);
+    decoding.next_run(image, id, follower);
 }
 
 /// Gives a follower what was found.

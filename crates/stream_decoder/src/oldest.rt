@@ -5,14 +5,13 @@ ghost use Rattle.etm_types.specs.declared.element.Elem.TheVariants as elem;
 ghost use Rattle.etm_types.specs.declared.element.P0.TheVariants.{Atom};
 ghost use Rattle.path_walker.specs.Things.{IsAlignedThing};
 ghost use Rattle.path_walker.specs.Walk.{WalksRun};
-ghost use Rattle.stream_decoder.specs.Follows.{AreStretchesOfWords};
 ghost use Rattle.stream_decoder.specs.Waiting.{DropsDue, IsWaiting, TakesAtoms, all_of};
 ghost use Rattle.stream_decoder.specs.Yields.{WalksSome};
 
 use crate::todo::Todo;
 use crate::waiting::Waiting;
-use etm_types::AtomRun;
-use path_walker::{Stretches, Walker};
+use etm_types::{AtomRun, Id};
+use path_walker::{StretchTaker, Walker};
 use program_image::Image;
 
 /// Walks the oldest of what waits, at most so many, as far as each is an atom before which nothing but an address was given and shows a
@@ -20,55 +19,61 @@ use program_image::Image;
 ///
 /// Where nothing at all was given before them, as is so of most, they are walked as a run.
 #[inline(always)]
-pub fn walk_oldest(
+pub fn walk_oldest<T: StretchTaker>(
     walker: &mut Walker,
     image: &Image,
+    id: Id,
     waiting: &Waiting,
     most: usize,
-    run: &mut Stretches,
+    taker: &mut T,
 ) -> usize
     requires { All IsAlignedThing (all_of waiting.now) }
-    ensures walks { WalksSome image.now walker.old (all_of waiting.now) run.old result walker.new run.new }
-    ensures words { AreStretchesOfWords image.now run.old → AreStretchesOfWords image.now run.new }
+    ensures walks { WalksSome (T.adds image.now id walker.old.ctx) image.now walker.old (all_of waiting.now) taker.old result walker.new taker.new }
     ensures most { result ≤ most }
     ensures few { result ≤ most_atoms }
     ensures context { walker.new.ctx ≡ walker.old.ctx }
 {
     let atoms = waiting.oldest_plain(most);
     if atoms.count > 0 {
-        walk_plain(walker, image, atoms, run)
+        walk_plain(walker, image, id, atoms, taker)
     } else {
-        walk_first(walker, image, waiting, most, run)
+        walk_first(walker, image, id, waiting, most, taker)
     }
 }
 
 /// The same of atoms before which nothing was given. It is a function of its own, so that its loop has the registers to itself.
 #[inline(never)]
-fn walk_plain(walker: &mut Walker, image: &Image, atoms: AtomRun, run: &mut Stretches) -> usize
-    ensures walks { WalksRun image.now walker.old None (atoms_in atoms) run.old result walker.new run.new }
+fn walk_plain<T: StretchTaker>(
+    walker: &mut Walker,
+    image: &Image,
+    id: Id,
+    atoms: AtomRun,
+    taker: &mut T,
+) -> usize
+    ensures walks { WalksRun (T.adds image.now id walker.old.ctx) image.now walker.old None (atoms_in atoms) taker.old result walker.new taker.new }
     ensures most { result ≤ atoms.count }
     ensures context { walker.new.ctx ≡ walker.old.ctx }
 {
-    walker.walk_atoms(image, None, &atoms, run)
+    walker.walk_atoms(image, id, None, &atoms, taker)
 }
 
 /// The same of the oldest alone, whatever address was given before it.
 #[inline(never)]
-fn walk_first(
+fn walk_first<T: StretchTaker>(
     walker: &mut Walker,
     image: &Image,
+    id: Id,
     waiting: &Waiting,
     most: usize,
-    run: &mut Stretches,
+    taker: &mut T,
 ) -> usize
     requires { All IsAlignedThing (all_of waiting.now) }
-    ensures walks { WalksSome image.now walker.old (all_of waiting.now) run.old result walker.new run.new }
-    ensures words { AreStretchesOfWords image.now run.old → AreStretchesOfWords image.now run.new }
+    ensures walks { WalksSome (T.adds image.now id walker.old.ctx) image.now walker.old (all_of waiting.now) taker.old result walker.new taker.new }
     ensures most { result ≤ most }
     ensures few { result ≤ most_atoms }
     ensures context { walker.new.ctx ≡ walker.old.ctx }
 {
-    if most == 0 || !run.has_room() {
+    if most == 0 || taker.room() == 0 {
         return 0;
     }
     let Some(atom) = waiting.oldest_atom() else {
@@ -77,7 +82,7 @@ fn walk_first(
     let Some(stretch) = walker.walk_atom(image, atom.addr, atom.taken) else {
         return 0;
     };
-    run.push(stretch);
+    taker.take_stretch(image, id, &walker.context(), stretch);
     1
 }
 

@@ -6,7 +6,7 @@ use Rattle.path_walker.specs.State.{State}
 use Rattle.path_walker.specs.Things.{Walks}
 use Rattle.path_walker.specs.Walk.{Shows}
 use Rattle.stream_decoder.specs.Decoding.{Decoding}
-use Rattle.stream_decoder.proofs.Worded.{shows_words}
+use Rattle.path_walker.proofs.Worded.{shows_words}
 use Rattle.stream_decoder.proofs.decoding.Decoding.walk.Goals as goal
 
 pub returns-in-Unseen-clause-walks : goal.returns-in-Unseen-clause-walks

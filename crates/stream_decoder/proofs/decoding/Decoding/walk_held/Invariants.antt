@@ -1,21 +1,17 @@
-use Rattle.std.proofs.Common.{◌≡◌, ◌≤◌, []}
-use Rattle.path_walker.specs.Walk.{items_in}
-use Rattle.stream_decoder.specs.Decoding.{AtRest, IsDecoding}
-use Rattle.stream_decoder.specs.Follows.{AreStretchesOfWords}
-use Rattle.stream_decoder.specs.Yields.{Goes, left}
+use Rattle.std.proofs.Common.{◌≡◌, ◌≤◌}
+use Rattle.stream_decoder.specs.Decoding.{IsDecoding}
+use Rattle.stream_decoder.specs.Yields.{WalksOn, left}
 use Rattle.stream_decoder.proofs.decoding.Decoding.walk_held.Given as goal
 
-abbrev pub decreases-loop : goal.decreases-loop
-decreases-loop l = left l.self
+abbrev pub decreases-loop-id : goal.decreases-loop-id
+decreases-loop-id g l = left l.self
 
-abbrev pub invariant-loop : goal.invariant-loop
-invariant-loop l =
+abbrev pub invariant-loop-id : goal.invariant-loop-id
+invariant-loop-id g l =
     record {
-      goes : Goes l.image l.fn.self (items_in l.self.walk.ctx l.run) l.self;
-      words : AreStretchesOfWords l.image l.run;
+      walks : WalksOn (g.T.StretchTaker.adds l.image l.id l.fn.self.walk.ctx) l.image l.fn.self l.fn.taker l.self l.taker;
       fewer : left l.self ≤ left l.fn.self;
-      none : l.run ≡ [] → l.self ≡ l.fn.self;
-      stopped : AtRest l.fn.self → l.run ≡ [];
+      context : l.self.walk.ctx ≡ l.fn.self.walk.ctx;
       reader : l.self.reader ≡ l.fn.self.reader;
       holds : IsDecoding l.self;
     }

@@ -1,4 +1,4 @@
-use Rattle.std.proofs.Common.{◌≡◌, ◌+◌, ◌++◌, length, map, ap, arith, subst, sym, ◌∙◌, ℕ}
+use Rattle.std.proofs.Common.{◌≡◌, ◌++◌, length, map, ap, arith, subst, sym, ◌∙◌, ℕ}
 use Rattle.element_queue.specs.Queued.{Queued, holding, plain_atom}
 use Rattle.etm_types.specs.Atoms.{atoms_in}
 use Rattle.etm_types.specs.declared.element.Pre.{Pre}

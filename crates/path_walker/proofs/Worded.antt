@@ -14,14 +14,13 @@ use Rattle.etm_types.specs.declared.walked.ExcMark.{ExcMark}
 use Rattle.etm_types.specs.declared.walked.Walked.{Walked}
 use Rattle.path_walker.specs.Start.{start_of}
 use Rattle.path_walker.specs.State.{State}
-use Rattle.path_walker.specs.Walk.{IsPlaced, Leads, Shows, is_cond, mark_of, takes, walked_in}
+use Rattle.path_walker.specs.Walk.{AreWalked, IsPlaced, IsStretchOfWords, Leads, Shows, ShowsWords, is_cond, mark_of, takes, walked_in}
 use Rattle.path_walker.specs.declared.pc.Pc.{Pc}
 use Rattle.path_walker.specs.declared.stretch.Stretch.{Stretch}
 use Rattle.program_image.specs.Blocks.{behind, class_at}
 use Rattle.program_image.specs.Part.{word_of}
 use Rattle.program_image.specs.Places.{AreWords}
 use Rattle.program_image.specs.declared.image.Image.{Image}
-use Rattle.stream_decoder.specs.Follows.{AreWalked, IsStretchOfWords, ShowsWords}
 
 word_there : (word : Option ℕ) (class : Class) → option_map class_of word ≡ Some class → IsSome word
 word_there None class e = absurd cc
