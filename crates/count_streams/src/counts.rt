@@ -9,7 +9,7 @@ ghost use Rattle.program_image.specs.declared.image.Image.{Image};
 ghost use Rattle.trace_io.specs.Calls.{Serves};
 
 use crate::branches::Branches;
-use etm_types::{Ctx, Id, Walked};
+use etm_types::{Ctx, Id, MOST_ATOMS, Walked};
 use path_counts::Counter;
 use path_walker::{Stretch, StretchTaker};
 use program_image::Image;
@@ -17,9 +17,6 @@ use std::alloc::{AllocError, Global};
 use std::marker::Model;
 use stream_decoder::Follower;
 use trace_io::{Failed, Sink};
-
-/// As many stretches as are taken at once: a packet has no more atoms.
-const MOST_ATOMS: usize = 24;
 
 /// How often the paths have what is counted, and where their branches to a register went. It follows each of them.
 #[derive(Drop)]
@@ -90,13 +87,14 @@ impl Follower for PathCounts {
 
 /// The stretches that it took are their items.
 impl StretchTaker for PathCounts {
+    ghost use Rattle.etm_types.specs.Atoms.{most_atoms};
     ghost use Rattle.path_walker.specs.Walk.{items_in};
     ghost use Rattle.stream_decoder.specs.Follows.{TakesMore, items_under};
     ghost use Rattle.count_streams.specs.Taking.{takes_joined, takes_none};
 
     ghost adds = { λ image id ctx old run new. TakesMore (CountsAre image) old new (items_under id (items_in ctx run)) };
 
-    ghost space = { λ counts. 24 };
+    ghost space = { λ counts. most_atoms };
 
     #[inline(always)]
     fn room(&self) -> usize {

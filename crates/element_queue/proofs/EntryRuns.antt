@@ -10,9 +10,9 @@ use Rattle.etm_types.specs.declared.element.P0.TheVariants.{Atom}
 use Rattle.etm_types.specs.declared.element.Pre.{Pre}
 use Rattle.etm_types.specs.declared.element.Thing.{Thing}
 use Rattle.etm_types.specs.declared.element.Thing.TheVariants.{Seen}
-use Rattle.element_queue.specs.Kept.{AreNewest, AreOldest, entries_in, kept, plain_entry}
+use Rattle.element_queue.specs.Kept.{AreNewest, AreOldest, entries_in, kept}
 use Rattle.element_queue.specs.Pending.{flip_newest}
-use Rattle.element_queue.specs.Queued.{given_since}
+use Rattle.element_queue.specs.Queued.{given_since, plain_entry}
 use Rattle.element_queue.specs.declared.entries.Run.{Run}
 use Rattle.element_queue.proofs.Flipped.{flip_newest_at}
 

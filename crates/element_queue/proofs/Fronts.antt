@@ -5,7 +5,8 @@ use Rattle.std.specs.Prelude.{◌≢◌, IsSome}
 use Rattle.std.proofs.lemmas.List.{length-drop, length-map, map-append, length-take-le, nil_from_length, take-append-drop, take-append-le, take-map, take-take, take_all}
 use Rattle.etm_types.specs.Atoms.{most_atoms}
 use Rattle.etm_types.specs.declared.element.Entry.{Entry}
-use Rattle.element_queue.specs.Kept.{AreOldest, IsFront, NoPlainAt, entries_in, plain_entry}
+use Rattle.element_queue.specs.Kept.{AreOldest, IsFront, NoPlainAt, entries_in}
+use Rattle.element_queue.specs.Queued.{plain_entry}
 use Rattle.element_queue.specs.declared.entries.Run.{Run}
 use Rattle.element_queue.proofs.EntryRuns.{only_plain}
 

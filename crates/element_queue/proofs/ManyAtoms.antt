@@ -6,8 +6,8 @@ use Rattle.std.proofs.lemmas.List.{drop-map, length-map, length-take, length-tak
 use Rattle.etm_types.specs.declared.element.Entry.{Entry}
 use Rattle.etm_types.specs.declared.element.Thing.TheVariants.{Seen, Unseen}
 use Rattle.element_queue.specs.Counting.{entries}
-use Rattle.element_queue.specs.Kept.{AreOldest, NoPlainAt, plain_entry}
-use Rattle.element_queue.specs.Queued.{AreOldestPlain, NoPlainAtomAt, plain_atom}
+use Rattle.element_queue.specs.Kept.{AreOldest, NoPlainAt}
+use Rattle.element_queue.specs.Queued.{AreOldestPlain, NoPlainAtomAt, plain_atom, plain_entry}
 use Rattle.element_queue.proofs.Held.{entries-things, things}
 
 plain_things : (atoms : List Bool) → map Seen (map plain_entry atoms) ≡ map plain_atom atoms

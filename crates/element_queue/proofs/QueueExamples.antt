@@ -11,10 +11,10 @@ use Rattle.etm_types.specs.declared.element.Pre.{Pre}
 use Rattle.etm_types.specs.declared.element.Thing.{Thing}
 use Rattle.etm_types.specs.declared.element.Thing.TheVariants.{Seen, Unseen, Gap, Stop}
 use Rattle.element_queue.specs.Counting.{AreCounts, Balances, no_counts, sum_of}
-use Rattle.element_queue.specs.Kept.{AreOldest, IsFront, NoPlainAt, entries_in}
+use Rattle.element_queue.specs.Kept.{AreNewest, AreOldest, IsFront, NoPlainAt, entries_in}
 use Rattle.element_queue.specs.Packed.{addr_of, ctx_of, p0_of, unpacked}
 use Rattle.element_queue.specs.Pending.{Taken as Outcome, committing, nothing_gone}
-use Rattle.element_queue.specs.Queued.{AreOldestPlain, IsHeld, IsQueued, NoPlainAtomAt, Queued, Takes, TakesInfo, TakesPre, holding, passed, pending_of, plain_atom, rotated, things_of}
+use Rattle.element_queue.specs.Queued.{AreOldestPlain, IsHeld, IsQueued, NoPlainAtomAt, Queued, Takes, TakesInfo, TakesPre, holding, passed, pending_of, plain_atom, plain_entry, rotated, things_of}
 use Rattle.element_queue.specs.declared.entries.Run.{Run}
 use Rattle.element_queue.specs.declared.ledger.Counts.{Counts}
 use Rattle.element_queue.specs.declared.packed.Context.TheVariants.{NotGiven, Secure, NonSecure}
@@ -306,6 +306,25 @@ no_three ([], is, count) = absurd (omega (arith, count))
 no_three (a ∷ [], is, count) = absurd (omega (arith, count))
 no_three (a ∷ b ∷ [], is, count) = absurd (omega (arith, count))
 no_three (a ∷ b ∷ c ∷ d ∷ rest, is, count) = absurd (omega (arith, count))
+
+-- the newest is such an atom, and the one before it is none
+pub one_newest : AreNewest 1 (an_atom true ∷ an_atom false ∷ interrupt ∷ told ∷ []) (entries_in two_runs (true ∷ []))
+one_newest = (true ∷ [], refl, refl)
+
+pub not_two_newest : AreNewest 2 (an_atom true ∷ an_atom false ∷ interrupt ∷ []) (entries_in two_runs (true ∷ [])) → ⊥
+not_two_newest (a ∷ b ∷ [], is, count) =
+    absurd (omega (arith, ap (λ (l : List Entry). unwrap_or (((get_or l 3 interrupt).pre).addr) 0) is))
+not_two_newest ([], is, count) = absurd (omega (arith, count))
+not_two_newest (a ∷ [], is, count) = absurd (omega (arith, count))
+not_two_newest (a ∷ b ∷ c ∷ rest, is, count) = absurd (omega (arith, count))
+
+-- what is left stands before it, and has it no more
+pub not_behind_the_newest : AreNewest 1 (an_atom false ∷ interrupt ∷ told ∷ an_atom true ∷ []) (entries_in two_runs (true ∷ [])) → ⊥
+not_behind_the_newest (newest, is, count) =
+    let first : Atom true ≡ Atom false = ap (λ (l : List Entry). (get_or l 0 told).p0) is in absurd cc
+
+pub not_all_left : AreNewest 1 (entries_in two_runs (true ∷ [])) (entries_in two_runs (true ∷ [])) → ⊥
+not_all_left (newest, is, count) = absurd (omega (arith, ap (λ (l : List Entry). length l) is, length-map newest plain_entry, count))
 
 -- the front of these entries ends at the interrupt
 pub front_of_two : IsFront (true ∷ false ∷ []) (entries_in two_runs (true ∷ []))

@@ -1,9 +1,9 @@
 -- What contracts see of the entries that a queue keeps.
-use Rattle.std.specs.Prelude.{◌≡◌, ◌≢◌, ◌<◌, ℕ, Bool, List, [], ◌∷◌, ◌++◌, length, map, take, slice_get, None, Some}
+use Rattle.std.specs.Prelude.{◌≡◌, ◌≢◌, ◌<◌, ℕ, Bool, List, [], ◌∷◌, ◌++◌, length, map, take, slice_get, Some}
 use Rattle.etm_types.specs.Atoms.{most_atoms}
 use Rattle.etm_types.specs.declared.element.Entry.{Entry}
 use Rattle.element_queue.specs.declared.entries.Run.{Run}
-use Rattle.element_queue.specs.Queued.{entry_of}
+use Rattle.element_queue.specs.Queued.{plain_entry}
 
 -- the entries, oldest first, and how many there may be
 pub record Kept : Type 0 where
@@ -12,10 +12,6 @@ pub record Kept : Type 0 where
 
 abbrev pub kept : List Entry → ℕ → Kept
 kept items capacity = record { items = items; capacity = capacity }
-
--- an atom before which nothing was given
-abbrev pub plain_entry : Bool → Entry
-plain_entry taken = entry_of (record { addr = None; taken = taken })
 
 -- the entries of runs, one run after the other, and atoms behind them
 abbrev pub entries_in : List Run → List Bool → List Entry

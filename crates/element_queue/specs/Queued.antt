@@ -112,8 +112,11 @@ things_of (Some c) = thing_of c ∷ []
 -- ---- many atoms at once
 
 -- a plain atom: nothing was given before it
+abbrev pub plain_entry : Bool → Entry
+plain_entry taken = entry_of (record { addr = None; taken = taken })
+
 abbrev pub plain_atom : Bool → Thing
-plain_atom taken = Seen (entry_of (record { addr = None; taken = taken }))
+plain_atom taken = Seen (plain_entry taken)
 
 -- so many of the oldest are plain atoms
 abbrev pub AreOldestPlain : ℕ → List Thing → Type 0

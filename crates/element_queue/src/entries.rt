@@ -6,9 +6,9 @@ ghost use Rattle.etm_types.specs.Atoms.{atoms_in, most_atoms};
 ghost use Rattle.etm_types.specs.declared.element.Entry.{Entry};
 ghost use Rattle.etm_types.specs.declared.element.Thing.TheVariants.{Seen};
 ghost use Rattle.spend_ring.specs.Ring.{newest};
-ghost use Rattle.element_queue.specs.Kept.{AreNewest, AreOldest, IsFront, NoPlainAt, entries_in, kept, plain_entry};
+ghost use Rattle.element_queue.specs.Kept.{AreNewest, AreOldest, IsFront, NoPlainAt, entries_in, kept};
 ghost use Rattle.element_queue.specs.Pending.{flip_newest};
-ghost use Rattle.element_queue.specs.Queued.{entry_of};
+ghost use Rattle.element_queue.specs.Queued.{entry_of, plain_entry};
 ghost use Rattle.element_queue.specs.declared.entries.Run.{Run};
 ghost use Rattle.element_queue.specs.declared.queue.AtomEntry.{AtomEntry};
 
@@ -25,6 +25,8 @@ pub(crate) struct Run {
     plain: PlainAtoms,
     last: Slot,
 }
+
+const _: () = prove!(size_of::<Run>() == 48);
 
 /// Entries, oldest first, at most so many as the capacity. Atoms before which nothing was given are kept as bits: those before another entry
 /// with it, as a run, and the newest by themselves, at most 64 of each. It has no drop: `close` ends it.
@@ -106,15 +108,15 @@ impl Entries {
         ensures { self.new ≡ kept (self.old.items ++ slot ∷ []) self.old.capacity }
     {
         match slot.packed().plain_atom() {
-            Some(taken) if self.plain.len() < MOST_PLAIN => {
+            Some(taken) => {
                 slot.take();
                 self.append_plain(taken);
             }
-            _ => self.end_run(slot),
+            None => self.end_run(slot),
         }
     }
 
-    /// Appends an atom before which nothing was given, for which there is room among the bits.
+    /// Appends an atom before which nothing was given, for which there is room: as a bit, or where no more bits fit as the end of a run.
     #[inline(always)]
     fn append_plain(&mut self, taken: bool)
         requires room { length self.old.items < self.old.capacity }

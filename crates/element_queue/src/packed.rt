@@ -2,9 +2,8 @@
 ghost use Rattle.std.specs.Prelude.{◌≡◌, ◌↔◌, not, true, Bool, ℕ, Option, None, IfSome, IsSome, IsTrue};
 ghost use Rattle.etm_types.specs.Pre.{nothing_told, trace_missing};
 ghost use Rattle.etm_types.specs.declared.element.P0.TheVariants.{Atom};
-ghost use Rattle.element_queue.specs.Kept.{plain_entry};
 ghost use Rattle.element_queue.specs.Packed.{ctx_of, p0_of, pre_of_packed, unpacked};
-ghost use Rattle.element_queue.specs.Queued.{entry_of, noted};
+ghost use Rattle.element_queue.specs.Queued.{entry_of, noted, plain_entry};
 ghost use Rattle.element_queue.specs.declared.queue.AtomEntry.{AtomEntry};
 
 use crate::queue::{AtomEntry, PreElem};

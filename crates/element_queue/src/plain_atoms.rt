@@ -2,14 +2,14 @@
 ghost use Rattle.std.specs.Prelude.{◌≡◌, ◌+◌, ◌-◌, ◌≤◌, ◌<◌, [], ◌∷◌, ◌++◌, length, take, drop, slice_get, option_to_list, ◌↔◌, IsSome};
 ghost use Rattle.etm_types.specs.Atoms.{atoms_in, most_atoms};
 
-use etm_types::AtomRun;
+use etm_types::{AtomRun, MOST_ATOMS};
 use std::marker::Model;
 
 /// How many atoms there may be.
 pub(crate) const MOST_PLAIN: u32 = 64;
 
 /// The most atoms of one run.
-pub(crate) const MOST_OF_RUN: u32 = 24;
+pub(crate) const MOST_OF_RUN: u32 = MOST_ATOMS as u32;
 
 /// At most 64 atoms before which nothing was given. Contracts see them as a list, oldest first. It has no drop: `close` ends it, so
 /// that none is forgotten.

@@ -1,7 +1,7 @@
 //! One P0 element as the queue keeps it.
 ghost use Rattle.std.specs.Prelude.{◌≡◌, not, Bool};
 ghost use Rattle.etm_types.specs.declared.element.P0.TheVariants.{Atom};
-ghost use Rattle.element_queue.specs.Kept.{plain_entry};
+ghost use Rattle.element_queue.specs.Queued.{plain_entry};
 ghost use Rattle.element_queue.specs.Packed.{unpacked};
 
 use crate::ledger::Ledger;

@@ -2,6 +2,9 @@
 //!
 //! An atom is E, a branch that was taken, or N, a branch that was not.
 
+/// The most atoms that one packet has.
+pub const MOST_ATOMS: usize = 24;
+
 /// The atoms of an atom packet, 1 to 24 of them.
 #[derive(Clone, Copy, Debug, PartialEq, Eq)]
 pub struct AtomRun {

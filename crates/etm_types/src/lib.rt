@@ -21,7 +21,7 @@ mod walk_fault;
 mod walked;
 
 pub use address::AddrForm;
-pub use atoms::{AtomRun, FewAtoms};
+pub use atoms::{AtomRun, FewAtoms, MOST_ATOMS};
 pub use context::{Ctx, CtxBits};
 pub use element::{Elem, Entry, P0, Pre, Thing};
 pub use id::Id;

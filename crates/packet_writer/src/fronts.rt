@@ -4,8 +4,7 @@ ghost use Rattle.std.specs.Prelude.{◌≡◌, ◌<◌, ◌≤◌, ℕ, length, 
 ghost use Rattle.etm_types.specs.Atoms.{most_atoms};
 ghost use Rattle.packet_writer.specs.Front.{SpellsFront};
 
-/// How many atoms a packet has at most.
-const MOST_ATOMS: usize = 24;
+use etm_types::MOST_ATOMS;
 
 /// How many E stand first in a packet of format 6: as many as its COUNT says, and three.
 const LEAST_TAKEN: usize = 3;

@@ -1,16 +1,15 @@
 -- Atoms of a run are walked one after the other.
 use Rattle.std.proofs.Common.{◌≡◌, ℕ, zero, suc, ◌-◌, ◌/◌, ◌%◌, ◌^◌, ◌<◌, ◌≤◌, ◌+◌, Bool, List, [], ◌∷◌, ◌++◌, length, drop, slice_get}
-use Rattle.std.proofs.Common.{All, Option, Some, None, refl, sym, ap, subst, ◌∙◌, arith, append-nil, append_assoc, length-append}
+use Rattle.std.proofs.Common.{Option, Some, None, refl, sym, ap, subst, ◌∙◌, arith, length-append}
 use Rattle.std.specs.Prelude.{◌==◌}
 use Rattle.std.proofs.Math.Nat.{div-one}
-use Rattle.std.proofs.lemmas.List.{drop-drop}
-use Rattle.std.proofs.lemmas.List.Elements.{All-append, All-cons, All-nil}
+use Rattle.std.proofs.lemmas.List.Elements.{All-append, All-nil}
 use Rattle.std.proofs.lemmas.Nat.{shr-shr}
 use Rattle.std.proofs.lemmas.Option.{slice_get_within}
 use Rattle.etm_types.specs.Atoms.{low_bits}
 use Rattle.etm_types.specs.declared.context.Ctx.{Ctx}
-use Rattle.path_walker.specs.State.{State, IsState, standing}
-use Rattle.path_walker.specs.Walk.{HasNoStretch, IsPlaced, Shows, WalksAtoms, WalksNoMore, WalksRun, atom_at, given_before, walked_in}
+use Rattle.path_walker.specs.State.{State, standing}
+use Rattle.path_walker.specs.Walk.{HasNoStretch, IsPlaced, WalksAtoms, WalksNoMore, WalksRun, atom_at, given_before}
 use Rattle.path_walker.specs.declared.pc.Pc.{Pc}
 use Rattle.path_walker.specs.declared.stretch.Stretch.{Stretch}
 use Rattle.program_image.specs.declared.image.Image.{Image}

@@ -11,3 +11,4 @@ pub mod Examples
 pub mod Worded
 pub mod AtomRuns
 pub mod AtomExamples
+pub mod WordExamples

@@ -1,14 +1,12 @@
 //! What most atoms show.
 ghost use Rattle.std.specs.Prelude.{◌≡◌, ◌↔◌, ◌<◌, ◌+◌, ◌∷◌, ◌++◌, [], IsTrue, length};
+ghost use Rattle.etm_types.specs.Atoms.{most_atoms};
 ghost use Rattle.path_walker.specs.Walk.{walked_in};
 
 use crate::taker::StretchTaker;
-use etm_types::{Ctx, Id, Walked};
+use etm_types::{Ctx, Id, MOST_ATOMS, Walked};
 use program_image::Image;
 use std::marker::Model;
-
-/// The most stretches that are kept: a packet has no more atoms.
-const MOST: usize = 24;
 
 /// The instructions of an atom that shows nothing else. Their context is that of the walk.
 #[derive(Clone, Copy, Debug, PartialEq, Eq)]
@@ -43,22 +41,23 @@ impl Stretch {
     }
 }
 
-/// The stretches of atoms that were walked one after the other, at most 24. Contracts see their list.
+/// The stretches of atoms that were walked one after the other, at most as many as a packet has atoms. Contracts see their list.
 #[derive(Drop)]
 pub struct Stretches {
-    all: [Stretch; MOST],
+    all: [Stretch; MOST_ATOMS],
     len: usize,
 }
 
 impl Model for Stretches {
     ghost use Rattle.std.specs.Prelude.{◌≡◌, ◌≤◌, List, length, take};
+    ghost use Rattle.etm_types.specs.Atoms.{most_atoms};
     ghost use Rattle.path_walker.specs.declared.stretch.Stretch.{Stretch};
 
     ghost Value = { List Stretch };
 
     ghost view = { λ s. take s.len s.all };
 
-    ghost invariant = { λ s. (length s.all ≡ 24) × (s.len ≤ 24) };
+    ghost invariant = { λ s. (length s.all ≡ most_atoms) × (s.len ≤ most_atoms) };
 }
 
 impl Stretches {
@@ -73,7 +72,7 @@ impl Stretches {
                 count: 0,
                 took: false,
                 to_register: false,
-            }; MOST],
+            }; MOST_ATOMS],
             len: 0,
         }
     }
@@ -105,7 +104,7 @@ impl Stretches {
     /// One more.
     #[inline(always)]
     pub fn push(&mut self, stretch: Stretch)
-        requires { length self.old < 24 }
+        requires { length self.old < most_atoms }
         ensures { self.new ≡ self.old ++ stretch ∷ [] }
     {
         // Each field by itself: what is unused of a place need not be written.
@@ -130,15 +129,16 @@ impl Stretches {
 /// They are kept as they come, whatever the stream and the context.
 impl StretchTaker for Stretches {
     ghost use Rattle.std.specs.Prelude.{◌≡◌, ◌-◌, ◌++◌, length};
+    ghost use Rattle.etm_types.specs.Atoms.{most_atoms};
     ghost use Rattle.std.proofs.Common.{append-nil, append_assoc, ap, sym, ◌∙◌};
 
     ghost adds = { λ image id ctx old run new. new ≡ old ++ run };
 
-    ghost space = { λ run. 24 - length run };
+    ghost space = { λ run. most_atoms - length run };
 
     #[inline(always)]
     fn room(&self) -> usize {
-        MOST - self.len
+        MOST_ATOMS - self.len
     }
 
     #[inline(always)]

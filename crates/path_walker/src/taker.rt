@@ -1,5 +1,6 @@
 //! What takes the stretches of atoms as they are walked.
 ghost use Rattle.std.specs.Prelude.{◌≡◌, ◌+◌, ◌<◌, ◌≤◌, ◌∷◌, ◌++◌, [], List, ℕ};
+ghost use Rattle.etm_types.specs.Atoms.{most_atoms};
 ghost use Rattle.etm_types.specs.declared.context.Ctx.{Ctx};
 ghost use Rattle.path_walker.specs.Walk.{IsStretchOfWords};
 ghost use Rattle.path_walker.specs.declared.stretch.Stretch.{Stretch};
@@ -17,10 +18,10 @@ pub trait StretchTaker {
     /// How many more it can take before it is asked again.
     ghost space: { Self → ℕ };
 
-    /// How many more it can take before it is asked again: at most 24, as many as a packet has atoms.
+    /// How many more it can take before it is asked again: at most as many as a packet has atoms.
     fn room(&self) -> usize
         ensures space { result ≡ space self.now }
-        ensures few { result ≤ 24 };
+        ensures few { result ≤ most_atoms };
 
     /// Takes a stretch.
     fn take_stretch(&mut self, image: &Image, id: Id, ctx: &Ctx, stretch: Stretch)

@@ -1,7 +1,7 @@
 //! The walk of one entry after the other.
 ghost use Rattle.std.specs.Prelude.{◌≡◌, ◌≤◌, ◌<◌, ◌+◌, ◌/◌, ◌%◌, ◌^◌, ◌==◌, ◌∷◌, []};
 ghost use Rattle.std.specs.Prelude.{length, false, IfOk, IfSome, IsOk, IsErr, IsSome, IsTrue, Some, None, slice_get};
-ghost use Rattle.etm_types.specs.Atoms.{atoms_in, low_bits};
+ghost use Rattle.etm_types.specs.Atoms.{atoms_in, low_bits, most_atoms};
 ghost use Rattle.program_image.specs.Near.{IsNear};
 ghost use Rattle.program_image.specs.Places.{word_addresses};
 ghost use Rattle.program_image.specs.Runs.{IsRun, run_of};
@@ -368,7 +368,7 @@ impl Walker {
         most: usize,
         taker: &mut T,
     ) -> usize
-        requires few { most ≤ 24 }
+        requires few { most ≤ most_atoms }
         requires room { most ≤ T.space taker.old }
         ensures walks { WalksRun (T.adds image.now id self.old.ctx) image.now self.old None (low_bits most bits) taker.old result self.new taker.new }
         ensures stops { result < most → HasNoStretch image.now self.new (atom_at None (bits / 2 ^ result % 2 == 1)) }
@@ -402,7 +402,7 @@ impl Walker {
         most: usize,
         taker: &mut T,
     ) -> usize
-        requires few { most ≤ 24 }
+        requires few { most ≤ most_atoms }
         requires room { most ≤ T.space taker.old }
         ensures walks { WalksRun (T.adds image.now id self.old.ctx) image.now self.old None (low_bits most bits) taker.old result self.new taker.new }
         ensures most { result ≤ most }

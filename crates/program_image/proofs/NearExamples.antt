@@ -43,8 +43,18 @@ not_of_none is = let e = is.whole in cc
 pub fits : Fits (second 2)
 fits = record { aligned = refl; within = omega arith; few = omega arith }
 
+-- the last word of all addresses too
+pub fits_at_the_end : Fits (record (second 2) { start = 2 ^ 64 - 4 })
+fits_at_the_end = record { aligned = refl; within = omega arith; few = omega arith }
+
 pub not_past_the_end : Fits (record (second 2) { start = 2 ^ 64 - 4; runs = last_word ∷ last_word ∷ [] }) → ⊥
 not_past_the_end is = absurd (omega (arith, is.within))
+
+pub not_at_half_a_word : Fits (record (second 2) { start = 0x2002 }) → ⊥
+not_at_half_a_word is = let e = is.aligned in cc
+
+pub not_past_the_last_place : Fits (second (2 ^ 64 - 1)) → ⊥
+not_past_the_last_place is = absurd (omega (arith, is.few))
 
 -- ---- what is looked up
 

@@ -3,6 +3,7 @@ ghost use Rattle.std.specs.Prelude.{◌≡◌, ◌<◌, ◌≤◌, ◌+◌, ◌^
 ghost use Rattle.std.specs.Prelude.{length, Err, Some, None, IfOk, IfSome, IsErr, IsTrue, false, All, ◌↔◌, option_to_list};
 ghost use Rattle.element_queue.specs.Counting.{Balances, counts_after};
 ghost use Rattle.element_queue.specs.Pending.{losing};
+ghost use Rattle.etm_types.specs.Atoms.{most_atoms};
 ghost use Rattle.etm_types.specs.Pre.{nothing_told};
 ghost use Rattle.etm_types.specs.declared.queue_fault.QueueFault.{QueueFault};
 ghost use Rattle.etm_types.specs.declared.walk_fault.WalkFault.{WalkFault};
@@ -817,7 +818,7 @@ fn walk_run<T: StretchTaker>(
     requires aligned { ToldIsAligned given }
     ensures walks { (run : List Stretch) × T.adds image.now id walker.old.ctx taker.old run taker.new × (length run ≡ result)
         × WalksNext image.now walker.old given todo.now.elements run walker.new }
-    ensures few { result ≤ 24 }
+    ensures few { result ≤ most_atoms }
     ensures context { walker.new.ctx ≡ walker.old.ctx }
 {
     let atoms = todo.atoms(taker.room());

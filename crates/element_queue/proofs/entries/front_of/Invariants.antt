@@ -1,6 +1,7 @@
 use Rattle.std.proofs.Common.{◌≡◌, ◌<◌, ◌++◌, drop, length, map}
 use Rattle.etm_types.specs.Atoms.{most_atoms}
-use Rattle.element_queue.specs.Kept.{entries_in, plain_entry}
+use Rattle.element_queue.specs.Kept.{entries_in}
+use Rattle.element_queue.specs.Queued.{plain_entry}
 use Rattle.element_queue.proofs.entries.front_of.Given as goal
 
 abbrev pub invariant-loop-i : goal.invariant-loop-i

@@ -2,7 +2,8 @@ use Rattle.std.proofs.Common.{◌≡◌, ◌-◌, ◌/◌, [], ◌∷◌, ◌++�
 use Rattle.std.proofs.lemmas.List.{length-map}
 use Rattle.etm_types.specs.Atoms.{atoms_in, low_bits}
 use Rattle.etm_types.specs.declared.element.Entry.{Entry}
-use Rattle.element_queue.specs.Kept.{Kept, entries_in, plain_entry}
+use Rattle.element_queue.specs.Kept.{Kept, entries_in}
+use Rattle.element_queue.specs.Queued.{plain_entry}
 use Rattle.element_queue.proofs.EntryRuns.{few_runs, more_plain, same_kept}
 use Rattle.element_queue.proofs.LowBits.{low_bits-first, low_bits-length}
 use Rattle.element_queue.proofs.entries.Entries.append_behind.Goals as goal

@@ -1,5 +1,6 @@
 use Rattle.std.proofs.Common.{[], ◌∷◌, ◌++◌, ap, arith, length, ◌∙◌}
-use Rattle.element_queue.specs.Kept.{Kept, plain_entry}
+use Rattle.element_queue.specs.Kept.{Kept}
+use Rattle.element_queue.specs.Queued.{plain_entry}
 use Rattle.element_queue.proofs.EntryRuns.{longer, plain_popped, same_kept}
 use Rattle.element_queue.proofs.entries.Entries.append_plain.Goals as goal
 

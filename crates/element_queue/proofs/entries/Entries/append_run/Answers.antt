@@ -1,7 +1,8 @@
 use Rattle.std.proofs.Common.{◌≡◌, ◌++◌, ap, arith, length, length-append, map, ◌∙◌}
 use Rattle.std.proofs.lemmas.List.{length-map}
 use Rattle.etm_types.specs.Atoms.{atoms_in}
-use Rattle.element_queue.specs.Kept.{Kept, entries_in, plain_entry}
+use Rattle.element_queue.specs.Kept.{Kept, entries_in}
+use Rattle.element_queue.specs.Queued.{plain_entry}
 use Rattle.element_queue.proofs.EntryRuns.{more_plain, same_kept}
 use Rattle.element_queue.proofs.LowBits.{low_bits-length}
 use Rattle.element_queue.proofs.entries.Entries.append_run.Goals as goal

@@ -1,6 +1,7 @@
 use Rattle.std.proofs.Common.{◌≡◌, Bool, List, Some, ap, arith, length, map, not, sym, ◌∙◌}
 use Rattle.etm_types.specs.declared.element.Thing.TheVariants.{Seen}
-use Rattle.element_queue.specs.Kept.{Kept, entries_in, plain_entry}
+use Rattle.element_queue.specs.Kept.{Kept, entries_in}
+use Rattle.element_queue.specs.Queued.{plain_entry}
 use Rattle.element_queue.specs.Pending.{flip_newest}
 use Rattle.element_queue.proofs.EntryRuns.{longer, plain_flips, plain_popped}
 use Rattle.element_queue.proofs.entries.Entries.flip.Goals as goal

@@ -2,8 +2,8 @@ use Rattle.std.proofs.Common.{◌≡◌, ◌∷◌, [], Bool, List, None, Some, 
 use Rattle.std.specs.Prelude.{IfSome, IsSome}
 use Rattle.std.specs.Option.{option_map}
 use Rattle.std.proofs.lemmas.Option.{slice_get-map}
-use Rattle.element_queue.specs.Kept.{Kept, entries_in, plain_entry}
-use Rattle.element_queue.specs.Queued.{entry_of}
+use Rattle.element_queue.specs.Kept.{Kept, entries_in}
+use Rattle.element_queue.specs.Queued.{entry_of, plain_entry}
 use Rattle.element_queue.specs.declared.entries.Run.{Run}
 use Rattle.element_queue.specs.declared.queue.AtomEntry.{AtomEntry}
 use Rattle.element_queue.proofs.EntryRuns.{first_at}

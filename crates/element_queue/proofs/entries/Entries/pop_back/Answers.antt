@@ -1,5 +1,6 @@
 use Rattle.std.proofs.Common.{◌≡◌, ◌+◌, [], ◌∷◌, ◌++◌, Bool, List, ap, arith, length, refl, sym, ◌∙◌}
-use Rattle.element_queue.specs.Kept.{Kept, entries_in, plain_entry}
+use Rattle.element_queue.specs.Kept.{Kept, entries_in}
+use Rattle.element_queue.specs.Queued.{plain_entry}
 use Rattle.element_queue.proofs.EntryRuns.{longer, plain_popped, run_popped}
 use Rattle.element_queue.proofs.Held.{none_left}
 use Rattle.element_queue.proofs.entries.Entries.pop_back.Goals as goal

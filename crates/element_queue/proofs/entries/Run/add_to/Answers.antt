@@ -1,7 +1,7 @@
 use Rattle.std.proofs.Common.{◌≡◌, ◌<◌, ◌++◌, [], ◌∷◌, arith, ap, length, map, None, refl, sym, ◌∙◌}
 use Rattle.std.proofs.lemmas.Bool.{ltb-false, ltb-true}
 use Rattle.etm_types.specs.Atoms.{most_atoms}
-use Rattle.element_queue.specs.Kept.{plain_entry}
+use Rattle.element_queue.specs.Queued.{plain_entry}
 use Rattle.element_queue.proofs.Fronts.{all_bits, front_enough, front_whole, front_within, not_some}
 use Rattle.element_queue.proofs.entries.Run.add_to.Goals.{After-len-2}
 use Rattle.element_queue.proofs.entries.Run.add_to.Goals as goal

@@ -1,7 +1,7 @@
 use Rattle.std.proofs.Common.{◌≡◌, ◌∷◌, Bool, false, not, Option, None, Some, ap, arith, refl, ◌∙◌}
 use Rattle.std.specs.Prelude.{IsSome}
 use Rattle.std.specs.Option.{is_some}
-use Rattle.element_queue.specs.Kept.{plain_entry}
+use Rattle.element_queue.specs.Queued.{plain_entry}
 use Rattle.element_queue.proofs.Fronts.{same_entry}
 use Rattle.element_queue.proofs.entries.Run.has_front.Goals as goal
 

@@ -1,7 +1,6 @@
 use Rattle.std.proofs.Common.{◌≡◌, ◌∷◌, ◌++◌, [], Bool, List, Some, map, slice_get, ap, sym, ◌∙◌}
 use Rattle.etm_types.specs.declared.element.Entry.{Entry}
-use Rattle.element_queue.specs.Kept.{plain_entry}
-use Rattle.element_queue.specs.Queued.{entry_of}
+use Rattle.element_queue.specs.Queued.{entry_of, plain_entry}
 use Rattle.element_queue.proofs.EntryRuns.{none_at}
 use Rattle.element_queue.proofs.entries.Run.oldest_atom.Goals as goal
 

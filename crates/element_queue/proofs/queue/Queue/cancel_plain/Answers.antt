@@ -3,10 +3,9 @@ use Rattle.std.specs.Prelude.{map}
 use Rattle.std.proofs.lemmas.List.{length-map}
 use Rattle.element_queue.specs.declared.ledger.Counts.{Counts}
 use Rattle.element_queue.specs.Counting.{counts_after}
-use Rattle.element_queue.specs.Kept.{plain_entry}
 use Rattle.element_queue.specs.Packed.{pre_of_packed}
 use Rattle.element_queue.specs.Pending.{cancelling}
-use Rattle.element_queue.specs.Queued.{IsQueued}
+use Rattle.element_queue.specs.Queued.{IsQueued, plain_entry}
 use Rattle.element_queue.proofs.Balanced.{cancelled_many, same_counts}
 use Rattle.element_queue.proofs.Cancelled.{given_behind, parts, takes_cancel}
 use Rattle.element_queue.proofs.EntryRuns.{as_many, given_plain}

@@ -3,9 +3,8 @@ use Rattle.std.proofs.lemmas.List.{length-map}
 use Rattle.etm_types.specs.Atoms.{atoms_in}
 use Rattle.etm_types.specs.declared.element.Entry.{Entry}
 use Rattle.element_queue.specs.Counting.{add}
-use Rattle.element_queue.specs.Kept.{plain_entry}
 use Rattle.element_queue.specs.Packed.{pre_of_packed}
-use Rattle.element_queue.specs.Queued.{IsQueued}
+use Rattle.element_queue.specs.Queued.{IsQueued, plain_entry}
 use Rattle.element_queue.proofs.Balanced.{made_many}
 use Rattle.element_queue.proofs.Held.{length-things, queued, things}
 use Rattle.element_queue.proofs.LowBits.{low_bits-length}

@@ -4,9 +4,8 @@ use Rattle.std.proofs.lemmas.List.{length-drop, length-map}
 use Rattle.etm_types.specs.Atoms.{atoms_in}
 use Rattle.etm_types.specs.declared.element.Entry.{Entry}
 use Rattle.element_queue.specs.Counting.{Balances, add}
-use Rattle.element_queue.specs.Kept.{plain_entry}
 use Rattle.element_queue.specs.Packed.{pre_of_packed}
-use Rattle.element_queue.specs.Queued.{IsQueued, Queued, plain_atom}
+use Rattle.element_queue.specs.Queued.{IsQueued, Queued, plain_atom, plain_entry}
 use Rattle.element_queue.proofs.Balanced.{passed_many}
 use Rattle.element_queue.proofs.Held.{queued, things}
 use Rattle.element_queue.proofs.LowBits.{low_bits-length}
