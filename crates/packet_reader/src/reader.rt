@@ -1,6 +1,8 @@
 //! The reader: the search for the first A-sync, and the packets from there on (Arm IHI 0064, "Alignment
 //! Synchronization packet", "Descriptions of Trace Packets").
 ghost use Rattle.std.specs.Prelude.{◌≡◌, ◌≤◌, ◌<◌, ◌+◌, ◌-◌, ◌^◌, ◌++◌, ◌∷◌, [], ◌↔◌, Bool, false, length, drop, List, ℕ, IsTrue, IsSome, IfSome, None, All};
+ghost use Rattle.atom_formats.specs.Formats.{Spells as TellsAtoms};
+ghost use Rattle.etm_types.specs.Atoms.{atoms_in};
 ghost use Rattle.etm_types.specs.Settings.{AreSettings};
 ghost use Rattle.packet_grammar.specs.Ranges.{IsPacket};
 ghost use Rattle.packet_reader.specs.Corrections.{behind_cancel, packet_of};
@@ -100,6 +102,8 @@ impl PacketReader {
         ensures some { IsSome result ↔ ((self.old.phase ≡ Phase.Between) × (0xc0 ≤ byte)) }
         ensures none { result ≡ None → self.new ≡ self.old }
         ensures takes { IfSome result (λ atoms. TakesPacket self.old self.new (byte ∷ []) atoms.0 (Packet.Atoms atoms.1)) }
+        ensures tells { IfSome result (λ atoms. TellsAtoms byte (atoms_in atoms.1)) }
+        ensures between { IfSome result (λ atoms. self.new.phase ≡ Phase.Between) }
     {
         match &self.phase {
             Phase::Between if byte >= ATOMS => {
@@ -246,6 +250,14 @@ impl PacketReader {
             }
             _ => false,
         }
+    }
+
+    /// Whether it stands between two packets.
+    #[inline(always)]
+    pub fn is_between(&self) -> bool
+        ensures { IsTrue result ↔ (self.now.phase ≡ Phase.Between) }
+    {
+        matches!(self.phase, Phase::Between)
     }
 
     /// How many bytes were taken.

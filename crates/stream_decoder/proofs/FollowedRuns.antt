@@ -1,10 +1,10 @@
 -- What a follower was given of bytes that were taken one after the other, or whole packets at once.
-use Rattle.std.proofs.Common.{◌≡◌, ◌≢◌, ℕ, ◌+◌, List, [], ◌∷◌, ◌++◌, length, Option, None, Some, refl, sym, ap, subst, ◌∙◌, arith}
+use Rattle.std.proofs.Common.{◌≡◌, ◌≢◌, ℕ, ◌+◌, ◌<◌, List, [], ◌∷◌, ◌++◌, length, Option, None, Some, refl, sym, ap, subst, ◌∙◌, arith}
 use Rattle.std.proofs.Common.{append_assoc, append-nil, length-append}
 use Rattle.etm_types.specs.Settings.{AreSettings, Sizes}
 use Rattle.etm_types.specs.declared.context.Ctx.{Ctx}
 use Rattle.etm_types.specs.declared.item.Item.{Item}
-use Rattle.packet_grammar.proofs.Fitting.{small_back, small_front}
+use Rattle.packet_grammar.proofs.Fitting.{small_front}
 use Rattle.packet_grammar.specs.declared.stream_fault.Fault.{Fault}
 use Rattle.packet_reader.specs.Stands.{Standing}
 use Rattle.path_elements.specs.Path.{IsPathTaking}
@@ -16,7 +16,7 @@ use Rattle.stream_decoder.proofs.Following.{FollowsAll, takes_none, takes_on}
 use Rattle.stream_decoder.proofs.Fronts.{quiet_ends, quiet_fault, quiet_reader, quiet_stopped}
 use Rattle.stream_decoder.proofs.Growing.{Small, by_fault, not_none, stands_on, stands_stopped}
 use Rattle.stream_decoder.specs.Decoding.{Decoding}
-use Rattle.stream_decoder.specs.Follows.{CameTo, FollowsRun, GrowsByEach, TakesMore, items_under}
+use Rattle.stream_decoder.specs.Follows.{CameTo, FollowsFront, FollowsRun, GrowsByEach, TakesMore, items_under}
 use Rattle.stream_decoder.specs.Stands as stands
 use Rattle.stream_decoder.specs.Stands.{Came}
 use Rattle.stream_decoder.specs.Yields.{BegunFront}
@@ -48,6 +48,34 @@ module _ {F : Type 0} (took : F → List (ℕ × Item) → Type 0) (image : Imag
         taken = omega arith;
       }
 
+  -- a run is taken, and another behind it
+  run_on : (d m d' : Decoding) (run others : List ℕ) (old mid new : F) → FollowsRun took image id d run m old mid
+      → FollowsRun took image id m others d' mid new → FollowsRun took image id d (run ++ others) d' old new
+  run_on d m d' run others old mid new a b =
+      record {
+        more = a.more ++ b.more;
+        came = λ bytes items is.
+            subst (λ (l : List ℕ). Came image d' l (items ++ (a.more ++ b.more))) (append_assoc bytes run others)
+            (subst (Came image d' ((bytes ++ run) ++ others)) (append_assoc items a.more b.more)
+            (b.came (bytes ++ run) (items ++ a.more) (a.came bytes items is)));
+        takes = takes_on took id old mid new a.more b.more a.takes b.takes;
+        settings = b.settings ∙ a.settings;
+        taken = omega (arith, a.taken, b.taken, length-append run others);
+      }
+
+  -- a run is taken, and then nothing more
+  run_to : (d d' : Decoding) (run : List ℕ) (old new newer : F) → FollowsRun took image id d run d' old new → TakesMore took new newer []
+      → FollowsRun took image id d run d' old newer
+  run_to d d' run old new newer a takes =
+      record {
+        more = a.more;
+        came = a.came;
+        takes = subst (λ (l : List Item). TakesMore took old newer (items_under id l)) (append-nil a.more)
+            (takes_on took id old new newer a.more [] a.takes takes);
+        settings = a.settings;
+        taken = a.taken;
+      }
+
   module _ (d d' : Decoding) (run : List ℕ) (old new : F) (follows : FollowsRun took image id d run d' old new) (bytes : List ℕ)
       (came : CameTo image d bytes) where
     pub run_stands : CameTo image d' (bytes ++ run)
@@ -72,25 +100,41 @@ module _ {F : Type 0} (took : F → List (ℕ × Item) → Type 0) (image : Imag
   -- ---- how far a run was taken
 
   -- a front of it was, and these bytes are left
-  abbrev pub FollowsFront : Decoding → List ℕ → List ℕ → Decoding → F → F → Type 0
-  FollowsFront d run rest d' old new = (front : List ℕ) × (run ≡ front ++ rest) × FollowsRun took image id d front d' old new
+  abbrev pub FollowedFront : Decoding → List ℕ → List ℕ → Decoding → F → F → Type 0
+  FollowedFront d run rest d' old new = (front : List ℕ) × (run ≡ front ++ rest) × FollowsRun took image id d front d' old new
 
-  pub front_first : (d : Decoding) (run : List ℕ) (f : F) → FollowsFront d run run d f f
+  pub front_first : (d : Decoding) (run : List ℕ) (f : F) → FollowedFront d run run d f f
   front_first d run f = ([], refl, run_first d f)
 
-  module _ (d d' : Decoding) (run rest : List ℕ) (old new : F) where
-    pub front_taken : FollowsFront d run rest d' old new → (d'.reader).taken + length rest ≡ (d.reader).taken + length run
-    front_taken (front, parts, follows) = omega (arith, follows.taken, ap length parts, length-append front rest)
+  module _ (d d' : Decoding) (run rest : List ℕ) (old new : F) (was : FollowedFront d run rest d' old new) where
+    pub front_taken : (d'.reader).taken + length rest ≡ (d.reader).taken + length run
+    front_taken = omega (arith, (was.2).taken, ap length was.1, length-append was.0 rest)
 
-    -- all of it was
-    pub front_all : rest ≡ [] → FollowsFront d run rest d' old new → FollowsRun took image id d run d' old new
-    front_all none (front, parts, follows) =
-        let whole : run ≡ front = parts ∙ ap (λ (l : List ℕ). front ++ l) none ∙ append-nil front in
-        subst (λ (l : List ℕ). FollowsRun took image id d l d' old new) (sym whole) follows
+    -- and bytes at the front of those that were left
+    pub front_on : (d2 : Decoding) (behind : List ℕ) (newer : F) → FollowsFront took image id d' rest behind d2 new newer
+        → FollowedFront d run behind d2 old newer
+    front_on d2 behind newer is = (
+      was.0 ++ is.text,
+      was.1 ∙ ap (λ (l : List ℕ). was.0 ++ l) is.parts ∙ sym (append_assoc was.0 is.text behind),
+      run_on d d' d2 was.0 is.text old new newer was.2 is.follows,
+    )
 
-  -- the next bytes are taken, and what they left to do is done
-  module _ (d : Decoding) (run : List ℕ) (fits : Small run) (are : AreSettings ((d.reader).settings)) (d1 n d2 : Decoding) (rest behind : List ℕ)
-      (old mid new : F) (was : FollowsFront d run rest d1 old mid) (begun : BegunFront d1 n rest behind) (unread : d2.reader ≡ n.reader) where
+    -- all of it was, and nothing more was taken
+    pub front_all : rest ≡ [] → (newer : F) → TakesMore took new newer [] → FollowsRun took image id d run d' old newer
+    front_all none newer takes =
+        let whole : run ≡ was.0 = was.1 ∙ ap (λ (l : List ℕ). was.0 ++ l) none ∙ append-nil was.0 in
+        subst (λ (l : List ℕ). FollowsRun took image id d l d' old newer) (sym whole) (run_to d d' was.0 old new newer was.2 takes)
+
+  -- what stands behind is shorter
+  pub less_behind : (d d' : Decoding) (bytes behind : List ℕ) (old new : F) → FollowsFront took image id d bytes behind d' old new
+      → length behind < length bytes
+  less_behind d d' bytes behind old new is = omega (arith, is.some, ap length is.parts, length-append is.text behind)
+
+  -- ---- the next bytes
+
+  -- they are taken, and what they left to do is done; before that the follower took nothing
+  module _ (d n d2 : Decoding) (bytes behind : List ℕ) (fits : Small bytes) (are : AreSettings ((d.reader).settings)) (old mid new : F)
+      (begun : BegunFront d n bytes behind) (unread : d2.reader ≡ n.reader) (first : TakesMore took old mid []) where
     abbrev text : List ℕ
     text = begun.text
 
@@ -103,55 +147,47 @@ module _ {F : Type 0} (took : F → List (ℕ × Item) → Type 0) (image : Imag
     same_fault : m.fault ≡ n.fault
     same_fault = sym (quiet_fault image m n begun.quiet)
 
-    here : AreSettings ((d1.reader).settings)
-    here = subst AreSettings (sym (was.2).settings) are
-
     small : Small text
-    small = small_front rest text behind begun.parts (small_back run was.0 rest was.1 fits)
-
-    parts : run ≡ (was.0 ++ text) ++ behind
-    parts = was.1 ∙ ap (λ (l : List ℕ). was.0 ++ l) begun.parts ∙ sym (append_assoc was.0 text behind)
+    small = small_front bytes text behind begun.parts fits
 
     settings : (d2.reader).settings ≡ (d.reader).settings
-    settings = ap (λ (r : Standing). r.settings) same_reader ∙ begun.settings ∙ (was.2).settings
+    settings = ap (λ (r : Standing). r.settings) same_reader ∙ begun.settings
 
-    taken : (d2.reader).taken ≡ (d.reader).taken + length (was.0 ++ text)
-    taken = ap (λ (r : Standing). r.taken) same_reader ∙ omega (arith, (was.2).taken, begun.taken, length-append was.0 text)
+    taken : (d2.reader).taken ≡ (d.reader).taken + length text
+    taken = ap (λ (r : Standing). r.taken) same_reader ∙ begun.taken
 
-    next_on : n.fault ≡ None → FollowsAll took image id n d2 mid new → FollowsRun took image id d (was.0 ++ text) d2 old new
+    next_on : n.fault ≡ None → FollowsAll took image id n d2 mid new → FollowsRun took image id d text d2 old new
     next_on none (others, ends, takes) =
-        let more = (was.2).more in
         record {
-          more = more ++ others;
-          came = λ bytes items is.
-              let now = stands_on image (bytes ++ was.0) text small (items ++ more) d1 m here begun.settings begun.begins ((was.2).came bytes items is)
-              (same_fault ∙ none) others d2 (quiet_ends image m n others d2 begun.quiet ends) in
-              subst (λ (l : List ℕ). Came image d2 l (items ++ (more ++ others))) (append_assoc bytes was.0 text)
-              (subst (Came image d2 ((bytes ++ was.0) ++ text)) (append_assoc items more others) now);
-          takes = takes_on took id old mid new more others (was.2).takes takes;
+          more = others;
+          came = λ bytes items is. stands_on image bytes text small items d m are begun.settings begun.begins is (same_fault ∙ none) others d2
+              (quiet_ends image m n others d2 begun.quiet ends);
+          takes = takes_on took id old mid new [] others first takes;
           settings = settings;
           taken = taken;
         }
 
-    next_stopped : (stop : ℕ × Fault) → n.fault ≡ Some stop → (d2 ≡ n) × (new ≡ mid) → FollowsRun took image id d (was.0 ++ text) d2 old new
+    next_stopped : (stop : ℕ × Fault) → n.fault ≡ Some stop → (d2 ≡ n) × (new ≡ mid) → FollowsRun took image id d text d2 old new
     next_stopped stop met (same, none) =
-        let more = (was.2).more in let still = same ∙ quiet_stopped image m n stop met begun.quiet in
+        let still = same ∙ quiet_stopped image m n stop met begun.quiet in
         record {
-          more = more;
+          more = [];
           came = λ bytes items is.
-              let now = stands_stopped image (bytes ++ was.0) text small (items ++ more) d1 m here begun.settings begun.begins
-              ((was.2).came bytes items is) stop (same_fault ∙ met) in
-              subst (λ (x : Decoding). Came image x (bytes ++ (was.0 ++ text)) (items ++ more)) (sym still)
-              (subst (λ (l : List ℕ). Came image m l (items ++ more)) (append_assoc bytes was.0 text) now);
-          takes = subst (λ (f : F). TakesMore took old f (items_under id more)) (sym none) (was.2).takes;
+              let now = stands_stopped image bytes text small items d m are begun.settings begun.begins is stop (same_fault ∙ met) in
+              subst (λ (x : Decoding). Came image x (bytes ++ text) (items ++ [])) (sym still)
+              (subst (Came image m (bytes ++ text)) (sym (append-nil items)) now);
+          takes = subst (λ (f : F). TakesMore took old f []) (sym none) first;
           settings = settings;
           taken = taken;
         }
 
-    pub front_on : (n.fault ≡ None → FollowsAll took image id n d2 mid new) → (n.fault ≢ None → (d2 ≡ n) × (new ≡ mid))
-        → FollowsFront d run behind d2 old new
-    front_on follows stopped = (
-      was.0 ++ text,
-      parts,
-      by_fault n.fault (λ none. next_on none (follows none)) (λ stop met. next_stopped stop met (stopped (not_none n.fault stop met))),
-    )
+    pub next_front : (n.fault ≡ None → FollowsAll took image id n d2 mid new) → (n.fault ≢ None → (d2 ≡ n) × (new ≡ mid))
+        → FollowsFront took image id d bytes behind d2 old new
+    next_front follows stopped =
+        record {
+          text = text;
+          parts = begun.parts;
+          some = begun.some;
+          follows = by_fault n.fault (λ none. next_on none (follows none))
+              (λ stop met. next_stopped stop met (stopped (not_none n.fault stop met)));
+        }

@@ -13,6 +13,7 @@ pub mod Printing
 pub mod Quiet
 pub mod Following
 pub mod FollowedRuns
+pub mod FollowedPackets
 pub mod Standing
 pub mod Growing
 pub mod Fronts
@@ -22,3 +23,7 @@ pub mod Runs
 pub mod LettingGo
 pub mod Rotating
 pub mod HoldingRuns
+pub mod PacketRuns
+pub mod AtomBytes
+pub mod AtomPacketExamples
+pub mod AtomSteps

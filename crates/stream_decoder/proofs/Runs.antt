@@ -75,7 +75,7 @@ walks_more image s mid next addr elements (x ∷ run) stretch taken (t, others, 
 
 -- ---- what waits at depth 0, where nothing but an address was given
 
-abbrev at_zero : Bool → Option ℕ → Counts → Waiting
+abbrev pub at_zero : Bool → Option ℕ → Counts → Waiting
 at_zero informed addr c =
     record {
       pending = record { held = []; pre = record nothing_told { addr = addr }; informed = informed };
@@ -102,7 +102,7 @@ counts_on n c k =
       lost = c.lost;
     }
 
-passed_one : (informed : Bool) (addr : Option ℕ) (c : Counts) (taken : Bool) → AreCounts c
+pub passed_one : (informed : Bool) (addr : Option ℕ) (c : Counts) (taken : Bool) → AreCounts c
     → Commits (at_zero informed addr c) (elem.P0 (Atom taken)) (at_zero informed None (counts_passed 1 c))
     (committed_by (at_zero informed addr c) (Atom taken))
 passed_one informed addr c taken range =
@@ -119,7 +119,7 @@ passed_one informed addr c taken range =
       depth = refl;
     }
 
-waits_one : (informed : Bool) (c : Counts) → AreCounts c → Balances c 0 → IsWaiting (at_zero informed None (counts_passed 1 c))
+pub waits_one : (informed : Bool) (c : Counts) → AreCounts c → Balances c 0 → IsWaiting (at_zero informed None (counts_passed 1 c))
 waits_one informed c range balanced =
     record {
       few = omega arith;
@@ -188,7 +188,7 @@ module _ (image : Image) (r : Standing) (t : Told) (f : Option (ℕ × Fault)) (
 
 -- ---- the same, of what waits
 
-no_things : (things : List Thing) → length things ≤ 0 → things ≡ []
+pub no_things : (things : List Thing) → length things ≤ 0 → things ≡ []
 no_things [] few = refl
 no_things (x ∷ things) few = absurd (omega (arith, few))
 

@@ -1,5 +1,5 @@
 -- What follows paths takes of them, and at which bytes a stream stands whose path is followed.
-use Rattle.std.specs.Prelude.{◌≡◌, ℕ, ◌+◌, List, [], ◌∷◌, ◌++◌, length, map, ⊤}
+use Rattle.std.specs.Prelude.{◌≡◌, ℕ, ◌+◌, ◌<◌, List, [], ◌∷◌, ◌++◌, length, map, ⊤}
 use Rattle.etm_types.specs.Settings.{Sizes}
 use Rattle.etm_types.specs.declared.item.Item.{Item}
 use Rattle.packet_grammar.specs.declared.end.End.{End}
@@ -59,3 +59,11 @@ pub record FollowsRun {F : Type 0} (took : F → List (ℕ × Item) → Type 0) 
   pub takes : TakesMore took old new (items_under id more)
   pub settings : (d'.reader).settings ≡ (d.reader).settings
   pub taken : (d'.reader).taken ≡ (d.reader).taken + length run
+
+-- bytes at the front of others were, at least one, and the others stand behind them
+pub record FollowsFront {F : Type 0} (took : F → List (ℕ × Item) → Type 0) (image : Image) (id : ℕ) (d : Decoding) (bytes behind : List ℕ) (d' : Decoding)
+    (old new : F) : Type 0 where
+  pub text : List ℕ
+  pub parts : bytes ≡ text ++ behind
+  pub some : 0 < length text
+  pub follows : FollowsRun took image id d text d' old new

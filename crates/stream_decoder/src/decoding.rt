@@ -1,5 +1,5 @@
 //! One stream, from its bytes to what they show: a machine that knows no sink.
-ghost use Rattle.std.specs.Prelude.{◌≡◌, ◌<◌, ◌≤◌, ◌+◌, ◌^◌, ◌++◌, ◌∷◌, [], List, ℕ, Ok};
+ghost use Rattle.std.specs.Prelude.{◌≡◌, ◌≢◌, ◌<◌, ◌≤◌, ◌+◌, ◌^◌, ◌++◌, ◌∷◌, [], List, ℕ, Ok};
 ghost use Rattle.std.specs.Prelude.{length, Err, Some, None, IfOk, IfSome, IsErr, IsTrue, false, All, ◌↔◌, option_to_list};
 ghost use Rattle.element_queue.specs.Counting.{Balances, counts_after};
 ghost use Rattle.element_queue.specs.Pending.{losing};
@@ -18,6 +18,7 @@ ghost use Rattle.path_walker.specs.State.{IsState};
 ghost use Rattle.path_walker.specs.Walk.{ToldIsAligned};
 ghost use Rattle.path_walker.specs.declared.stretch.Stretch.{Stretch};
 ghost use Rattle.program_image.specs.declared.image.Image.{Image};
+ghost use Rattle.stream_decoder.specs.AtomPackets.{RunsFront};
 ghost use Rattle.stream_decoder.specs.Decoding.{AtRest, Begins, IsDecoding, depth_of};
 ghost use Rattle.stream_decoder.specs.Follows.{FindsWords};
 ghost use Rattle.stream_decoder.specs.Stands.{end_at};
@@ -25,6 +26,7 @@ ghost use Rattle.stream_decoder.specs.Yields.{BegunByte, BegunFront, Ends, Goes,
 ghost use Rattle.stream_decoder.specs.Yields.{items_of_found, items_found, left};
 
 use crate::found::Found;
+use crate::front::{Reached, atoms_at, read_until, take_some};
 use crate::oldest::{drop_due, take_atoms, walk_oldest};
 use crate::todo::Todo;
 use crate::waiting::Waiting;
@@ -121,6 +123,52 @@ impl Decoding {
         }
         self.begin(*byte);
         Some(later)
+    }
+
+    /// Takes the packets of atoms at the front of the bytes that come next, as one run: up to the packet in which the last of the atoms stands
+    /// that can be taken at once. It gives the bytes behind that packet; the atoms of it that are left are left to do. Where no atom can be
+    /// taken so, nothing changes.
+    #[inline(always)]
+    pub fn run_front<'a, T: StretchTaker>(
+        &mut self,
+        image: &Image,
+        id: Id,
+        bytes: &'a [u8],
+        taker: &mut T,
+    ) -> Option<&'a [u8]>
+        requires few { self.old.reader.taken + length bytes.now ≤ 2 ^ 62 }
+        requires rest { AtRest self.old }
+        requires holds { IsDecoding self.old }
+        ensures runs { IfSome result (λ behind. RunsFront (T.adds image.now id self.old.walk.ctx) image.now self.old taker.old bytes.now behind.now
+            self.new taker.new) }
+        ensures none { result ≡ None → (self.new ≡ self.old) × T.adds image.now id self.old.walk.ctx taker.old [] taker.new }
+        ensures stopped { self.old.fault ≢ None → (result ≡ None) × (taker.new ≡ taker.old) }
+        ensures holds { IsDecoding self.new }
+    {
+        if self.fault.is_some() || !self.reader.is_between() {
+            return None;
+        }
+        let atoms = atoms_at(bytes);
+        if atoms.count == 0 {
+            return None;
+        }
+        let front = Todo::of(0, self.maker.atoms_of(&atoms)?);
+        let n = take_some(&mut self.waiting, &mut self.walker, image, id, front, taker);
+        if n == 0 {
+            return None;
+        }
+        let Reached {
+            at,
+            atoms,
+            within,
+            behind,
+        } = read_until(&mut self.reader, bytes, n);
+        let Some(elems) = self.maker.atoms_of(&atoms) else {
+            unreachable!()
+        };
+        self.todo = Todo::of(at, elems);
+        self.todo.advance_by(within);
+        Some(behind)
     }
 
     /// Takes the packet at the front of the bytes that come next, where it is an address or a short commit that is all there, and no fault

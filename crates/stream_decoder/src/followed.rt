@@ -1,6 +1,6 @@
 //! One stream, from its bytes to the items of its path.
 ghost use Rattle.std.specs.Prelude.{◌≡◌, ◌≢◌, ◌<◌, ◌≤◌, ◌+◌, ◌^◌, ◌==◌, ◌++◌, ◌∷◌, [], List, ℕ, None};
-ghost use Rattle.std.specs.Prelude.{IfOk, true, false, not, length, if◌then◌else◌};
+ghost use Rattle.std.specs.Prelude.{IfOk, IfSome, true, false, not, length, if◌then◌else◌};
 ghost use Rattle.element_queue.specs.Counting.{Balances, counts_after, entries, no_counts, tally};
 ghost use Rattle.element_queue.specs.Pending.{losing};
 ghost use Rattle.element_queue.specs.Resolved.{at_first};
@@ -13,7 +13,7 @@ ghost use Rattle.path_text.specs.EndLines.{end_line};
 ghost use Rattle.path_text.specs.Writing.{Writes};
 ghost use Rattle.program_image.specs.declared.image.Image.{Image};
 ghost use Rattle.stream_decoder.specs.Decoding.{AtRest, IsDecoding};
-ghost use Rattle.stream_decoder.specs.Follows.{CameTo, FollowsRun, GrowsBy, GrowsByEach, TakesMore, items_under};
+ghost use Rattle.stream_decoder.specs.Follows.{CameTo, FollowsFront, FollowsRun, GrowsBy, GrowsByEach, TakesMore, items_under};
 ghost use Rattle.stream_decoder.specs.Stands.{shows_walk_fault};
 ghost use Rattle.trace_io.specs.Calls.{Serves};
 
@@ -165,8 +165,36 @@ fn follow_bytes<F: Follower>(
     ensures holds { IsDecoding decoding.new }
 {
     let mut rest = run;
-    while let Some(behind) = decoding.begin_front(rest) {
+    while let Some(behind) = follow_front(decoding, image, id, rest, follower) {
         rest = behind;
-        follow_rest(decoding, image, id, follower);
     }
+}
+
+/// Takes what stands at the front of the bytes that come next, and gives a follower what it shows: packets of atoms as one run, where some of
+/// their atoms can be taken at once; else a packet, or a byte. It gives the bytes behind it. Nothing means that there is no byte.
+#[inline(always)]
+fn follow_front<'a, F: Follower>(
+    decoding: &mut Decoding,
+    image: &Image,
+    id: Id,
+    bytes: &'a [u8],
+    follower: &mut F,
+) -> Option<&'a [u8]>
+    requires holds { IsDecoding decoding.old }
+    requires rest { AtRest decoding.old }
+    requires few { decoding.old.reader.taken + length bytes.now ≤ 2 ^ 62 }
+    ensures follows { IfSome result (λ behind. FollowsFront (F.took image.now) image.now id decoding.old bytes.now behind.now decoding.new follower.old
+        follower.new) }
+    ensures none { result ≡ None → (bytes.now ≡ []) × (decoding.new ≡ decoding.old) × TakesMore (F.took image.now) follower.old follower.new [] }
+    ensures stopped { decoding.old.fault ≢ None
+        → (decoding.new ≡ record (decoding.old) { reader = decoding.new.reader }) × (follower.new ≡ follower.old) }
+    ensures rest { AtRest decoding.new }
+    ensures holds { IsDecoding decoding.new }
+{
+    let behind = match decoding.run_front(image, id, bytes, follower) {
+        Some(behind) => behind,
+        None => decoding.begin_front(bytes)?,
+    };
+    follow_rest(decoding, image, id, follower);
+    Some(behind)
 }

@@ -19,6 +19,7 @@ mod ending;
 mod followed;
 mod follower;
 mod found;
+mod front;
 mod oldest;
 mod todo;
 mod waiting;

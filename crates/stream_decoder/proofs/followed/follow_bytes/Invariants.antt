@@ -1,11 +1,11 @@
 use Rattle.std.proofs.Common.{◌≡◌, ◌≢◌, None, length}
-use Rattle.stream_decoder.proofs.FollowedRuns.{FollowsFront}
+use Rattle.stream_decoder.proofs.FollowedRuns.{FollowedFront}
 use Rattle.stream_decoder.specs.Decoding.{AtRest, IsDecoding}
 use Rattle.stream_decoder.proofs.followed.follow_bytes.Given as goal
 
 abbrev pub invariant-loop-behind : goal.invariant-loop-behind
 invariant-loop-behind g l = record {
-  follows : FollowsFront (g.F.Follower.took l.image) l.image l.id l.fn.decoding l.run l.rest l.decoding l.fn.follower l.follower;
+  follows : FollowedFront (g.F.Follower.took l.image) l.image l.id l.fn.decoding l.run l.rest l.decoding l.fn.follower l.follower;
   stopped : l.fn.decoding.fault ≢ None → (l.decoding ≡ record (l.fn.decoding) { reader = l.decoding.reader }) × (l.follower ≡ l.fn.follower);
   rest : AtRest l.decoding;
   holds : IsDecoding l.decoding;
