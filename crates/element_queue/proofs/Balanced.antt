@@ -1,5 +1,5 @@
 -- The counts while P0 elements are made and end.
-use Rattle.std.proofs.Common.{◌≡◌, ℕ, ◌+◌, ap, arith}
+use Rattle.std.proofs.Common.{◌≡◌, ℕ, ◌+◌, ap, arith, ◌∙◌}
 use Rattle.element_queue.specs.declared.ledger.Counts.{Counts}
 use Rattle.element_queue.specs.Counting.{Balances, add}
 
@@ -46,4 +46,19 @@ committed_many was now n before held e h b =
 pub cancelled_many : (was now : Counts) (n before held : ℕ)
     → now ≡ record was { cancelled = add was.cancelled n } → before ≡ held + n → Balances was before → Balances now held
 cancelled_many was now n before held e h b =
+    omega (arith, ap (λ c. c.made) e, ap (λ c. c.committed) e, ap (λ c. c.cancelled) e, ap (λ c. c.lost) e)
+
+-- some were made, committed and cancelled
+pub settled_counts : (was a b now : Counts) (made committed cancelled : ℕ)
+    → a ≡ record was { made = add was.made made } → b ≡ record a { committed = add a.committed committed }
+    → now ≡ record b { cancelled = add b.cancelled cancelled }
+    → now ≡ record was { made = add was.made made; committed = add was.committed committed; cancelled = add was.cancelled cancelled }
+settled_counts was a b now made committed cancelled first second third =
+    third ∙ ap (λ (c : Counts). record c { cancelled = add c.cancelled cancelled }) second
+    ∙ ap (λ (c : Counts). record c { committed = add c.committed committed; cancelled = add c.cancelled cancelled }) first
+
+pub settled_many : (was now : Counts) (made committed cancelled before held : ℕ)
+    → now ≡ record was { made = add was.made made; committed = add was.committed committed; cancelled = add was.cancelled cancelled }
+    → held + committed + cancelled ≡ before + made → Balances was before → Balances now held
+settled_many was now made committed cancelled before held e h b =
     omega (arith, ap (λ c. c.made) e, ap (λ c. c.committed) e, ap (λ c. c.cancelled) e, ap (λ c. c.lost) e)

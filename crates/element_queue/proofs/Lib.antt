@@ -10,6 +10,7 @@ pub mod Joined
 pub mod LowBits
 pub mod ManyAtoms
 pub mod Noted
+pub mod Parts
 pub mod QueueExamples
 pub mod Runs
 pub mod RewritingExamples

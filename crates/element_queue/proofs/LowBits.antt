@@ -1,7 +1,8 @@
 -- Lists of low bits: put together, and taken apart.
 use Rattle.std.proofs.Common.{◌≡◌, ℕ, Bool, true, false, zero, suc, ◌+◌, ◌-◌, ◌*◌, ◌/◌, ◌%◌, ◌^◌, ◌<◌, ◌≤◌, ◌==◌, [], ◌∷◌, ◌++◌, length, take, drop}
-use Rattle.std.proofs.Common.{refl, sym, ap, subst, ◌∙◌, arith, append-nil, slice_get, Some}
+use Rattle.std.proofs.Common.{refl, sym, ap, subst, ◌∙◌, arith, append-nil, slice_get, Some, inl, inr}
 use Rattle.std.proofs.Math.Nat.{pow-suc, pow-le-pow_right, mul_assoc, div-one}
+use Rattle.std.proofs.lemmas.Bool.Decides.{leb_tells}
 use Rattle.std.proofs.lemmas.List.{drop_at, take_at}
 use Rattle.std.proofs.lemmas.Nat.{mod_below, mul-add-lt, one_shl, pow-add, pow_pos, shl_whole, shr_below, shr_split, shr-shr}
 use mir.Val.{bool_byte}
@@ -101,3 +102,40 @@ one_more n bits bit true fits room is =
 one_more n bits bit false fits room is =
     ap (low_bits (n + 1)) (joined n 1 bits bit (omega (arith, is)) (omega arith)) ∙ low_bits-last n bits bit fits
     ∙ ap (λ b. low_bits n bits ++ (b % 2 == 1) ∷ []) is
+
+-- the atoms of a run behind others
+none_times : (n m : ℕ) → n ≡ 0 → n * m ≡ 0
+none_times zero m none = omega arith
+none_times (suc n) m none = absurd (omega (arith, none))
+
+-- Bits put above so many others are the same where the shift wraps around: there is none to put above 64.
+wrapped : (n m high added : ℕ) → high < 2 ^ m → n + m ≤ 64 → added ≡ high → added * 2 ^ (n % 64) % 2 ^ 64 ≡ high * 2 ^ n % 2 ^ 64
+wrapped n m high added fits room is = elim (leb_tells 64 n) [
+  | inl past ↦
+      let none : m ≡ 0 = omega (arith, room, past.1) in
+      let alone : high < 2 ^ 0 = subst (λ (k : ℕ). high < 2 ^ k) none fits in
+      let no_added : added * 2 ^ (n % 64) ≡ 0 = none_times added (2 ^ (n % 64)) (omega (arith, alone, is)) in
+      let no_high : high * 2 ^ n ≡ 0 = none_times high (2 ^ n) (omega (arith, alone)) in
+      ap (λ (k : ℕ). k % 2 ^ 64) (no_added ∙ sym no_high)
+  | inr below ↦
+      let small : n % 64 ≡ n = omega (arith, below.1) in
+      ap (λ (k : ℕ). k * 2 ^ (n % 64) % 2 ^ 64) is ∙ ap (λ (k : ℕ). high * 2 ^ k % 2 ^ 64) small
+]
+
+-- what the bits are, with a run behind them
+pub record Grown (n bits m run shifted : ℕ) : Type 0 where
+  pub whole : bits + shifted ≡ run % 2 ^ m * 2 ^ n + bits
+  pub fits : run % 2 ^ m * 2 ^ n + bits < 2 ^ (n + m)
+
+pub grown : (n bits m run added shifted : ℕ) → bits < 2 ^ n → n + m ≤ 64 → m ≤ 24 → added ≡ run % (1 * 2 ^ m % 2 ^ 32)
+    → shifted ≡ added * 2 ^ (n % 64) % 2 ^ 64 → Grown n bits m run shifted
+grown n bits m run added shifted fits room few is shift =
+    let added_is : added ≡ run % 2 ^ m = is ∙ run_bits m run few in
+    let put : shifted ≡ run % 2 ^ m * 2 ^ n % 2 ^ 64 = shift ∙ wrapped n m (run % 2 ^ m) added (run_fits m run) room added_is in
+    record {
+      whole = ap (λ (k : ℕ). bits + k) put ∙ joined n m bits (run % 2 ^ m) (run_fits m run) (omega (arith, room));
+      fits = joined_fits n m bits (run % 2 ^ m) fits (run_fits m run);
+    }
+
+pub atoms_behind : (n bits m run : ℕ) → bits < 2 ^ n → low_bits (n + m) (run % 2 ^ m * 2 ^ n + bits) ≡ low_bits n bits ++ low_bits m run
+atoms_behind n bits m run fits = low_bits-append n m bits (run % 2 ^ m) fits ∙ ap (λ l. low_bits n bits ++ l) (low_bits-masked m run)

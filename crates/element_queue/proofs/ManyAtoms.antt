@@ -50,6 +50,18 @@ same_seen (x ∷ xs) (y ∷ ys) e =
     let first : x ≡ y = cc in let rest : map Seen xs ≡ map Seen ys = cc in
     ap (λ (z : Entry). z ∷ xs) first ∙ ap (λ (l : List Entry). y ∷ l) (same_seen xs ys rest)
 
+-- all are plain atoms where all entries are
+pub all_held : (unseen : ℕ) (items : List Entry) (atoms : List Bool) → unseen ≤ 0 → map plain_entry atoms ≡ items
+    → map plain_atom atoms ≡ things unseen items
+all_held (suc unseen) items atoms seen e = absurd (omega (arith, seen))
+all_held zero items atoms seen e = sym (plain_things atoms) ∙ ap (map Seen) e
+
+pub all_seen : (unseen : ℕ) (items : List Entry) (atoms : List Bool) → map plain_atom atoms ≡ things unseen items
+    → (unseen ≡ 0) × (map plain_entry atoms ≡ items)
+all_seen zero items atoms e = (refl, same_seen (map plain_entry atoms) items (plain_things atoms ∙ e))
+all_seen (suc unseen) items [] e = absurd cc
+all_seen (suc unseen) items (taken ∷ atoms) e = absurd cc
+
 -- so many of the oldest are plain atoms where so many of the oldest entries are
 pub plain_held : (n unseen : ℕ) (items : List Entry) → AreSeen n unseen → AreOldest n items → AreOldestPlain n (things unseen items)
 plain_held n unseen items seen (oldest, is, count) = (oldest, oldest_held n unseen items oldest seen is, count)

@@ -5,3 +5,4 @@ pub mod Pending
 pub mod Queued
 pub mod Resolved
 pub mod Rewriting
+pub mod Outlooks

@@ -1,8 +1,8 @@
 //! The entries that a queue holds: most of them as bits.
-ghost use Rattle.std.specs.Prelude.{◌≡◌, ◌+◌, ◌≤◌, ◌<◌, ◌↔◌, Bool, List, [], ◌∷◌, ◌++◌, length, drop, map, take, slice_get, option_to_list};
+ghost use Rattle.std.specs.Prelude.{◌≡◌, ◌+◌, ◌^◌, ◌≤◌, ◌<◌, ◌↔◌, Bool, List, [], ◌∷◌, ◌++◌, length, drop, map, take, slice_get, option_to_list};
 ghost use Rattle.std.specs.Prelude.{IfOk, IfSome, IsSome, IsTrue, None, Some, false};
 ghost use Rattle.std.specs.Option.{option_map};
-ghost use Rattle.etm_types.specs.Atoms.{atoms_in, most_atoms};
+ghost use Rattle.etm_types.specs.Atoms.{atoms_in, low_bits, most_atoms};
 ghost use Rattle.etm_types.specs.declared.element.Entry.{Entry};
 ghost use Rattle.etm_types.specs.declared.element.Thing.TheVariants.{Seen};
 ghost use Rattle.spend_ring.specs.Ring.{newest};
@@ -225,6 +225,49 @@ impl Entries {
             return run.plain.front();
         }
         front_of(&self.runs, &self.plain)
+    }
+
+    /// All of them, as bits and how many, where all are kept as bits.
+    #[inline(always)]
+    pub(crate) fn all_plain(&self) -> Option<(u64, u32)>
+        ensures atoms { IfSome result (λ a. map plain_entry (low_bits a.1 a.0) ≡ self.now.items) }
+        ensures bits { IfSome result (λ a. (a.1 ≤ 64) × (a.0 < 2 ^ a.1)) }
+        ensures none { self.now.items ≡ [] → IsSome result }
+    {
+        if self.runs.len() > 0 {
+            return None;
+        }
+        Some(self.plain.bits())
+    }
+
+    /// In the place of all of them, which must be atoms before which nothing was given, these are kept.
+    #[inline(always)]
+    pub(crate) fn become_plain(&mut self, bits: u64, count: u32)
+        requires plain { (atoms : List Bool) × (map plain_entry atoms ≡ self.old.items) }
+        requires bits { (count ≤ 64) × (bits < 2 ^ count) }
+        requires few { count ≤ self.old.capacity }
+        ensures { self.new ≡ kept (map plain_entry (low_bits count bits)) self.old.capacity }
+    {
+        if self.runs.len() > 0 {
+            return self.replace_all(bits, count);
+        }
+        self.plain.replace(bits, count);
+        self.count = count;
+    }
+
+    /// The same, where some may be kept in runs.
+    #[inline(never)]
+    fn replace_all(&mut self, bits: u64, count: u32)
+        requires plain { (atoms : List Bool) × (map plain_entry atoms ≡ self.old.items) }
+        requires bits { (count ≤ 64) × (bits < 2 ^ count) }
+        requires few { count ≤ self.old.capacity }
+        ensures { self.new ≡ kept (map plain_entry (low_bits count bits)) self.old.capacity }
+    {
+        while let Some(slot) = self.pop_back() {
+            slot.take();
+        }
+        self.plain.replace(bits, count);
+        self.count = count;
     }
 
     /// Takes so many of the oldest out, where all of these are atoms before which nothing was given. Else nothing changes.

@@ -14,6 +14,7 @@
 mod entries;
 mod laws;
 mod ledger;
+mod outlook;
 mod packed;
 mod plain_atoms;
 mod queue;
@@ -27,5 +28,6 @@ pub use laws::{
     packed_atoms_are_taken_one_by_one,
 };
 pub use ledger::{Counts, Ledger};
+pub use outlook::Outlook;
 pub use queue::{AtomEntry, Committed, PreElem, Queue};
 pub use uncommitted::Uncommitted;

@@ -1,6 +1,6 @@
 //! Atoms before which nothing was given, as bits.
-ghost use Rattle.std.specs.Prelude.{◌≡◌, ◌+◌, ◌-◌, ◌≤◌, ◌<◌, [], ◌∷◌, ◌++◌, length, take, drop, slice_get, option_to_list, ◌↔◌, IsSome};
-ghost use Rattle.etm_types.specs.Atoms.{atoms_in, most_atoms};
+ghost use Rattle.std.specs.Prelude.{◌≡◌, ◌+◌, ◌-◌, ◌^◌, ◌≤◌, ◌<◌, [], ◌∷◌, ◌++◌, length, take, drop, slice_get, option_to_list, ◌↔◌, IsSome};
+ghost use Rattle.etm_types.specs.Atoms.{atoms_in, low_bits, most_atoms};
 
 use etm_types::{AtomRun, MOST_ATOMS};
 use std::marker::Model;
@@ -47,6 +47,25 @@ impl PlainAtoms {
         ensures most { result ≤ 64 }
     {
         self.count
+    }
+
+    /// The bits, and how many atoms there are.
+    #[inline(always)]
+    pub(crate) fn bits(&self) -> (u64, u32)
+        ensures atoms { low_bits result.1 result.0 ≡ self.now }
+        ensures bits { (result.1 ≤ 64) × (result.0 < 2 ^ result.1) }
+    {
+        (self.bits, self.count)
+    }
+
+    /// These atoms stand in the place of all.
+    #[inline(always)]
+    pub(crate) fn replace(&mut self, bits: u64, count: u32)
+        requires { (count ≤ 64) × (bits < 2 ^ count) }
+        ensures { self.new ≡ low_bits count bits }
+    {
+        self.bits = bits;
+        self.count = count;
     }
 
     /// One atom more.

@@ -8,6 +8,7 @@ ghost use Rattle.etm_types.specs.declared.element.P0.TheVariants.{Atom};
 ghost use Rattle.etm_types.specs.declared.element.Thing.TheVariants.{Seen};
 ghost use Rattle.etm_types.specs.declared.queue_fault.QueueFault.{QueueFault};
 ghost use Rattle.element_queue.specs.Counting.{AreCounts, Balances, counts_after, no_counts};
+ghost use Rattle.element_queue.specs.Outlooks.{settled};
 ghost use Rattle.element_queue.specs.Pending.{cancelling, committing, losing, nothing_gone, taken};
 ghost use Rattle.element_queue.specs.Queued.{AreOldestPlain, IsQueued, NoPlainAtomAt, Refuses, Takes, TakesInfo, TakesPre};
 ghost use Rattle.element_queue.specs.Queued.{entry_of, holding, noted, passed, pending_of, plain_atom, rotated, thing_of, things_of};
@@ -15,6 +16,7 @@ ghost use Rattle.element_queue.specs.declared.queue.AtomEntry.{AtomEntry};
 
 use crate::entries::Entries;
 use crate::ledger::{Counts, Ledger};
+use crate::outlook::Outlook;
 use crate::packed::Packed;
 use crate::slot::Slot;
 use crate::uncommitted::Uncommitted;
@@ -278,6 +280,44 @@ impl Queue {
             return AtomRun { count: 0, bits: 0 };
         }
         self.entries.oldest_plain()
+    }
+
+    /// What is held, as an outlook on which elements are tried, where it is kept as atoms before which nothing was given and nothing was given
+    /// since. There is one where nothing is held.
+    #[inline(always)]
+    pub fn outlook(&self) -> Option<Outlook>
+        ensures held { IfSome result (λ o. map plain_atom o.held ≡ self.now.held) }
+        ensures new { IfSome result (λ o. o ≡ record { gone = []; held = o.held; before = length self.now.held; made = 0; cancelled = 0; depth = self.now.depth }) }
+        ensures given { IsSome result → self.now.pre ≡ nothing_told }
+        ensures none { self.now.held ≡ [] → self.now.pre ≡ nothing_told → IsSome result }
+    {
+        if self.unseen > 0 || !self.next.is_nothing_told() {
+            return None;
+        }
+        let (bits, count) = self.entries.all_plain()?;
+        Some(Outlook::new(bits, count, self.depth))
+    }
+
+    /// What was tried on an outlook of the queue is done, and so many of the oldest that it commits are given out; those that are left of them are
+    /// the oldest that are held.
+    #[inline(always)]
+    pub fn settle(&mut self, outlook: &Outlook, n: u32)
+        requires plain { (atoms : List Bool) × (map plain_atom atoms ≡ self.old.held) }
+        requires before { outlook.now.before ≡ length self.old.held }
+        requires given { self.old.pre ≡ nothing_told }
+        requires short { n ≤ most_atoms }
+        requires within { n ≤ length outlook.now.gone }
+        requires few { length outlook.now.gone + length outlook.now.held ≤ n + self.old.depth }
+        ensures value { self.new ≡ settled outlook.now n self.old }
+        ensures queued { IsQueued self.new }
+        ensures counted { AreCounts self.old.counts }
+    {
+        let (bits, count) = outlook.behind(n);
+        let (made, cancelled) = outlook.tries();
+        self.entries.become_plain(bits, count);
+        self.ledger.count_all_made(made);
+        self.ledger.count_all_committed(n);
+        self.ledger.count_all_cancelled(cancelled);
     }
 
     /// Takes atoms before which nothing was given, where no more may be held and as many of the oldest are such atoms too: each commits

@@ -4,11 +4,14 @@ use Rattle.std.proofs.Common.{refl, sym, ap, inl}
 use Rattle.std.proofs.Common.{append_assoc, length-append, subst, arith, ◌<◌, ◌≤◌}
 use Rattle.std.specs.Prelude.{All}
 use Rattle.std.proofs.lemmas.Bool.{lt-ltb}
+use Rattle.atom_formats.specs.Formats.{Spells as TellsAtoms}
+use Rattle.etm_types.specs.Atoms.{IsAtomRun, atoms_in}
 use Rattle.etm_types.specs.Settings.{Sizes}
+use Rattle.etm_types.specs.declared.atoms.AtomRun.{AtomRun}
 use Rattle.etm_types.specs.declared.address.AddrForm.TheVariants.{Match, Short1, Short2, Long32, Long64}
 use Rattle.etm_types.specs.declared.context.CtxBits.{CtxBits}
 use Rattle.packet_grammar.specs.declared.packet.Packet.{Packet}
-use Rattle.packet_grammar.specs.declared.packet.Packet.TheVariants.{Addr, Commit}
+use Rattle.packet_grammar.specs.declared.packet.Packet.TheVariants.{Addr, Atoms, Cancel, Commit}
 use Rattle.packet_grammar.specs.Contexts.{Context, Field, address_of}
 use Rattle.packet_grammar.specs.Fields.{bit, is_last, lowest}
 use Rattle.packet_grammar.specs.Numbers.{little}
@@ -173,3 +176,12 @@ last_below n few = lt-ltb n 0x80 few
 
 pub commit_spelled : (s : Sizes) (n : ℕ) → n < 0x80 → Spells s (Ok (Commit n)) (0x2d ∷ n ∷ [])
 commit_spelled s n few = (n ∷ [], refl, where_so (is_last n) _ _ _ [] (last_below n few) refl)
+
+pub cancel_spelled : (s : Sizes) (n : ℕ) → n < 0x80 → Spells s (Ok (Cancel n false)) (0x2e ∷ n ∷ [])
+cancel_spelled s n few = (n ∷ [], refl, where_so (is_last n) _ _ _ [] (last_below n few) refl)
+
+-- ---- atoms
+
+pub atoms_spelled : (s : Sizes) (byte : ℕ) (run : AtomRun) → 0xc0 ≤ byte → byte < 256 → TellsAtoms byte (atoms_in run) → IsAtomRun run
+    → Spells s (Ok (Atoms run)) (byte ∷ [])
+atoms_spelled s byte run least small tells range = (byte, (least, omega (arith, small), refl), range, tells)

@@ -12,5 +12,6 @@ pub mod OneAnswer
 pub mod Told
 pub mod Asked
 pub mod Endings
-mod Fronts
+pub mod Fronts
 mod NumberEnds
+pub mod Skipped

@@ -2,6 +2,7 @@ pub mod Trees
 pub mod States
 pub mod Corrections
 pub mod Fronts
+pub mod Packets
 pub mod Stands
 pub mod Answered
 pub mod Told

@@ -54,6 +54,7 @@ impl PacketReader {
     ghost use Rattle.packet_grammar.specs.Ends.{end_of};
     ghost use Rattle.packet_grammar.specs.Parsed.{Ending, FirstSync, IsStream};
     ghost use Rattle.packet_reader.specs.Answered.{fault_of};
+    ghost use Rattle.packet_reader.specs.Packets.{ArePackets, TakesPackets, length_of};
     ghost use Rattle.packet_reader.specs.Stands.{StandsAt, Gains, TakesHeader, TakesPacket, is_synced, rest_in, rest_of};
 
     /// A reader that has taken nothing.
@@ -250,6 +251,30 @@ impl PacketReader {
             }
             _ => false,
         }
+    }
+
+    /// Takes packets that stand whole at the front of the bytes that come next, where the reader stands between two packets: so many bytes in
+    /// all, of which the last packet has so many. It answers the offset of the last packet.
+    ///
+    /// It is for who has read these packets by itself.
+    #[inline(always)]
+    pub fn skip(&mut self, count: u64, last: u64) -> u64
+        requires between { self.old.phase ≡ Phase.Between }
+        requires small { self.old.taken + count ≤ 2 ^ 62 }
+        requires packets { (first : List (List ℕ × Packet)) × (end : List ℕ × Packet) × ArePackets self.old.settings (first ++ end ∷ [])
+            × (length_of (first ++ end ∷ []) ≡ count) × (length end.0 ≡ last) }
+        ensures takes { (first : List (List ℕ × Packet)) (end : List ℕ × Packet) → ArePackets self.old.settings (first ++ end ∷ [])
+            → length_of (first ++ end ∷ []) ≡ count → length end.0 ≡ last → TakesPackets self.old first end result self.new }
+        ensures between { self.new.phase ≡ Phase.Between }
+    {
+        let after = self.taken + count;
+        let at = if count == last {
+            self.start
+        } else {
+            after - last
+        };
+        (self.start, self.taken) = (after, after);
+        at
     }
 
     /// Whether it stands between two packets.

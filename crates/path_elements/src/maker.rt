@@ -1,5 +1,5 @@
 //! From packets to elements, one packet after the other.
-ghost use Rattle.std.specs.Prelude.{◌≡◌, ◌≤◌, ◌<◌, ◌∷◌, ◌++◌, ◌↔◌, [], false, true, Some, None, IfOk, IfSome, IsSome, OnErr, if◌then◌else◌};
+ghost use Rattle.std.specs.Prelude.{◌≡◌, ◌≤◌, ◌<◌, ◌∷◌, ◌++◌, ◌↔◌, [], false, true, Some, None, IfOk, IfSome, IsSome, IsTrue, OnErr, if◌then◌else◌};
 ghost use Rattle.path_elements.specs.Elements.{untold, elements_of, told_after, is_misplaced, may_follow_exception, tells, with_address};
 ghost use Rattle.path_elements.specs.Held.{AreElems, CanBeTaken, CanStand, IsCorrection, IsTold, elem_of, numbered};
 ghost use Rattle.etm_types.specs.Atoms.{most_atoms};
@@ -98,6 +98,14 @@ impl ElemMaker {
         } else {
             None
         }
+    }
+
+    /// Whether packets of atoms, commits and cancels count, and may come: taking one changes nothing.
+    #[inline(always)]
+    pub fn is_ready(&self) -> bool
+        ensures { IsTrue result ↔ ((self.now.informed ≡ true) × (self.now.awaiting ≡ None)) }
+    {
+        self.informed && self.awaiting.is_none()
     }
 
     /// The elements of a commit packet, where it counts and may come: taking it changes nothing. Else it answers `None`, and

@@ -21,7 +21,7 @@ module _ (image : Image) where
       (taken, atoms run ++ others, next, refl, shows, state, walks_next next s' None run others added walks)
 
   -- they are the oldest things
-  walks_first : (s s' : State) (run : List Bool) (others : List Thing) (added : List Stretch)
+  pub walks_first : (s s' : State) (run : List Bool) (others : List Thing) (added : List Stretch)
       → WalksAtoms image s None run added s' → WalksOldest image s (map plain_atom run ++ others) added s'
   walks_first s s' run others [] walks = walks
   walks_first s s' [] others (stretch ∷ added) walks = absurd walks

@@ -1,10 +1,9 @@
--- What a follower was given of packets of atoms that were taken as one run.
-use Rattle.std.proofs.Common.{◌≡◌, ℕ, ◌+◌, ◌<◌, List, [], ◌∷◌, ◌++◌, length, None, sym, ap, subst, ◌∙◌, inl, inr, arith}
+-- What a follower was given of packets that were taken at once.
+use Rattle.std.proofs.Common.{◌≡◌, ℕ, ◌+◌, List, [], ◌∷◌, ◌++◌, length, None, sym, ap, subst, ◌∙◌, inl, inr, arith}
 use Rattle.std.proofs.Common.{append_assoc, append-nil, length-append}
-use Rattle.std.proofs.lemmas.List.Elements.{All-head, All-tail}
 use Rattle.etm_types.specs.Settings.{AreSettings}
 use Rattle.etm_types.specs.declared.item.Item.{Item}
-use Rattle.packet_grammar.proofs.Fitting.{small_front}
+use Rattle.packet_grammar.proofs.Fitting.{small_back, small_front}
 use Rattle.packet_grammar.specs.declared.stream_fault.Fault.TheVariants.{AddressAwaited}
 use Rattle.packet_reader.specs.Stands.{Standing}
 use Rattle.path_walker.specs.Walk.{items_in}
@@ -12,9 +11,9 @@ use Rattle.path_walker.specs.declared.stretch.Stretch.{Stretch}
 use Rattle.program_image.specs.declared.image.Image.{Image}
 use Rattle.stream_decoder.proofs.Coming.{none_due}
 use Rattle.stream_decoder.proofs.Following.{FollowsAll, takes_on}
-use Rattle.stream_decoder.proofs.Growing.{Small, not_none, one_small, stands_on}
+use Rattle.stream_decoder.proofs.Growing.{Small, not_none, stands_on}
 use Rattle.stream_decoder.proofs.Yielding.{ends_at_rest, goes_to_end}
-use Rattle.stream_decoder.specs.AtomPackets.{RunsFront, RunsPacket, RunsPackets}
+use Rattle.stream_decoder.specs.AtomPackets.{RunsFront, RunsPacket, RunsPackets, bytes_in}
 use Rattle.stream_decoder.specs.Decoding.{Decoding}
 use Rattle.stream_decoder.specs.Follows.{FollowsFront, TakesMore, items_under}
 use Rattle.stream_decoder.specs.Stands.{Came}
@@ -27,57 +26,59 @@ begun_whole d m text (at, packet, takes, inl opens) whole =
 begun_whole d m text (at, packet, takes, inr opens) whole = sym (ap (λ (x : Decoding). x.fault) opens.1) ∙ whole
 
 module _ (image : Image) where
-  packet_whole : (d d' : Decoding) (byte : ℕ) (shown : List Item) → RunsPacket image d byte shown d' → d'.fault ≡ None
-  packet_whole d d' byte shown packet = ap (λ (x : Decoding). x.fault) (packet.goes).rest ∙ packet.whole
+  packet_whole : (d d' : Decoding) (text : List ℕ) (shown : List Item) → RunsPacket image d text shown d' → d'.fault ≡ None
+  packet_whole d d' text shown packet = ap (λ (x : Decoding). x.fault) (packet.goes).rest ∙ packet.whole
 
-  packets_whole : (d d' : Decoding) (first : List ℕ) (last : ℕ) (shown : List Item) → RunsPackets image d first last shown d' → d'.fault ≡ None
+  packets_whole : (d d' : Decoding) (first : List (List ℕ)) (last : List ℕ) (shown : List Item) → RunsPackets image d first last shown d' → d'.fault ≡ None
   packets_whole d d' [] last shown packet = packet_whole d d' last shown packet
-  packets_whole d d' (byte ∷ first) last shown (next, now, rest, packet, done, holds, packets, is) = packets_whole next d' first last rest packets
+  packets_whole d d' (text ∷ first) last shown (next, now, rest, packet, done, holds, packets, is) = packets_whole next d' first last rest packets
 
   -- ---- the bytes of the packets are taken, and all that the last of them left to do is done
 
-  packet_comes : (d d' d2 : Decoding) (byte : ℕ) (shown others : List Item) → byte < 256 → AreSettings ((d.reader).settings)
-      → RunsPacket image d byte shown d' → Ends image d' others d2 → (bytes : List ℕ) (items : List Item) → Came image d bytes items
-      → Came image d2 (bytes ++ byte ∷ []) (items ++ (shown ++ others))
-  packet_comes d d' d2 byte shown others fits are packet ends bytes items came =
-      stands_on image bytes (byte ∷ []) (one_small byte fits) items d packet.begun are ((packet.begins).2).settings
-      (inr (begun_whole d packet.begun (byte ∷ []) packet.begins packet.whole, packet.begins)) came packet.whole (shown ++ others) d2
+  packet_comes : (d d' d2 : Decoding) (text : List ℕ) (shown others : List Item) → Small text → AreSettings ((d.reader).settings)
+      → RunsPacket image d text shown d' → Ends image d' others d2 → (bytes : List ℕ) (items : List Item) → Came image d bytes items
+      → Came image d2 (bytes ++ text) (items ++ (shown ++ others))
+  packet_comes d d' d2 text shown others fits are packet ends bytes items came =
+      stands_on image bytes text fits items d packet.begun are ((packet.begins).2).settings
+      (inr (begun_whole d packet.begun text packet.begins packet.whole, packet.begins)) came packet.whole (shown ++ others) d2
       (goes_to_end image packet.begun d' d2 shown others packet.goes ends)
 
-  packets_come : (d d' d2 : Decoding) (first : List ℕ) (last : ℕ) (shown others : List Item) → Small (first ++ last ∷ [])
+  packets_come : (d d' d2 : Decoding) (first : List (List ℕ)) (last : List ℕ) (shown others : List Item) → Small (bytes_in first ++ last)
       → AreSettings ((d.reader).settings) → RunsPackets image d first last shown d' → Ends image d' others d2 → (bytes : List ℕ) (items : List Item)
-      → Came image d bytes items → Came image d2 (bytes ++ (first ++ last ∷ [])) (items ++ (shown ++ others))
+      → Came image d bytes items → Came image d2 (bytes ++ (bytes_in first ++ last)) (items ++ (shown ++ others))
   packets_come d d' d2 [] last shown others fits are packet ends bytes items came =
-      packet_comes d d' d2 last shown others (All-head (λ (b : ℕ). b < 256) last [] fits) are packet ends bytes items came
-  packets_come d d' d2 (byte ∷ first) last shown others fits are (next, now, rest, packet, done, holds, packets, is) ends bytes items came =
+      packet_comes d d' d2 last shown others fits are packet ends bytes items came
+  packets_come d d' d2 (text ∷ first) last shown others fits are (next, now, rest, packet, done, holds, packets, is) ends bytes items came =
+      let behind = bytes_in first ++ last in
+      let parts : (text ++ bytes_in first) ++ last ≡ text ++ behind = append_assoc text (bytes_in first) last in
       let settled = sym (none_due next done.due (holds.range).committed) in
-      let here : Came image next (bytes ++ byte ∷ []) (items ++ (now ++ [])) =
-      packet_comes d next next byte now [] (All-head (λ (b : ℕ). b < 256) byte (first ++ last ∷ []) fits) are packet
-      (ends_at_rest image next (packet_whole d next byte now packet) settled done) bytes items came in
-      let all : Came image d2 ((bytes ++ byte ∷ []) ++ (first ++ last ∷ [])) ((items ++ (now ++ [])) ++ (rest ++ others)) =
-      packets_come next d' d2 first last rest others (All-tail (λ (b : ℕ). b < 256) byte (first ++ last ∷ []) fits) ((holds.reads).settings)
-      packets ends (bytes ++ byte ∷ []) (items ++ (now ++ [])) here in
+      let here : Came image next (bytes ++ text) (items ++ (now ++ [])) =
+      packet_comes d next next text now [] (small_front ((text ++ bytes_in first) ++ last) text behind parts fits) are packet
+      (ends_at_rest image next (packet_whole d next text now packet) settled done) bytes items came in
+      let all : Came image d2 ((bytes ++ text) ++ behind) ((items ++ (now ++ [])) ++ (rest ++ others)) =
+      packets_come next d' d2 first last rest others (small_back ((text ++ bytes_in first) ++ last) text behind parts fits) ((holds.reads).settings)
+      packets ends (bytes ++ text) (items ++ (now ++ [])) here in
       let joined : (items ++ (now ++ [])) ++ (rest ++ others) ≡ items ++ (shown ++ others) =
       ap (λ (l : List Item). (items ++ l) ++ (rest ++ others)) (append-nil now) ∙ append_assoc items now (rest ++ others)
       ∙ ap (λ (l : List Item). items ++ l) (sym (append_assoc now rest others) ∙ ap (λ (l : List Item). l ++ others) (sym is)) in
-      subst (λ (l : List ℕ). Came image d2 l (items ++ (shown ++ others))) (append_assoc bytes (byte ∷ []) (first ++ last ∷ []))
-      (subst (Came image d2 ((bytes ++ byte ∷ []) ++ (first ++ last ∷ []))) joined all)
+      subst (λ (l : List ℕ). Came image d2 l (items ++ (shown ++ others))) (append_assoc bytes text behind ∙ ap (λ (l : List ℕ). bytes ++ l) (sym parts))
+      (subst (Came image d2 ((bytes ++ text) ++ behind)) joined all)
 
 -- ---- packets at the front of some bytes are taken, and what is left to do is done
 
 module _ {F : Type 0} (took : F → List (ℕ × Item) → Type 0) (Takes : F → List Stretch → F → Type 0) (image : Image) (id : ℕ) (d n d2 : Decoding)
     (bytes behind : List ℕ) (old mid new : F) (runs : RunsFront Takes image d old bytes behind n mid) where
   abbrev text : List ℕ
-  text = runs.first ++ runs.last ∷ []
+  text = bytes_in runs.first ++ runs.last
 
   abbrev shown : List Item
   shown = items_in (d.walk).ctx runs.added
 
   parts : bytes ≡ text ++ behind
-  parts = runs.parts ∙ sym (append_assoc runs.first (runs.last ∷ []) behind)
+  parts = runs.parts ∙ sym (append_assoc (bytes_in runs.first) runs.last behind)
 
-  long : length text ≡ length runs.first + 1
-  long = length-append runs.first (runs.last ∷ [])
+  long : length text ≡ length (bytes_in runs.first) + length runs.last
+  long = length-append (bytes_in runs.first) runs.last
 
   pub runs_front : Small bytes → AreSettings ((d.reader).settings)
       → ((added : List Stretch) → Takes old added mid → TakesMore took old mid (items_under id (items_in (d.walk).ctx added)))
@@ -87,7 +88,7 @@ module _ {F : Type 0} (took : F → List (ℕ × Item) → Type 0) (Takes : F �
       record {
         text = text;
         parts = parts;
-        some = omega (arith, long);
+        some = omega (arith, long, runs.some);
         follows = record {
           more = shown ++ f.0;
           came = packets_come image d n d2 runs.first runs.last shown f.0 (small_front bytes text behind parts fits) are runs.packets f.1;

@@ -24,6 +24,11 @@ pub mod LettingGo
 pub mod Rotating
 pub mod HoldingRuns
 pub mod PacketRuns
+pub mod AheadRuns
+pub mod AheadGives
+pub mod AheadPackets
+pub mod AheadMoves
+pub mod AheadExamples
 pub mod AtomBytes
 pub mod AtomPacketExamples
 pub mod AtomSteps

@@ -29,7 +29,7 @@ use Rattle.stream_decoder.proofs.LettingGo.{items_joined}
 use Rattle.stream_decoder.proofs.Rotating.{length_bits}
 use Rattle.stream_decoder.proofs.Taking.{holds_taken, leaves_taken}
 use Rattle.stream_decoder.proofs.Yielding.{goes_by_leaving, goes_nowhere, goes_on}
-use Rattle.stream_decoder.specs.AtomPackets.{BeginWithAtoms, ReadsAtoms, ReadsUntil, RunsFront, RunsPacket, RunsPackets, StepsByAtoms, TakesSome}
+use Rattle.stream_decoder.specs.AtomPackets.{BeginWithAtoms, ReadsAtoms, ReadsUntil, RunsFront, RunsPacket, RunsPackets, StepsByAtoms, TakesSome, bytes_in}
 use Rattle.stream_decoder.specs.Decoding.{AtRest, Decoding, IsDecoding, decoding_of}
 use Rattle.stream_decoder.specs.Left.{Left}
 use Rattle.stream_decoder.specs.Waiting.{Waiting}
@@ -114,11 +114,20 @@ module _ (image : Image) (r : Standing) (t : Told) (f : Option (ℕ × Fault)) (
 
 -- ---- a packet of atoms
 
+-- bytes as packets of one byte each
+abbrev alone : List ℕ → List (List ℕ)
+alone [] = []
+alone (byte ∷ bytes) = (byte ∷ []) ∷ alone bytes
+
+bytes_alone : (bytes : List ℕ) → bytes_in (alone bytes) ≡ bytes
+bytes_alone [] = refl
+bytes_alone (byte ∷ bytes) = ap (λ (l : List ℕ). byte ∷ l) (bytes_alone bytes)
+
 are_atoms : (told : List Bool) → All IsElem (atoms told)
 are_atoms [] = All-nil IsElem
 are_atoms (taken ∷ told) = All-cons IsElem (elem.P0 (Atom taken)) (atoms told) tt (are_atoms told)
 
-are_elements : (r r' : Standing) (text : List ℕ) (at : ℕ) (run : AtomRun) → TakesPacket r r' text at (Atoms run) → AreElems (atoms (atoms_in run))
+pub are_elements : (r r' : Standing) (text : List ℕ) (at : ℕ) (run : AtomRun) → TakesPacket r r' text at (Atoms run) → AreElems (atoms (atoms_in run))
 are_elements r r' text at run takes =
     record {
       most = let few = in_range r.settings (Atoms run) takes.values in
@@ -131,13 +140,13 @@ pub record AtomsCount (t : Told) : Type 0 where
   pub informed : t.informed ≡ true
   pub awaiting : t.awaiting ≡ None
 
-placed : (t : Told) (run : AtomRun) → AtomsCount t → is_misplaced t (Atoms run) ≡ false
+pub placed : (t : Told) (run : AtomRun) → AtomsCount t → is_misplaced t (Atoms run) ≡ false
 placed t run counts = rw counts.informed (rw counts.awaiting refl)
 
 pub elements_are : (t : Told) (run : AtomRun) → AtomsCount t → elements_of t (Atoms run) ≡ atoms (atoms_in run)
 elements_are t run counts = ap (λ (b : Bool). if b then atoms (atoms_in run) else []) counts.informed
 
-told_as_before : (t : Told) (run : AtomRun) (b : Bool) → (if b then t else t) ≡ t
+pub told_as_before : (t : Told) (run : AtomRun) (b : Bool) → (if b then t else t) ≡ t
 told_as_before t run true = refl
 told_as_before t run false = refl
 
@@ -146,7 +155,7 @@ module _ (image : Image) (t : Told) (counts : AtomsCount t) (f : Option (ℕ × 
   packet_runs : (r r' : Standing) (l : Left) (w w' : Waiting) (s s' : State) (byte at : ℕ) (run : AtomRun) (xs ys : List Bool) (added : List Stretch)
       → Stays r t f l w s → l.elements ≡ [] → byte < 256 → TakesPacket r r' (byte ∷ []) at (Atoms run) → atoms_in run ≡ xs ++ ys
       → StepsByAtoms image w s xs added w' s'
-      → RunsPacket image (decoding_of r t l w s f) byte (items_in s.ctx added) (decoding_of r' t (record { at = at; elements = atoms ys }) w' s' f)
+      → RunsPacket image (decoding_of r t l w s f) (byte ∷ []) (items_in s.ctx added) (decoding_of r' t (record { at = at; elements = atoms ys }) w' s' f)
       × Stays r' t f (record { at = at; elements = atoms ys }) w' s' × (s'.ctx ≡ s.ctx)
   packet_runs r r' l w w' s s' byte at run xs ys added is rest small takes parts steps =
       let text = byte ∷ [] in
@@ -180,7 +189,7 @@ module _ (image : Image) (t : Told) (counts : AtomsCount t) (f : Option (ℕ × 
       (run : AtomRun) (added : List Stretch)
       → Stays r t f l w s → l.elements ≡ [] → Small (first ++ last ∷ []) → ReadsAtoms r first told before
       → TakesPacket before r' (last ∷ []) at (Atoms run) → atoms_in run ≡ xs ++ ys → StepsByAtoms image w s (told ++ xs) added w' s'
-      → RunsPackets image (decoding_of r t l w s f) first last (items_in s.ctx added)
+      → RunsPackets image (decoding_of r t l w s f) (alone first) (last ∷ []) (items_in s.ctx added)
       (decoding_of r' t (record { at = at; elements = atoms ys }) w' s' f)
       × Stays r' t f (record { at = at; elements = atoms ys }) w' s' × (s'.ctx ≡ s.ctx) × (r'.settings ≡ r.settings)
       × (r'.taken ≡ r.taken + length first + 1)
@@ -204,8 +213,8 @@ module _ (image : Image) (t : Told) (counts : AtomsCount t) (f : Option (ℕ × 
       (All-tail (λ (b : ℕ). b < 256) byte (first ++ last ∷ []) small) reads takes parts more in
       let final = decoding_of r' t (record { at = at; elements = atoms ys }) w' s' f in
       let next = decoding_of r1 t l1 mid between f in
-      let runs' : RunsPackets image next first last (items_in s.ctx others) final =
-      subst (λ (ctx : Ctx). RunsPackets image next first last (items_in ctx others) final) context1 runs in (
+      let runs' : RunsPackets image next (alone first) (last ∷ []) (items_in s.ctx others) final =
+      subst (λ (ctx : Ctx). RunsPackets image next (alone first) (last ∷ []) (items_in ctx others) final) context1 runs in (
         (
           next,
           items_in s.ctx some,
@@ -249,17 +258,19 @@ front_runs Takes image r r' t l w w' s s' f bytes behind told n at within run ol
     packets_run image t counts f whole r reached.before r' l w w' s s' first last at reached.told xs ys run some.added
     (record { inside = is; due = rest.due }) rest.todo (small_front bytes text behind parts small) reached.reads reached.takes
     (sym (take-append-drop within (atoms_in run))) steps in
-    let left_is = ap (λ (x : List Elem). record { at = at; elements = x }) (atoms_behind within (atoms_in run)) in
+    let left : List Elem → Left = λ es. record { at = at; elements = es } in
+    let left_is : left (atoms ys) ≡ left (drop within (atoms (atoms_in run))) = ap left (atoms_behind within (atoms_in run)) in
     let here = decoding_of r t l w s f in (
       subst (λ (x : Left). RunsFront Takes image here old bytes behind (decoding_of r' t x w' s' f) new) left_is (record {
-        first = first;
-        last = last;
-        parts = reached.parts;
+        first = alone first;
+        last = last ∷ [];
+        parts = reached.parts ∙ ap (λ (l : List ℕ). l ++ (last ∷ behind)) (sym (bytes_alone first));
+        some = omega arith;
         added = some.added;
         takes = some.takes;
         packets = runs;
         settings = settings;
-        taken = taken;
+        taken = omega (arith, taken, ap length (bytes_alone first));
       }),
       subst (λ (x : Left). (w'.depth ≡ (r'.settings).depth) × IsDecoding (decoding_of r' t x w' s' f)) left_is stays.inside,
     )

@@ -82,28 +82,33 @@ pub record TakesSome {V : Type 0} (Takes : V → List Stretch → V → Type 0) 
 
 -- ---- packets that are taken
 
--- the packet of one byte is begun, and some of what it leaves to do is done
-pub record RunsPacket (image : Image) (d : Decoding) (byte : ℕ) (items : List Item) (d' : Decoding) : Type 0 where
+-- a packet of these bytes is begun, and some of what it leaves to do is done
+pub record RunsPacket (image : Image) (d : Decoding) (text : List ℕ) (items : List Item) (d' : Decoding) : Type 0 where
   pub begun : Decoding
-  pub begins : BegunPacket d (byte ∷ []) begun
+  pub begins : BegunPacket d text begun
   pub whole : begun.fault ≡ None
   pub goes : Goes image begun items d'
 
--- packets of one byte are, one after the other: all that each but the last leaves to do is done
-abbrev pub RunsPackets : Image → Decoding → List ℕ → ℕ → List Item → Decoding → Type 0
+-- packets of these bytes are, one after the other: all that each but the last leaves to do is done
+abbrev pub RunsPackets : Image → Decoding → List (List ℕ) → List ℕ → List Item → Decoding → Type 0
 RunsPackets image d [] last items d' = RunsPacket image d last items d'
-RunsPackets image d (byte ∷ bytes) last items d' =
-    (next : Decoding) × (first : List Item) × (rest : List Item) × RunsPacket image d byte first next × AtRest next × IsDecoding next
-    × RunsPackets image next bytes last rest d' × (items ≡ first ++ rest)
+RunsPackets image d (text ∷ texts) last items d' =
+    (next : Decoding) × (first : List Item) × (rest : List Item) × RunsPacket image d text first next × AtRest next × IsDecoding next
+    × RunsPackets image next texts last rest d' × (items ≡ first ++ rest)
+
+abbrev pub bytes_in : List (List ℕ) → List ℕ
+bytes_in [] = []
+bytes_in (text ∷ texts) = text ++ bytes_in texts
 
 -- those at the front of some bytes are, and the stretches that this shows were taken
 pub record RunsFront {V : Type 0} (Takes : V → List Stretch → V → Type 0) (image : Image) (d : Decoding) (old : V) (bytes behind : List ℕ) (d' : Decoding)
     (new : V) : Type 0 where
-  pub first : List ℕ
-  pub last : ℕ
-  pub parts : bytes ≡ first ++ last ∷ behind
+  pub first : List (List ℕ)
+  pub last : List ℕ
+  pub parts : bytes ≡ bytes_in first ++ (last ++ behind)
+  pub some : 0 < length last
   pub added : List Stretch
   pub takes : Takes old added new
   pub packets : RunsPackets image d first last (items_in (d.walk).ctx added) d'
   pub settings : (d'.reader).settings ≡ (d.reader).settings
-  pub taken : (d'.reader).taken ≡ (d.reader).taken + length first + 1
+  pub taken : (d'.reader).taken ≡ (d.reader).taken + length (bytes_in first) + length last

@@ -1,3 +1,4 @@
+pub mod Ahead
 pub mod AtomPackets
 pub mod Decoding
 pub mod Follows

@@ -25,14 +25,15 @@ ghost use Rattle.stream_decoder.specs.Stands.{end_at};
 ghost use Rattle.stream_decoder.specs.Yields.{BegunByte, BegunFront, Ends, Goes, Leaves, OpensPacket, Refuses, Stops, WalksNext, WalksOn};
 ghost use Rattle.stream_decoder.specs.Yields.{items_of_found, items_found, left};
 
+use crate::ahead::{Foretelling, foretell, no_further};
 use crate::found::Found;
 use crate::front::{Reached, atoms_at, read_until, take_some};
-use crate::oldest::{drop_due, take_atoms, walk_oldest};
+use crate::oldest::{drop_due, take_atoms, walk_oldest, walk_plain};
 use crate::todo::Todo;
 use crate::waiting::Waiting;
 use element_queue::{Counts, Ledger};
 use etm_types::{AtomRun, Ctx, Id, QueueFault, Settings, Thing};
-use packet_grammar::headers::ATOMS;
+use packet_grammar::headers::{ATOMS, CANCEL_FORMAT_1, COMMIT};
 use packet_grammar::{End, Fault, Packet};
 use packet_reader::{Address, PacketReader, Step};
 use path_elements::{Awaited, ElemMaker};
@@ -125,11 +126,85 @@ impl Decoding {
         Some(later)
     }
 
+    /// Takes several packets at the front of the bytes that come next at once, and walks what they commit: packets of atoms as one run, or from a
+    /// commit or cancel on as [`run_ahead`](Decoding::run_ahead) does. It gives the bytes behind the last packet. What that one leaves is left to
+    /// do. Where nothing can be taken so, nothing changes.
+    #[inline(always)]
+    pub fn run_packets<'a, T: StretchTaker>(
+        &mut self,
+        image: &Image,
+        id: Id,
+        bytes: &'a [u8],
+        taker: &mut T,
+    ) -> Option<&'a [u8]>
+        requires few { self.old.reader.taken + length bytes.now ≤ 2 ^ 62 }
+        requires rest { AtRest self.old }
+        requires holds { IsDecoding self.old }
+        ensures runs { IfSome result (λ behind. RunsFront (T.adds image.now id self.old.walk.ctx) image.now self.old taker.old bytes.now behind.now
+            self.new taker.new) }
+        ensures none { result ≡ None → (self.new ≡ self.old) × T.adds image.now id self.old.walk.ctx taker.old [] taker.new }
+        ensures stopped { self.old.fault ≢ None → (result ≡ None) × (taker.new ≡ taker.old) }
+        ensures holds { IsDecoding self.new }
+    {
+        let header = *bytes.first()?;
+        if header >= ATOMS {
+            self.run_front(image, id, bytes, taker)
+        } else if header == COMMIT || header == CANCEL_FORMAT_1 {
+            self.run_ahead(image, id, bytes, taker)
+        } else {
+            None
+        }
+    }
+
+    /// Takes the packets of atoms, commits and cancels at the front of the bytes that come next, where all that is held is atoms before which nothing
+    /// was given: what they commit is walked as one run, and the packets are taken up to that in which the last of it stands. It gives the bytes
+    /// behind that packet; what it commits besides is due. Where no atom can be walked so, nothing changes.
+    #[inline(always)]
+    fn run_ahead<'a, T: StretchTaker>(
+        &mut self,
+        image: &Image,
+        id: Id,
+        bytes: &'a [u8],
+        taker: &mut T,
+    ) -> Option<&'a [u8]>
+        requires few { self.old.reader.taken + length bytes.now ≤ 2 ^ 62 }
+        requires rest { AtRest self.old }
+        requires holds { IsDecoding self.old }
+        ensures runs { IfSome result (λ behind. RunsFront (T.adds image.now id self.old.walk.ctx) image.now self.old taker.old bytes.now behind.now
+            self.new taker.new) }
+        ensures none { result ≡ None → (self.new ≡ self.old) × T.adds image.now id self.old.walk.ctx taker.old [] taker.new }
+        ensures stopped { self.old.fault ≢ None → (result ≡ None) × (taker.new ≡ taker.old) }
+        ensures holds { IsDecoding self.new }
+    {
+        if self.fault.is_some() || !self.reader.is_between() || !self.maker.is_ready() {
+            return None;
+        }
+        let outlook = self.waiting.outlook()?;
+        let ahead = foretell(outlook.again(), bytes, taker.room() as u32);
+        let atoms = ahead.outlook.oldest();
+        if atoms.count == 0 {
+            return None;
+        }
+        let n = walk_plain(&mut self.walker, image, id, atoms, taker) as u32;
+        if n == 0 {
+            return None;
+        }
+        let Foretelling {
+            outlook,
+            last,
+            behind,
+        } = no_further(ahead, outlook, bytes, n);
+        let length = (bytes.len() - behind.len()) as u64;
+        self.todo.move_to(self.reader.skip(length, last as u64));
+        self.waiting.settle(&outlook, n);
+        Some(behind)
+    }
+
     /// Takes the packets of atoms at the front of the bytes that come next, as one run: up to the packet in which the last of the atoms stands
     /// that can be taken at once. It gives the bytes behind that packet; the atoms of it that are left are left to do. Where no atom can be
     /// taken so, nothing changes.
     #[inline(always)]
-    pub fn run_front<'a, T: StretchTaker>(
+    fn run_front<'a, T: StretchTaker>(
         &mut self,
         image: &Image,
         id: Id,

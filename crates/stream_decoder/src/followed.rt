@@ -170,8 +170,8 @@ fn follow_bytes<F: Follower>(
     }
 }
 
-/// Takes what stands at the front of the bytes that come next, and gives a follower what it shows: packets of atoms as one run, where some of
-/// their atoms can be taken at once; else a packet, or a byte. It gives the bytes behind it. Nothing means that there is no byte.
+/// Takes what stands at the front of the bytes that come next, and gives a follower what it shows: several packets at once, where that can be;
+/// else a packet, or a byte. It gives the bytes behind it. Nothing means that there is no byte.
 #[inline(always)]
 fn follow_front<'a, F: Follower>(
     decoding: &mut Decoding,
@@ -191,7 +191,7 @@ fn follow_front<'a, F: Follower>(
     ensures rest { AtRest decoding.new }
     ensures holds { IsDecoding decoding.new }
 {
-    let behind = match decoding.run_front(image, id, bytes, follower) {
+    let behind = match decoding.run_packets(image, id, bytes, follower) {
         Some(behind) => behind,
         None => decoding.begin_front(bytes)?,
     };

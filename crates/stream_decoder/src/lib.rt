@@ -13,6 +13,7 @@
 //! items themselves to a [`Follower`], whatever that makes of them.
 #![tactic(auto)]
 
+mod ahead;
 mod decoder;
 mod decoding;
 mod ending;

@@ -50,6 +50,15 @@ impl Todo {
         Todo { at, elems, next: 0 }
     }
 
+    /// All of the packet at another offset were taken, where none is left to be taken.
+    #[inline(always)]
+    pub fn move_to(&mut self, at: u64)
+        requires { self.old.elements ≡ [] }
+        ensures { self.new ≡ nothing_left at }
+    {
+        self.at = at;
+    }
+
     /// The offset of the packet.
     pub fn at(&self) -> u64
         ensures { result ≡ self.now.at }

@@ -1,6 +1,6 @@
 //! The P0 elements that wait: those that may still be taken back, and those that an element committed and that
 //! are still to be walked.
-ghost use Rattle.std.specs.Prelude.{◌≡◌, ◌<◌, ◌≤◌, ◌∷◌, ◌++◌, ◌↔◌, [], List, length, map, slice_get, take, option_to_list, false};
+ghost use Rattle.std.specs.Prelude.{◌≡◌, ◌+◌, ◌<◌, ◌≤◌, Bool, ◌∷◌, ◌++◌, ◌↔◌, [], List, length, map, slice_get, take, option_to_list, false};
 ghost use Rattle.std.specs.Prelude.{IsTrue, IfOk, IfSome, IsSome, IsErr, None, Some, Err};
 ghost use Rattle.element_queue.specs.Counting.{Balances, counts_after, no_counts};
 ghost use Rattle.element_queue.specs.Pending.{committing, losing, taken};
@@ -16,10 +16,11 @@ ghost use Rattle.etm_types.specs.declared.element.Thing.{Thing};
 ghost use Rattle.etm_types.specs.declared.queue_fault.QueueFault.{QueueFault};
 ghost use Rattle.path_elements.specs.Elements.{atoms};
 ghost use Rattle.path_elements.specs.Held.{elem_of_correction};
+ghost use Rattle.stream_decoder.specs.Ahead.{settled_waiting};
 ghost use Rattle.stream_decoder.specs.Waiting.{Commits, DropsDue, HoldsAtoms, IsWaiting, TakesAtoms, all_of, committed_by, passed};
 ghost use Rattle.etm_types.specs.Pre.{nothing_told};
 
-use element_queue::{AtomEntry, Committed, Counts, Ledger, PreElem, Queue};
+use element_queue::{AtomEntry, Committed, Counts, Ledger, Outlook, PreElem, Queue};
 use etm_types::{AtomRun, Elem, P0, QueueFault, Thing};
 use path_elements::Correction;
 use std::alloc::{AllocError, Global};
@@ -119,6 +120,45 @@ impl Waiting {
             count: usize::from(count).min(most) as u8,
             bits,
         }
+    }
+
+    /// What waits, as an outlook on which elements are tried, where nothing is due, and it is kept as atoms before which nothing was given, and
+    /// nothing was given since.
+    #[inline(always)]
+    pub fn outlook(&self) -> Option<Outlook>
+        ensures due { IsSome result → self.now.due ≡ [] }
+        ensures held { IfSome result (λ o. map plain_atom o.held ≡ self.now.pending.held) }
+        ensures new { IfSome result (λ o. o ≡ record {
+          gone = [];
+          held = o.held;
+          before = length self.now.pending.held;
+          made = 0;
+          cancelled = 0;
+          depth = self.now.depth;
+        }) }
+        ensures given { IsSome result → self.now.pending.pre ≡ nothing_told }
+    {
+        if self.due > 0 {
+            return None;
+        }
+        self.queue.outlook()
+    }
+
+    /// What was tried on an outlook is done, and so many of the oldest that it commits are given out; the others of them are due.
+    #[inline(always)]
+    pub fn settle(&mut self, outlook: &Outlook, n: u32)
+        requires due { self.old.due ≡ [] }
+        requires plain { (atoms : List Bool) × (map plain_atom atoms ≡ self.old.pending.held) }
+        requires before { outlook.now.before ≡ length self.old.pending.held }
+        requires given { self.old.pending.pre ≡ nothing_told }
+        requires short { n ≤ most_atoms }
+        requires within { n ≤ length outlook.now.gone }
+        requires few { length outlook.now.gone + length outlook.now.held ≤ n + self.old.depth }
+        ensures value { self.new ≡ settled_waiting outlook.now n self.old }
+        ensures holds { IsWaiting self.new }
+    {
+        self.queue.settle(outlook, n);
+        self.due = outlook.committed() - n;
     }
 
     /// Takes the atoms of a run one after the other, and lets go what each commits, where no more may be held, nothing was given before them

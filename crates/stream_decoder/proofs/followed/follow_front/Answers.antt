@@ -13,18 +13,18 @@ returns-in_err-behind-in-None-clause-none g c is =
     let before = c.in-None.ensures.none refl in let none = c.in_err-behind-in-None.ensures.none refl in (
       none.0,
       none.1 ∙ before.0,
-      g.met.F.Follower.shows c.args.image.now c.args.id c.args.decoding.now.walk.ctx c.args.follower.now c.run_front.new.taker [] before.1,
+      g.met.F.Follower.shows c.args.image.now c.args.id c.args.decoding.now.walk.ctx c.args.follower.now c.run_packets.new.taker [] before.1,
     )
 
 pub returns-clause-follows : goal.returns-clause-follows
 returns-clause-follows g c =
     let image = c.args.image.now in let took = g.F.Follower.took image in let id = c.args.id in let d = c.args.decoding.now in let bytes = c.args.bytes.now in
-    let old = c.args.follower.now in let mid = c.run_front.new.taker in let new = c.follow_rest.new.follower in let d2 = c.follow_rest.new.decoding in
+    let old = c.args.follower.now in let mid = c.run_packets.new.taker in let new = c.follow_rest.new.follower in let d2 = c.follow_rest.new.decoding in
     let fits = small_bytes bytes (λ k. omega (arith, c.type_inv.bytes k)) in let are = c.requires.holds.reads.settings in
     let shows = g.met.F.Follower.shows image id d.walk.ctx old mid in let f = c.follow_rest.ensures in
-    elim c.match-run_front.branch [
+    elim c.match-run_packets.branch [
       | in-Some w ↦
-          let adds = g.F.StretchTaker.adds image id d.walk.ctx in let m = c.run_front.new.self in let behind = w.in-Some.behind.now in
+          let adds = g.F.StretchTaker.adds image id d.walk.ctx in let m = c.run_packets.new.self in let behind = w.in-Some.behind.now in
           rw w.behind-is (runs_front took adds image id d m d2 bytes behind old mid new w.in-Some.ensures.runs fits are shows
           (rw w.decoding-is at f.reader) (rw w.decoding-is at f.follows))
       | in-None+in_ok-behind-in-None w ↦
@@ -37,7 +37,7 @@ returns-clause-follows g c =
 pub returns-clause-stopped : goal.returns-clause-stopped
 returns-clause-stopped g c met =
     let d = c.args.decoding.now in let bytes = c.args.bytes.now in
-    elim c.match-run_front.branch [
+    elim c.match-run_packets.branch [
       | in-Some w ↦ absurd (let e = (w.in-Some.ensures.stopped met).0 in cc)
       | in-None+in_ok-behind-in-None w ↦
           let n = w.begin_front.new.self in let behind = w.in_ok-behind-in-None.behind.now in
