@@ -86,6 +86,22 @@ pub fn address_at<'a>(settings: &Settings, bytes: &'a [u8]) -> Option<(Address, 
     }
 }
 
+/// The address packet without a context at the front of some bytes, where it has the form of an exact match or is short, and what follows it.
+/// Most addresses are such.
+#[inline(always)]
+pub fn near_address_at(bytes: &[u8]) -> Option<(AddrForm, &[u8])>
+    ensures front { (s : Sizes) → IfSome result (λ r. IsFront (Spells s) bytes.now (Packet.Addr r.0 None) r.1.now) }
+{
+    let (header, rest) = bytes.split_first()?;
+    if *header == SHORT_ADDRESS {
+        return short_at(rest);
+    }
+    if *header < EXACT_MATCH || *header > LAST_EXACT_MATCH {
+        return None;
+    }
+    Some((AddrForm::Match(*header - EXACT_MATCH), rest))
+}
+
 /// The commit packet at the front of some bytes whose number has one byte, and what follows it.
 #[inline(always)]
 pub fn commit_at(bytes: &[u8]) -> Option<(u32, &[u8])>

@@ -22,7 +22,7 @@ mod step;
 mod sync;
 
 pub use correction::CorrectionPacket;
-pub use front::Address;
+pub use front::{Address, near_address_at};
 pub use laws::{each_byte_has_its_answer, each_spelling_is_told, the_answers_are_the_parse};
 pub use reader::PacketReader;
 pub use step::Step;

@@ -1,5 +1,5 @@
 //! From packets to elements, one packet after the other.
-ghost use Rattle.std.specs.Prelude.{◌≡◌, ◌≤◌, ◌<◌, ◌∷◌, ◌++◌, ◌↔◌, [], false, true, Some, None, IfOk, IfSome, IsSome, IsTrue, OnErr, if◌then◌else◌};
+ghost use Rattle.std.specs.Prelude.{◌≡◌, ◌≤◌, ◌<◌, ◌%◌, ◌∷◌, ◌++◌, ◌↔◌, [], false, true, Some, None, IfOk, IfSome, IsSome, IsTrue, OnErr, if◌then◌else◌};
 ghost use Rattle.path_elements.specs.Elements.{untold, elements_of, told_after, is_misplaced, may_follow_exception, tells, with_address};
 ghost use Rattle.path_elements.specs.Held.{AreElems, CanBeTaken, CanStand, IsCorrection, IsTold, elem_of, numbered};
 ghost use Rattle.etm_types.specs.Atoms.{most_atoms};
@@ -98,6 +98,27 @@ impl ElemMaker {
         } else {
             None
         }
+    }
+
+    /// The address that an address packet of this form gives. Taking it changes which form gives which address; this changes nothing.
+    #[inline(always)]
+    pub fn address_of(&self, form: &AddrForm) -> u64
+        requires { HasEntry form.now }
+        ensures value { result ≡ address_told self.now.history form.now }
+        ensures aligned { result % 4 ≡ 0 }
+    {
+        self.history.apply(form)
+    }
+
+    /// Takes the address packet without a context that gives this address by its form, where it counts and may come.
+    #[inline(always)]
+    pub fn tell_address(&mut self, form: &AddrForm, address: u64)
+        requires form { HasEntry form.now }
+        requires address { address ≡ address_told self.old.history form.now }
+        requires ready { (self.old.informed ≡ true) × (self.old.awaiting ≡ None) }
+        ensures { self.new ≡ told_after self.old (packet.Addr form.now None) }
+    {
+        self.history.push(address);
     }
 
     /// Whether packets of atoms, commits and cancels count, and may come: taking one changes nothing.

@@ -23,7 +23,9 @@ pub mod Runs
 pub mod LettingGo
 pub mod Rotating
 pub mod HoldingRuns
+pub mod SkippedAtoms
 pub mod PacketRuns
+pub mod AddressRuns
 pub mod AheadRuns
 pub mod AheadGives
 pub mod AheadPackets

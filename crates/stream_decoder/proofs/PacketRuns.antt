@@ -1,6 +1,6 @@
 -- Atoms of several packets that are taken one after the other, packet by packet.
 use Rattle.std.proofs.Common.{◌≡◌, ℕ, zero, suc, ◌+◌, ◌<◌, Bool, true, false, List, [], ◌∷◌, ◌++◌, All, length, take, drop, Option, None}
-use Rattle.std.proofs.Common.{refl, sym, ap, subst, ◌∙◌, arith, inr, append-nil, append_assoc}
+use Rattle.std.proofs.Common.{refl, sym, ap, subst, ◌∙◌, arith, inr, append-nil, append_assoc, length-append}
 use Rattle.std.proofs.lemmas.List.{length-map, map-append, take-append-drop}
 use Rattle.std.proofs.lemmas.List.Elements.{All-cons, All-head, All-nil, All-tail}
 use Rattle.std.specs.Prelude.{if◌then◌else◌}
@@ -29,7 +29,7 @@ use Rattle.stream_decoder.proofs.LettingGo.{items_joined}
 use Rattle.stream_decoder.proofs.Rotating.{length_bits}
 use Rattle.stream_decoder.proofs.Taking.{holds_taken, leaves_taken}
 use Rattle.stream_decoder.proofs.Yielding.{goes_by_leaving, goes_nowhere, goes_on}
-use Rattle.stream_decoder.specs.AtomPackets.{BeginWithAtoms, ReadsAtoms, ReadsUntil, RunsFront, RunsPacket, RunsPackets, StepsByAtoms, TakesSome, bytes_in}
+use Rattle.stream_decoder.specs.AtomPackets.{BeginWithAtoms, ReachesAtom, ReadsAtoms, RunsFront, RunsPacket, RunsPackets, StepsByAtoms, TakesSome, bytes_in}
 use Rattle.stream_decoder.specs.Decoding.{AtRest, Decoding, IsDecoding, decoding_of}
 use Rattle.stream_decoder.specs.Left.{Left}
 use Rattle.stream_decoder.specs.Waiting.{Waiting}
@@ -240,14 +240,13 @@ atoms_behind (suc n) (taken ∷ told) = atoms_behind n told
 
 -- The first of the atoms at the front were taken, and the reader took the packets in which they stand: what is left of the last packet is left
 -- to do.
-pub front_runs : {V : Type 0} (Takes : V → List Stretch → V → Type 0) (image : Image) (r r' : Standing) (t : Told) (l : Left) (w w' : Waiting) (s s' : State)
-    (f : Option (ℕ × Fault)) (bytes behind : List ℕ) (told : List Bool) (n at within : ℕ) (run : AtomRun) (old new : V)
+pub front_runs : {V : Type 0} (Takes : V → List Stretch → V → Type 0) (image : Image) (r r' : Standing) (t : Told) (l l' : Left) (w w' : Waiting) (s s' : State)
+    (f : Option (ℕ × Fault)) (bytes behind : List ℕ) (told : List Bool) (n : ℕ) (old new : V)
     → (w.depth ≡ (r.settings).depth) × IsDecoding (decoding_of r t l w s f) → AtRest (decoding_of r t l w s f) → f ≡ None → AtomsCount t → Small bytes
-    → BeginWithAtoms bytes told → TakesSome Takes image w s told old n w' s' new → ReadsUntil r bytes n at run within behind r'
-    → RunsFront Takes image (decoding_of r t l w s f) old bytes behind
-    (decoding_of r' t (record { at = at; elements = drop within (atoms (atoms_in run)) }) w' s' f) new
-    × ((w'.depth ≡ (r'.settings).depth) × IsDecoding (decoding_of r' t (record { at = at; elements = drop within (atoms (atoms_in run)) }) w' s' f))
-front_runs Takes image r r' t l w w' s s' f bytes behind told n at within run old new is rest whole counts small begins some reached =
+    → BeginWithAtoms bytes told → TakesSome Takes image w s told old n w' s' new → ReachesAtom r bytes n l' behind r'
+    → RunsFront Takes image (decoding_of r t l w s f) old bytes behind (decoding_of r' t l' w' s' f) new
+    × ((w'.depth ≡ (r'.settings).depth) × IsDecoding (decoding_of r' t l' w' s' f))
+front_runs Takes image r r' t l l' w w' s s' f bytes behind told n old new is rest whole counts small begins some (run, within, reached, remain) =
     let first = reached.first in let last = reached.last in
     let xs = take within (atoms_in run) in let ys = drop within (atoms_in run) in
     let steps : StepsByAtoms image w s (reached.told ++ xs) some.added w' s' =
@@ -255,11 +254,11 @@ front_runs Takes image r r' t l w w' s s' f bytes behind told n at within run ol
     let text = first ++ last ∷ [] in
     let parts : bytes ≡ text ++ behind = reached.parts ∙ sym (append_assoc first (last ∷ []) behind) in
     let (runs, stays, context, settings, taken) =
-    packets_run image t counts f whole r reached.before r' l w w' s s' first last at reached.told xs ys run some.added
+    packets_run image t counts f whole r reached.before r' l w w' s s' first last l'.at reached.told xs ys run some.added
     (record { inside = is; due = rest.due }) rest.todo (small_front bytes text behind parts small) reached.reads reached.takes
     (sym (take-append-drop within (atoms_in run))) steps in
-    let left : List Elem → Left = λ es. record { at = at; elements = es } in
-    let left_is : left (atoms ys) ≡ left (drop within (atoms (atoms_in run))) = ap left (atoms_behind within (atoms_in run)) in
+    let left : List Elem → Left = λ es. record { at = l'.at; elements = es } in
+    let left_is : left (atoms ys) ≡ l' = ap left (atoms_behind within (atoms_in run) ∙ sym remain) in
     let here = decoding_of r t l w s f in (
       subst (λ (x : Left). RunsFront Takes image here old bytes behind (decoding_of r' t x w' s' f) new) left_is (record {
         first = alone first;
@@ -274,3 +273,30 @@ front_runs Takes image r r' t l w w' s s' f bytes behind told n at within run ol
       }),
       subst (λ (x : Left). (w'.depth ≡ (r'.settings).depth) × IsDecoding (decoding_of r' t x w' s' f)) left_is stays.inside,
     )
+
+-- a packet that shows nothing stands before those
+pub runs_behind : {V : Type 0} (Takes : V → List Stretch → V → Type 0) (image : Image) (d m d' : Decoding) (text bytes rest behind : List ℕ) (old new : V)
+    → RunsPacket image d text [] m → AtRest m → IsDecoding m → (m.walk).ctx ≡ (d.walk).ctx → (m.reader).settings ≡ (d.reader).settings
+    → (m.reader).taken ≡ (d.reader).taken + length text → bytes ≡ text ++ rest → RunsFront Takes image m old rest behind d' new
+    → RunsFront Takes image d old bytes behind d' new
+runs_behind Takes image d m d' text bytes rest behind old new packet done holds context settings taken parts runs =
+    record {
+      first = text ∷ runs.first;
+      last = runs.last;
+      parts = parts ∙ ap (λ (l : List ℕ). text ++ l) runs.parts ∙ sym (append_assoc text (bytes_in runs.first) (runs.last ++ behind));
+      some = runs.some;
+      added = runs.added;
+      takes = runs.takes;
+      packets = (
+        m,
+        [],
+        items_in (d.walk).ctx runs.added,
+        packet,
+        done,
+        holds,
+        subst (λ (ctx : Ctx). RunsPackets image m runs.first runs.last (items_in ctx runs.added) d') context runs.packets,
+        refl,
+      );
+      settings = runs.settings ∙ settings;
+      taken = omega (arith, runs.taken, taken, length-append text (bytes_in runs.first));
+    }

@@ -1,6 +1,6 @@
 -- Packets of atoms that stand one behind the other (Arm IHI 0064, "Atom Format 1 packet" to "Atom Format 6 packet"), and what is taken of
 -- them at once.
-use Rattle.std.specs.Prelude.{◌≡◌, ℕ, ◌+◌, ◌<◌, ◌≤◌, Bool, List, [], ◌∷◌, ◌++◌, length, take, Option, None, Ok, option_to_list}
+use Rattle.std.specs.Prelude.{◌≡◌, ℕ, ◌+◌, ◌<◌, ◌≤◌, Bool, List, [], ◌∷◌, ◌++◌, length, take, drop, Option, None, Ok, option_to_list}
 use Rattle.atom_formats.specs.Formats.{Spells}
 use Rattle.etm_types.specs.Atoms.{atoms_in}
 use Rattle.etm_types.specs.declared.atoms.AtomRun.{AtomRun}
@@ -10,12 +10,14 @@ use Rattle.etm_types.specs.declared.element.Thing.{Thing}
 use Rattle.etm_types.specs.declared.item.Item.{Item}
 use Rattle.packet_grammar.specs.declared.packet.Packet.TheVariants.{Atoms}
 use Rattle.packet_reader.specs.Stands.{Standing, TakesPacket}
+use Rattle.path_elements.specs.Elements.{atoms}
 use Rattle.path_walker.specs.State.{State, IsState}
 use Rattle.path_walker.specs.Things.{Walks}
 use Rattle.path_walker.specs.Walk.{items_in}
 use Rattle.path_walker.specs.declared.stretch.Stretch.{Stretch}
 use Rattle.program_image.specs.declared.image.Image.{Image}
 use Rattle.stream_decoder.specs.Decoding.{AtRest, Decoding, IsDecoding}
+use Rattle.stream_decoder.specs.Left.{Left}
 use Rattle.stream_decoder.specs.Waiting.{Commits, IsWaiting, Waiting}
 use Rattle.stream_decoder.specs.Yields.{BegunPacket, Goes}
 
@@ -52,6 +54,11 @@ pub record ReadsUntil (r : Standing) (bytes : List ℕ) (n at : ℕ) (run : Atom
   pub most : within ≤ run.count
   pub count : length told + within ≡ n
   pub same : (all : List Bool) → BeginWithAtoms bytes all → n ≤ length all → take n all ≡ told ++ take within (atoms_in run)
+
+-- It does so, and the atoms of that packet that are behind the n are left to do.
+abbrev pub ReachesAtom : Standing → List ℕ → ℕ → Left → List ℕ → Standing → Type 0
+ReachesAtom r bytes n l behind r' =
+    (run : AtomRun) × (within : ℕ) × ReadsUntil r bytes n l.at run within behind r' × (l.elements ≡ drop within (atoms (atoms_in run)))
 
 -- ---- atoms that are taken
 

@@ -27,15 +27,15 @@ ghost use Rattle.stream_decoder.specs.Yields.{items_of_found, items_found, left}
 
 use crate::ahead::{Foretelling, foretell, no_further};
 use crate::found::Found;
-use crate::front::{Reached, atoms_at, read_until, take_some};
+use crate::front::{atoms_at, take_some, take_up_to};
 use crate::oldest::{drop_due, take_atoms, walk_oldest, walk_plain};
 use crate::todo::Todo;
 use crate::waiting::Waiting;
 use element_queue::{Counts, Ledger};
 use etm_types::{AtomRun, Ctx, Id, QueueFault, Settings, Thing};
-use packet_grammar::headers::{ATOMS, CANCEL_FORMAT_1, COMMIT};
+use packet_grammar::headers::{ATOMS, CANCEL_FORMAT_1, COMMIT, EXACT_MATCH, SHORT_ADDRESS};
 use packet_grammar::{End, Fault, Packet};
-use packet_reader::{Address, PacketReader, Step};
+use packet_reader::{Address, PacketReader, Step, near_address_at};
 use path_elements::{Awaited, ElemMaker};
 use path_walker::{StretchTaker, Walker};
 use program_image::Image;
@@ -126,9 +126,9 @@ impl Decoding {
         Some(later)
     }
 
-    /// Takes several packets at the front of the bytes that come next at once, and walks what they commit: packets of atoms as one run, or from a
-    /// commit or cancel on as [`run_ahead`](Decoding::run_ahead) does. It gives the bytes behind the last packet. What that one leaves is left to
-    /// do. Where nothing can be taken so, nothing changes.
+    /// Takes several packets at the front of the bytes that come next at once, and walks what they commit: packets of atoms as one run, with an
+    /// address before them or none, or from a commit or cancel on as [`run_ahead`](Decoding::run_ahead) does. It gives the bytes behind the last
+    /// packet. What that one leaves is left to do. Where nothing can be taken so, nothing changes.
     #[inline(always)]
     pub fn run_packets<'a, T: StretchTaker>(
         &mut self,
@@ -151,9 +151,60 @@ impl Decoding {
             self.run_front(image, id, bytes, taker)
         } else if header == COMMIT || header == CANCEL_FORMAT_1 {
             self.run_ahead(image, id, bytes, taker)
+        } else if header >= EXACT_MATCH && header <= SHORT_ADDRESS {
+            self.run_addressed(image, id, bytes, taker)
         } else {
             None
         }
+    }
+
+    /// Takes the address packet at the front of the bytes that come next, and the packets of atoms behind it as one run, where each is committed as it
+    /// is made: an address of few bytes and without a context, and up to the packet in which the last of the atoms stands that can be walked.
+    /// It gives the bytes behind that packet; the atoms of it that are left are left to do. Where no atom can be walked so, nothing changes.
+    #[inline(always)]
+    fn run_addressed<'a, T: StretchTaker>(
+        &mut self,
+        image: &Image,
+        id: Id,
+        bytes: &'a [u8],
+        taker: &mut T,
+    ) -> Option<&'a [u8]>
+        requires few { self.old.reader.taken + length bytes.now ≤ 2 ^ 62 }
+        requires rest { AtRest self.old }
+        requires holds { IsDecoding self.old }
+        ensures runs { IfSome result (λ behind. RunsFront (T.adds image.now id self.old.walk.ctx) image.now self.old taker.old bytes.now behind.now
+            self.new taker.new) }
+        ensures none { result ≡ None → (self.new ≡ self.old) × T.adds image.now id self.old.walk.ctx taker.old [] taker.new }
+        ensures stopped { self.old.fault ≢ None → (result ≡ None) × (taker.new ≡ taker.old) }
+        ensures holds { IsDecoding self.new }
+    {
+        if self.fault.is_some() || !self.reader.is_between() || !self.maker.is_ready() {
+            return None;
+        }
+        let _before = self.waiting.passing()?;
+        let (form, rest) = near_address_at(bytes)?;
+        let (atoms, behind) = atoms_at(rest);
+        if atoms.count == 0 {
+            return None;
+        }
+        let addr = self.maker.address_of(&form);
+        let n = self.walker.walk_atoms(image, id, Some(addr), &atoms, taker);
+        if n == 0 {
+            return None;
+        }
+        self.maker.tell_address(&form, addr);
+        self.waiting.pass_many(n as u32);
+        let text = (bytes.len() - rest.len()) as u64;
+        let _at = self.reader.skip(text, text);
+        Some(take_up_to(
+            &mut self.reader,
+            &mut self.todo,
+            &self.maker,
+            rest,
+            &atoms,
+            behind,
+            n,
+        ))
     }
 
     /// Takes the packets of atoms, commits and cancels at the front of the bytes that come next, where all that is held is atoms before which nothing
@@ -223,7 +274,7 @@ impl Decoding {
         if self.fault.is_some() || !self.reader.is_between() {
             return None;
         }
-        let atoms = atoms_at(bytes);
+        let (atoms, behind) = atoms_at(bytes);
         if atoms.count == 0 {
             return None;
         }
@@ -232,18 +283,15 @@ impl Decoding {
         if n == 0 {
             return None;
         }
-        let Reached {
-            at,
-            atoms,
-            within,
+        Some(take_up_to(
+            &mut self.reader,
+            &mut self.todo,
+            &self.maker,
+            bytes,
+            &atoms,
             behind,
-        } = read_until(&mut self.reader, bytes, n);
-        let Some(elems) = self.maker.atoms_of(&atoms) else {
-            unreachable!()
-        };
-        self.todo = Todo::of(at, elems);
-        self.todo.advance_by(within);
-        Some(behind)
+            n,
+        ))
     }
 
     /// Takes the packet at the front of the bytes that come next, where it is an address or a short commit that is all there, and no fault

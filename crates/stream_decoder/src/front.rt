@@ -2,7 +2,7 @@
 //! the packets in which these stand.
 //!
 //! Most packets are atoms, and most of them have few: what a call costs is shared by the atoms of several then.
-ghost use Rattle.std.specs.Prelude.{◌≡◌, ◌≤◌, ◌<◌, ◌+◌, ◌^◌, [], All, Bool, List, length, take};
+ghost use Rattle.std.specs.Prelude.{◌≡◌, ◌≤◌, ◌<◌, ◌+◌, ◌^◌, ◌++◌, ℕ, [], true, None, All, Bool, List, length, take};
 ghost use Rattle.etm_types.specs.Atoms.{atoms_in, most_atoms};
 ghost use Rattle.etm_types.specs.Pre.{nothing_told};
 ghost use Rattle.packet_reader.specs.declared.phase.Phase.{Phase};
@@ -12,7 +12,7 @@ ghost use Rattle.path_walker.specs.State.{IsState, State};
 ghost use Rattle.path_walker.specs.Things.{IsAlignedThing};
 ghost use Rattle.path_walker.specs.Walk.{ToldIsAligned};
 ghost use Rattle.program_image.specs.declared.image.Image.{Image as ImageWords};
-ghost use Rattle.stream_decoder.specs.AtomPackets.{BeginWithAtoms, ReadsUntil, StepsByAtoms, TakesSome};
+ghost use Rattle.stream_decoder.specs.AtomPackets.{BeginWithAtoms, ReachesAtom, ReadsUntil, StepsByAtoms, TakesSome, TellAtoms};
 ghost use Rattle.stream_decoder.specs.Waiting.{IsWaiting, all_of};
 
 use crate::oldest::{take_atoms, walk_oldest};
@@ -21,30 +21,33 @@ use crate::waiting::Waiting;
 use atom_formats::atoms_of;
 use etm_types::{AtomRun, Id, MOST_ATOMS};
 use packet_reader::PacketReader;
+use path_elements::ElemMaker;
 use path_walker::{StretchTaker, Walker};
 use program_image::Image;
 
 /// Where a reader stands that took packets of atoms up to a certain atom.
 #[derive(Drop)]
-pub struct Reached<'a> {
+struct Reached<'a> {
     /// The offset of the last packet.
-    pub at: u64,
+    at: u64,
     /// Its atoms.
-    pub atoms: AtomRun,
+    atoms: AtomRun,
     /// How many of them are not behind that atom.
-    pub within: usize,
+    within: usize,
     /// The bytes behind it.
-    pub behind: &'a [u8],
+    behind: &'a [u8],
 }
 
-/// The atoms of the packets of atoms at the front of some bytes, as one run: of as many packets as there are, and as there is room for.
+/// The packets of atoms at the front of some bytes: their atoms as one run, of as many packets as there are and as there is room for, and the
+/// bytes behind them.
 #[inline(always)]
-pub fn atoms_at(bytes: &[u8]) -> AtomRun
-    ensures front { BeginWithAtoms bytes.now (atoms_in result) }
-    ensures few { result.count ≤ most_atoms }
+pub fn atoms_at(bytes: &[u8]) -> (AtomRun, &[u8])
+    ensures front { (text : List ℕ) × (bytes.now ≡ text ++ result.1.now) × TellAtoms text (atoms_in result.0) }
+    ensures few { result.0.count ≤ most_atoms }
 {
     let mut run = AtomRun { count: 0, bits: 0 };
-    for byte in bytes {
+    let mut rest = bytes;
+    while let Some((byte, behind)) = rest.split_first() {
         let Some(atoms) = atoms_of(*byte) else {
             break;
         };
@@ -54,13 +57,72 @@ pub fn atoms_at(bytes: &[u8]) -> AtomRun
         }
         run.bits += atoms.bits << run.count;
         run.count = count;
+        rest = behind;
     }
-    run
+    (run, rest)
+}
+
+/// Takes packets of atoms, up to the one in which the last of the next n atoms stands. The atoms of that one that are behind it are left to do.
+/// Where these are all that some packets have, these packets are skipped. It gives the bytes behind the last.
+#[inline(always)]
+pub fn take_up_to<'a>(
+    reader: &mut PacketReader,
+    todo: &mut Todo,
+    maker: &ElemMaker,
+    bytes: &'a [u8],
+    atoms: &AtomRun,
+    behind: &'a [u8],
+    n: usize,
+) -> &'a [u8]
+    requires between { reader.old.phase ≡ Between }
+    requires small { reader.old.taken + length bytes.now ≤ 2 ^ 62 }
+    requires ready { (maker.now.informed ≡ true) × (maker.now.awaiting ≡ None) }
+    requires rest { todo.old.elements ≡ [] }
+    requires some { 0 < n }
+    requires few { n ≤ atoms.now.count }
+    requires front { (text : List ℕ) × (bytes.now ≡ text ++ behind.now) × TellAtoms text (atoms_in atoms.now) }
+    ensures { ReachesAtom reader.old bytes.now n todo.new result.now reader.new }
+{
+    if n == usize::from(atoms.count) {
+        todo.move_to(reader.skip((bytes.len() - behind.len()) as u64, 1));
+        return behind;
+    }
+    take_among(reader, todo, maker, bytes, n)
+}
+
+/// The same where more atoms follow: the packets are taken one by one.
+#[inline(never)]
+fn take_among<'a>(
+    reader: &mut PacketReader,
+    todo: &mut Todo,
+    maker: &ElemMaker,
+    bytes: &'a [u8],
+    n: usize,
+) -> &'a [u8]
+    requires between { reader.old.phase ≡ Between }
+    requires small { reader.old.taken + length bytes.now ≤ 2 ^ 62 }
+    requires ready { (maker.now.informed ≡ true) × (maker.now.awaiting ≡ None) }
+    requires some { 0 < n }
+    requires atoms { (all : List Bool) × BeginWithAtoms bytes.now all × (n ≤ length all) }
+    ensures { ReachesAtom reader.old bytes.now n todo.new result.now reader.new }
+{
+    let Reached {
+        at,
+        atoms,
+        within,
+        behind,
+    } = read_until(reader, bytes, n);
+    let Some(elems) = maker.atoms_of(&atoms) else {
+        unreachable!()
+    };
+    *todo = Todo::of(at, elems);
+    todo.advance_by(within);
+    behind
 }
 
 /// Takes packets of atoms, up to the one in which the last of the next n atoms stands. So many must be there.
 #[inline(always)]
-pub fn read_until<'a>(reader: &mut PacketReader, bytes: &'a [u8], n: usize) -> Reached<'a>
+fn read_until<'a>(reader: &mut PacketReader, bytes: &'a [u8], n: usize) -> Reached<'a>
     requires between { reader.old.phase ≡ Between }
     requires small { reader.old.taken + length bytes.now ≤ 2 ^ 62 }
     requires some { 0 < n }

@@ -1,0 +1,138 @@
+-- An address and the packets of atoms behind it, where each atom is committed as it is made.
+use Rattle.std.proofs.Common.{◌≡◌, ℕ, ◌%◌, ◌^◌, ◌<◌, Bool, false, List, [], ◌∷◌, ◌++◌, Option, Some, None, Ok, refl, sym, ap, subst, ◌∙◌, arith, inr, append-nil}
+use Rattle.std.proofs.Math.Nat.{mod-lt}
+use Rattle.std.proofs.lemmas.List.Elements.{All-cons, All-nil}
+use Rattle.std.specs.Prelude.{if◌then◌else◌}
+use Rattle.address_history.specs.Forms.{address_told}
+use Rattle.element_queue.specs.Counting.{AreCounts, add, counts_after}
+use Rattle.element_queue.specs.Pending.{nothing_gone}
+use Rattle.element_queue.specs.declared.ledger.Counts.{Counts}
+use Rattle.etm_types.specs.Pre.{nothing_told}
+use Rattle.etm_types.specs.declared.address.AddrForm.{AddrForm}
+use Rattle.etm_types.specs.declared.element.Elem.{Elem}
+use Rattle.etm_types.specs.declared.element.Elem.TheVariants as elem
+use Rattle.etm_types.specs.declared.element.Pre.{Pre}
+use Rattle.packet_grammar.proofs.Fitting.{small_back, small_front}
+use Rattle.packet_grammar.specs.declared.packet.Packet.{Packet}
+use Rattle.packet_grammar.specs.declared.packet.Packet.TheVariants.{Addr}
+use Rattle.packet_grammar.specs.declared.stream_fault.Fault.{Fault}
+use Rattle.packet_reader.specs.Stands.{Standing, TakesPacket}
+use Rattle.path_elements.specs.Elements.{Told, after_address, atoms, elements_of, is_misplaced, told_after, with_address}
+use Rattle.path_elements.specs.Held.{AreElems, IsElem}
+use Rattle.path_walker.specs.State.{State}
+use Rattle.path_walker.specs.Walk.{WalksRun}
+use Rattle.path_walker.specs.declared.stretch.Stretch.{Stretch}
+use Rattle.program_image.specs.declared.image.Image.{Image}
+use Rattle.stream_decoder.proofs.AtomSteps.{takes_passed}
+use Rattle.stream_decoder.proofs.Fronts.{packet_holds}
+use Rattle.stream_decoder.proofs.Growing.{Small}
+use Rattle.stream_decoder.proofs.Holds.{holds_opened}
+use Rattle.stream_decoder.proofs.LettingGo.{waits_in}
+use Rattle.stream_decoder.proofs.PacketRuns.{AtomsCount, front_runs, runs_behind}
+use Rattle.stream_decoder.proofs.Quiet.{goes_quiet, holds_quiet}
+use Rattle.stream_decoder.specs.AtomPackets.{BeginWithAtoms, ReachesAtom, RunsFront, RunsPacket}
+use Rattle.stream_decoder.specs.Decoding.{AtRest, IsDecoding, decoding_of}
+use Rattle.stream_decoder.specs.Left.{Left, nothing_left}
+use Rattle.stream_decoder.specs.Waiting.{Commits, IsWaiting, Waiting, counted_with, passed}
+
+-- ---- what an address packet tells
+
+module _ (t : Told) (form : AddrForm) (counts : AtomsCount t) where
+  abbrev packet : Packet
+  packet = Addr form None
+
+  addressed_placed : is_misplaced t packet ≡ false
+  addressed_placed = rw counts.informed (rw counts.awaiting refl)
+
+  addressed_elements : elements_of t packet ≡ elem.Addr (address_told t.history form) ∷ []
+  addressed_elements =
+      ap (λ (b : Bool). if b then with_address t.awaiting (address_told t.history form) else []) counts.informed
+      ∙ rw counts.awaiting refl
+
+  addressed_told : told_after t packet ≡ after_address t form
+  addressed_told = ap (λ (b : Bool). if b then after_address t form else t) counts.informed
+
+  addressed_counts : AtomsCount (after_address t form)
+  addressed_counts = record { informed = counts.informed; awaiting = refl }
+
+-- ---- the address is given before the next P0 element
+
+abbrev given : Waiting → ℕ → Waiting
+given w addr = record w { pending = record (w.pending) { pre = record nothing_told { addr = Some addr } } }
+
+none_more : (n : ℕ) → n < 2 ^ 64 → n ≡ add n 0
+none_more n small = omega arith
+
+still_counted : (c : Counts) → AreCounts c → c ≡ counts_after c 0 nothing_gone
+still_counted c range k =
+    record {
+      made = none_more c.made range.made k;
+      committed = none_more c.committed range.committed k;
+      cancelled = none_more c.cancelled range.cancelled k;
+      lost = none_more c.lost range.lost k;
+    }
+
+gives_address : (w : Waiting) (before : Option ℕ) (addr : ℕ) → w.due ≡ [] → (w.pending).pre ≡ record nothing_told { addr = before } → AreCounts w.counts
+    → Commits w (elem.Addr addr) (given w addr) []
+gives_address w before addr none pre range =
+    record {
+      gone = nothing_gone;
+      rule = ap (λ (p : Pre). Ok (record (w.pending) { pre = record p { addr = Some addr } }, nothing_gone)) pre;
+      commits = sym none;
+      counts = still_counted (counted_with w.counts w.due) (record {
+        made = range.made;
+        committed = mod-lt _ (omega arith);
+        cancelled = range.cancelled;
+        lost = range.lost;
+      });
+      depth = refl;
+    }
+
+one_address : (addr : ℕ) → addr % 4 ≡ 0 → AreElems (elem.Addr addr ∷ [])
+one_address addr aligned = record { most = omega arith; each = All-cons IsElem (elem.Addr addr) [] aligned (All-nil IsElem) }
+
+-- ---- the packets
+
+-- The atoms behind an address were walked, the first of them from there, and the reader took the packets in which they stand.
+pub addressed_runs : {V : Type 0} (Takes : V → List Stretch → V → Type 0) (image : Image) (r r1 r' : Standing) (t t1 : Told) (l l' : Left) (w w' : Waiting)
+    (s s' : State) (f : Option (ℕ × Fault)) (bytes rest behind text : List ℕ) (at : ℕ) (form : AddrForm) (addr : ℕ) (before : Option ℕ)
+    (told : List Bool) (n : ℕ) (old new : V)
+    → (w.depth ≡ (r.settings).depth) × IsDecoding (decoding_of r t l w s f) → AtRest (decoding_of r t l w s f) → f ≡ None → AtomsCount t → Small bytes
+    → bytes ≡ text ++ rest → TakesPacket r r1 text at (Addr form None) → addr ≡ address_told t.history form → addr % 4 ≡ 0
+    → t1 ≡ told_after t (Addr form None) → w.depth ≡ 0 → (w.pending).pre ≡ record nothing_told { addr = before }
+    → WalksRun Takes image s (Some addr) told old n s' new → 0 < n → w' ≡ passed n w → BeginWithAtoms rest told → ReachesAtom r1 rest n l' behind r'
+    → RunsFront Takes image (decoding_of r t l w s f) old bytes behind (decoding_of r' t1 l' w' s' f) new
+    × ((w'.depth ≡ (r'.settings).depth) × IsDecoding (decoding_of r' t1 l' w' s' f))
+addressed_runs Takes image r r1 r' t t1 l l' w w' s s' f bytes rest behind text at form addr before told n old new is done whole counts small parts takes
+    addr_is aligned told_is zero pre walks some after begins reached =
+    let e = elem.Addr addr in let es = e ∷ [] in let packet = Addr form None in
+    let small_text = small_front bytes text rest parts small in
+    let read = packet_holds r r1 text small_text at packet takes t l w s f is in
+    let elements : elements_of t packet ≡ es = addressed_elements t form counts ∙ ap (λ (a : ℕ). elem.Addr a ∷ []) (sym addr_is) in
+    let l1 : Left = record { at = at; elements = es } in
+    let opened : IsDecoding (decoding_of r1 t1 l1 w s f) =
+    holds_opened r1 r1 t l w s f read.1 (read.1).reads refl at packet es t1 l1 (record { due = done.due; todo = done.todo }) whole (sym elements) told_is refl
+    (one_address addr aligned) in
+    let here = decoding_of r t l w s f in let begun = decoding_of r1 t1 l1 w s f in
+    let opens : begun ≡ record here { reader = r1; told = told_after t packet; at = at; todo = elements_of t packet } =
+    ap (λ (x : Told). record here { reader = r1; told = x; at = at; todo = es }) told_is
+    ∙ ap (λ (x : List Elem). record here { reader = r1; told = told_after t packet; at = at; todo = x }) (sym elements) in
+    let waits = waits_in r t l w s f is.0 is.1 in
+    let w1 = given w addr in
+    let waits1 : IsWaiting w1 = record { few = waits.few; balanced = waits.balanced; range = waits.range } in
+    let commits = gives_address w before addr done.due pre waits.range in
+    let l2 = nothing_left at in let mid = decoding_of r1 t1 l2 w1 s f in
+    let goes = goes_quiet r1 t1 l1 l2 w w1 s f e [] refl refl done.due (read.0, opened) commits waits1 image in
+    let holds = holds_quiet r1 t1 l1 l2 w w1 s f e [] refl refl done.due (read.0, opened) commits waits1 in
+    let at_rest : AtRest mid = record { due = done.due; todo = refl } in
+    let address : RunsPacket image here text [] mid = record {
+      begun = begun;
+      begins = (at, packet, takes, inr (addressed_placed t form counts, opens));
+      whole = whole;
+      goes = goes;
+    } in
+    let counts1 : AtomsCount t1 = subst AtomsCount (sym (told_is ∙ addressed_told t form counts)) (addressed_counts t form counts) in
+    let taken = takes_passed Takes image w1 w' s s' (Some addr) told told [] n old new done.due zero refl waits1 (sym (append-nil (atoms told))) walks some after in
+    let (runs, stays) = front_runs Takes image r1 r' t1 l2 l' w1 w' s s' f rest behind told n old new holds at_rest whole counts1
+    (small_back bytes text rest parts small) begins taken reached in
+    (runs_behind Takes image here mid (decoding_of r' t1 l' w' s' f) text bytes rest behind old new address at_rest holds.1 refl takes.settings takes.taken parts runs, stays)
