@@ -15,7 +15,7 @@ pub record Outlook : Type 0 where
 
 -- so many atoms more may be held, and an outlook has bits for them
 abbrev pub has_room : Outlook → ℕ → Type 0
-has_room o n = (length o.held + n ≤ o.depth) × (length o.gone + length o.held + n ≤ 64) × (o.made + n ≤ 2 ^ 30)
+has_room o n = (length o.held + n ≤ o.depth) × (length o.gone + length o.held + n ≤ 64) × (o.made + n ≤ 2 ^ 8)
 
 -- what was tried is done, and the n oldest of what was committed are given out
 abbrev pub settled : Outlook → ℕ → Queued → Queued

@@ -7,8 +7,8 @@ use crate::plain_atoms::{MOST_OF_RUN, MOST_PLAIN};
 use etm_types::AtomRun;
 use std::marker::Model;
 
-/// How many atoms at most are made on one copy.
-const MOST_MADE: u32 = 1 << 30;
+/// How many atoms at most are made on one copy, so that what is tried in vain is little.
+const MOST_MADE: u32 = 1 << 8;
 
 /// The atoms of a queue as elements would leave them: those that are committed, oldest first, and behind them those that are held.
 #[derive(Drop)]
@@ -42,7 +42,7 @@ impl Model for Outlook {
     } };
 
     ghost invariant = { λ o. (o.count ≤ 64) × (o.bits < 2 ^ o.count) × (o.committed ≤ o.count) × (o.count + o.cancelled ≡ o.before + o.made)
-        × (o.before ≤ 64) × (o.made ≤ 2 ^ 30) };
+        × (o.before ≤ 64) × (o.made ≤ 2 ^ 8) };
 }
 
 impl Outlook {
@@ -102,15 +102,15 @@ impl Outlook {
         true
     }
 
-    /// So many of the oldest that are held are committed. Says whether so many are held; else nothing changes.
+    /// So many of the oldest that are held, at least one, are committed. Says whether so many are held; else nothing changes.
     #[inline(always)]
     pub fn commit(&mut self, n: u32) -> bool
-        ensures when { IsTrue result ↔ (n ≤ length self.old.held) }
+        ensures when { IsTrue result ↔ ((0 < n) × (n ≤ length self.old.held)) }
         ensures commits { IsTrue result
             → self.new ≡ record (self.old) { gone = self.old.gone ++ take n self.old.held; held = drop n self.old.held } }
         ensures unchanged { result ≡ false → self.new ≡ self.old }
     {
-        if n > self.held() {
+        if n == 0 || n > self.held() {
             return false;
         }
         self.committed += n;

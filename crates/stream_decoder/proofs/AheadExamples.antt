@@ -74,7 +74,7 @@ holds_n : Moves one atom_n two
 holds_n = inl (0xf6, record { count = 1; bits = 0 }, refl, spells_f6, is_run 0 (omega arith), (omega arith, omega arith, omega arith), refl)
 
 commits : Moves two commit_1 committed
-commits = inr (inl (1, refl, omega arith, omega arith, refl))
+commits = inr (inl (1, refl, omega arith, omega arith, omega arith, refl))
 
 cancels : Moves committed cancel_1 end
 cancels = inr (inr (1, refl, omega arith, omega arith, omega arith, refl))
@@ -146,7 +146,7 @@ not_newest_first other = let same = ap (λ (x : Outlook). x.held) (only_by atom_
 abbrev NoneMoves : List ℕ → Outlook → Type 0
 NoneMoves bytes o = (p : List ℕ × Packet) (behind : List ℕ) (o' : Outlook) → bytes ≡ p.0 ++ behind → Moves o p o' → ⊥
 
--- more are committed than are held, or cancelled; or none is cancelled
+-- more are committed than are held, or cancelled; or none is
 pub not_three_committed : NoneMoves (0x2d ∷ 0x03 ∷ []) two
 not_three_committed p behind o' parts moves =
     absurd (omega (arith, number_is_few (0x2d ∷ 0x03 ∷ []) (0x03 ∷ []) behind 0x2d p two o' refl (omega arith) parts moves 3 [] refl 3 refl))
@@ -157,11 +157,11 @@ not_three_cancelled p behind o' parts moves =
 
 pub not_none_cancelled : NoneMoves (0x2e ∷ 0x00 ∷ []) two
 not_none_cancelled p behind o' parts moves =
-    absurd (omega (
-      arith,
-      number_is_some (0x2e ∷ 0x00 ∷ []) (0x00 ∷ []) behind 0x2e p two o' refl (omega arith) parts moves 0 [] refl 0 refl
-          (λ commit. absurd (omega (arith, commit))),
-    ))
+    absurd (omega (arith, number_is_some (0x2e ∷ 0x00 ∷ []) (0x00 ∷ []) behind 0x2e p two o' refl (omega arith) parts moves 0 [] refl 0 refl))
+
+pub not_none_committed : NoneMoves (0x2d ∷ 0x00 ∷ []) two
+not_none_committed p behind o' parts moves =
+    absurd (omega (arith, number_is_some (0x2d ∷ 0x00 ∷ []) (0x00 ∷ []) behind 0x2d p two o' refl (omega arith) parts moves 0 [] refl 0 refl))
 
 -- a number of two bytes, or a header with no number behind it, or another header: a cancel with a mispredict
 pub not_a_long_number : NoneMoves (0x2d ∷ 0x81 ∷ 0x00 ∷ []) two
@@ -193,10 +193,10 @@ not_beyond_the_depth p behind o' parts moves =
 abbrev full : ℕ → ℕ → ℕ → Outlook
 full gone made depth = record { gone = replicate gone e; held = e ∷ []; before = 1; made = made; cancelled = 0; depth = depth }
 
-pub room_for_one : has_room (full 62 (2 ^ 30 - 1) 2) 1
+pub room_for_one : has_room (full 62 (2 ^ 8 - 1) 2) 1
 room_for_one = (omega arith, omega arith, omega arith)
 
-pub no_room : (has_room (full 62 (2 ^ 30 - 1) 1) 1 → ⊥) × (has_room (full 63 (2 ^ 30 - 1) 2) 1 → ⊥) × (has_room (full 62 (2 ^ 30) 2) 1 → ⊥)
+pub no_room : (has_room (full 62 (2 ^ 8 - 1) 1) 1 → ⊥) × (has_room (full 63 (2 ^ 8 - 1) 2) 1 → ⊥) × (has_room (full 62 (2 ^ 8) 2) 1 → ⊥)
 no_room = (λ room. absurd (omega (arith, room.0)), λ room. absurd (omega (arith, room.1)), λ room. absurd (omega (arith, room.2)))
 
 -- what is foretold with none committed before the last goes no further than the commit

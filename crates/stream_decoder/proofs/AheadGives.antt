@@ -30,7 +30,7 @@ use Rattle.stream_decoder.specs.Waiting.{Commits, DropsDue, HoldsAtoms, IsWaitin
 -- what is committed stays so
 pub still_gone : (o o' : Outlook) (p : List ℕ × Packet) → Moves o p o' → (more : List Bool) × (o'.gone ≡ o.gone ++ more)
 still_gone o o' p (inl (byte, run, is, spells, whole, room, made)) = ([], ap (λ (x : Outlook). x.gone) made ∙ sym (append-nil o.gone))
-still_gone o o' p (inr (inl (n, is, small, within, made))) = (take n o.held, ap (λ (x : Outlook). x.gone) made)
+still_gone o o' p (inr (inl (n, is, small, nonzero, within, made))) = (take n o.held, ap (λ (x : Outlook). x.gone) made)
 still_gone o o' p (inr (inr (n, is, small, some, within, made))) = ([], ap (λ (x : Outlook). x.gone) made ∙ sym (append-nil o.gone))
 
 pub still_gone_all : (o o' : Outlook) (ps : List (List ℕ × Packet)) → MovesAll o ps o' → (more : List Bool) × (o'.gone ≡ o.gone ++ more)
@@ -44,7 +44,7 @@ still_gone_all o o' (p ∷ ps) (next, one, others) =
 -- how many were held at first
 pub same_before_one : (o o' : Outlook) (p : List ℕ × Packet) → Moves o p o' → o'.before ≡ o.before
 same_before_one o o' p (inl (byte, run, is, spells, whole, room, made)) = ap (λ (x : Outlook). x.before) made
-same_before_one o o' p (inr (inl (n, is, small, within, made))) = ap (λ (x : Outlook). x.before) made
+same_before_one o o' p (inr (inl (n, is, small, nonzero, within, made))) = ap (λ (x : Outlook). x.before) made
 same_before_one o o' p (inr (inr (n, is, small, some, within, made))) = ap (λ (x : Outlook). x.before) made
 
 pub same_before : (o o' : Outlook) (ps : List (List ℕ × Packet)) → MovesAll o ps o' → o'.before ≡ o.before
@@ -54,7 +54,7 @@ same_before o o' (p ∷ ps) (next, one, others) = same_before next o' ps others 
 -- the most that may be held
 pub same_depth_one : (o o' : Outlook) (p : List ℕ × Packet) → Moves o p o' → o'.depth ≡ o.depth
 same_depth_one o o' p (inl (byte, run, is, spells, whole, room, made)) = ap (λ (x : Outlook). x.depth) made
-same_depth_one o o' p (inr (inl (n, is, small, within, made))) = ap (λ (x : Outlook). x.depth) made
+same_depth_one o o' p (inr (inl (n, is, small, nonzero, within, made))) = ap (λ (x : Outlook). x.depth) made
 same_depth_one o o' p (inr (inr (n, is, small, some, within, made))) = ap (λ (x : Outlook). x.depth) made
 
 pub same_depth : (o o' : Outlook) (ps : List (List ℕ × Packet)) → MovesAll o ps o' → o'.depth ≡ o.depth
@@ -71,7 +71,7 @@ few_by_one o o' p (inl (byte, run, is, spells, whole, room, made)) few =
     ap (λ (x : Outlook). length x.held) made ∙ length-append o.held (atoms_in run) ∙ ap (λ (n : ℕ). length o.held + n) (length_bits run.count run.bits) in
     let gone : length o'.gone ≡ length o.gone = ap (λ (x : Outlook). length x.gone) made in
     let depth : o'.depth ≡ o.depth = ap (λ (x : Outlook). x.depth) made in (omega (arith, room.0), omega (arith, room.0))
-few_by_one o o' p (inr (inl (n, is, small, within, made))) few =
+few_by_one o o' p (inr (inl (n, is, small, nonzero, within, made))) few =
     let held : length o'.held ≡ length o.held - n = ap (λ (x : Outlook). length x.held) made ∙ length-drop n o.held in
     let gone : length o'.gone ≡ length o.gone + n =
     ap (λ (x : Outlook). length x.gone) made ∙ length-append o.gone (take n o.held) ∙ ap (λ (m : ℕ). length o.gone + m) (length-take-le n o.held within) in
@@ -335,7 +335,7 @@ module _ (informed : Bool) (depth : ℕ) (c : Counts) where
       (ap (λ (y : Outlook). add c.cancelled y.cancelled) (sym made)) in
       gives_as _ _ _ _ _ _ _ _ refl end (ap (λ (q : List ℕ × Packet). q.1) (sym is)) (sym none.0)
       (gives_atoms informed depth x.held run cx (omega (arith, room.0, deep)) waits)
-  one_gives x x' p now later (inr (inl (n, is, small, within, made))) deep gone waits =
+  one_gives x x' p now later (inr (inl (n, is, small, nonzero, within, made))) deep gone waits =
       let both : x.gone ++ take n x.held ≡ x.gone ++ (now ++ later) =
       sym (ap (λ (y : Outlook). y.gone) made) ∙ gone ∙ append_assoc x.gone now later in
       let oldest : take n x.held ≡ now ++ later =

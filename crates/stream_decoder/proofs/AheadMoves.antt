@@ -43,7 +43,7 @@ one_move bytes behind behind' p p' o o1 o2 parts parts' (inl (byte, run, is, spe
       same.1,
       made ∙ ap (λ (l : List Bool). with_atoms o l run.count) atoms ∙ ap (with_atoms o (atoms_in run')) (counted run run' atoms) ∙ sym made',
     )
-one_move bytes behind behind' p p' o o1 o2 parts parts' (inl (byte, run, is, spells, fits, room, made)) (inr (inl (n, is', small, few, made'))) =
+one_move bytes behind behind' p p' o o1 o2 parts parts' (inl (byte, run, is, spells, fits, room, made)) (inr (inl (n, is', small, nonzero, few, made'))) =
     let same = same_one byte 0x2d behind (n ∷ behind') (sym (text_first bytes behind (byte ∷ []) p (Atoms run) parts is)
     ∙ text_first bytes behind' (0x2d ∷ n ∷ []) p' (Commit n) parts' is') in
     absurd (omega (arith, same.0, (no_other_tells byte (atoms_in run) spells).0))
@@ -51,15 +51,15 @@ one_move bytes behind behind' p p' o o1 o2 parts parts' (inl (byte, run, is, spe
     let same = same_one byte 0x2e behind (n ∷ behind') (sym (text_first bytes behind (byte ∷ []) p (Atoms run) parts is)
     ∙ text_first bytes behind' (0x2e ∷ n ∷ []) p' (Cancel n false) parts' is') in
     absurd (omega (arith, same.0, (no_other_tells byte (atoms_in run) spells).0))
-one_move bytes behind behind' p p' o o1 o2 parts parts' (inr (inl (n, is, small, few, made))) (inl (byte, run, is', spells, fits, room, made')) =
+one_move bytes behind behind' p p' o o1 o2 parts parts' (inr (inl (n, is, small, nonzero, few, made))) (inl (byte, run, is', spells, fits, room, made')) =
     let same = same_one byte 0x2d behind' (n ∷ behind) (sym (text_first bytes behind' (byte ∷ []) p' (Atoms run) parts' is')
     ∙ text_first bytes behind (0x2d ∷ n ∷ []) p (Commit n) parts is) in
     absurd (omega (arith, same.0, (no_other_tells byte (atoms_in run) spells).0))
-one_move bytes behind behind' p p' o o1 o2 parts parts' (inr (inl (n, is, small, few, made))) (inr (inl (n', is', small', few', made'))) =
+one_move bytes behind behind' p p' o o1 o2 parts parts' (inr (inl (n, is, small, nonzero, few, made))) (inr (inl (n', is', small', nonzero', few', made'))) =
     let same = same_two 0x2d n 0x2d n' behind behind' (sym (text_first bytes behind (0x2d ∷ n ∷ []) p (Commit n) parts is)
     ∙ text_first bytes behind' (0x2d ∷ n' ∷ []) p' (Commit n') parts' is') in
     (same.2, made ∙ ap (λ (k : ℕ). record o { gone = o.gone ++ take k o.held; held = drop k o.held }) same.1 ∙ sym made')
-one_move bytes behind behind' p p' o o1 o2 parts parts' (inr (inl (n, is, small, few, made))) (inr (inr (n', is', small', some, few', made'))) =
+one_move bytes behind behind' p p' o o1 o2 parts parts' (inr (inl (n, is, small, nonzero, few, made))) (inr (inr (n', is', small', some, few', made'))) =
     let same = same_two 0x2d n 0x2e n' behind behind' (sym (text_first bytes behind (0x2d ∷ n ∷ []) p (Commit n) parts is)
     ∙ text_first bytes behind' (0x2e ∷ n' ∷ []) p' (Cancel n' false) parts' is') in
     absurd (omega (arith, same.0))
@@ -67,7 +67,7 @@ one_move bytes behind behind' p p' o o1 o2 parts parts' (inr (inr (n, is, small,
     let same = same_one byte 0x2e behind' (n ∷ behind) (sym (text_first bytes behind' (byte ∷ []) p' (Atoms run) parts' is')
     ∙ text_first bytes behind (0x2e ∷ n ∷ []) p (Cancel n false) parts is) in
     absurd (omega (arith, same.0, (no_other_tells byte (atoms_in run) spells).0))
-one_move bytes behind behind' p p' o o1 o2 parts parts' (inr (inr (n, is, small, some, few, made))) (inr (inl (n', is', small', few', made'))) =
+one_move bytes behind behind' p p' o o1 o2 parts parts' (inr (inr (n, is, small, some, few, made))) (inr (inl (n', is', small', nonzero', few', made'))) =
     let same = same_two 0x2e n 0x2d n' behind behind' (sym (text_first bytes behind (0x2e ∷ n ∷ []) p (Cancel n false) parts is)
     ∙ text_first bytes behind' (0x2d ∷ n' ∷ []) p' (Commit n') parts' is') in
     absurd (omega (arith, same.0))
@@ -79,7 +79,7 @@ one_move bytes behind behind' p p' o o1 o2 parts parts' (inr (inr (n, is, small,
 -- such a packet has a byte
 pub has_bytes : (p : List ℕ × Packet) (o o' : Outlook) → Moves o p o' → 0 < length p.0
 has_bytes p o o' (inl (byte, run, is, spells, fits, room, made)) = let e = ap (λ (q : List ℕ × Packet). length q.0) is in omega (arith, e)
-has_bytes p o o' (inr (inl (n, is, small, few, made))) = let e = ap (λ (q : List ℕ × Packet). length q.0) is in omega (arith, e)
+has_bytes p o o' (inr (inl (n, is, small, nonzero, few, made))) = let e = ap (λ (q : List ℕ × Packet). length q.0) is in omega (arith, e)
 has_bytes p o o' (inr (inr (n, is, small, some, few, made))) = let e = ap (λ (q : List ℕ × Packet). length q.0) is in omega (arith, e)
 
 -- ---- a packet at the front of some bytes
@@ -94,11 +94,11 @@ module _ (bytes rest : List ℕ) (byte : ℕ) (o o' : Outlook) (first : bytes �
   tried_atoms run spells fits room made = ((byte ∷ [], Atoms run), first, refl, omega arith, inl (byte, run, refl, spells, fits, room, made))
 
   module _ (n number : ℕ) (behind : List ℕ) (second : rest ≡ number ∷ behind) (same : n ≡ number) (small : number < 0x80) where
-    pub tried_commit : byte ≡ 0x2d → n ≤ length o.held → o' ≡ record o { gone = o.gone ++ take n o.held; held = drop n o.held }
+    pub tried_commit : byte ≡ 0x2d → (0 < n) × (n ≤ length o.held) → o' ≡ record o { gone = o.gone ++ take n o.held; held = drop n o.held }
         → Tried bytes o 2 behind o'
     tried_commit header few made =
         let whole : bytes ≡ 0x2d ∷ n ∷ behind = cc in
-        ((0x2d ∷ n ∷ [], Commit n), whole, refl, omega arith, inr (inl (n, refl, omega arith, few, made)))
+        ((0x2d ∷ n ∷ [], Commit n), whole, refl, omega arith, inr (inl (n, refl, omega arith, few.0, few.1, made)))
 
     pub tried_cancel : byte ≡ 0x2e → (0 < n) × (n ≤ length o.held)
         → o' ≡ record o { held = take (length o.held - n) o.held; cancelled = o.cancelled + n } → Tried bytes o 2 behind o'
@@ -113,7 +113,7 @@ room_is bytes rest behind byte run p o o' first spells parts (inl (b, other, is,
     let same = same_one byte b rest behind (sym first ∙ text_first bytes behind (b ∷ []) p (Atoms other) parts is) in
     let atoms = one_run_a_byte b (atoms_in run) (atoms_in other) (subst (λ (x : ℕ). Spells x (atoms_in run)) same.0 spells) spells' in
     subst (λ (k : ℕ). has_room o k) (sym (counted run other atoms)) room
-room_is bytes rest behind byte run p o o' first spells parts (inr (inl (n, is, small, few, made))) =
+room_is bytes rest behind byte run p o o' first spells parts (inr (inl (n, is, small, nonzero, few, made))) =
     let same = same_one byte 0x2d rest (n ∷ behind) (sym first ∙ text_first bytes behind (0x2d ∷ n ∷ []) p (Commit n) parts is) in
     absurd (omega (arith, same.0, (no_other_tells byte (atoms_in run) spells).0))
 room_is bytes rest behind byte run p o o' first spells parts (inr (inr (n, is, small, some, few, made))) =
@@ -125,8 +125,9 @@ pub record IsNumbered (byte : ℕ) (rest behind : List ℕ) (o : Outlook) : Type
   pub n : ℕ
   pub second : rest ≡ n ∷ behind
   pub small : n < 0x80
+  pub some : 0 < n
   pub few : n ≤ length o.held
-  pub which : (byte ≡ 0x2d) ⊎ ((byte ≡ 0x2e) × (0 < n))
+  pub which : (byte ≡ 0x2d) ⊎ (byte ≡ 0x2e)
 
 -- another byte is a header, with a number behind it
 pub numbered : (bytes rest behind : List ℕ) (byte : ℕ) (p : List ℕ × Packet) (o o' : Outlook) → bytes ≡ byte ∷ rest → byte < 0xc0
@@ -134,12 +135,12 @@ pub numbered : (bytes rest behind : List ℕ) (byte : ℕ) (p : List ℕ × Pack
 numbered bytes rest behind byte p o o' first below parts (inl (b, run, is, spells, fits, room, made)) =
     let same = same_one byte b rest behind (sym first ∙ text_first bytes behind (b ∷ []) p (Atoms run) parts is) in
     absurd (omega (arith, same.0, below, (no_other_tells b (atoms_in run) spells).0))
-numbered bytes rest behind byte p o o' first below parts (inr (inl (n, is, small, few, made))) =
+numbered bytes rest behind byte p o o' first below parts (inr (inl (n, is, small, nonzero, few, made))) =
     let same = same_one byte 0x2d rest (n ∷ behind) (sym first ∙ text_first bytes behind (0x2d ∷ n ∷ []) p (Commit n) parts is) in
-    record { n = n; second = same.1; small = small; few = few; which = inl same.0 }
+    record { n = n; second = same.1; small = small; some = nonzero; few = few; which = inl same.0 }
 numbered bytes rest behind byte p o o' first below parts (inr (inr (n, is, small, some, few, made))) =
     let same = same_one byte 0x2e rest (n ∷ behind) (sym first ∙ text_first bytes behind (0x2e ∷ n ∷ []) p (Cancel n false) parts is) in
-    record { n = n; second = same.1; small = small; few = few; which = inr (same.0, some) }
+    record { n = n; second = same.1; small = small; some = some; few = few; which = inr same.0 }
 
 -- where no number stands there, or one of several bytes, or another header, or fewer are held, there is no such packet
 module _ (bytes rest behind : List ℕ) (byte : ℕ) (p : List ℕ × Packet) (o o' : Outlook) (first : bytes ≡ byte ∷ rest) (below : byte < 0xc0)
@@ -151,7 +152,7 @@ module _ (bytes rest behind : List ℕ) (byte : ℕ) (p : List ℕ × Packet) (o
   number_follows none = absurd (let e = ap (λ (l : List ℕ). length l) is.second in omega (arith, e, none))
 
   pub header_is : (byte ≡ 0x2d → ⊥) → byte ≡ 0x2e
-  header_is other = elim is.which [ inl commit ↦ absurd (other commit) | inr cancel ↦ cancel.0 ]
+  header_is other = elim is.which [ inl commit ↦ absurd (other commit) | inr cancel ↦ cancel ]
 
   module _ (number : ℕ) (others : List ℕ) (second : rest ≡ number ∷ others) where
     number_is : number ≡ is.n
@@ -163,8 +164,8 @@ module _ (bytes rest behind : List ℕ) (byte : ℕ) (p : List ℕ × Packet) (o
     pub number_is_few : (n : ℕ) → n ≡ number → n ≤ length o.held
     number_is_few n same = omega (arith, number_is, same, is.few)
 
-    pub number_is_some : (n : ℕ) → n ≡ number → (byte ≡ 0x2d → ⊥) → 0 < n
-    number_is_some n same other = elim is.which [ inl commit ↦ absurd (other commit) | inr cancel ↦ omega (arith, number_is, same, cancel.1) ]
+    pub number_is_some : (n : ℕ) → n ≡ number → 0 < n
+    number_is_some n same = omega (arith, number_is, same, is.some)
 
 -- ---- several packets
 

@@ -24,10 +24,10 @@ HoldsMore o p o' =
     (byte : ℕ) × (run : AtomRun) × (p ≡ (byte ∷ [], Atoms run)) × Spells byte (atoms_in run) × IsAtomRun run × has_room o run.count
     × (o' ≡ record o { held = o.held ++ atoms_in run; made = o.made + run.count })
 
--- a commit packet whose number has one byte
+-- a commit packet of at least one, whose number has one byte
 abbrev pub CommitsOldest : Outlook → List ℕ × Packet → Outlook → Type 0
 CommitsOldest o p o' =
-    (n : ℕ) × (p ≡ (0x2d ∷ n ∷ [], Commit n)) × (n < 0x80) × (n ≤ length o.held)
+    (n : ℕ) × (p ≡ (0x2d ∷ n ∷ [], Commit n)) × (n < 0x80) × (0 < n) × (n ≤ length o.held)
     × (o' ≡ record o { gone = o.gone ++ take n o.held; held = drop n o.held })
 
 -- a Cancel Format 1 packet without a mispredict whose number has one byte

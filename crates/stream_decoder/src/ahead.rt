@@ -62,7 +62,7 @@ pub fn no_further<'a>(
 ) -> Foretelling<'a>
     requires foretold { (most : ℕ) × Foretold outlook bytes.now most ahead.outlook ahead.last ahead.behind.now }
     requires few { n ≤ length ahead.outlook.gone }
-    requires some { length outlook.gone < n }
+    requires some { n < length ahead.outlook.gone → length outlook.gone < n }
     ensures foretold { Foretold outlook bytes.now n result.outlook result.last result.behind.now }
     ensures reaches { n ≤ length result.outlook.gone }
     ensures front { (more : List Bool) × (ahead.entry.outlook.gone ≡ result.outlook.gone ++ more) }

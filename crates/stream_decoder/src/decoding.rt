@@ -208,8 +208,9 @@ impl Decoding {
     }
 
     /// Takes the packets of atoms, commits and cancels at the front of the bytes that come next, where all that is held is atoms before which nothing
-    /// was given: what they commit is walked as one run, and the packets are taken up to that in which the last of it stands. It gives the bytes
-    /// behind that packet; what it commits besides is due. Where no atom can be walked so, nothing changes.
+    /// was given: what they commit is walked as one run, and the packets are taken up to that in which the last of it stands, or all where they
+    /// commit nothing. It gives the bytes behind the last packet; what it commits besides is due. Where there is no such packet, and where the
+    /// first atom that they commit is not walked, nothing changes.
     #[inline(always)]
     fn run_ahead<'a, T: StretchTaker>(
         &mut self,
@@ -232,12 +233,12 @@ impl Decoding {
         }
         let outlook = self.waiting.outlook()?;
         let ahead = foretell(outlook.again(), bytes, taker.room() as u32);
-        let atoms = ahead.outlook.oldest();
-        if atoms.count == 0 {
+        if ahead.last == 0 {
             return None;
         }
+        let atoms = ahead.outlook.oldest();
         let n = walk_plain(&mut self.walker, image, id, atoms, taker) as u32;
-        if n == 0 {
+        if n == 0 && atoms.count > 0 {
             return None;
         }
         let Foretelling {

@@ -58,13 +58,15 @@ returns-else-taken-clause-some c p behind o' parts moves =
       | then-header-eq-COMMIT w ↦
           let few = number_is_few c.args.bytes.now head.rest.now behind head.header.now p o o' head.ensures.cases.0 below parts moves number.n.now
           number.behind.now number.ensures.cases.0 w.from.result w.from.ensures in
-          sym c.if-taken.false ∙ w.taken-is ∙ w.commit-taken.ensures.when.1 few
+          let some = number_is_some c.args.bytes.now head.rest.now behind head.header.now p o o' head.ensures.cases.0 below parts moves number.n.now
+          number.behind.now number.ensures.cases.0 w.from.result w.from.ensures in
+          sym c.if-taken.false ∙ w.taken-is ∙ w.commit-taken.ensures.when.1 (some, few)
       | else-header-eq-COMMIT+then-header-eq-CANCEL_FORMAT_1 w ↦
           let from = w.from-then-header-eq-CANCEL_FORMAT_1 in
           let few = number_is_few c.args.bytes.now head.rest.now behind head.header.now p o o' head.ensures.cases.0 below parts moves number.n.now
           number.behind.now number.ensures.cases.0 from.result from.ensures in
           let some = number_is_some c.args.bytes.now head.rest.now behind head.header.now p o o' head.ensures.cases.0 below parts moves number.n.now
-          number.behind.now number.ensures.cases.0 from.result from.ensures w.if-header-eq-COMMIT.false in
+          number.behind.now number.ensures.cases.0 from.result from.ensures in
           sym c.if-taken.false ∙ w.taken-is ∙ w.cancel.ensures.when.1 (some, few)
       | else-header-eq-COMMIT+else-header-eq-CANCEL_FORMAT_1 w ↦
           absurd (w.if-header-eq-CANCEL_FORMAT_1.false (header_is c.args.bytes.now head.rest.now behind head.header.now p o o' head.ensures.cases.0 below

@@ -44,7 +44,7 @@ invariant_of-self c =
     let run = c.args.run.now in
     let i = c.self.invariant in
     let room : o.count + run.count ≤ 64 = omega (arith, c.from-count.ensures, c.if-self-count-gt-MOST_PLAIN.false) in
-    let most : o.made + run.count ≤ 2 ^ 30 = omega (arith, c.from-count.ensures, c.if-self-count-gt-MOST_MADE.false) in
+    let most : o.made + run.count ≤ 2 ^ 8 = omega (arith, c.from-count.ensures, c.if-self-count-gt-MOST_MADE.false) in
     let more = grown o.count o.bits run.count run.bits c.from.result c.wrapping_shl.result i.1 room c.requires c.from.ensures
     c.wrapping_shl.ensures in
     rw (more.whole, c.from-count.ensures) (room, more.fits, omega (arith, i.2), omega (arith, i.3), i.4, most)
