@@ -8,6 +8,7 @@ use Rattle.element_queue.specs.Counting.{AreCounts, add, counts_after}
 use Rattle.element_queue.specs.Pending.{nothing_gone}
 use Rattle.element_queue.specs.declared.ledger.Counts.{Counts}
 use Rattle.etm_types.specs.Pre.{nothing_told}
+use Rattle.etm_types.specs.Settings.{Sizes}
 use Rattle.etm_types.specs.declared.address.AddrForm.{AddrForm}
 use Rattle.etm_types.specs.declared.element.Elem.{Elem}
 use Rattle.etm_types.specs.declared.element.Elem.TheVariants as elem
@@ -17,6 +18,7 @@ use Rattle.packet_grammar.specs.declared.packet.Packet.{Packet}
 use Rattle.packet_grammar.specs.declared.packet.Packet.TheVariants.{Addr}
 use Rattle.packet_grammar.specs.declared.stream_fault.Fault.{Fault}
 use Rattle.packet_reader.specs.Stands.{Standing, TakesPacket}
+use Rattle.packet_reader.specs.declared.phase.Phase.TheVariants.{Between}
 use Rattle.path_elements.specs.Elements.{Told, after_address, atoms, elements_of, is_misplaced, told_after, with_address}
 use Rattle.path_elements.specs.Held.{AreElems, IsElem}
 use Rattle.path_walker.specs.State.{State}
@@ -30,7 +32,7 @@ use Rattle.stream_decoder.proofs.Holds.{holds_opened}
 use Rattle.stream_decoder.proofs.LettingGo.{waits_in}
 use Rattle.stream_decoder.proofs.PacketRuns.{AtomsCount, front_runs, runs_behind}
 use Rattle.stream_decoder.proofs.Quiet.{goes_quiet, holds_quiet}
-use Rattle.stream_decoder.specs.AtomPackets.{BeginWithAtoms, ReachesAtom, RunsFront, RunsPacket}
+use Rattle.stream_decoder.specs.AtomPackets.{BeginWithAtoms, PassesAtoms, ReachesAtom, RunsFront, RunsPacket}
 use Rattle.stream_decoder.specs.Decoding.{AtRest, IsDecoding, decoding_of}
 use Rattle.stream_decoder.specs.Left.{Left, nothing_left}
 use Rattle.stream_decoder.specs.Waiting.{Commits, IsWaiting, Waiting, counted_with, passed}
@@ -136,3 +138,21 @@ addressed_runs Takes image r r1 r' t t1 l l' w w' s s' f bytes rest behind text 
     let (runs, stays) = front_runs Takes image r1 r' t1 l2 l' w1 w' s s' f rest behind told n old new holds at_rest whole counts1
     (small_back bytes text rest parts small) begins taken reached in
     (runs_behind Takes image here mid (decoding_of r' t1 l' w' s' f) text bytes rest behind old new address at_rest holds.1 refl takes.settings takes.taken parts runs, stays)
+
+-- behind it atoms are still committed as they are made
+pub passes_behind : (r r' : Standing) (t t1 : Told) (l l' : Left) (w w' : Waiting) (s s' : State) (f : Option (ℕ × Fault)) (form : AddrForm) (n : ℕ)
+    → PassesAtoms (decoding_of r t l w s f) → t1 ≡ told_after t (Addr form None) → w' ≡ passed n w → r'.settings ≡ r.settings → r'.phase ≡ Between
+    → PassesAtoms (decoding_of r' t1 l' w' s' f)
+passes_behind r r' t t1 l l' w w' s s' f form n passes told_is after settings between =
+    let counts : AtomsCount t = record { informed = passes.informed; awaiting = passes.awaiting } in
+    let counts1 : AtomsCount t1 = subst AtomsCount (sym (told_is ∙ addressed_told t form counts)) (addressed_counts t form counts) in
+    record {
+      whole = passes.whole;
+      between = between;
+      informed = counts1.informed;
+      awaiting = counts1.awaiting;
+      due = ap (λ (x : Waiting). x.due) after ∙ passes.due;
+      depth = ap (λ (x : Sizes). x.depth) settings ∙ passes.depth;
+      before = None;
+      pre = ap (λ (x : Waiting). (x.pending).pre) after;
+    }

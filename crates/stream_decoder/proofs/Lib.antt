@@ -26,6 +26,7 @@ pub mod HoldingRuns
 pub mod SkippedAtoms
 pub mod PacketRuns
 pub mod AddressRuns
+pub mod JoinedRuns
 pub mod AheadRuns
 pub mod AheadGives
 pub mod AheadPackets

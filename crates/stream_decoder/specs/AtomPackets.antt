@@ -1,8 +1,9 @@
 -- Packets of atoms that stand one behind the other (Arm IHI 0064, "Atom Format 1 packet" to "Atom Format 6 packet"), and what is taken of
 -- them at once.
-use Rattle.std.specs.Prelude.{◌≡◌, ℕ, ◌+◌, ◌<◌, ◌≤◌, Bool, List, [], ◌∷◌, ◌++◌, length, take, drop, Option, None, Ok, option_to_list}
+use Rattle.std.specs.Prelude.{◌≡◌, ℕ, ◌+◌, ◌<◌, ◌≤◌, Bool, true, List, [], ◌∷◌, ◌++◌, length, take, drop, Option, None, Ok, option_to_list}
 use Rattle.atom_formats.specs.Formats.{Spells}
 use Rattle.etm_types.specs.Atoms.{atoms_in}
+use Rattle.etm_types.specs.Pre.{nothing_told}
 use Rattle.etm_types.specs.declared.atoms.AtomRun.{AtomRun}
 use Rattle.etm_types.specs.declared.element.Elem.TheVariants as elem
 use Rattle.etm_types.specs.declared.element.P0.TheVariants.{Atom}
@@ -10,13 +11,14 @@ use Rattle.etm_types.specs.declared.element.Thing.{Thing}
 use Rattle.etm_types.specs.declared.item.Item.{Item}
 use Rattle.packet_grammar.specs.declared.packet.Packet.TheVariants.{Atoms}
 use Rattle.packet_reader.specs.Stands.{Standing, TakesPacket}
+use Rattle.packet_reader.specs.declared.phase.Phase.TheVariants.{Between}
 use Rattle.path_elements.specs.Elements.{atoms}
 use Rattle.path_walker.specs.State.{State, IsState}
 use Rattle.path_walker.specs.Things.{Walks}
 use Rattle.path_walker.specs.Walk.{items_in}
 use Rattle.path_walker.specs.declared.stretch.Stretch.{Stretch}
 use Rattle.program_image.specs.declared.image.Image.{Image}
-use Rattle.stream_decoder.specs.Decoding.{AtRest, Decoding, IsDecoding}
+use Rattle.stream_decoder.specs.Decoding.{AtRest, Decoding, IsDecoding, depth_of}
 use Rattle.stream_decoder.specs.Left.{Left}
 use Rattle.stream_decoder.specs.Waiting.{Commits, IsWaiting, Waiting}
 use Rattle.stream_decoder.specs.Yields.{BegunPacket, Goes}
@@ -119,3 +121,17 @@ pub record RunsFront {V : Type 0} (Takes : V → List Stretch → V → Type 0) 
   pub packets : RunsPackets image d first last (items_in (d.walk).ctx added) d'
   pub settings : (d'.reader).settings ≡ (d.reader).settings
   pub taken : (d'.reader).taken ≡ (d.reader).taken + length (bytes_in first) + length last
+
+-- ---- where each atom is committed as it is made
+
+-- No fault was met, the next byte begins a packet, atoms count and may come, and each is committed as it is made: nothing is due, and nothing but
+-- an address, if that, was given before the next one.
+pub record PassesAtoms (d : Decoding) : Type 0 where
+  pub whole : d.fault ≡ None
+  pub between : (d.reader).phase ≡ Between
+  pub informed : (d.told).informed ≡ true
+  pub awaiting : (d.told).awaiting ≡ None
+  pub due : d.due ≡ []
+  pub depth : depth_of d ≡ 0
+  pub before : Option ℕ
+  pub pre : (d.pending).pre ≡ record nothing_told { addr = before }

@@ -18,7 +18,7 @@ ghost use Rattle.path_walker.specs.State.{IsState};
 ghost use Rattle.path_walker.specs.Walk.{ToldIsAligned};
 ghost use Rattle.path_walker.specs.declared.stretch.Stretch.{Stretch};
 ghost use Rattle.program_image.specs.declared.image.Image.{Image};
-ghost use Rattle.stream_decoder.specs.AtomPackets.{RunsFront};
+ghost use Rattle.stream_decoder.specs.AtomPackets.{PassesAtoms, RunsFront};
 ghost use Rattle.stream_decoder.specs.Decoding.{AtRest, Begins, IsDecoding, depth_of};
 ghost use Rattle.stream_decoder.specs.Follows.{FindsWords};
 ghost use Rattle.stream_decoder.specs.Stands.{end_at};
@@ -126,9 +126,9 @@ impl Decoding {
         Some(later)
     }
 
-    /// Takes several packets at the front of the bytes that come next at once, and walks what they commit: packets of atoms as one run, with an
-    /// address before them or none, or from a commit or cancel on as [`run_ahead`](Decoding::run_ahead) does. It gives the bytes behind the last
-    /// packet. What that one leaves is left to do. Where nothing can be taken so, nothing changes.
+    /// Takes several packets at the front of the bytes that come next at once, and walks what they commit: packets of atoms as one run; addresses,
+    /// each with the packets of atoms behind it; or from a commit or cancel on as [`run_ahead`](Decoding::run_ahead) does. It gives the bytes
+    /// behind the last packet. What that one leaves is left to do. Where nothing can be taken so, nothing changes.
     #[inline(always)]
     pub fn run_packets<'a, T: StretchTaker>(
         &mut self,
@@ -158,9 +158,9 @@ impl Decoding {
         }
     }
 
-    /// Takes the address packet at the front of the bytes that come next, and the packets of atoms behind it as one run, where each is committed as it
-    /// is made: an address of few bytes and without a context, and up to the packet in which the last of the atoms stands that can be walked.
-    /// It gives the bytes behind that packet; the atoms of it that are left are left to do. Where no atom can be walked so, nothing changes.
+    /// Takes the address packets at the front of the bytes that come next, each with the packets of atoms behind it, where each atom is committed as
+    /// it is made: as long as [`run_address`](Decoding::run_address) takes one. It gives the bytes behind the last. Where none is taken so,
+    /// nothing changes.
     #[inline(always)]
     fn run_addressed<'a, T: StretchTaker>(
         &mut self,
@@ -181,7 +181,43 @@ impl Decoding {
         if self.fault.is_some() || !self.reader.is_between() || !self.maker.is_ready() {
             return None;
         }
-        let _before = self.waiting.passing()?;
+        self.waiting.passing()?;
+        let mut rest = bytes;
+        while let Some(behind) = self.run_address(image, id, rest, taker) {
+            rest = behind;
+        }
+        if rest.len() == bytes.len() {
+            return None;
+        }
+        Some(rest)
+    }
+
+    /// Takes the address packet at the front of the bytes that come next, and the packets of atoms behind it as one run, where each atom is committed
+    /// as it is made: an address of few bytes and without a context, and up to the packet in which the last of the atoms stands that can be
+    /// walked. It gives the bytes behind that packet; the atoms of it that are left are left to do. Where no atom can be walked so, and where
+    /// something is left to do of the packet before, nothing changes.
+    #[inline(always)]
+    fn run_address<'a, T: StretchTaker>(
+        &mut self,
+        image: &Image,
+        id: Id,
+        bytes: &'a [u8],
+        taker: &mut T,
+    ) -> Option<&'a [u8]>
+        requires few { self.old.reader.taken + length bytes.now ≤ 2 ^ 62 }
+        requires passes { PassesAtoms self.old }
+        requires holds { IsDecoding self.old }
+        ensures rest { IfSome result (λ behind. AtRest self.old) }
+        ensures runs { IfSome result (λ behind. RunsFront (T.adds image.now id self.old.walk.ctx) image.now self.old taker.old bytes.now behind.now
+            self.new taker.new) }
+        ensures none { result ≡ None → (self.new ≡ self.old) × T.adds image.now id self.old.walk.ctx taker.old [] taker.new }
+        ensures passes { PassesAtoms self.new }
+        ensures context { self.new.walk.ctx ≡ self.old.walk.ctx }
+        ensures holds { IsDecoding self.new }
+    {
+        if !self.todo.is_empty() {
+            return None;
+        }
         let (form, rest) = near_address_at(bytes)?;
         let (atoms, behind) = atoms_at(rest);
         if atoms.count == 0 {

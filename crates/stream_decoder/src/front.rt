@@ -81,7 +81,8 @@ pub fn take_up_to<'a>(
     requires some { 0 < n }
     requires few { n ≤ atoms.now.count }
     requires front { (text : List ℕ) × (bytes.now ≡ text ++ behind.now) × TellAtoms text (atoms_in atoms.now) }
-    ensures { ReachesAtom reader.old bytes.now n todo.new result.now reader.new }
+    ensures reaches { ReachesAtom reader.old bytes.now n todo.new result.now reader.new }
+    ensures between { reader.new.phase ≡ Between }
 {
     if n == usize::from(atoms.count) {
         todo.move_to(reader.skip((bytes.len() - behind.len()) as u64, 1));
@@ -104,7 +105,8 @@ fn take_among<'a>(
     requires ready { (maker.now.informed ≡ true) × (maker.now.awaiting ≡ None) }
     requires some { 0 < n }
     requires atoms { (all : List Bool) × BeginWithAtoms bytes.now all × (n ≤ length all) }
-    ensures { ReachesAtom reader.old bytes.now n todo.new result.now reader.new }
+    ensures reaches { ReachesAtom reader.old bytes.now n todo.new result.now reader.new }
+    ensures between { reader.new.phase ≡ Between }
 {
     let Reached {
         at,
@@ -127,7 +129,8 @@ fn read_until<'a>(reader: &mut PacketReader, bytes: &'a [u8], n: usize) -> Reach
     requires small { reader.old.taken + length bytes.now ≤ 2 ^ 62 }
     requires some { 0 < n }
     requires atoms { (all : List Bool) × BeginWithAtoms bytes.now all × (n ≤ length all) }
-    ensures { ReadsUntil reader.old bytes.now n result.at result.atoms result.within result.behind.now reader.new }
+    ensures reads { ReadsUntil reader.old bytes.now n result.at result.atoms result.within result.behind.now reader.new }
+    ensures between { reader.new.phase ≡ Between }
 {
     let mut left = n;
     let mut rest = bytes;

@@ -14,8 +14,8 @@ unreachable-requires-in_default-take_atoms c =
     c.in-Some.ensures.cases.0 l.invariant in
     none_there c.take_atoms.result c.in_default-take_atoms.is (c.take_atoms.ensures.some.1 least)
 
-pub returns-then-left-count : goal.returns-then-left-count
-returns-then-left-count c =
+pub returns-then-left-count-clause-reads : goal.returns-then-left-count-clause-reads
+returns-then-left-count-clause-reads c =
     let l = c.loop-byte in let a = c.in-Some-take_atoms in
     there c.args.reader.now l.reader c.take_atoms.new.self c.args.bytes.now l.rest.now c.in-Some.behind.now c.args.n l.left c.in-Some.byte.now
     a.at a.atoms c.in-Some.ensures.cases.0 l.invariant a.ensures.takes a.ensures.tells (omega (arith, c.from-count.ensures, c.if-left-count.true))

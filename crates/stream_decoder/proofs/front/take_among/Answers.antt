@@ -29,13 +29,13 @@ advance_by-requires c =
       many,
       length-map (atoms_in reached.atoms) (λ (b : Bool). elem.P0 (Atom b)),
       length_bits (reached.atoms).count (reached.atoms).bits,
-      c.read_until-at.ensures.most,
+      c.read_until-at.ensures.reads.most,
     )
 
-pub returns : goal.returns
-returns c =
+pub returns-clause-reaches : goal.returns-clause-reaches
+returns-clause-reaches c =
     let reached = c.read_until-at.result in
     let has = last_has c.args.maker.now reached.atoms c.of.result reached.at _ c.requires.ready c.of.ensures c.in-Some.ensures.some.1 in
     let is = c.advance_by.ensures ∙ ap (λ (l : Left). record l { elements = drop reached.within l.elements }) has in
     subst (λ (l : Left). ReachesAtom c.args.reader.now c.args.bytes.now c.args.n l reached.behind.now c.read_until-at.new.reader) (sym is)
-    (reached.atoms, reached.within, c.read_until-at.ensures, refl)
+    (reached.atoms, reached.within, c.read_until-at.ensures.reads, refl)

@@ -19,8 +19,8 @@ skip-requires-clause-packets c =
     let whole = skipped_packets c.args.reader.now.settings bytes f.0 c.args.behind.now (atoms_in run) a small f.1 in
     (packets_in a.first, packet_in a.last, whole.0, whole.1, refl)
 
-pub returns-then-n-from : goal.returns-then-n-from
-returns-then-n-from c =
+pub returns-then-n-from-clause-reaches : goal.returns-then-n-from-clause-reaches
+returns-then-n-from-clause-reaches c =
     let bytes = c.args.bytes.now in let run = c.args.atoms.now in let f = c.requires.front in
     let many = all_taken c.args.n c.from.result run c.if-n-from.true c.from.ensures in
     let a = are_runs f.0 (atoms_in run) c.args.n f.2 c.requires.some many in

@@ -35,7 +35,7 @@ all g c =
     c.take_some-n.new.waiting i.walker c.take_some-n.new.walker i.fault bytes c.take_up_to.result.now told c.take_some-n.result c.args.taker.now
     c.take_some-n.new.taker c.self.invariant (subst AtRest (sym c.self.view_is) c.requires.rest)
     (unmet i.fault (sym c.is_some.ensures ∙ c.if-is_some.false)) counts (small_bytes bytes (λ n. omega (arith, c.type_inv.bytes n)))
-    (front.0, c.atoms_at.result.1.now, front.1, front.2) (c.take_some-n.ensures.steps told front_is) c.take_up_to.ensures
+    (front.0, c.atoms_at.result.1.now, front.1, front.2) (c.take_some-n.ensures.steps told front_is) c.take_up_to.ensures.reaches
 
 pub invariant_of-self-2 : goal.invariant_of-self-2
 invariant_of-self-2 g c = (all g c).1
