@@ -159,3 +159,9 @@ no_more_behind image s' addr most count bits n m room first some none taken ther
     let bit : (bits / 2 ^ n / 2 ^ m % 2 == 1) ≡ taken = ap (λ (b : ℕ). b % 2 == 1) (shr-shr bits n m) ∙ bit_at (n + m) count bits taken there in
     subst (λ (t : Bool). HasNoStretch image s' (atom_at (given_before (n + m) addr) t)) bit
     (subst (λ (a : Option ℕ). HasNoStretch image s' (atom_at a (bits / 2 ^ n / 2 ^ m % 2 == 1))) (sym (behind_none n m addr first)) (none below))
+
+-- as many as there are, or as there was room for
+pub no_more_left : (image : Image) (s' : State) (addr : Option ℕ) (count bits n room : ℕ) → (n < count → n < room → ⊥)
+    → WalksNoMore image s' addr (low_bits count bits) n room
+no_more_left image s' addr count bits n room all taken there short =
+    let within : n < count = omega (arith, slice_get_within (low_bits count bits) n taken there, low_bits_length count bits) in absurd (all within short)

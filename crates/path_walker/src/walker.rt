@@ -175,6 +175,9 @@ impl Walker {
         let Some(first) = self.walk_given(image, id, given, atoms.bits, most, taker) else {
             return 0;
         };
+        if first == most {
+            return first;
+        }
         first + self.walk_on(image, id, atoms.bits >> first, most - first, taker)
     }
 
@@ -359,7 +362,9 @@ impl Walker {
     }
 
     /// Walks atoms before which nothing was given, one after the other, as many as can be and at most so many. It gives how many.
-    #[inline(always)]
+    ///
+    /// It is a function of its own, so that its loops have the registers to themselves whoever calls it.
+    #[inline(never)]
     fn walk_on<T: StretchTaker>(
         &mut self,
         image: &Image,

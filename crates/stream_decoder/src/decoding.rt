@@ -791,8 +791,7 @@ impl Decoding {
         }
     }
 
-    /// The same, of what is held. It is a function of its own, as the next one is: the loop with all that it does is one piece of code then, and no
-    /// atom costs a call.
+    /// The same, of what is held. It is a function of its own: the loop with all that it does is one piece of code then.
     #[inline(never)]
     fn walk_held<T: StretchTaker>(&mut self, image: &Image, id: Id, taker: &mut T)
         requires holds { IsDecoding self.old }
@@ -806,7 +805,7 @@ impl Decoding {
     }
 
     /// The same, where this address was given before the first atom, or none.
-    #[inline(never)]
+    #[inline(always)]
     fn walk_passing<T: StretchTaker>(
         &mut self,
         image: &Image,

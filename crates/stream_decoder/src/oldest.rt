@@ -41,8 +41,8 @@ pub fn walk_oldest<T: StretchTaker>(
     }
 }
 
-/// The same of atoms before which nothing was given. It is a function of its own, so that its loop has the registers to itself.
-#[inline(never)]
+/// The same of atoms before which nothing was given.
+#[inline(always)]
 pub fn walk_plain<T: StretchTaker>(
     walker: &mut Walker,
     image: &Image,

@@ -2,7 +2,7 @@ use Rattle.std.proofs.Common.{◌<◌, ◌+◌, arith, refl, subst, sym}
 use Rattle.etm_types.specs.Atoms.{low_bits}
 use Rattle.path_walker.specs.State.{State}
 use Rattle.path_walker.specs.Walk.{WalksNoMore}
-use Rattle.path_walker.proofs.AtomRuns.{no_more_behind, no_more_first, run_joined, run_of_more}
+use Rattle.path_walker.proofs.AtomRuns.{no_more_behind, no_more_first, no_more_left, run_joined, run_of_more}
 use Rattle.path_walker.proofs.walker.Walker.walk_atoms.Goals as goal
 
 pub returns-in_default-clause-stops : goal.returns-in_default-clause-stops
@@ -34,3 +34,20 @@ returns-clause-stops g c =
     subst (λ room. WalksNoMore c.args.image.now c.walk_on.new.self c.args.given (low_bits count bits) (first + more) room) c.room.ensures.space
     (no_more_behind c.args.image.now c.walk_on.new.self c.args.given c.min-most.result count bits first more c.room.result c.in-Some.ensures.behind some
     c.walk_on.ensures.stops)
+
+-- ---- all were walked where the address was given
+
+pub returns-then-first-most-clause-walks : goal.returns-then-first-most-clause-walks
+returns-then-first-most-clause-walks g c =
+    let image = c.args.image.now in let id = c.args.id in let s = c.args.self.now in let bits = c.args.atoms.now.bits in
+    let adds = g.T.StretchTaker.adds image id in let none = g.met.T.StretchTaker.none image id in let joins = g.met.T.StretchTaker.joins image id in
+    run_of_more adds none joins image s.ctx s c.walk_given.new.self c.args.given c.min-most.result c.args.atoms.now.count bits c.in-Some.first
+    c.args.taker.now c.walk_given.new.taker (omega (arith, c.min-most.ensures, c.from.ensures)) c.in-Some.ensures.walks
+
+pub returns-then-first-most-clause-stops : goal.returns-then-first-most-clause-stops
+returns-then-first-most-clause-stops g c =
+    let bits = c.args.atoms.now.bits in let count = c.args.atoms.now.count in let first = c.in-Some.first in
+    let all : first < count → first < c.room.result → ⊥ =
+    λ any short. omega (arith, any, short, c.if-first-most.true, c.min-most.ensures, c.from.ensures) in
+    subst (λ room. WalksNoMore c.args.image.now c.walk_given.new.self c.args.given (low_bits count bits) first room) c.room.ensures.space
+    (no_more_left c.args.image.now c.walk_given.new.self c.args.given count bits first c.room.result all)
