@@ -1,3 +1,4 @@
+pub mod Back
 pub mod Complete
 mod CompleteExamples
 pub mod TracedCalls

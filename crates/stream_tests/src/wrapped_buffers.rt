@@ -1,6 +1,6 @@
 //! Small buffers that were written round, and the last frames of captures.
+use ring_capture::{Unwrap, last_frames};
 use std::test::Fail;
-use wrapped_capture::{Unwrap, last_frames};
 
 type Frame = [u8; 16];
 

@@ -32,7 +32,7 @@ use Rattle.trace_io.specs.State.{IoState}
 use Rattle.trace_io.specs.declared.traits.Failed.{Failed}
 use Rattle.trace_io.proofs.Known.{front_kept, front_of_all}
 use Rattle.sync_frames.specs.Laid.{synced_laid_is}
-use Rattle.wrapped_capture.specs.Laid.{wrapped_laid_is}
+use Rattle.ring_capture.specs.Laid.{wrapped_laid_is}
 
 -- where nothing was read, nothing was taken
 pub none_taken : (s : IoState) (most : ℕ) → TakesAtMost s s most

@@ -8,9 +8,9 @@ use Rattle.etm_types.specs.declared.item.Item.{Item}
 use Rattle.stream_demux.specs.Demuxed.{Demuxed}
 use Rattle.stream_demux.specs.Texts.{Listing}
 use Rattle.sync_frames.specs.Synchronised.{IsAfter, Synchronised}
-use Rattle.wrapped_capture.specs.Laid.{later_none}
-use Rattle.wrapped_capture.specs.Unwrapping.{Unwrapping}
-use Rattle.wrapped_capture.specs.Wrapped.{HaveTaken, taken_of}
+use Rattle.ring_capture.specs.Laid.{later_none}
+use Rattle.ring_capture.specs.Unwrapping.{Unwrapping}
+use Rattle.ring_capture.specs.Wrapped.{HaveTaken, taken_of}
 
 -- where nothing was taken of a buffer that was written round, nothing is kept
 pub fresh_wrapped : {X Y : Type 0} (stands : X → List ℕ → Type 0) (sizes : X → Sizes) (sums : Y → List (ℕ × Item) → Type 0) (g : Sizes → Listing)

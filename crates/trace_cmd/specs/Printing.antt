@@ -13,7 +13,7 @@ use Rattle.stream_demux.specs.Paths.{paths}
 use Rattle.stream_demux.specs.Texts.{Listing, by_sizes}
 use Rattle.sync_frames.specs.Laid.{synced_laid}
 use Rattle.time_marks.specs.TimeList.{times}
-use Rattle.wrapped_capture.specs.Laid.{wrapped_laid}
+use Rattle.ring_capture.specs.Laid.{wrapped_laid}
 
 -- the paths of streams over an image, or the counts of these, or their packets, or the times of their P0 elements, of an input that is
 -- taken so

@@ -25,6 +25,7 @@ use input_pieces::print_input;
 use packet_list::PacketStream;
 use program_image::{Image, ImageFault, ImageWhy};
 use retired_paths::retire_input;
+use ring_capture::WrappedDemux;
 use std::alloc::{AllocError, Global};
 use stream_decoder::StreamDecoder;
 use stream_demux::{Demux, Printer, RawStream, Stream};
@@ -32,7 +33,6 @@ use sync_frames::SyncedDemux;
 use time_marks::TimedDecoder;
 use trace_io::{Failed, Sink, Source};
 use traced_runs::{test_number, trace_input};
-use wrapped_capture::WrappedDemux;
 
 /// Prints an input by a printer that took nothing yet, or tells that memory was wanting to make it.
 fn print_by<P: Printer, J: Source, K: Sink>(

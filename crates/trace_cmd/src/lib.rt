@@ -7,7 +7,7 @@
 //!
 //! What each command does stands in the crates below: the words in `command_words`, the reading of an input by pieces in
 //! `input_pieces`, `retired` in `retired_paths`, `trace` and `selftest` in `traced_runs`, the answers in `answer_lines`. Here the words
-//! are read, then the image, and then the command is done. What all answers come to is said by the laws of `answer_laws` and `read_back`.
+//! are read, then the image, and then the command is done. What all answers come to is said by the laws of `answer_laws`.
 #![tactic(auto)]
 
 mod command;

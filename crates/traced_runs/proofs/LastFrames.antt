@@ -25,9 +25,9 @@ use Rattle.traced_runs.proofs.TracedStreams.{traces_are_shown}
 use Rattle.traced_runs.proofs.Tracing.{traced_so}
 use Rattle.traced_runs.specs.Traced.{AreAccepted, AreTracedFrames, AreWritten, IsLastFrames, TracesSo, WritesTraces, kept_frames, last_of, trace_frames}
 use Rattle.traced_runs.specs.Traced.{trace_pairs, traces, with_syncs}
-use Rattle.wrapped_capture.proofs.LastOfEach.{each_ends, ends_behind}
-use Rattle.wrapped_capture.proofs.MissingFrames.{last_end}
-use Rattle.wrapped_capture.specs.Ends.{EndsWith}
+use Rattle.ring_capture.proofs.LastOfEach.{each_ends, ends_behind}
+use Rattle.ring_capture.proofs.MissingFrames.{last_end}
+use Rattle.ring_capture.specs.Ends.{EndsWith}
 
 -- ---- whole frames
 

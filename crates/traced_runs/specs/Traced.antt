@@ -28,7 +28,7 @@ use Rattle.trace_io.specs.Bytes.{TakesAll}
 use Rattle.trace_io.specs.State.{IoState}
 use Rattle.trace_io.specs.declared.traits.Failed.{Failed}
 use Rattle.trace_unit.specs.Written.{settled}
-use Rattle.wrapped_capture.specs.Rotated.{in_bytes}
+use Rattle.ring_capture.specs.Rotated.{in_bytes}
 
 -- what the trace unit of each stream writes for its events, with the ID of the stream
 abbrev pub traces : Image → BenchParts → List (ℕ × List ℕ)

@@ -25,13 +25,13 @@ use bench_text::{Bench, BenchLine, BenchWhy};
 use formatter_frames::FRAME_BYTES;
 use program_image::Image;
 use retired_paths::{Unread, read_bench, refuse};
+use ring_capture::last_frames;
 use spec_run::{Event, RunFault};
 use std::alloc::{AllocError, Global};
 use sync_frames::write_synced;
 use trace_io::{Failed, MemSink, Sink, Source, write_all};
 use trace_unit::{Unit, UnitFault};
 use woven_traces::{Trace, write_woven};
-use wrapped_capture::last_frames;
 
 /// Why streams were not traced.
 #[derive(Clone, Copy, Debug)]

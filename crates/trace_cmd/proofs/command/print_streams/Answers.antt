@@ -2,7 +2,7 @@ use Rattle.std.proofs.Common.{sym, ap, ◌∙◌}
 use Rattle.command_words.specs.Said.{said_intake}
 use Rattle.trace_cmd.specs.Printing.{laid_in, sizes_by}
 use Rattle.trace_cmd.proofs.Layouts.{by_both, fresh_synced, fresh_wrapped, of_made}
-use Rattle.wrapped_capture.specs.Laid.{wrapped_laid}
+use Rattle.ring_capture.specs.Laid.{wrapped_laid}
 use Rattle.trace_cmd.proofs.command.print_streams.Goals as goal
 
 -- ---- a printer that was made took nothing

@@ -1,0 +1,5 @@
+pub mod Marks
+pub mod Rows
+pub mod Walked
+pub mod Part
+pub mod LastBytes

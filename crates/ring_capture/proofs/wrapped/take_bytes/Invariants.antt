@@ -1,0 +1,29 @@
+use Rattle.std.proofs.Common.{◌≡◌, ◌+◌, ◌-◌, ◌≤◌, ℕ, List, ◌++◌, length, take, false}
+use Rattle.etm_types.specs.Settings.{Sizes}
+use Rattle.stream_demux.specs.Texts.{by_sizes}
+use Rattle.stream_demux.proofs.Writing.{Gained}
+use Rattle.trace_io.specs.Bytes.{ShowsAsBefore}
+use Rattle.trace_io.specs.Causes.{KeepsFaults}
+use Rattle.ring_capture.specs.Laid.{later_pairs}
+use Rattle.ring_capture.specs.Wrapped.{HaveTaken, taken_of}
+use Rattle.ring_capture.proofs.wrapped.take_bytes.Given as goal
+
+abbrev pub decreases-loop-at : goal.decreases-loop-at
+decreases-loop-at g l = length l.piece - l.at
+
+abbrev pub invariant-loop-at : goal.invariant-loop-at
+invariant-loop-at g l =
+    let state = g.K.Sink.state in let there = g.S.Stream.stands l.shared in
+    record {
+      within : l.at ≤ length l.piece;
+      stands : (t : ℕ → Sizes) (bytes : List ℕ) → HaveTaken there g.S.Stream.sizes (g.S.Stream.sums l.shared) (g.S.Stream.listing l.shared) t l.fn.unwrap l.fn.demux bytes
+          → HaveTaken there g.S.Stream.sizes (g.S.Stream.sums l.shared) (g.S.Stream.listing l.shared) t l.unwrap l.demux (bytes ++ take l.at l.piece);
+      gained : (t : ℕ → Sizes) (bytes : List ℕ) → HaveTaken there g.S.Stream.sizes (g.S.Stream.sums l.shared) (g.S.Stream.listing l.shared) t l.fn.unwrap l.fn.demux bytes
+          → Gained (later_pairs l.fn.unwrap.frames) (by_sizes (g.S.Stream.listing l.shared) t) bytes (take l.at l.piece) (state l.fn.sink)
+          (state l.sink);
+      kept : KeepsFaults (state l.fn.sink) (state l.sink);
+      shows : ShowsAsBefore (state l.fn.sink) (state l.sink);
+      taken : taken_of l.unwrap l.demux ≡ taken_of l.fn.unwrap l.fn.demux + l.at;
+      whole : l.demux.broken ≡ false;
+      frames : l.unwrap.frames ≡ l.fn.unwrap.frames;
+    }

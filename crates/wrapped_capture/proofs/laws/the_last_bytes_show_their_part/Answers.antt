@@ -1,8 +1,0 @@
-use Rattle.wrapped_capture.proofs.Capture.{last_shown, none_shown}
-use Rattle.wrapped_capture.proofs.laws.the_last_bytes_show_their_part.Goals as goal
-
-pub returns-clause-shown : goal.returns-clause-shown
-returns-clause-shown c = last_shown
-
-pub returns-clause-none : goal.returns-clause-none
-returns-clause-none c = none_shown
