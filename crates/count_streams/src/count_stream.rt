@@ -67,19 +67,6 @@ impl Stream for CountStream {
         })
     }
 
-    #[inline(always)]
-    fn take<K: Sink>(
-        &mut self,
-        image: &Image,
-        counts: &mut PathCounts,
-        id: Id,
-        byte: u8,
-        _sink: &mut K,
-    ) -> Result<(), Failed> {
-        self.stream.take(image, id, byte, counts);
-        Ok(())
-    }
-
     fn take_run<K: Sink>(
         &mut self,
         image: &Image,

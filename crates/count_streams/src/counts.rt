@@ -62,7 +62,10 @@ impl PathCounts {
 
 /// What it took are the items that are counted.
 impl Follower for PathCounts {
-    ghost took = { CountsAre };
+    ghost use Rattle.stream_decoder.specs.Follows.{TakesMore, items_under};
+    ghost use Rattle.count_streams.specs.Taking.{takes_nothing, takes_together};
+
+    ghost takes = { λ image id old items new. TakesMore (CountsAre image) old new (items_under id items) };
 
     #[inline(always)]
     fn take_walked(&mut self, image: &Image, id: Id, walked: &Walked) {
@@ -82,6 +85,10 @@ impl Follower for PathCounts {
         self.branches.take_mark(id);
     }
 
+    ghost takes_none = { λ image id counts. takes_nothing (CountsAre image) counts };
+
+    ghost takes_joined = { λ image id a b c xs ys first rest. takes_together (CountsAre image) id a b c xs ys first rest };
+
     ghost shows = { λ image id ctx old new run adds. adds };
 }
 
@@ -90,16 +97,21 @@ impl StretchTaker for PathCounts {
     ghost use Rattle.etm_types.specs.Atoms.{most_atoms};
     ghost use Rattle.path_walker.specs.Walk.{items_in};
     ghost use Rattle.stream_decoder.specs.Follows.{TakesMore, items_under};
-    ghost use Rattle.count_streams.specs.Taking.{takes_joined, takes_none};
+    ghost use Rattle.count_streams.specs.Taking.{takes_nothing, takes_stretches};
 
     ghost adds = { λ image id ctx old run new. TakesMore (CountsAre image) old new (items_under id (items_in ctx run)) };
 
     ghost space = { λ counts. most_atoms };
 
+    ghost begun = { λ ctx counts. Unit {0} };
+
     #[inline(always)]
     fn room(&self) -> usize {
         MOST_ATOMS
     }
+
+    #[inline(always)]
+    fn begin(&mut self, _ctx: &Ctx) {}
 
     #[inline(always)]
     fn take_stretch(&mut self, image: &Image, id: Id, _ctx: &Ctx, stretch: Stretch) {
@@ -110,7 +122,7 @@ impl StretchTaker for PathCounts {
         }
     }
 
-    ghost none = { λ image id ctx counts. takes_none (CountsAre image) counts };
+    ghost none = { λ image id ctx counts. takes_nothing (CountsAre image) counts };
 
-    ghost joins = { λ image id ctx a b c xs ys first rest. takes_joined (CountsAre image) id ctx a b c xs ys first rest };
+    ghost joins = { λ image id ctx a b c xs ys first rest. takes_stretches (CountsAre image) id ctx a b c xs ys first rest };
 }

@@ -13,16 +13,6 @@ pub committed_one : (was now : Counts) (before held : ℕ)
 committed_one was now before held e h b =
     omega (arith, ap (λ c. c.made) e, ap (λ c. c.committed) e, ap (λ c. c.cancelled) e, ap (λ c. c.lost) e)
 
-pub cancelled_one : (was now : Counts) (before held : ℕ)
-    → now ≡ record was { cancelled = add was.cancelled 1 } → before ≡ held + 1 → Balances was before → Balances now held
-cancelled_one was now before held e h b =
-    omega (arith, ap (λ c. c.made) e, ap (λ c. c.committed) e, ap (λ c. c.cancelled) e, ap (λ c. c.lost) e)
-
-pub lost_one : (was now : Counts) (before held : ℕ)
-    → now ≡ record was { lost = add was.lost 1 } → before ≡ held + 1 → Balances was before → Balances now held
-lost_one was now before held e h b =
-    omega (arith, ap (λ c. c.made) e, ap (λ c. c.committed) e, ap (λ c. c.cancelled) e, ap (λ c. c.lost) e)
-
 pub same_counts : (a b : Counts) → a.made ≡ b.made → a.committed ≡ b.committed → a.cancelled ≡ b.cancelled → a.lost ≡ b.lost → a ≡ b
 same_counts a b made committed cancelled lost k = record { made = made k; committed = committed k; cancelled = cancelled k; lost = lost k }
 

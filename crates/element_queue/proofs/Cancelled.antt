@@ -56,12 +56,6 @@ parts unseen less (suc more) seen kept gone count e none =
     ∙ append_assoc (replicate less Unseen) (replicate (suc more) Unseen) (map Seen gone)
     ∙ ap (λ l. l ++ things (suc more) gone) (sym (append-nil (replicate less Unseen)) ∙ ap (things less) (sym nothing))
 
-pub given_behind_kept : (pre : Pre) (seen kept gone : List Entry) (n : ℕ) → kept ++ gone ≡ seen → n + length gone ≡ length seen
-    → given_since pre (drop n seen) ≡ given_since pre gone
-given_behind_kept pre seen kept gone n e count =
-    ap (λ l. given_since pre (drop n l)) (sym e)
-    ∙ ap (given_since pre) (drop_at kept gone n (omega (arith, length-append kept gone, ap length e, count)))
-
 pub missing_behind : (pre : Pre) (more : ℕ) (gone : List Entry) → 0 < more → pre_since pre (things more gone) ≡ trace_missing
 missing_behind pre zero gone h = absurd (omega arith)
 missing_behind pre (suc more) gone h = refl

@@ -90,13 +90,6 @@ pub are_oldest : (runs : List Run) (run : Run) (n : ℕ) (plain : List Bool) →
 are_oldest runs run n plain is within =
     (take n run.plain, first_oldest runs run n plain is within, length-take-le n run.plain within)
 
--- the first run has no atoms, and is taken out
-pub first_gone : (runs others : List Run) (run : Run) (plain : List Bool) → runs ≡ run ∷ others → run.plain ≡ []
-    → entries_in runs plain ≡ run.last ∷ entries_in others plain
-first_gone runs others run plain is none =
-    ap (λ (l : List Run). entries_in l plain) is
-    ∙ ap (λ (l : List Bool). map plain_entry l ++ run.last ∷ entries_in others plain) none
-
 -- ---- where there are no runs
 
 pub plain_dropped : (runs : List Run) (n : ℕ) (plain : List Bool) → length runs ≡ 0 → entries_in runs (drop n plain) ≡ drop n (entries_in runs plain)
@@ -229,15 +222,6 @@ some_plain runs plain some =
 pub none_there : (runs : List Run) → None ≡ slice_get runs 0 → length runs ≡ 0
 none_there [] none = refl
 none_there (run ∷ runs) none = absurd cc
-
-pub first_few : (runs : List Run) (run : Run) (plain : List Bool) → slice_get runs 0 ≡ Some run → length run.plain ≤ length (entries_in runs plain)
-first_few runs run plain is =
-    omega (
-      arith,
-      ap length (first_of runs run plain is),
-      length-append (map plain_entry run.plain) (behind_first runs plain),
-      length-map run.plain plain_entry,
-    )
 
 pub no_fewer : (runs : List Run) (plain : List Bool) → length runs ≡ 0 → length plain ≡ length (entries_in runs plain)
 no_fewer runs plain none = omega (arith, ap length (only_plain runs plain none), length-map plain plain_entry)

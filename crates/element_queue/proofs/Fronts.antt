@@ -61,6 +61,12 @@ pub first_front : (runs : List Run) (run : Run) (plain : List Bool) → slice_ge
 first_front runs run plain is ends =
     let first = first_run runs run plain is in subst (IsFront run.plain) (sym first.1) (ends first.0)
 
+-- the first of those from one on is that one
+pub get_drop : {X : Type 0} (i : ℕ) (xs : List X) → slice_get (drop i xs) 0 ≡ slice_get xs i
+get_drop zero xs = refl
+get_drop (suc i) [] = refl
+get_drop (suc i) (x ∷ xs) = get_drop i xs
+
 -- ---- a run behind a front
 
 all_taken : (n : ℕ) (plain : List Bool) → n ≡ length plain → drop n plain ≡ []
@@ -125,22 +131,22 @@ next_run : (runs : List Run) (run : Run) (plain : List Bool) (i : ℕ) → slice
 next_run runs run plain i is = ap (λ (l : List Run). entries_in l plain) (drop_there runs run i is)
 
 -- the front so far, and the runs that are left
-pub goes_on : (runs : List Run) (run : Run) (plain old front : List Bool) (i : ℕ) → slice_get runs i ≡ Some run
-    → entries_in runs plain ≡ map plain_entry old ++ entries_in (drop i runs) plain
+pub goes_on : (items : List Entry) (runs : List Run) (run : Run) (plain old front : List Bool) (i : ℕ) → slice_get runs i ≡ Some run
+    → items ≡ map plain_entry old ++ entries_in (drop i runs) plain
     → map plain_entry front ≡ map plain_entry old ++ map plain_entry run.plain ++ run.last ∷ []
-    → entries_in runs plain ≡ map plain_entry front ++ entries_in (drop (i + 1) runs) plain
-goes_on runs run plain old front i is split more =
+    → items ≡ map plain_entry front ++ entries_in (drop (i + 1) runs) plain
+goes_on items runs run plain old front i is split more =
     let left = entries_in (drop (i + 1) runs) plain in
     split ∙ ap (λ (l : List Entry). map plain_entry old ++ l) (next_run runs run plain i is)
     ∙ sym (append_assoc (map plain_entry old) (map plain_entry run.plain) (run.last ∷ left))
     ∙ sym (append_assoc (map plain_entry old ++ map plain_entry run.plain) (run.last ∷ []) left)
     ∙ ap (λ (l : List Entry). l ++ left) (sym more)
 
-pub ends_there : (runs : List Run) (run : Run) (plain old front : List Bool) (i : ℕ) → slice_get runs i ≡ Some run
-    → entries_in runs plain ≡ map plain_entry old ++ entries_in (drop i runs) plain
+pub ends_there : (items : List Entry) (runs : List Run) (run : Run) (plain old front : List Bool) (i : ℕ) → slice_get runs i ≡ Some run
+    → items ≡ map plain_entry old ++ entries_in (drop i runs) plain
     → ((others : List Entry) → IsFront front (map plain_entry old ++ map plain_entry run.plain ++ run.last ∷ others))
-    → IsFront front (entries_in runs plain)
-ends_there runs run plain old front i is split ends =
+    → IsFront front items
+ends_there items runs run plain old front i is split ends =
     let left = entries_in (drop (i + 1) runs) plain in
     subst (IsFront front)
     (append_assoc (map plain_entry old) (map plain_entry run.plain) (run.last ∷ left)
@@ -148,10 +154,10 @@ ends_there runs run plain old front i is split ends =
     (ends left)
 
 -- behind the last run the bits alone are left
-pub ends_plain : (runs : List Run) (plain old front : List Bool) (i n : ℕ) → length runs ≤ i
-    → entries_in runs plain ≡ map plain_entry old ++ entries_in (drop i runs) plain → front ≡ old ++ take n plain
-    → (length front < most_atoms → n ≡ length plain) → IsFront front (entries_in runs plain)
-ends_plain runs plain old front i n past split is ends =
+pub ends_plain : (items : List Entry) (runs : List Run) (plain old front : List Bool) (i n : ℕ) → length runs ≤ i
+    → items ≡ map plain_entry old ++ entries_in (drop i runs) plain → front ≡ old ++ take n plain
+    → (length front < most_atoms → n ≡ length plain) → IsFront front items
+ends_plain items runs plain old front i n past split is ends =
     let gone : drop i runs ≡ [] = nil_from_length (drop i runs) (omega (arith, length-drop i runs, past)) in
     let left = map plain_entry (drop n plain) in (
       left,

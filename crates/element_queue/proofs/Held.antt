@@ -58,9 +58,6 @@ pub none_there : {X : Type 0} (r : Option X) → r ≡ None → IsSome r → ⊥
 none_there None is some = absurd cc
 none_there (Some x) is some = absurd cc
 
-pub entry_is : (x y : Entry) (held : List Thing) → held ≡ Seen x ∷ [] → held ≡ Seen y ∷ [] → x ≡ y
-entry_is x y held one other = cc
-
 -- a ring that gives nothing is empty
 pub none_left : {X : Type 0} (xs : List X) → (0 < length xs → false ≡ true) → xs ≡ []
 none_left [] h = refl

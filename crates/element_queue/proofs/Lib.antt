@@ -4,7 +4,9 @@ pub mod Counted
 pub mod Deferred
 pub mod Examples
 pub mod Flipped
+pub mod FlippedAtoms
 pub mod Fronts
+pub mod GivenFronts
 pub mod Held
 pub mod Joined
 pub mod LowBits

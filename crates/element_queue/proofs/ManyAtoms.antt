@@ -10,7 +10,7 @@ use Rattle.element_queue.specs.Kept.{AreOldest, NoPlainAt}
 use Rattle.element_queue.specs.Queued.{AreOldestPlain, NoPlainAtomAt, plain_atom, plain_entry}
 use Rattle.element_queue.proofs.Held.{entries-things, things}
 
-plain_things : (atoms : List Bool) → map Seen (map plain_entry atoms) ≡ map plain_atom atoms
+pub plain_things : (atoms : List Bool) → map Seen (map plain_entry atoms) ≡ map plain_atom atoms
 plain_things [] = refl
 plain_things (taken ∷ atoms) = ap (λ l. plain_atom taken ∷ l) (plain_things atoms)
 

@@ -1,5 +1,5 @@
 -- What contracts see of a queue and of its counts, in values; and how the fields of a packed element stand for one.
-use Rattle.std.proofs.Common.{◌≡◌, ℕ, zero, suc, Bool, true, false, get_or, List, [], ◌∷◌, length, map, slice_get, ap, Option, Some, None, Ok, Err, refl, sym, arith}
+use Rattle.std.proofs.Common.{◌≡◌, ℕ, zero, suc, Bool, true, false, get_or, List, [], ◌∷◌, ◌++◌, length, map, slice_get, ap, Option, Some, None, Ok, Err, refl, sym, arith}
 use Rattle.std.proofs.lemmas.List.{length-map}
 use Rattle.std.proofs.lemmas.List.Elements.{All-cons, All-nil}
 use Rattle.std.specs.Prelude.{◌-◌, ◌^◌}
@@ -12,10 +12,12 @@ use Rattle.etm_types.specs.declared.element.Thing.{Thing}
 use Rattle.etm_types.specs.declared.element.Thing.TheVariants.{Seen, Unseen, Gap, Stop}
 use Rattle.element_queue.specs.Counting.{AreCounts, Balances, no_counts, sum_of}
 use Rattle.element_queue.specs.Kept.{AreNewest, AreOldest, IsFront, NoPlainAt, entries_in}
+use Rattle.element_queue.specs.Outlooks.{flip_newest_atom}
 use Rattle.element_queue.specs.Packed.{addr_of, ctx_of, p0_of, unpacked}
 use Rattle.element_queue.specs.Pending.{Taken as Outcome, committing, nothing_gone}
-use Rattle.element_queue.specs.Queued.{AreOldestPlain, IsHeld, IsQueued, NoPlainAtomAt, Queued, Takes, TakesInfo, TakesPre, holding, passed, pending_of, plain_atom, plain_entry, rotated, things_of}
+use Rattle.element_queue.specs.Queued.{AreOldestPlain, BeginsWith, IsHeld, IsQueued, NoPlainAtomAt, Queued, Takes, TakesInfo, TakesPre, holding, passed, pending_of, plain_atom, plain_entry, rotated, things_of}
 use Rattle.element_queue.specs.declared.entries.Run.{Run}
+use Rattle.element_queue.specs.declared.given_atoms.GivenAtoms.{GivenAtoms}
 use Rattle.element_queue.specs.declared.ledger.Counts.{Counts}
 use Rattle.element_queue.specs.declared.packed.Context.TheVariants.{NotGiven, Secure, NonSecure}
 use Rattle.element_queue.specs.declared.packed.Element.TheVariants.{NotTaken, Taken, Exception}
@@ -218,6 +220,41 @@ none_past_the_newest taken there = cc
 pub not_none_at_the_second : NoPlainAtomAt 1 three_held.held → ⊥
 not_none_at_the_second none = none true refl
 
+-- an atom behind an address, and two plain atoms behind it
+abbrev behind_address : List Thing
+behind_address = seen (record none_given { addr = Some 0x4000 }) (Atom true) ∷ plain_atom false ∷ plain_atom true ∷ first ∷ []
+
+abbrev run_given : ℕ → ℕ → GivenAtoms
+run_given count bits = record { addr = Some 0x4000; atoms = record { count = count; bits = bits } }
+
+no_atom_given : NoPlainAtomAt 3 behind_address
+no_atom_given taken there = let addr = ap addr_in there in cc
+
+pub begins_behind_address : BeginsWith (run_given 3 0b101) behind_address
+begins_behind_address = record { atoms = refl; some = omega arith; most = omega arith; within = omega arith; all = λ less. no_atom_given }
+
+-- too few of them; beyond one that is no plain atom; none, or too many; without the address, or with another atom
+pub not_too_few_given : BeginsWith (run_given 2 0b01) behind_address → ⊥
+not_too_few_given is = is.all (omega arith) true refl
+
+pub not_given_before_each : BeginsWith (run_given 4 0b0101) (behind_address ++ plain_atom false ∷ []) → ⊥
+not_given_before_each is = let addr = ap (λ (things : List Thing). addr_in (slice_get things 3)) is.atoms in cc
+
+pub not_none_given : BeginsWith (run_given 0 0) [] → ⊥
+not_none_given is = absurd (omega (arith, is.some))
+
+pub not_more_than_24 : (bits : ℕ) (held : List Thing) → BeginsWith (run_given 25 bits) held → ⊥
+not_more_than_24 bits held is = absurd (omega (arith, is.most))
+
+pub not_more_than_held : BeginsWith (run_given 1 0b1) [] → ⊥
+not_more_than_held is = absurd (omega (arith, is.within))
+
+pub not_without_its_address : BeginsWith (record (run_given 3 0b101) { addr = None }) behind_address → ⊥
+not_without_its_address is = let addr = ap (λ (things : List Thing). addr_in (slice_get things 0)) is.atoms in cc
+
+pub not_the_other_atom : BeginsWith (run_given 3 0b111) behind_address → ⊥
+not_the_other_atom is = let e = ap (λ (things : List Thing). is_e (get_or things 1 Unseen)) is.atoms in cc
+
 -- where there is room, none is committed
 pub two_more_held : holding (false ∷ true ∷ []) (record three_held { depth = 5 })
     ≡ record {
@@ -342,3 +379,19 @@ none_at_the_interrupt taken there = let p0 : Exc 14 0x4000 ≡ Atom taken = ap (
 
 pub not_none_behind_all : NoPlainAt 4 (entries_in two_runs (true ∷ [])) → ⊥
 not_none_behind_all none = none true refl
+
+-- ---- an outlook
+
+-- the newest of three is flipped, and no other
+pub newest_flipped : flip_newest_atom (true ∷ true ∷ false ∷ []) ∷ flip_newest_atom (false ∷ true ∷ []) ∷ flip_newest_atom [] ∷ []
+    ≡ (true ∷ true ∷ true ∷ []) ∷ (false ∷ false ∷ []) ∷ [] ∷ []
+newest_flipped = refl
+
+pub not_the_oldest_flipped : flip_newest_atom (true ∷ false ∷ []) ≡ false ∷ false ∷ [] → ⊥
+not_the_oldest_flipped e = let first : true ≡ false = ap (λ (l : List Bool). get_or l 0 true) e in absurd cc
+
+pub not_each_flipped : flip_newest_atom (true ∷ false ∷ []) ≡ false ∷ true ∷ [] → ⊥
+not_each_flipped e = let first : true ≡ false = ap (λ (l : List Bool). get_or l 0 true) e in absurd cc
+
+pub not_left_as_it_is : flip_newest_atom (true ∷ false ∷ []) ≡ true ∷ false ∷ [] → ⊥
+not_left_as_it_is e = let second : true ≡ false = ap (λ (l : List Bool). get_or l 1 true) e in absurd cc

@@ -1,7 +1,8 @@
 -- What contracts see of a queue.
-use Rattle.std.specs.Prelude.{◌≡◌, ◌≢◌, ◌≤◌, ℕ, ◌-◌, Bool, true, None, Some, Option, List, [], ◌∷◌, ◌++◌, All, length, map, take, drop, slice_get, Ok, Err, ⊤}
+use Rattle.std.specs.Prelude.{◌≡◌, ◌≢◌, ◌≤◌, ◌<◌, ℕ, ◌-◌, Bool, true, None, Some, Option, List, [], ◌∷◌, ◌++◌, All, length, map, take, drop, slice_get, Ok, Err, ⊤}
 use Rattle.etm_types.specs.declared.element.Elem.{Elem}
 use Rattle.etm_types.specs.declared.element.Elem.TheVariants as elem
+use Rattle.etm_types.specs.Atoms.{atoms_in, most_atoms}
 use Rattle.etm_types.specs.Pre.{nothing_told}
 use Rattle.etm_types.specs.declared.element.Entry.{Entry}
 use Rattle.etm_types.specs.declared.element.P0.{P0}
@@ -10,6 +11,7 @@ use Rattle.etm_types.specs.declared.element.Pre.{Pre}
 use Rattle.etm_types.specs.declared.element.Thing.{Thing}
 use Rattle.etm_types.specs.declared.element.Thing.TheVariants.{Seen, Unseen}
 use Rattle.etm_types.specs.declared.queue_fault.QueueFault.{QueueFault}
+use Rattle.element_queue.specs.declared.given_atoms.GivenAtoms.{GivenAtoms}
 use Rattle.element_queue.specs.declared.ledger.Counts.{Counts}
 use Rattle.element_queue.specs.declared.queue.AtomEntry.{AtomEntry}
 use Rattle.element_queue.specs.declared.queue.Committed.{Committed}
@@ -125,6 +127,19 @@ AreOldestPlain n held = (oldest : List Bool) × (map plain_atom oldest ≡ take 
 -- no plain atom stands at this place
 abbrev pub NoPlainAtomAt : ℕ → List Thing → Type 0
 NoPlainAtomAt n held = (taken : Bool) → slice_get held n ≢ Some (plain_atom taken)
+
+-- atoms, before the first of which this address was given, or none
+abbrev pub given_atoms : Option ℕ → List Bool → List Thing
+given_atoms addr [] = []
+given_atoms addr (taken ∷ others) = Seen (entry_of (record { addr = addr; taken = taken })) ∷ map plain_atom others
+
+-- what is held begins with these atoms: 24, or all of them before the next thing that is no plain atom
+pub record BeginsWith (given : GivenAtoms) (held : List Thing) : Type 0 where
+  pub atoms : given_atoms given.addr (atoms_in given.atoms) ≡ take (given.atoms).count held
+  pub some : 0 < (given.atoms).count
+  pub most : (given.atoms).count ≤ most_atoms
+  pub within : (given.atoms).count ≤ length held
+  pub all : (given.atoms).count < most_atoms → NoPlainAtomAt (given.atoms).count held
 
 -- where no more may be held and nothing was given, so many atoms more commit as many of the oldest
 abbrev pub rotated : List Bool → Queued → Queued

@@ -12,6 +12,7 @@
 #![tactic(auto)]
 
 mod entries;
+mod given_atoms;
 mod laws;
 mod ledger;
 mod outlook;
@@ -21,6 +22,7 @@ mod queue;
 mod slot;
 mod uncommitted;
 
+pub use given_atoms::GivenAtoms;
 pub use laws::{
     a_commit_may_be_deferred, a_flipped_atom_is_the_inverted_atom, a_tally_counts_what_is_resolved,
     cancelled_atoms_vanish, done_stays_done, elements_are_resolved_one_by_one,

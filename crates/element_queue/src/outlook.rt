@@ -1,7 +1,9 @@
 //! What elements would make of a queue in which only atoms wait before which nothing was given: they are tried on a copy of its bits.
-ghost use Rattle.std.specs.Prelude.{◌≡◌, ◌≤◌, ◌<◌, ◌+◌, ◌-◌, ◌^◌, ◌++◌, ◌↔◌, [], length, take, drop, false, IsTrue};
+ghost use Rattle.std.specs.Prelude.{◌≡◌, ◌≤◌, ◌<◌, ◌+◌, ◌-◌, ◌^◌, ◌++◌, ◌↔◌, [], length, map, take, drop, false, IsTrue, Some};
 ghost use Rattle.etm_types.specs.Atoms.{atoms_in, low_bits, most_atoms};
-ghost use Rattle.element_queue.specs.Outlooks.{has_room};
+ghost use Rattle.element_queue.specs.Outlooks.{flip_newest_atom, has_room};
+ghost use Rattle.element_queue.specs.Pending.{flip_newest};
+ghost use Rattle.element_queue.specs.Queued.{plain_atom};
 
 use crate::plain_atoms::{MOST_OF_RUN, MOST_PLAIN};
 use etm_types::AtomRun;
@@ -131,6 +133,21 @@ impl Outlook {
         self.count -= n;
         self.bits %= 1 << self.count;
         self.cancelled += n;
+        true
+    }
+
+    /// A mispredict: the newest that is held is the other one. Says whether one is held; else nothing changes.
+    #[inline(always)]
+    pub fn flip(&mut self) -> bool
+        ensures when { IsTrue result ↔ (0 < length self.old.held) }
+        ensures flips { IsTrue result → self.new ≡ record (self.old) { held = flip_newest_atom self.old.held } }
+        ensures rule { IsTrue result → flip_newest (map plain_atom self.old.held) ≡ Some (map plain_atom self.new.held) }
+        ensures unchanged { result ≡ false → self.new ≡ self.old }
+    {
+        if self.held() == 0 {
+            return false;
+        }
+        self.bits ^= 1 << (self.count - 1);
         true
     }
 

@@ -101,31 +101,6 @@ impl Stream for PacketStream {
         Ok(PacketStream::begin(settings))
     }
 
-    fn take<K: Sink>(
-        &mut self,
-        _shared: &(),
-        _sum: &mut (),
-        id: Id,
-        byte: u8,
-        sink: &mut K,
-    ) -> Result<(), Failed> {
-        turn_to(&mut self.line, self.id, id);
-        self.id = id;
-        match take_byte(
-            &mut self.reader,
-            &mut self.fault,
-            &mut self.line,
-            byte,
-            sink,
-        ) {
-            Ok(()) => Ok(()),
-            Err(failed) => {
-                self.broken = true;
-                Err(failed)
-            }
-        }
-    }
-
     fn take_run<K: Sink>(
         &mut self,
         _shared: &(),
@@ -179,33 +154,6 @@ fn turn_to(line: &mut PacketLine, old: Id, id: Id)
     if old != id {
         *line = PacketLine::new(id);
     }
-}
-
-/// Takes the next byte, and writes the line of the packet that it ends.
-#[inline(always)]
-fn take_byte<K: Sink>(
-    reader: &mut PacketReader,
-    fault: &mut Option<(u64, PacketFault)>,
-    line: &mut PacketLine,
-    byte: u8,
-    sink: &mut K,
-) -> Result<(), Failed>
-    requires reads { IsReading reader.old fault.old }
-    requires few { reader.old.taken < 2 ^ 62 }
-    ensures reads { IsReading reader.new fault.new }
-    ensures settings { reader.new.settings ≡ reader.old.settings }
-    ensures taken { reader.new.taken ≡ reader.old.taken + 1 }
-    ensures line { line.new ≡ line.old }
-    ensures read { (bytes : List ℕ) → HasRead reader.old fault.old bytes → HasRead reader.new fault.new (bytes ++ byte ∷ []) }
-    ensures gains { (bytes : List ℕ) → HasRead reader.old fault.old bytes
-        → (lines : List (List ℕ)) × PacketGains reader.old.settings line.old bytes byte lines
-        × Writes (K.state sink.old) (K.state sink.new) result (concat lines) }
-    ensures serves { Serves (K.state sink.old) (K.state sink.new) result }
-{
-    if let Some((at, run)) = reader.take_atoms(byte) {
-        return line.write_atoms(at, &run, sink);
-    }
-    write_step(line, fault, &reader.take(byte), sink)
 }
 
 /// Takes the next bytes, and writes the lines of the packets that they end.

@@ -1,6 +1,5 @@
 pub mod Trees
 pub mod States
-pub mod Corrections
 pub mod Fronts
 pub mod Packets
 pub mod Stands

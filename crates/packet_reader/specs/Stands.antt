@@ -101,13 +101,6 @@ pub record TakesPacket (old new : Standing) (text : List ℕ) (at : ℕ) (packet
   pub gains : (bytes : List ℕ) → StandsAt old bytes → GainsPacket old.settings bytes text at packet
   pub values : IsPacket old.settings packet
 
--- a reader took a byte behind which more of its packet comes
-pub record TakesHeader (old new : Standing) (byte : ℕ) : Type 0 where
-  pub settings : new.settings ≡ old.settings
-  pub taken : new.taken ≡ old.taken + 1
-  pub stands : (bytes : List ℕ) → StandsAt old bytes → StandsAt new (bytes ++ byte ∷ [])
-  pub gains : (bytes : List ℕ) → StandsAt old bytes → Gains old.settings bytes byte More
-
 -- what a byte makes of a reader: the phase, the offset at which the begun packet starts or the next one, and the answer
 pub record Moved : Type 0 where
   pub phase : Phase

@@ -3,7 +3,6 @@
 ghost use Rattle.std.specs.Prelude.{◌≡◌, ◌<◌, ◌≤◌};
 ghost use Rattle.packet_reader.specs.States.{HeadsBy, IsRun, FitsAfter};
 
-use crate::correction::CorrectionPacket;
 use crate::fields::{field, lowest};
 use crate::state::{Long, Progress, Purpose, State};
 use atom_formats::atoms_of;
@@ -50,7 +49,7 @@ fn first_headers(h: u8) -> Progress
         0x0c..=0x1f => refused(RefusedKind::CycleCount, h),
         0x20..=0x2c => refused(RefusedKind::DataSync, h),
         COMMIT..=CANCEL_FORMAT_1_MISPREDICT => number(purpose_of(h)),
-        MISPREDICT..=LAST_CANCEL_FORMAT_3 => whole(correction_of(h).packet()),
+        MISPREDICT..=LAST_CANCEL_FORMAT_3 => whole(correction_of(h)),
         _ => unreachable!(),
     }
 }
@@ -129,7 +128,6 @@ fn last_headers(h: u8) -> Progress
 ghost use Rattle.std.specs.Prelude.{Ok, Err, None, ◌==◌, ◌+◌, ◌-◌};
 ghost use Rattle.packet_grammar.specs.Headers.{few_atoms};
 ghost use Rattle.packet_grammar.specs.Fields.{field, lowest};
-ghost use Rattle.packet_reader.specs.Corrections.{packet_of};
 
 /// The header is all.
 fn whole(packet: Packet) -> Progress
@@ -196,10 +194,10 @@ fn few_atoms(h: u8) -> FewAtoms
 }
 
 /// Cancel Format 3 packet: bit 0 (A) is an atom E, and bits 2 and 1 (CC) are the number of elements less 2.
-fn cancel_3(h: u8) -> CorrectionPacket
-    ensures { result ≡ CorrectionPacket.Cancel3 (lowest 1 h == 1) (field 2 1 h + 2) }
+fn cancel_3(h: u8) -> Packet
+    ensures { result ≡ Packet.Cancel3 (lowest 1 h == 1) (field 2 1 h + 2) }
 {
-    CorrectionPacket::Cancel3 {
+    Packet::Cancel3 {
         e: lowest(1, h) == 1,
         n: field(2, 1, h) + 2,
     }
@@ -250,13 +248,13 @@ pub fn run_of(h: u8) -> AtomRun
 
 /// The Mispredict packet, or the Cancel packet of format 2 or 3, which its header alone holds.
 #[inline(always)]
-pub fn correction_of(h: u8) -> CorrectionPacket
+fn correction_of(h: u8) -> Packet
     requires { (0x30 ≤ h) × (h ≤ 0x3f) }
-    ensures { HeadsBy h (Progress.Done (Ok (packet_of result))) }
+    ensures { HeadsBy h (Progress.Done (Ok result)) }
 {
     match h {
-        MISPREDICT..=LAST_MISPREDICT => CorrectionPacket::Mispredict(few_atoms(h)),
-        CANCEL_FORMAT_2..=LAST_CANCEL_FORMAT_2 => CorrectionPacket::Cancel2(few_atoms(h)),
+        MISPREDICT..=LAST_MISPREDICT => Packet::Mispredict(few_atoms(h)),
+        CANCEL_FORMAT_2..=LAST_CANCEL_FORMAT_2 => Packet::Cancel2(few_atoms(h)),
         CANCEL_FORMAT_3..=LAST_CANCEL_FORMAT_3 => cancel_3(h),
         _ => unreachable!(),
     }
@@ -264,7 +262,7 @@ pub fn correction_of(h: u8) -> CorrectionPacket
 
 /// What the number behind the header of a commit packet or a Cancel Format 1 packet is for.
 #[inline(always)]
-pub fn purpose_of(h: u8) -> Purpose
+fn purpose_of(h: u8) -> Purpose
     requires { (0x2d ≤ h) × (h ≤ 0x2f) }
     ensures { HeadsBy h (Progress.Next (State.Number result 4 0 0)) }
 {

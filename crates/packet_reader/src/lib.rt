@@ -8,7 +8,6 @@
 #![tactic(auto)]
 
 mod advance;
-mod correction;
 mod fields;
 mod front;
 mod groups;
@@ -21,7 +20,6 @@ mod state;
 mod step;
 mod sync;
 
-pub use correction::CorrectionPacket;
 pub use front::{Address, near_address_at};
 pub use laws::{each_byte_has_its_answer, each_spelling_is_told, the_answers_are_the_parse};
 pub use reader::PacketReader;

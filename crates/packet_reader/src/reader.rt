@@ -1,27 +1,23 @@
 //! The reader: the search for the first A-sync, and the packets from there on (Arm IHI 0064, "Alignment
 //! Synchronization packet", "Descriptions of Trace Packets").
-ghost use Rattle.std.specs.Prelude.{◌≡◌, ◌≤◌, ◌<◌, ◌+◌, ◌-◌, ◌^◌, ◌++◌, ◌∷◌, [], ◌↔◌, Bool, false, length, drop, List, ℕ, IsTrue, IsSome, IfSome, None, All};
+ghost use Rattle.std.specs.Prelude.{◌≡◌, ◌≤◌, ◌<◌, ◌+◌, ◌-◌, ◌^◌, ◌++◌, ◌∷◌, [], ◌↔◌, length, drop, List, ℕ, IsTrue, IsSome, IfSome, None, All};
 ghost use Rattle.atom_formats.specs.Formats.{Spells as TellsAtoms};
 ghost use Rattle.etm_types.specs.Atoms.{atoms_in};
 ghost use Rattle.etm_types.specs.Settings.{AreSettings};
 ghost use Rattle.packet_grammar.specs.Ranges.{IsPacket};
-ghost use Rattle.packet_reader.specs.Corrections.{behind_cancel, packet_of};
 ghost use Rattle.packet_reader.specs.States.{FitsAfter, HeadsBy, behind_commit};
 ghost use Rattle.packet_reader.specs.Stands.{FitsPhase, Moved, Moves, settled, zeros_in, zeros_of_sync};
 
 use crate::advance::advance;
-use crate::correction::CorrectionPacket;
 use crate::fields::CONTINUES;
 use crate::front::{Address, address_at, commit_at};
-use crate::headers::{correction_of, header, purpose_of, run_of};
+use crate::headers::{header, run_of};
 use crate::phase::Phase;
 use crate::state::{Progress, Purpose, State};
 use crate::step::Step;
 use crate::sync::{LENGTH_OF_SYNC, ends_sync};
 use etm_types::{AtomRun, Settings};
-use packet_grammar::headers::{
-    ATOMS, CANCEL_FORMAT_1_MISPREDICT, COMMIT, LAST_CANCEL_FORMAT_3, MISPREDICT,
-};
+use packet_grammar::headers::ATOMS;
 use packet_grammar::{End, Packet, PacketFault};
 use std::marker::Model;
 
@@ -55,7 +51,7 @@ impl PacketReader {
     ghost use Rattle.packet_grammar.specs.Parsed.{Ending, FirstSync, IsStream};
     ghost use Rattle.packet_reader.specs.Answered.{fault_of};
     ghost use Rattle.packet_reader.specs.Packets.{ArePackets, TakesPackets, length_of};
-    ghost use Rattle.packet_reader.specs.Stands.{StandsAt, Gains, TakesHeader, TakesPacket, is_synced, rest_in, rest_of};
+    ghost use Rattle.packet_reader.specs.Stands.{StandsAt, Gains, TakesPacket, is_synced, rest_in, rest_of};
 
     /// A reader that has taken nothing.
     pub fn new(settings: &Settings) -> PacketReader
@@ -189,70 +185,6 @@ impl PacketReader {
         Some((at, u32::from(byte)))
     }
 
-    /// Takes the next byte where the reader stands behind the header of a Cancel Format 1 packet and the byte is the number's
-    /// only one, and answers the packet's offset, the number and whether a mispredict follows. Every other byte is left to
-    /// [`take`](PacketReader::take), and nothing changes.
-    #[inline(always)]
-    pub fn take_cancel_end(&mut self, byte: u8) -> Option<(u64, u32, bool)>
-        requires { self.old.taken < 2 ^ 62 }
-        ensures some { IsSome result ↔ (((flip : Bool) × (self.old.phase ≡ Phase.Within (behind_cancel flip))) × (byte < 0x80)) }
-        ensures none { result ≡ None → self.new ≡ self.old }
-        ensures takes { IfSome result (λ c. TakesPacket self.old self.new (byte ∷ []) c.0 (Packet.Cancel c.1 c.2)) }
-    {
-        if byte >= CONTINUES {
-            return None;
-        }
-        let flip = begun_cancel(&self.phase)?;
-        let (at, after) = (self.start, self.taken + 1);
-        (self.phase, self.start, self.taken) = (Phase::Between, after, after);
-        Some((at, u32::from(byte), flip))
-    }
-
-    /// Takes the next byte where the reader stands between two packets and the byte is a mispredict packet or a cancel packet
-    /// of format 2 or 3, and answers the packet's offset and the packet. Every other byte is left to
-    /// [`take`](PacketReader::take), and nothing changes.
-    #[inline(always)]
-    pub fn take_correction(&mut self, byte: u8) -> Option<(u64, CorrectionPacket)>
-        requires { self.old.taken < 2 ^ 62 }
-        ensures some { IsSome result ↔ ((self.old.phase ≡ Phase.Between) × (0x30 ≤ byte) × (byte ≤ 0x3f)) }
-        ensures none { result ≡ None → self.new ≡ self.old }
-        ensures takes { IfSome result (λ c. TakesPacket self.old self.new (byte ∷ []) c.0 (packet_of c.1)) }
-    {
-        match &self.phase {
-            Phase::Between if byte >= MISPREDICT && byte <= LAST_CANCEL_FORMAT_3 => {
-                let (at, after) = (self.start, self.taken + 1);
-                (self.start, self.taken) = (after, after);
-                Some((at, correction_of(byte)))
-            }
-            _ => None,
-        }
-    }
-
-    /// Takes the next byte where the reader stands between two packets and the byte is the header of a commit packet or of a
-    /// Cancel Format 1 packet, and says whether it did: a number follows. Every other byte is left to
-    /// [`take`](PacketReader::take), and nothing changes.
-    #[inline(always)]
-    pub fn take_number_header(&mut self, byte: u8) -> bool
-        requires { self.old.taken < 2 ^ 62 }
-        ensures some { IsTrue result ↔ ((self.old.phase ≡ Phase.Between) × (0x2d ≤ byte) × (byte ≤ 0x2f)) }
-        ensures unchanged { result ≡ false → self.new ≡ self.old }
-        ensures takes { IsTrue result → TakesHeader self.old self.new byte }
-    {
-        match &self.phase {
-            Phase::Between if byte >= COMMIT && byte <= CANCEL_FORMAT_1_MISPREDICT => {
-                let state = State::Number {
-                    purpose: purpose_of(byte),
-                    left: 4,
-                    groups: 0,
-                    value: 0,
-                };
-                (self.phase, self.taken) = (Phase::Within { state }, self.taken + 1);
-                true
-            }
-            _ => false,
-        }
-    }
-
     /// Takes packets that stand whole at the front of the bytes that come next, where the reader stands between two packets: so many bytes in
     /// all, of which the last packet has so many. It answers the offset of the last packet.
     ///
@@ -343,25 +275,6 @@ fn is_behind_commit(phase: &Phase) -> bool
             },
         }
     )
-}
-
-/// Whether a mispredict follows, where a reader stands behind the header of a Cancel Format 1 packet.
-#[inline(always)]
-fn begun_cancel(phase: &Phase) -> Option<bool>
-    ensures value { IfSome result (λ flip. phase.now ≡ Phase.Within (behind_cancel flip)) }
-    ensures some { (flip : Bool) → phase.now ≡ Phase.Within (behind_cancel flip) → IsSome result }
-{
-    match phase {
-        Phase::Within {
-            state: State::Number {
-                purpose: Purpose::Cancel { flip },
-                left: 4,
-                groups: 0,
-                value: 0,
-            },
-        } => Some(*flip),
-        _ => None,
-    }
 }
 
 /// What a byte makes of a reader, which with it has taken so many. Most bytes are atom packets, which leave

@@ -1,7 +1,6 @@
 -- Atoms as elements, and what stands after them.
 use Rattle.std.proofs.Common.{◌≡◌, ◌≢◌, ℕ, zero, suc, ◌+◌, ◌-◌, ◌/◌, ◌%◌, ◌^◌, ◌<◌, ◌≤◌, ◌==◌, Bool}
-use Rattle.std.proofs.Common.{List, [], ◌∷◌, ◌++◌, drop, length, slice_get, Option, Some, None, All, true, false, refl, sym, ap, ◌∙◌, arith, inl, inr}
-use Rattle.std.specs.Prelude.{◌↔◌, IsSome}
+use Rattle.std.proofs.Common.{List, [], ◌∷◌, ◌++◌, drop, length, slice_get, Some, All, refl, sym, ap, ◌∙◌, arith, inl, inr}
 use Rattle.std.proofs.lemmas.Bool.Decides.{leb_tells}
 use Rattle.std.proofs.lemmas.Nat.{shr-shr}
 use Rattle.std.proofs.lemmas.List.Elements.{All-nil, All-cons}
@@ -11,9 +10,7 @@ use Rattle.etm_types.specs.declared.element.Elem.TheVariants as elem
 use Rattle.etm_types.specs.declared.element.P0.TheVariants as p0
 use Rattle.etm_types.specs.Atoms.{low_bits}
 use Rattle.path_elements.specs.Elements.{atoms}
-use Rattle.path_elements.specs.Held.{IsElem, elem_of, elem_of_correction, rest_in}
-use Rattle.path_elements.specs.declared.elems.Correction.{Correction}
-use Rattle.path_elements.specs.declared.elems.Correction.TheVariants as correction
+use Rattle.path_elements.specs.Held.{IsElem, elem_of, rest_in}
 use Rattle.path_elements.specs.declared.elems.Kind.{Kind}
 use Rattle.path_elements.specs.declared.elems.Kind.TheVariants as kind
 use Rattle.path_elements.specs.declared.elems.Rest.{Rest}
@@ -113,48 +110,3 @@ atoms_within n bits i m r values now shown some all =
     let last = all (m - 1) (omega (arith, some)) in
     let within = atom_within n bits (i + (m - 1)) r values last.0 (ap (λ (xs : List Elem). slice_get xs (i + (m - 1))) shown ∙ last.1) in
     omega (arith, within, some)
-
--- ---- cancels and mispredicts
-
-abbrev corrects : Elem → Bool
-corrects (elem.Cancel n) = true
-corrects elem.Flip = true
-corrects e = false
-
-correction_corrects : (c : Correction) → corrects (elem_of_correction c) ≡ true
-correction_corrects (correction.Cancel n) = refl
-correction_corrects correction.Flip = refl
-
-kind_corrects : (values : Values) (k : Kind) → (k ≡ kind.Cancel → ⊥) → (k ≡ kind.Flip → ⊥) → corrects (elem_of values k) ≡ false
-kind_corrects values kind.Info not_cancel not_flip = refl
-kind_corrects values kind.On not_cancel not_flip = refl
-kind_corrects values kind.Ctx not_cancel not_flip = refl
-kind_corrects values kind.Addr not_cancel not_flip = refl
-kind_corrects values kind.Exc not_cancel not_flip = refl
-kind_corrects values kind.Commit not_cancel not_flip = refl
-kind_corrects values kind.Cancel not_cancel not_flip = absurd (not_cancel refl)
-kind_corrects values kind.Flip not_cancel not_flip = absurd (not_flip refl)
-kind_corrects values kind.Overflow not_cancel not_flip = refl
-kind_corrects values kind.Discard not_cancel not_flip = refl
-
--- what does not correct is no correction
-no_correction : (e : Elem) (c : Correction) → corrects e ≡ false → Some e ≡ Some (elem_of_correction c) → ⊥
-no_correction e c not_so is =
-    let same : e ≡ elem_of_correction c = cc in let no : true ≡ false = sym (correction_corrects c) ∙ ap corrects (sym same) ∙ not_so in cc
-
--- none stands among the atoms
-pub no_correction_before : (n bits i : ℕ) (rest : List Elem) (c : Correction) → i < n
-    → slice_get (atoms (low_bits n bits) ++ rest) i ≡ Some (elem_of_correction c) → ⊥
-no_correction_before n bits i rest c below is =
-    no_correction (elem.P0 (p0.Atom (bits / 2 ^ i % 2 == 1))) c refl (sym (atom_at n bits i rest below) ∙ is)
-
-pub no_correction_of : (values : Values) (k : Kind) (c : Correction) → (k ≡ kind.Cancel → ⊥) → (k ≡ kind.Flip → ⊥)
-    → Some (elem_of values k) ≡ Some (elem_of_correction c) → ⊥
-no_correction_of values k c not_cancel not_flip is = no_correction (elem_of values k) c (kind_corrects values k not_cancel not_flip) is
-
--- where nothing stands, none is told
-pub none_told : (told : Option Correction) (there : Option Elem) → told ≡ None → there ≡ None
-    → (IsSome told ↔ ((c : Correction) × (there ≡ Some (elem_of_correction c))))
-none_told None None is none = (λ some. absurd cc, λ here. absurd cc)
-none_told None (Some e) is none = absurd cc
-none_told (Some c) there is none = absurd cc

@@ -9,8 +9,7 @@ use Rattle.etm_types.specs.declared.element.Elem.TheVariants as elem
 use Rattle.etm_types.specs.declared.element.P0.TheVariants as p0
 use Rattle.packet_grammar.specs.declared.packet.Packet.TheVariants as packet
 use Rattle.path_elements.specs.Elements.{Told}
-use Rattle.path_elements.specs.Held.{CanBeTaken, CanStand, IsCorrection, IsElem, IsTold, elem_of, elem_of_correction, held, numbered, rest_in}
-use Rattle.path_elements.specs.declared.elems.Correction.TheVariants as correction
+use Rattle.path_elements.specs.Held.{CanBeTaken, CanStand, IsElem, IsTold, elem_of, held, numbered, rest_in}
 use Rattle.path_elements.specs.declared.elems.Kind.TheVariants as kind
 use Rattle.path_elements.specs.declared.elems.Rest.TheVariants as rest
 use Rattle.path_elements.specs.declared.elems.Values.{Values}
@@ -57,9 +56,6 @@ pub of_each_kind :
     ≡ elem.Info 9 ∷ elem.On ∷ elem.Ctx (level 2) ∷ elem.Addr 0x1004 ∷ elem.P0 (p0.Exc 14 0x1004) ∷ elem.Commit 9 ∷ elem.Cancel 9 ∷ elem.Flip
     ∷ elem.Overflow ∷ elem.Discard ∷ []
 of_each_kind = refl
-
-pub of_corrections : map elem_of_correction (correction.Cancel 3 ∷ correction.Flip ∷ []) ≡ elem.Cancel 3 ∷ elem.Flip ∷ []
-of_corrections = refl
 
 pub a_number_alone : numbered 9 ≡ record { number = 9; exception = 0; addr = 0; ctx = record { el = 0; ns = false; vmid = 0; cid = 0 } }
 a_number_alone = refl
@@ -168,29 +164,3 @@ not_level_4_with_an_address can = omega (arith, can.1)
 
 pub not_25_atoms : CanBeTaken (packet.Atoms (record { count = 25; bits = 0 })) → ⊥
 not_25_atoms can = omega (arith, can)
-
-pub corrections : IsCorrection (packet.Cancel 1 false) × IsCorrection (packet.Mispredict (few 0)) × IsCorrection (packet.Cancel2 (few 1))
-    × IsCorrection (packet.Cancel3 false 2)
-corrections = (tt, tt, tt, tt)
-
-pub no_corrections : (IsCorrection packet.Async → ⊥) × (IsCorrection packet.Discard → ⊥) × (IsCorrection packet.Overflow → ⊥) × (IsCorrection packet.On → ⊥)
-    × (IsCorrection packet.Ignore → ⊥) × (IsCorrection (packet.Info None None None None) → ⊥) × (IsCorrection (packet.Event 1) → ⊥)
-    × (IsCorrection (packet.Time 7 1) → ⊥) × (IsCorrection (packet.Exc 3 true) → ⊥) × (IsCorrection (packet.Commit 1) → ⊥) × (IsCorrection packet.CtxSame → ⊥)
-    × (IsCorrection (packet.CtxInfo (bits 1)) → ⊥) × (IsCorrection (packet.Addr (Match 0) None) → ⊥)
-    × (IsCorrection (packet.Atoms (record { count = 1; bits = 1 })) → ⊥)
-no_corrections = (
-  λ is. is,
-  λ is. is,
-  λ is. is,
-  λ is. is,
-  λ is. is,
-  λ is. is,
-  λ is. is,
-  λ is. is,
-  λ is. is,
-  λ is. is,
-  λ is. is,
-  λ is. is,
-  λ is. is,
-  λ is. is,
-)

@@ -9,8 +9,6 @@ use Rattle.packet_grammar.specs.declared.packet.Packet.TheVariants as packet
 use Rattle.etm_types.specs.declared.atoms.AtomRun.{AtomRun}
 use Rattle.etm_types.specs.Atoms.{atoms_in, most_atoms}
 use Rattle.etm_types.specs.Context.{initial_context}
-use Rattle.path_elements.specs.declared.elems.Correction.{Correction}
-use Rattle.path_elements.specs.declared.elems.Correction.TheVariants as correction
 use Rattle.path_elements.specs.declared.elems.Kind.{Kind}
 use Rattle.path_elements.specs.declared.elems.Kind.TheVariants as kind
 use Rattle.path_elements.specs.declared.elems.Rest.{Rest}
@@ -51,11 +49,6 @@ elem_of values kind.Flip = elem.Flip
 elem_of values kind.Overflow = elem.Overflow
 elem_of values kind.Discard = elem.Discard
 
--- an element that corrects what was speculated
-abbrev pub elem_of_correction : Correction → Elem
-elem_of_correction (correction.Cancel n) = elem.Cancel n
-elem_of_correction correction.Flip = elem.Flip
-
 -- a number alone
 abbrev pub numbered : ℕ → Values
 numbered n = record { number = n; exception = 0; addr = 0; ctx = initial_context }
@@ -85,11 +78,3 @@ CanBeTaken (packet.CtxInfo ctx) = ctx.el ≤ 3
 CanBeTaken (packet.Addr form ctx) = HasEntry form × IfSome ctx (λ told. told.el ≤ 3)
 CanBeTaken (packet.Atoms run) = run.count ≤ most_atoms
 CanBeTaken p = ⊤
-
--- a cancel or mispredict packet
-abbrev pub IsCorrection : Packet → Type 0
-IsCorrection (packet.Cancel n flip) = ⊤
-IsCorrection (packet.Mispredict few) = ⊤
-IsCorrection (packet.Cancel2 few) = ⊤
-IsCorrection (packet.Cancel3 e n) = ⊤
-IsCorrection p = ⊥

@@ -6,7 +6,7 @@ ghost use Rattle.etm_types.specs.declared.element.Elem.TheVariants as elem;
 ghost use Rattle.etm_types.specs.declared.element.P0.TheVariants.{Atom};
 ghost use Rattle.etm_types.specs.Atoms.{atoms_in, most_atoms};
 ghost use Rattle.path_elements.specs.Elements.{atoms};
-ghost use Rattle.path_elements.specs.Held.{IsElem, elem_of, elem_of_correction, numbered, rest_in};
+ghost use Rattle.path_elements.specs.Held.{IsElem, elem_of, numbered, rest_in};
 ghost use Rattle.path_elements.specs.declared.elems.Values.{Values};
 
 use etm_types::{AtomRun, Ctx, Elem, FewAtoms, P0};
@@ -64,15 +64,6 @@ pub(crate) struct Values {
     /// An address, or the preferred return address of the exception.
     pub addr: u64,
     pub ctx: Ctx,
-}
-
-/// An element that corrects what was speculated.
-#[derive(Clone, Copy, Debug, PartialEq, Eq)]
-pub enum Correction {
-    /// So many P0 elements, the newest ones, are taken back.
-    Cancel(u32),
-    /// The newest atom was mispredicted.
-    Flip,
 }
 
 impl Model for Elems {
@@ -148,53 +139,6 @@ impl Elems {
         AtomRun {
             count: n as u8,
             bits,
-        }
-    }
-
-    /// How many the commit at `i`, counted from 0, commits, where one stands there alone.
-    #[inline(always)]
-    pub fn commit(&self, i: usize) -> Option<u32>
-        ensures value { IfSome result (λ n. slice_get self.now i ≡ Some (elem.Commit n)) }
-        ensures some { IsSome result ↔ ((i ≡ 0) × ((n : ℕ) × (self.now ≡ elem.Commit n ∷ []))) }
-    {
-        if i != 0 || self.atoms.count != 0 {
-            return None;
-        }
-        match self.rest {
-            Rest::One(Kind::Commit) => Some(self.values.number),
-            _ => None,
-        }
-    }
-
-    /// The address at `i`, counted from 0, where one stands there alone.
-    #[inline(always)]
-    pub fn address(&self, i: usize) -> Option<u64>
-        ensures value { IfSome result (λ addr. slice_get self.now i ≡ Some (elem.Addr addr)) }
-        ensures some { IsSome result ↔ ((i ≡ 0) × ((addr : ℕ) × (self.now ≡ elem.Addr addr ∷ []))) }
-    {
-        if i != 0 || self.atoms.count != 0 {
-            return None;
-        }
-        match self.rest {
-            Rest::One(Kind::Addr) => Some(self.values.addr),
-            _ => None,
-        }
-    }
-
-    /// The cancel or mispredict at `i`, counted from 0, where one stands there.
-    #[inline(always)]
-    pub fn correction(&self, i: usize) -> Option<Correction>
-        ensures value { IfSome result (λ c. slice_get self.now i ≡ Some (elem_of_correction c)) }
-        ensures some { IsSome result ↔ ((c : Correction) × (slice_get self.now i ≡ Some (elem_of_correction c))) }
-    {
-        let count = usize::from(self.atoms.count);
-        if i < count {
-            return None;
-        }
-        match self.rest.kind(i - count)? {
-            Kind::Cancel => Some(Correction::Cancel(self.values.number)),
-            Kind::Flip => Some(Correction::Flip),
-            _ => None,
         }
     }
 

@@ -16,7 +16,7 @@ mod laws;
 mod maker;
 mod path_laws;
 
-pub use elems::{Correction, Elems};
+pub use elems::Elems;
 pub use laws::{elements_come_one_by_one, spelled_packets_can_be_taken};
 pub use maker::{Awaited, ElemMaker};
 pub use path_laws::{a_path_grows, bytes_have_one_path, joined_packets_have_joined_elements};

@@ -1,7 +1,7 @@
 //! From packets to elements, one packet after the other.
 ghost use Rattle.std.specs.Prelude.{◌≡◌, ◌≤◌, ◌<◌, ◌%◌, ◌∷◌, ◌++◌, ◌↔◌, [], false, true, Some, None, IfOk, IfSome, IsSome, IsTrue, OnErr, if◌then◌else◌};
 ghost use Rattle.path_elements.specs.Elements.{untold, elements_of, told_after, is_misplaced, may_follow_exception, tells, with_address};
-ghost use Rattle.path_elements.specs.Held.{AreElems, CanBeTaken, CanStand, IsCorrection, IsTold, elem_of, numbered};
+ghost use Rattle.path_elements.specs.Held.{AreElems, CanBeTaken, CanStand, IsTold, elem_of, numbered};
 ghost use Rattle.etm_types.specs.Atoms.{most_atoms};
 ghost use Rattle.etm_types.specs.declared.element.Elem.TheVariants as elem;
 
@@ -127,67 +127,6 @@ impl ElemMaker {
         ensures { IsTrue result ↔ ((self.now.informed ≡ true) × (self.now.awaiting ≡ None)) }
     {
         self.informed && self.awaiting.is_none()
-    }
-
-    /// The elements of a commit packet, where it counts and may come: taking it changes nothing. Else it answers `None`, and
-    /// [`take`](ElemMaker::take) takes it.
-    #[inline(always)]
-    pub fn commit_of(&self, n: u32) -> Option<Elems>
-        ensures some { IfSome result (λ elems. (is_misplaced self.now (packet.Commit n) ≡ false)
-            × (elems ≡ elements_of self.now (packet.Commit n)) × (told_after self.now (packet.Commit n) ≡ self.now)) }
-        ensures counts { IsSome result ↔ ((self.now.informed ≡ true) × (self.now.awaiting ≡ None)) }
-        ensures within { IfSome result (λ elems. AreElems elems) }
-    {
-        if self.informed && self.awaiting.is_none() {
-            Some(Elems::one(Kind::Commit, Values::number(n)))
-        } else {
-            None
-        }
-    }
-
-    /// Takes an address packet without a context, where it counts and no exception awaits its address, and gives its element. Else it
-    /// answers `None`, nothing changes, and [`take`](ElemMaker::take) takes it.
-    #[inline(always)]
-    pub fn take_plain_address(&mut self, form: &AddrForm, ctx: &Option<CtxBits>) -> Option<Elems>
-        requires { HasEntry form.now }
-        ensures some { IfSome result (λ elems. (is_misplaced self.old (packet.Addr form.now ctx.now) ≡ false)
-            × (elems ≡ elements_of self.old (packet.Addr form.now ctx.now)) × (self.new ≡ told_after self.old (packet.Addr form.now ctx.now))) }
-        ensures none { result ≡ None → self.new ≡ self.old }
-        ensures counts { IsSome result ↔ ((self.old.informed ≡ true) × (self.old.awaiting ≡ None) × (ctx.now ≡ None)) }
-        ensures within { IfSome result (λ elems. AreElems elems) }
-    {
-        if !self.informed || self.awaiting.is_some() || ctx.is_some() {
-            return None;
-        }
-        let (_, values) = self.take_address(form);
-        Some(Elems::one(Kind::Addr, values))
-    }
-
-    /// The elements of a cancel or mispredict packet, where it counts and may come: taking it changes nothing. Else, and of every other
-    /// packet, it answers `None`, and [`take`](ElemMaker::take) takes it.
-    #[inline(always)]
-    pub fn correction_of(&self, packet: &Packet) -> Option<Elems>
-        requires { CanBeTaken packet.now }
-        ensures some { IfSome result (λ elems. (is_misplaced self.now packet.now ≡ false)
-            × (elems ≡ elements_of self.now packet.now) × (told_after self.now packet.now ≡ self.now)) }
-        ensures counts { IsSome result ↔ ((self.now.informed ≡ true) × (self.now.awaiting ≡ None) × IsCorrection packet.now) }
-        ensures within { IfSome result (λ elems. AreElems elems) }
-    {
-        if !self.informed || self.awaiting.is_some() {
-            return None;
-        }
-        match *packet {
-            Packet::Cancel { n, flip: false } => {
-                Some(Elems::one(Kind::Cancel, Values::number(n)))
-            }
-            Packet::Cancel { n, flip: true } => {
-                Some(Elems::two(Kind::Cancel, Kind::Flip, Values::number(n)))
-            }
-            Packet::Mispredict(ref few) => Some(Elems::flipped(few)),
-            Packet::Cancel2(ref few) => Some(Elems::cancelled(few, 1)),
-            Packet::Cancel3 { e, n } => Some(Elems::cancelled(&one_if(e), u32::from(n))),
-            _ => None,
-        }
     }
 
     /// Takes a packet of any kind. It is long; most packets are atoms, and [`ElemMaker::take`] answers

@@ -4,7 +4,7 @@
 //! changes from a line to the next. The bytes of the line are kept, and then only these four are put.
 ghost use Rattle.std.specs.Prelude.{◌≡◌, ◌+◌, ◌-◌, ◌*◌, ◌≤◌, ◌<◌, ◌/◌, ◌%◌, ◌^◌, ◌↔◌, IsTrue, length};
 ghost use Rattle.path_text.specs.Lines.{hex};
-ghost use Rattle.path_text.specs.Near.{AreNear, DifferInLastFour};
+ghost use Rattle.path_text.specs.Near.{DifferInLastFour};
 ghost use Rattle.path_text.specs.Writing.{Writes};
 
 use crate::digits::{digit, hex_count, put_hex, put_last_four_hex};
@@ -112,14 +112,6 @@ impl AddressLine {
         ensures short { length result.now ≤ 20 }
     {
         &self.bytes[..self.len]
-    }
-
-    /// Whether the lines of so many instructions from an address on differ from it in no digit but the last four.
-    #[inline(always)]
-    pub fn has_near(&self, start: u64, count: u64) -> bool
-        ensures { IsTrue result ↔ AreNear self.now.address start count }
-    {
-        differs_in_last_four(self.address, start) && count <= near_lines(start)
     }
 
     /// Writes the line by one call.

@@ -17,17 +17,17 @@ mod end_lines;
 mod laws;
 mod letters;
 mod line;
+mod line_block;
 mod packet_line;
 mod packet_lines;
+mod page_lines;
 mod path_lines;
 
 pub use address_line::AddressLine;
 pub use end_lines::{write_end, write_frame_cut};
 pub use laws::lines_stand_one_by_one;
 pub use line::Line;
+pub use line_block::LineBlock;
 pub use packet_grammar::End;
 pub use packet_line::{PacketLine, write_packet_line};
-pub use path_lines::{
-    add_exception_name, write_gap, write_instructions, write_near_lines, write_stop, write_walked,
-    write_walked_on,
-};
+pub use path_lines::{add_exception_name, write_gap, write_stop, write_walked, write_walked_on};

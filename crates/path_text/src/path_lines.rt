@@ -26,7 +26,7 @@ fn write_text<K: Sink>(id: Id, text: &[u8], sink: &mut K) -> Result<(), Failed>
 
 /// Writes the line of a context.
 #[inline(never)]
-fn write_context<K: Sink>(id: Id, ctx: &Ctx, sink: &mut K) -> Result<(), Failed>
+pub(crate) fn write_context<K: Sink>(id: Id, ctx: &Ctx, sink: &mut K) -> Result<(), Failed>
     ensures { Writes (K.state sink.old) (K.state sink.new) result (line_of id (whole_context_text ctx.now)) }
 {
     let mut line = Line::begin(id);
@@ -65,7 +65,7 @@ fn write_context_once<K: Sink>(
 
 /// Writes the lines of so many instructions, one after the other: as many at once as differ in no digit but the last four.
 #[inline(always)]
-pub fn write_instructions<K: Sink>(
+pub(crate) fn write_instructions<K: Sink>(
     line: &mut AddressLine,
     start: u64,
     count: u64,
@@ -113,7 +113,7 @@ fn write_near<K: Sink>(line: &AddressLine, count: u64, sink: &mut K) -> Result<(
 
 /// Writes the bytes of a line by one call.
 #[inline(always)]
-fn write_bytes<K: Sink>(bytes: &[u8], sink: &mut K) -> Result<(), Failed>
+pub(crate) fn write_bytes<K: Sink>(bytes: &[u8], sink: &mut K) -> Result<(), Failed>
     ensures { Writes (K.state sink.old) (K.state sink.new) result bytes.now }
 {
     write_all(sink, bytes)
@@ -141,7 +141,7 @@ fn write_lines_of<const L: usize, K: Sink>(
 ///
 /// Since their number is known where this is compiled, a line is copied by a store or two, and not by a call.
 #[inline(always)]
-pub fn write_near_lines<const L: usize, K: Sink>(
+fn write_near_lines<const L: usize, K: Sink>(
     line: &AddressLine,
     start: u64,
     count: u64,

@@ -102,6 +102,12 @@ module _ {V : Type 0} (Takes : Ctx → V → List Stretch → V → Type 0) (non
       }
 
   -- and behind them of those that are left
+  -- the same, where nothing was taken before
+  pub run_behind_none : (image : Image) (ctx : Ctx) (s s' : State) (addr : Option ℕ) (atoms : List Bool) (n : ℕ) (old mid new : V)
+      → Takes ctx old [] mid → WalksRun (Takes ctx) image s addr atoms mid n s' new → WalksRun (Takes ctx) image s addr atoms old n s' new
+  run_behind_none image ctx s s' addr atoms n old mid new first run =
+      record { added = run.added; takes = joins ctx old mid new [] run.added first run.takes; count = run.count; walks = run.walks; placed = run.placed }
+
   pub run_joined : (image : Image) (s mid s' : State) (addr : Option ℕ) (count bits n m : ℕ) (old between new : V) → n ≤ count
       → given_before n addr ≡ None → mid.ctx ≡ s.ctx → WalksRun (Takes s.ctx) image s addr (low_bits count bits) old n mid between
       → WalksRun (Takes mid.ctx) image mid None (low_bits (count - n) (bits / 2 ^ n)) between m s' new

@@ -6,7 +6,6 @@ use Rattle.std.proofs.lemmas.Bool.{and_parts}
 use Rattle.std.proofs.lemmas.Bool.Decides.{leb_tells}
 use Rattle.a64_branches.specs.Classes.{class_of}
 use Rattle.a64_branches.specs.declared.class.Class.{Class}
-use Rattle.etm_types.specs.declared.context.Ctx.{Ctx}
 use Rattle.etm_types.specs.declared.element.Entry.{Entry}
 use Rattle.etm_types.specs.declared.element.P0.{P0}
 use Rattle.etm_types.specs.declared.element.P0.TheVariants.{Atom, Exc}
@@ -14,9 +13,8 @@ use Rattle.etm_types.specs.declared.walked.ExcMark.{ExcMark}
 use Rattle.etm_types.specs.declared.walked.Walked.{Walked}
 use Rattle.path_walker.specs.Start.{start_of}
 use Rattle.path_walker.specs.State.{State}
-use Rattle.path_walker.specs.Walk.{AreWalked, IsPlaced, IsStretchOfWords, Leads, Shows, ShowsWords, is_cond, mark_of, takes, walked_in}
+use Rattle.path_walker.specs.Walk.{AreWalked, Leads, Shows, ShowsWords, is_cond, mark_of, takes}
 use Rattle.path_walker.specs.declared.pc.Pc.{Pc}
-use Rattle.path_walker.specs.declared.stretch.Stretch.{Stretch}
 use Rattle.program_image.specs.Blocks.{behind, class_at}
 use Rattle.program_image.specs.Part.{word_of}
 use Rattle.program_image.specs.Places.{AreWords}
@@ -72,7 +70,3 @@ module _ (image : Image) where
   shows_words s next entry w shows =
       let at = start_of s entry.pre in
       known_walked w at.at at.stack entry.p0 next.pc next.stack shows.leads shows.unknown shows.start shows.exc shows.took
-
-  pub shows_stretch : (s next : State) (entry : Entry) (ctx : Ctx) (stretch : Stretch) → Shows image s entry (walked_in ctx stretch) next
-      → IsPlaced image stretch → IsStretchOfWords image stretch
-  shows_stretch s next entry ctx stretch shows placed = (shows_words s next entry (walked_in ctx stretch) shows refl, placed)

@@ -16,6 +16,6 @@ mod walker;
 
 pub use laws::{an_entry_has_one_walk, joined_things_have_joined_walks, things_have_one_walk};
 pub use pc::Pc;
-pub use stretch::{Stretch, Stretches};
+pub use stretch::Stretch;
 pub use taker::StretchTaker;
 pub use walker::Walker;

@@ -18,16 +18,27 @@ pub trait StretchTaker {
     /// How many more it can take before it is asked again.
     ghost space: { Self → ℕ };
 
+    /// It was told that the stretches that come next are in this context.
+    ghost begun: { Ctx → Self → Type 0 };
+
     /// How many more it can take before it is asked again: at most as many as a packet has atoms.
     fn room(&self) -> usize
         ensures space { result ≡ space self.now }
         ensures few { result ≤ most_atoms };
 
+    /// The stretches that come next are in this context: it is told so once before them, so that it need not look at the context of each.
+    fn begin(&mut self, ctx: &Ctx)
+        ensures begun { begun ctx.now self.new }
+        ensures adds { (image : Image) (id : ℕ) → adds image id ctx.now self.old [] self.new }
+        ensures space { space self.new ≡ space self.old };
+
     /// Takes a stretch.
     fn take_stretch(&mut self, image: &Image, id: Id, ctx: &Ctx, stretch: Stretch)
         requires space { 0 < space self.old }
+        requires begun { begun ctx.now self.old }
         requires words { IsStretchOfWords image.now stretch }
         ensures adds { adds image.now id ctx.now self.old (stretch ∷ []) self.new }
+        ensures begun { begun ctx.now self.new }
         ensures space { space self.old ≤ space self.new + 1 };
 
     /// It took none where it stayed as it was.

@@ -312,9 +312,17 @@ fn trace_is_missing_behind_what_was_not_seen(rt: HostRuntime) -> Result<(), Fail
     Ok(())
 }
 
-/// The oldest that is held, where it is an atom; and whether one more may be held.
-fn oldest(queue: &Queue) -> (Option<AtomEntry>, bool) {
-    (queue.oldest_atom(), queue.has_room())
+/// The oldest that are held, where they are atoms; and whether one more may be held.
+fn oldest(queue: &Queue) -> (Option<GivenAtoms>, bool) {
+    (queue.oldest_given(), queue.has_room())
+}
+
+/// Atoms behind an address.
+fn behind_address(atoms: AtomRun) -> Option<GivenAtoms> {
+    Some(GivenAtoms {
+        addr: Some(0x1000),
+        atoms,
+    })
 }
 
 const AN_ATOM_BEHIND_AN_INTERRUPT: [Row; 3] = [
@@ -346,7 +354,7 @@ const PUSH_NOT_TAKEN: Row = Row {
 };
 
 #[test]
-fn the_atom_that_is_committed_next_is_told(rt: HostRuntime) -> Result<(), Fail> {
+fn the_atoms_that_are_committed_next_are_told(rt: HostRuntime) -> Result<(), Fail> {
     let mut queue = Queue::new(rt.alloc(), 2)?;
     ask(&rt, &mut queue, &[PUSH_INTERRUPT]);
     let interrupt = oldest(&queue);
@@ -355,13 +363,11 @@ fn the_atom_that_is_committed_next_is_told(rt: HostRuntime) -> Result<(), Fail> 
     ask(&rt, &mut queue, &[PUSH_NOT_TAKEN]);
     let full = oldest(&queue);
     let lost = queue.close().counts().lost;
-    let taken = Some(AtomEntry {
-        addr: Some(0x1000),
-        taken: true,
-    });
+    let one = behind_address(run(1, 0b1));
+    let two = behind_address(run(2, 0b01));
     assert_eq!(rt;
         [interrupt, atom, full],
-        [(None, true), (taken, true), (taken, false)]
+        [(None, true), (one, true), (two, false)]
     );
     assert_eq!(rt; lost, 2);
     Ok(())

@@ -187,6 +187,31 @@ fn an_address_line_has_its_id(rt: HostRuntime) -> Result<(), Fail> {
     Ok(())
 }
 
+/// A stretch behind its context, one near it, one over the end of a page, what a walk shows, a gap and a stop. Says whether the second was near.
+fn put_path(lines: &mut LineBlock, sink: &mut MemSink) -> Result<bool, Failed> {
+    lines.resume(id_of(1)?, &None);
+    lines.put_far(&USER, 0x1000, 2, sink)?;
+    lines.begin(&USER);
+    let near = lines.put_near(0x1008, 2);
+    lines.put_far(&USER, 0xfffc, 2, sink)?;
+    lines.put_walked(&BLOCK, sink)?;
+    lines.put_gap(sink)?;
+    lines.put_stop(sink)?;
+    lines.flush(sink)?;
+    Ok(near)
+}
+
+#[test]
+fn a_block_has_its_lines(rt: HostRuntime) {
+    let mut sink = MemSink::new(rt.alloc(), Vec::new(rt.alloc()));
+    let mut lines = LineBlock::new();
+    assert_eq!(rt; put_path(&mut lines, &mut sink), Ok(true));
+    assert_eq!(rt; lines.shown(), Some(USER));
+    let text = b"01 ctx el0 ns 0 0\n01 1000\n01 1004\n01 1008\n01 100c\n01 fffc\n01 10000\n\
+        01 1000\n01 1004\n01 1008\n01 gap\n01 stop\n";
+    assert_eq!(rt; sink.written(), text.as_slice());
+}
+
 /// Two lines of numbers with all their digits.
 fn write_numbers(sink: &mut MemSink) -> Result<(), Failed> {
     let mut line = Line::begin(id_of(111)?);

@@ -1,5 +1,5 @@
 //! The packet reader: each method once, and the bytes at which readers go wrong.
-use etm_types::{AddrForm, AtomRun, CtxBits, FewAtoms, Settings};
+use etm_types::{AddrForm, AtomRun, CtxBits, Settings};
 use packet_grammar::{End, Packet, PacketFault};
 use packet_reader::*;
 
@@ -177,34 +177,4 @@ fn a_commit_is_taken_at_once_or_by_its_last_byte(rt: HostRuntime) {
     assert_eq!(rt; reader.take(0x2d), Step::More);
     assert!(rt; reader.taken() < 100);
     assert_eq!(rt; reader.take_commit_end(0x07), Some((14, 7)));
-}
-
-#[test]
-fn a_cancel_or_mispredict_is_taken_at_once_by_its_last_byte(rt: HostRuntime) {
-    let settings = Settings::new(16, 1, 4).expect(&rt, "settings");
-    let mut reader = PacketReader::new(&settings);
-    for byte in [0, 0, 0, 0, 0, 0, 0, 0, 0, 0, 0, 0x80] {
-        assert!(rt; reader.taken() < 100);
-        assert_eq!(rt; reader.take_correction(0x30), None);
-        reader.take(byte);
-    }
-    assert!(rt; reader.taken() < 100);
-    let not_taken = CorrectionPacket::Mispredict(FewAtoms {
-        count: 1,
-        first: false,
-    });
-    assert_eq!(rt; reader.take_correction(0x33), Some((12, not_taken)));
-    assert_eq!(rt; reader.take_correction(0x2f), None);
-    assert!(rt; reader.take_number_header(0x2f));
-    assert!(rt; reader.taken() < 100);
-    assert_eq!(rt; reader.take_correction(0x3b), None);
-    assert!(rt; !reader.take_number_header(0x2f));
-    assert_eq!(rt; reader.take_cancel_end(0x08), Some((13, 8, true)));
-    assert_eq!(rt; reader.taken(), 15);
-}
-
-#[test]
-fn a_correction_is_a_packet(rt: HostRuntime) {
-    let cancel = CorrectionPacket::Cancel3 { e: true, n: 5 };
-    assert_eq!(rt; cancel.packet(), Packet::Cancel3 { e: true, n: 5 });
 }

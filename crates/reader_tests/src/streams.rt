@@ -1,6 +1,7 @@
 //! The decoder of a stream: each public call once, on streams whose lines and counts were worked out by the rules.
 use element_queue::Counts;
 use etm_types::{Id, Settings};
+use path_text::LineBlock;
 use program_image::Image;
 use std::alloc::Global;
 use std::process::Abort;
@@ -43,9 +44,13 @@ fn decoder_at(
     let image = code(alloc)?;
     let id = Id::new(1).ok_or("it is an ID")?;
     let mut decoder = StreamDecoder::new(alloc, &settings)?;
+    let mut lines = LineBlock::new();
     for byte in HEAD.iter().chain(bytes) {
         assert!(rt; !decoder.broken() && decoder.taken() < MOST_BYTES);
-        assert_eq!(rt; decoder.take(&image, id, *byte, sink), Ok(()));
+        assert_eq!(rt;
+            decoder.take_run(&image, &mut lines, id, &[*byte], sink),
+            Ok(())
+        );
     }
     Ok(decoder)
 }
@@ -149,7 +154,11 @@ fn a_write_that_fails(rt: HostRuntime) -> Result<(), Fail> {
     let id = Id::new(1).ok_or("it is an ID")?;
     let mut decoder = decoder_at(&rt, rt.alloc(), 0, &[], &mut sink)?;
     assert!(rt; !decoder.broken() && decoder.taken() < MOST_BYTES);
-    assert_eq!(rt; decoder.take(&image, id, 0xf7, &mut sink), Err(Failed));
+    let mut lines = LineBlock::new();
+    assert_eq!(rt;
+        decoder.take_run(&image, &mut lines, id, &[0xf7], &mut sink),
+        Err(Failed)
+    );
     assert!(rt; decoder.broken());
     let (_, last) = counts_of(decoder);
     assert_eq!(rt; (last.made, last.committed), (1, 1));
@@ -164,10 +173,14 @@ fn a_run_that_is_cut_anywhere(rt: HostRuntime) -> Result<(), Fail> {
     for cut in 0..=RUN.len() {
         let mut sink = MemSink::new(rt.alloc(), Vec::new(rt.alloc()));
         let mut decoder = decoder_at(&rt, rt.alloc(), 4, &[], &mut sink)?;
+        let mut lines = LineBlock::new();
         let (first, second) = RUN.split_at(cut);
         for run in [first, second] {
             assert!(rt; !decoder.broken() && decoder.taken() < MOST_BYTES);
-            assert_eq!(rt; decoder.take_run(&image, id, run, &mut sink), Ok(()));
+            assert_eq!(rt;
+                decoder.take_run(&image, &mut lines, id, run, &mut sink),
+                Ok(())
+            );
         }
         assert_eq!(rt; decoder.taken(), 34);
         let (counts, _) = counts_of(decoder);

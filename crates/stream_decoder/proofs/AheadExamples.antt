@@ -1,5 +1,5 @@
 -- Packets that are tried on an outlook, worked out by hand from the figures of the standard (Arm IHI 0064, "Atom Format 1 packet", "Commit
--- packet", "Cancel packets"), and near misses.
+-- packet", "Cancel packets", "Mispredict packet"), and near misses.
 use Rattle.std.proofs.Common.{◌≡◌, ℕ, ◌-◌, ◌^◌, ◌<◌, Bool, true, false, List, [], ◌∷◌, ◌++◌, length, refl, sym, ap, subst, ◌∙◌, inl, inr, arith}
 use Rattle.std.proofs.Common.{append-nil, append_assoc, length-append, take}
 use Rattle.std.specs.Prelude.{replicate}
@@ -9,10 +9,10 @@ use Rattle.atom_formats.proofs.Examples.{format_1}
 use Rattle.element_queue.specs.Outlooks.{Outlook, has_room}
 use Rattle.etm_types.specs.Atoms.{IsAtomRun}
 use Rattle.packet_grammar.specs.declared.packet.Packet.{Packet}
-use Rattle.packet_grammar.specs.declared.packet.Packet.TheVariants.{Atoms, Cancel, Commit}
+use Rattle.packet_grammar.specs.declared.packet.Packet.TheVariants.{Atoms, Cancel, Commit, Mispredict}
 use Rattle.packet_reader.specs.Packets.{bytes_of}
-use Rattle.stream_decoder.specs.Ahead.{Foretold, Moves, MovesAll}
-use Rattle.stream_decoder.proofs.AheadMoves.{has_bytes, header_is, number_follows, number_is_few, number_is_small, number_is_some, one_move, room_is}
+use Rattle.stream_decoder.specs.Ahead.{Foretold, Moves, MovesAll, no_atoms}
+use Rattle.stream_decoder.proofs.AheadMoves.{has_bytes, header_is, number_follows, number_is_few, number_is_small, number_is_some, one_move, room_is, some_held}
 
 -- a branch that was taken
 abbrev e : Bool
@@ -77,7 +77,7 @@ commits : Moves two commit_1 committed
 commits = inr (inl (1, refl, omega arith, omega arith, omega arith, refl))
 
 cancels : Moves committed cancel_1 end
-cancels = inr (inr (1, refl, omega arith, omega arith, omega arith, refl))
+cancels = inr (inr (inl (1, refl, omega arith, omega arith, omega arith, refl)))
 
 pub all_moved : (bytes_of (atom_e ∷ atom_n ∷ commit_1 ∷ cancel_1 ∷ []) ≡ front) × MovesAll start (atom_e ∷ atom_n ∷ commit_1 ∷ cancel_1 ∷ []) end
 all_moved = (refl, (one, holds_e, (two, holds_n, (committed, commits, (end, cancels, refl)))))
@@ -127,7 +127,7 @@ not_newest_committed other = let same = ap (λ (x : Outlook). x.gone) (only_by c
 
 -- the oldest is cancelled in the place of the newest; or the newest, and it isn't counted
 newest_cancelled : Moves two cancel_1 (outlook [] (e ∷ []) 2 1)
-newest_cancelled = inr (inr (1, refl, omega arith, omega arith, omega arith, refl))
+newest_cancelled = inr (inr (inl (1, refl, omega arith, omega arith, omega arith, refl)))
 
 pub not_oldest_cancelled : Moves two cancel_1 (outlook [] (n ∷ []) 2 1) → ⊥
 not_oldest_cancelled other =
@@ -149,37 +149,37 @@ NoneMoves bytes o = (p : List ℕ × Packet) (behind : List ℕ) (o' : Outlook) 
 -- more are committed than are held, or cancelled; or none is
 pub not_three_committed : NoneMoves (0x2d ∷ 0x03 ∷ []) two
 not_three_committed p behind o' parts moves =
-    absurd (omega (arith, number_is_few (0x2d ∷ 0x03 ∷ []) (0x03 ∷ []) behind 0x2d p two o' refl (omega arith) parts moves 3 [] refl 3 refl))
+    absurd (omega (arith, number_is_few (0x2d ∷ 0x03 ∷ []) (0x03 ∷ []) behind 0x2d p two o' refl (omega arith) (λ is. absurd (omega (arith, is))) parts moves 3 [] refl 3 refl))
 
 pub not_three_cancelled : NoneMoves (0x2e ∷ 0x03 ∷ []) two
 not_three_cancelled p behind o' parts moves =
-    absurd (omega (arith, number_is_few (0x2e ∷ 0x03 ∷ []) (0x03 ∷ []) behind 0x2e p two o' refl (omega arith) parts moves 3 [] refl 3 refl))
+    absurd (omega (arith, number_is_few (0x2e ∷ 0x03 ∷ []) (0x03 ∷ []) behind 0x2e p two o' refl (omega arith) (λ is. absurd (omega (arith, is))) parts moves 3 [] refl 3 refl))
 
 pub not_none_cancelled : NoneMoves (0x2e ∷ 0x00 ∷ []) two
 not_none_cancelled p behind o' parts moves =
-    absurd (omega (arith, number_is_some (0x2e ∷ 0x00 ∷ []) (0x00 ∷ []) behind 0x2e p two o' refl (omega arith) parts moves 0 [] refl 0 refl))
+    absurd (omega (arith, number_is_some (0x2e ∷ 0x00 ∷ []) (0x00 ∷ []) behind 0x2e p two o' refl (omega arith) (λ is. absurd (omega (arith, is))) parts moves 0 [] refl 0 refl))
 
 pub not_none_committed : NoneMoves (0x2d ∷ 0x00 ∷ []) two
 not_none_committed p behind o' parts moves =
-    absurd (omega (arith, number_is_some (0x2d ∷ 0x00 ∷ []) (0x00 ∷ []) behind 0x2d p two o' refl (omega arith) parts moves 0 [] refl 0 refl))
+    absurd (omega (arith, number_is_some (0x2d ∷ 0x00 ∷ []) (0x00 ∷ []) behind 0x2d p two o' refl (omega arith) (λ is. absurd (omega (arith, is))) parts moves 0 [] refl 0 refl))
 
 -- a number of two bytes, or a header with no number behind it, or another header: a cancel with a mispredict
 pub not_a_long_number : NoneMoves (0x2d ∷ 0x81 ∷ 0x00 ∷ []) two
 not_a_long_number p behind o' parts moves =
     absurd (omega (
       arith,
-      number_is_small (0x2d ∷ 0x81 ∷ 0x00 ∷ []) (0x81 ∷ 0x00 ∷ []) behind 0x2d p two o' refl (omega arith) parts moves 0x81
+      number_is_small (0x2d ∷ 0x81 ∷ 0x00 ∷ []) (0x81 ∷ 0x00 ∷ []) behind 0x2d p two o' refl (omega arith) (λ is. absurd (omega (arith, is))) parts moves 0x81
           (0x00 ∷ []) refl,
     ))
 
 pub not_half_a_commit : NoneMoves (0x2d ∷ []) two
-not_half_a_commit p behind o' parts moves = number_follows (0x2d ∷ []) [] behind 0x2d p two o' refl (omega arith) parts moves refl
+not_half_a_commit p behind o' parts moves = number_follows (0x2d ∷ []) [] behind 0x2d p two o' refl (omega arith) (λ is. absurd (omega (arith, is))) parts moves refl
 
 pub not_a_mispredict : NoneMoves (0x2f ∷ 0x01 ∷ []) two
 not_a_mispredict p behind o' parts moves =
     absurd (omega (
       arith,
-      header_is (0x2f ∷ 0x01 ∷ []) (0x01 ∷ []) behind 0x2f p two o' refl (omega arith) parts moves
+      header_is (0x2f ∷ 0x01 ∷ []) (0x01 ∷ []) behind 0x2f p two o' refl (omega arith) (λ is. absurd (omega (arith, is))) parts moves
           (λ commit. absurd (omega (arith, commit))),
     ))
 
@@ -198,6 +198,33 @@ room_for_one = (omega arith, omega arith, omega arith)
 
 pub no_room : (has_room (full 62 (2 ^ 8 - 1) 1) 1 → ⊥) × (has_room (full 63 (2 ^ 8 - 1) 2) 1 → ⊥) × (has_room (full 62 (2 ^ 8) 2) 1 → ⊥)
 no_room = (λ room. absurd (omega (arith, room.0)), λ room. absurd (omega (arith, room.1)), λ room. absurd (omega (arith, room.2)))
+
+-- a mispredict, which turns the newest of those that are held
+abbrev mispredict : List ℕ × Packet
+mispredict = (0x30 ∷ [], Mispredict no_atoms)
+
+turned : Moves two mispredict (outlook [] (e ∷ e ∷ []) 2 0)
+turned = inr (inr (inr (refl, omega arith, refl)))
+
+pub turned_and_committed : MovesAll two (mispredict ∷ commit_1 ∷ []) (outlook (e ∷ []) (e ∷ []) 2 0)
+turned_and_committed =
+    (outlook [] (e ∷ e ∷ []) 2 0, turned, (outlook (e ∷ []) (e ∷ []) 2 0, inr (inl (1, refl, omega arith, omega arith, omega arith, refl)), refl))
+
+-- the oldest is turned, or none
+pub not_oldest_turned : Moves two mispredict (outlook [] (n ∷ n ∷ []) 2 0) → ⊥
+not_oldest_turned other =
+    let same = ap (λ (x : Outlook). x.held) (only_by mispredict two (outlook [] (e ∷ e ∷ []) 2 0) (outlook [] (n ∷ n ∷ []) 2 0) turned other) in cc
+
+pub not_left_as_it_is : Moves two mispredict two → ⊥
+not_left_as_it_is other = let same = ap (λ (x : Outlook). x.held) (only_by mispredict two (outlook [] (e ∷ e ∷ []) 2 0) two turned other) in cc
+
+-- none is held, though one is committed; or an atom stands in the packet
+pub not_a_committed_one : NoneMoves (0x30 ∷ []) end
+not_a_committed_one p behind o' parts moves = absurd (omega (arith, some_held (0x30 ∷ []) [] behind 0x30 p end o' refl refl parts moves))
+
+pub not_with_an_atom : NoneMoves (0x31 ∷ []) two
+not_with_an_atom p behind o' parts moves =
+    number_follows (0x31 ∷ []) [] behind 0x31 p two o' refl (omega arith) (λ is. absurd (omega (arith, is))) parts moves refl
 
 -- what is foretold with none committed before the last goes no further than the commit
 pub not_foretold_further : Foretold start front 0 end 2 [] → ⊥

@@ -1,12 +1,13 @@
--- Packets of atoms, commits and cancels that are taken one after the other lead to what settling does at once.
-use Rattle.std.proofs.Common.{◌≡◌, ℕ, zero, suc, ◌+◌, ◌-◌, ◌^◌, ◌≤◌, ◌<◌, Bool, false, List, [], ◌∷◌, ◌++◌, length, map, take, drop, Ok}
+-- Packets of atoms, commits, cancels and mispredicts that are taken one after the other lead to what settling does at once.
+use Rattle.std.proofs.Common.{◌≡◌, ℕ, zero, suc, ◌+◌, ◌-◌, ◌%◌, ◌^◌, ◌≤◌, ◌<◌, Bool, false, List, [], ◌∷◌, ◌++◌, length, map, take, drop, Ok}
 use Rattle.std.proofs.Common.{refl, sym, ap, subst, ◌∙◌, inl, inr, arith, append-nil, append_assoc, length-append, length-drop}
 use Rattle.std.proofs.Math.Nat.{mod-lt}
 use Rattle.std.proofs.lemmas.List.{drop_at, length-map, length-take-le, map-append, nil_from_length, take-append-drop, take-take, take_at}
 use Rattle.element_queue.proofs.Cancelled.{pre_since, takes_back}
+use Rattle.element_queue.proofs.FlippedAtoms.{as_many_flipped, flipped_by_rule}
 use Rattle.element_queue.specs.Counting.{AreCounts, Balances, add, counts_after, entries}
-use Rattle.element_queue.specs.Outlooks.{Outlook}
-use Rattle.element_queue.specs.Pending.{Pending, cancelling, committing, taken}
+use Rattle.element_queue.specs.Outlooks.{Outlook, flip_newest_atom}
+use Rattle.element_queue.specs.Pending.{Pending, cancelling, committing, flips, nothing_gone, pre_behind, taken}
 use Rattle.element_queue.specs.Queued.{Queued, plain_atom}
 use Rattle.element_queue.specs.declared.ledger.Counts.{Counts}
 use Rattle.etm_types.specs.Atoms.{atoms_in}
@@ -18,11 +19,11 @@ use Rattle.etm_types.specs.declared.element.P0.TheVariants.{Atom}
 use Rattle.etm_types.specs.declared.element.Pre.{Pre}
 use Rattle.etm_types.specs.declared.element.Thing.{Thing}
 use Rattle.packet_grammar.specs.declared.packet.Packet.{Packet}
-use Rattle.packet_grammar.specs.declared.packet.Packet.TheVariants.{Atoms, Cancel, Commit}
+use Rattle.packet_grammar.specs.declared.packet.Packet.TheVariants.{Atoms, Cancel, Commit, Mispredict}
 use Rattle.path_elements.specs.Elements.{atoms}
 use Rattle.stream_decoder.proofs.Rotating.{gives_many, keeps, length_bits, made_more, waiting_at}
 use Rattle.stream_decoder.proofs.Waits.{commits_due}
-use Rattle.stream_decoder.specs.Ahead.{GiveOut, GivesOut, Moves, MovesAll, TakesEach, settled_waiting}
+use Rattle.stream_decoder.specs.Ahead.{GiveOut, GivesOut, Moves, MovesAll, TakesEach, no_atoms, settled_waiting}
 use Rattle.stream_decoder.specs.Waiting.{Commits, DropsDue, HoldsAtoms, IsWaiting, Waiting, waiting_of}
 
 -- ---- what packets leave as it is
@@ -31,7 +32,8 @@ use Rattle.stream_decoder.specs.Waiting.{Commits, DropsDue, HoldsAtoms, IsWaitin
 pub still_gone : (o o' : Outlook) (p : List ℕ × Packet) → Moves o p o' → (more : List Bool) × (o'.gone ≡ o.gone ++ more)
 still_gone o o' p (inl (byte, run, is, spells, whole, room, made)) = ([], ap (λ (x : Outlook). x.gone) made ∙ sym (append-nil o.gone))
 still_gone o o' p (inr (inl (n, is, small, nonzero, within, made))) = (take n o.held, ap (λ (x : Outlook). x.gone) made)
-still_gone o o' p (inr (inr (n, is, small, some, within, made))) = ([], ap (λ (x : Outlook). x.gone) made ∙ sym (append-nil o.gone))
+still_gone o o' p (inr (inr (inl (n, is, small, some, within, made)))) = ([], ap (λ (x : Outlook). x.gone) made ∙ sym (append-nil o.gone))
+still_gone o o' p (inr (inr (inr (is, some, made)))) = ([], ap (λ (x : Outlook). x.gone) made ∙ sym (append-nil o.gone))
 
 pub still_gone_all : (o o' : Outlook) (ps : List (List ℕ × Packet)) → MovesAll o ps o' → (more : List Bool) × (o'.gone ≡ o.gone ++ more)
 still_gone_all o o' [] is = ([], ap (λ (x : Outlook). x.gone) is ∙ sym (append-nil o.gone))
@@ -45,7 +47,8 @@ still_gone_all o o' (p ∷ ps) (next, one, others) =
 pub same_before_one : (o o' : Outlook) (p : List ℕ × Packet) → Moves o p o' → o'.before ≡ o.before
 same_before_one o o' p (inl (byte, run, is, spells, whole, room, made)) = ap (λ (x : Outlook). x.before) made
 same_before_one o o' p (inr (inl (n, is, small, nonzero, within, made))) = ap (λ (x : Outlook). x.before) made
-same_before_one o o' p (inr (inr (n, is, small, some, within, made))) = ap (λ (x : Outlook). x.before) made
+same_before_one o o' p (inr (inr (inl (n, is, small, some, within, made)))) = ap (λ (x : Outlook). x.before) made
+same_before_one o o' p (inr (inr (inr (is, some, made)))) = ap (λ (x : Outlook). x.before) made
 
 pub same_before : (o o' : Outlook) (ps : List (List ℕ × Packet)) → MovesAll o ps o' → o'.before ≡ o.before
 same_before o o' [] is = ap (λ (x : Outlook). x.before) is
@@ -55,7 +58,8 @@ same_before o o' (p ∷ ps) (next, one, others) = same_before next o' ps others 
 pub same_depth_one : (o o' : Outlook) (p : List ℕ × Packet) → Moves o p o' → o'.depth ≡ o.depth
 same_depth_one o o' p (inl (byte, run, is, spells, whole, room, made)) = ap (λ (x : Outlook). x.depth) made
 same_depth_one o o' p (inr (inl (n, is, small, nonzero, within, made))) = ap (λ (x : Outlook). x.depth) made
-same_depth_one o o' p (inr (inr (n, is, small, some, within, made))) = ap (λ (x : Outlook). x.depth) made
+same_depth_one o o' p (inr (inr (inl (n, is, small, some, within, made)))) = ap (λ (x : Outlook). x.depth) made
+same_depth_one o o' p (inr (inr (inr (is, some, made)))) = ap (λ (x : Outlook). x.depth) made
 
 pub same_depth : (o o' : Outlook) (ps : List (List ℕ × Packet)) → MovesAll o ps o' → o'.depth ≡ o.depth
 same_depth o o' [] is = ap (λ (x : Outlook). x.depth) is
@@ -76,9 +80,13 @@ few_by_one o o' p (inr (inl (n, is, small, nonzero, within, made))) few =
     let gone : length o'.gone ≡ length o.gone + n =
     ap (λ (x : Outlook). length x.gone) made ∙ length-append o.gone (take n o.held) ∙ ap (λ (m : ℕ). length o.gone + m) (length-take-le n o.held within) in
     let depth : o'.depth ≡ o.depth = ap (λ (x : Outlook). x.depth) made in (omega arith, omega arith)
-few_by_one o o' p (inr (inr (n, is, small, some, within, made))) few =
+few_by_one o o' p (inr (inr (inl (n, is, small, some, within, made)))) few =
     let held : length o'.held ≡ length o.held - n =
     ap (λ (x : Outlook). length x.held) made ∙ length-take-le (length o.held - n) o.held (omega arith) in
+    let gone : length o'.gone ≡ length o.gone = ap (λ (x : Outlook). length x.gone) made in
+    let depth : o'.depth ≡ o.depth = ap (λ (x : Outlook). x.depth) made in (omega arith, omega arith)
+few_by_one o o' p (inr (inr (inr (is, some, made)))) few =
+    let held : length o'.held ≡ length o.held = ap (λ (x : Outlook). length x.held) made ∙ as_many_flipped o.held in
     let gone : length o'.gone ≡ length o.gone = ap (λ (x : Outlook). length x.gone) made in
     let depth : o'.depth ≡ o.depth = ap (λ (x : Outlook). x.depth) made in (omega arith, omega arith)
 
@@ -131,6 +139,12 @@ entries_plain (x ∷ xs) = ap suc (entries_plain xs)
 given_before : (back : List Bool) → pre_since nothing_told (map plain_atom back) ≡ nothing_told
 given_before [] = refl
 given_before (taken ∷ back) = refl
+
+-- nor is anything given behind one that is flipped
+given_behind : (held : List Bool) → pre_behind (map plain_atom held) nothing_told ≡ nothing_told
+given_behind [] = refl
+given_behind (taken ∷ []) = refl
+given_behind (taken ∷ next ∷ held) = given_behind (next ∷ held)
 
 none_more : (n : ℕ) → n < 2 ^ 64 → add n 0 ≡ n
 none_more n small = omega (arith, small)
@@ -283,9 +297,51 @@ module _ (informed : Bool) (depth : ℕ) where
       } in
       record {
         elements = elem.Cancel n ∷ [];
-        has = inr (inr (n, refl, refl));
+        has = inr (inr (inl (n, refl, refl)));
         mid = w';
         quiet = (w', refl, takes_newest n held back c count are, waits', refl);
+        holds = waits';
+        others = [];
+        due = refl;
+        drops = refl;
+      }
+
+  flips_newest : (held : List Bool) (c : Counts) → 0 < length held → AreCounts c
+      → Commits (plain_waiting [] held c) elem.Flip (plain_waiting [] (flip_newest_atom held) c) []
+  flips_newest held c some are =
+      let things = map plain_atom held in
+      let pending : List Thing → Pre → Pending = λ l pre. record { held = l; pre = pre; informed = informed } in
+      let twice : (m : ℕ) → add m 0 ≡ add (add m 0) 0 = λ m. omega arith in
+      record {
+        gone = nothing_gone;
+        rule = ap (flips (pending things nothing_told)) (flipped_by_rule held some)
+            ∙ ap (λ (pre : Pre). Ok (pending (map plain_atom (flip_newest_atom held)) pre, nothing_gone)) (given_behind held);
+        commits = refl;
+        counts = λ k. record {
+          made = sym (none_more c.made are.made) k;
+          committed = twice c.committed k;
+          cancelled = sym (none_more c.cancelled are.cancelled) k;
+          lost = sym (none_more c.lost are.lost) k;
+        };
+        depth = refl;
+      }
+
+  gives_flipped : (held : List Bool) (c : Counts) → 0 < length held → IsWaiting (plain_waiting [] held c)
+      → GivesOut (plain_waiting [] held c) (Mispredict no_atoms) [] (plain_waiting [] (flip_newest_atom held) c)
+  gives_flipped held c some waits =
+      let w' = plain_waiting [] (flip_newest_atom held) c in
+      let size = as_many_flipped held in
+      let waits' : IsWaiting w' = record {
+        few = omega (arith, waits.few, length-map held plain_atom, length-map (flip_newest_atom held) plain_atom, size);
+        balanced = waits.balanced ∙ ap (λ (n : ℕ). (c.committed + c.cancelled + c.lost + n) % 2 ^ 64)
+            (entries_plain held ∙ sym size ∙ sym (entries_plain (flip_newest_atom held)));
+        range = waits.range;
+      } in
+      record {
+        elements = elem.Flip ∷ [];
+        has = inr (inr (inr (refl, refl)));
+        mid = w';
+        quiet = (w', refl, flips_newest held c some waits.range, waits', refl);
         holds = waits';
         others = [];
         due = refl;
@@ -353,7 +409,7 @@ module _ (informed : Bool) (depth : ℕ) (c : Counts) where
       (ap (λ (y : Outlook). add c.cancelled y.cancelled) (sym made)) in
       gives_as _ _ _ _ _ _ _ _ (sym start) end (ap (λ (q : List ℕ × Packet). q.1) (sym is)) refl
       (gives_committed informed depth n now later (drop n x.held) cx count (subst IsWaiting start waits))
-  one_gives x x' p now later (inr (inr (n, is, small, some, within, made))) deep gone waits =
+  one_gives x x' p now later (inr (inr (inl (n, is, small, some, within, made)))) deep gone waits =
       let none = nothing_more x.gone now later (sym (ap (λ (y : Outlook). y.gone) made) ∙ gone) in
       let same : x.gone ≡ x.gone ++ now = sym (append-nil x.gone) ∙ ap (λ (l : List Bool). x.gone ++ l) (sym none.0) in
       let m = length x.held - n in
@@ -369,6 +425,15 @@ module _ (informed : Bool) (depth : ℕ) (c : Counts) where
       (two_parts c.cancelled x.cancelled n ∙ ap (λ (y : Outlook). add c.cancelled y.cancelled) (sym made)) in
       gives_as _ _ _ _ _ _ _ _ (sym start) end (ap (λ (q : List ℕ × Packet). q.1) (sym is)) (sym none.0)
       (gives_back informed depth n (take m x.held) (drop m x.held) cx count (subst IsWaiting start waits))
+  one_gives x x' p now later (inr (inr (inr (is, some, made)))) deep gone waits =
+      let none = nothing_more x.gone now later (sym (ap (λ (y : Outlook). y.gone) made) ∙ gone) in
+      let same : x.gone ≡ x.gone ++ now = sym (append-nil x.gone) ∙ ap (λ (l : List Bool). x.gone ++ l) (sym none.0) in
+      let cx : Counts = (behind x [] (length x.gone)).counts in
+      let end = same_waiting [] later (flip_newest_atom x.held) x'.held (add c.made x.made) (add c.made x'.made)
+      (add c.committed (length x.gone)) (add c.committed (length (x.gone ++ now))) (add c.cancelled x.cancelled) (add c.cancelled x'.cancelled)
+      (sym none.1) (ap (λ (y : Outlook). y.held) (sym made)) (ap (λ (y : Outlook). add c.made y.made) (sym made))
+      (ap (λ (l : List Bool). add c.committed (length l)) same) (ap (λ (y : Outlook). add c.cancelled y.cancelled) (sym made)) in
+      gives_as _ _ _ _ _ _ _ _ refl end (ap (λ (q : List ℕ × Packet). q.1) (sym is)) (sym none.0) (gives_flipped informed depth x.held cx some waits)
 
   gives_from : (first : List (List ℕ × Packet)) (x before o' : Outlook) (last : List ℕ × Packet) (now later : List Bool) → x.depth ≡ depth
       → o'.gone ≡ (before.gone ++ now) ++ later → IsWaiting (behind x [] (length x.gone)) → MovesAll x first before → Moves before last o'

@@ -4,13 +4,13 @@ use Rattle.std.proofs.Common.{inl, inr, append_assoc}
 use Rattle.atom_formats.specs.Formats.{Spells}
 use Rattle.atom_formats.proofs.Rows.{no_other_tells, one_run_a_byte}
 use Rattle.element_queue.proofs.LowBits.{low_bits-length}
-use Rattle.element_queue.specs.Outlooks.{Outlook, has_room}
+use Rattle.element_queue.specs.Outlooks.{Outlook, flip_newest_atom, has_room}
 use Rattle.etm_types.specs.Atoms.{IsAtomRun, atoms_in}
 use Rattle.etm_types.specs.declared.atoms.AtomRun.{AtomRun}
 use Rattle.packet_grammar.specs.declared.packet.Packet.{Packet}
-use Rattle.packet_grammar.specs.declared.packet.Packet.TheVariants.{Atoms, Cancel, Commit}
+use Rattle.packet_grammar.specs.declared.packet.Packet.TheVariants.{Atoms, Cancel, Commit, Mispredict}
 use Rattle.packet_reader.specs.Packets.{bytes_of}
-use Rattle.stream_decoder.specs.Ahead.{Foretold, Moves, MovesAll}
+use Rattle.stream_decoder.specs.Ahead.{Foretold, Moves, MovesAll, no_atoms}
 
 -- ---- what the bytes of one packet make
 
@@ -26,61 +26,83 @@ counted run other same =
 same_one : (x y : ℕ) (xs ys : List ℕ) → x ∷ xs ≡ y ∷ ys → (x ≡ y) × (xs ≡ ys)
 same_one x y xs ys e = (cc, ap (drop 1) e)
 
-same_two : (x a y b : ℕ) (xs ys : List ℕ) → x ∷ a ∷ xs ≡ y ∷ b ∷ ys → (x ≡ y) × (a ≡ b) × (xs ≡ ys)
-same_two x a y b xs ys e = (cc, (same_one a b xs ys (ap (drop 1) e)).0, ap (drop 2) e)
-
 with_atoms : Outlook → List Bool → ℕ → Outlook
 with_atoms o atoms n = record o { held = o.held ++ atoms; made = o.made + n }
+
+-- two packets at the front of the same bytes have one header, and where each has that alone, the same bytes are behind them
+module _ (bytes behind behind' : List ℕ) (p p' : List ℕ × Packet) (parts : bytes ≡ p.0 ++ behind) (parts' : bytes ≡ p'.0 ++ behind') where
+  both_first : {x y : ℕ} {xs ys : List ℕ} {packet packet' : Packet} → p ≡ (x ∷ xs, packet) → p' ≡ (y ∷ ys, packet')
+      → (x ≡ y) × (xs ++ behind ≡ ys ++ behind')
+  both_first {x = x} {y = y} {xs = xs} {ys = ys} {packet = packet} {packet' = packet'} is is' =
+      same_one x y (xs ++ behind) (ys ++ behind') (sym (text_first bytes behind (x ∷ xs) p packet parts is)
+      ∙ text_first bytes behind' (y ∷ ys) p' packet' parts' is')
+
+  same_header : {x y : ℕ} {xs ys : List ℕ} {packet packet' : Packet} → p ≡ (x ∷ xs, packet) → p' ≡ (y ∷ ys, packet') → x ≡ y
+  same_header is is' = (both_first is is').0
 
 -- bytes are one such packet alone, and make one outlook
 pub one_move : (bytes behind behind' : List ℕ) (p p' : List ℕ × Packet) (o o1 o2 : Outlook) → bytes ≡ p.0 ++ behind → bytes ≡ p'.0 ++ behind'
     → Moves o p o1 → Moves o p' o2 → (behind ≡ behind') × (o1 ≡ o2)
 unfolding with_atoms
 one_move bytes behind behind' p p' o o1 o2 parts parts' (inl (byte, run, is, spells, fits, room, made)) (inl (byte', run', is', spells', fits', room', made')) =
-    let same = same_one byte byte' behind behind' (sym (text_first bytes behind (byte ∷ []) p (Atoms run) parts is)
-    ∙ text_first bytes behind' (byte' ∷ []) p' (Atoms run') parts' is') in
+    let same = both_first bytes behind behind' p p' parts parts' is is' in
     let atoms = one_run_a_byte byte' (atoms_in run) (atoms_in run') (subst (λ (b : ℕ). Spells b (atoms_in run)) same.0 spells) spells' in (
       same.1,
       made ∙ ap (λ (l : List Bool). with_atoms o l run.count) atoms ∙ ap (with_atoms o (atoms_in run')) (counted run run' atoms) ∙ sym made',
     )
-one_move bytes behind behind' p p' o o1 o2 parts parts' (inl (byte, run, is, spells, fits, room, made)) (inr (inl (n, is', small, nonzero, few, made'))) =
-    let same = same_one byte 0x2d behind (n ∷ behind') (sym (text_first bytes behind (byte ∷ []) p (Atoms run) parts is)
-    ∙ text_first bytes behind' (0x2d ∷ n ∷ []) p' (Commit n) parts' is') in
-    absurd (omega (arith, same.0, (no_other_tells byte (atoms_in run) spells).0))
-one_move bytes behind behind' p p' o o1 o2 parts parts' (inl (byte, run, is, spells, fits, room, made)) (inr (inr (n, is', small, some, few, made'))) =
-    let same = same_one byte 0x2e behind (n ∷ behind') (sym (text_first bytes behind (byte ∷ []) p (Atoms run) parts is)
-    ∙ text_first bytes behind' (0x2e ∷ n ∷ []) p' (Cancel n false) parts' is') in
-    absurd (omega (arith, same.0, (no_other_tells byte (atoms_in run) spells).0))
+one_move bytes behind behind' p p' o o1 o2 parts parts' (inl (byte, run, is, spells, fits, room, made)) (inr (inl (n', is', small', nonzero', few', made'))) =
+    let same = same_header bytes behind behind' p p' parts parts' is is' in
+    absurd (omega (arith, same, (no_other_tells byte (atoms_in run) spells).0))
+one_move bytes behind behind' p p' o o1 o2 parts parts' (inl (byte, run, is, spells, fits, room, made)) (inr (inr (inl (n', is', small', some', few', made')))) =
+    let same = same_header bytes behind behind' p p' parts parts' is is' in
+    absurd (omega (arith, same, (no_other_tells byte (atoms_in run) spells).0))
+one_move bytes behind behind' p p' o o1 o2 parts parts' (inl (byte, run, is, spells, fits, room, made)) (inr (inr (inr (is', some', made')))) =
+    let same = same_header bytes behind behind' p p' parts parts' is is' in
+    absurd (omega (arith, same, (no_other_tells byte (atoms_in run) spells).0))
 one_move bytes behind behind' p p' o o1 o2 parts parts' (inr (inl (n, is, small, nonzero, few, made))) (inl (byte, run, is', spells, fits, room, made')) =
-    let same = same_one byte 0x2d behind' (n ∷ behind) (sym (text_first bytes behind' (byte ∷ []) p' (Atoms run) parts' is')
-    ∙ text_first bytes behind (0x2d ∷ n ∷ []) p (Commit n) parts is) in
-    absurd (omega (arith, same.0, (no_other_tells byte (atoms_in run) spells).0))
+    let same = same_header bytes behind behind' p p' parts parts' is is' in
+    absurd (omega (arith, same, (no_other_tells byte (atoms_in run) spells).0))
 one_move bytes behind behind' p p' o o1 o2 parts parts' (inr (inl (n, is, small, nonzero, few, made))) (inr (inl (n', is', small', nonzero', few', made'))) =
-    let same = same_two 0x2d n 0x2d n' behind behind' (sym (text_first bytes behind (0x2d ∷ n ∷ []) p (Commit n) parts is)
-    ∙ text_first bytes behind' (0x2d ∷ n' ∷ []) p' (Commit n') parts' is') in
-    (same.2, made ∙ ap (λ (k : ℕ). record o { gone = o.gone ++ take k o.held; held = drop k o.held }) same.1 ∙ sym made')
-one_move bytes behind behind' p p' o o1 o2 parts parts' (inr (inl (n, is, small, nonzero, few, made))) (inr (inr (n', is', small', some, few', made'))) =
-    let same = same_two 0x2d n 0x2e n' behind behind' (sym (text_first bytes behind (0x2d ∷ n ∷ []) p (Commit n) parts is)
-    ∙ text_first bytes behind' (0x2e ∷ n' ∷ []) p' (Cancel n' false) parts' is') in
-    absurd (omega (arith, same.0))
-one_move bytes behind behind' p p' o o1 o2 parts parts' (inr (inr (n, is, small, some, few, made))) (inl (byte, run, is', spells, fits, room, made')) =
-    let same = same_one byte 0x2e behind' (n ∷ behind) (sym (text_first bytes behind' (byte ∷ []) p' (Atoms run) parts' is')
-    ∙ text_first bytes behind (0x2e ∷ n ∷ []) p (Cancel n false) parts is) in
-    absurd (omega (arith, same.0, (no_other_tells byte (atoms_in run) spells).0))
-one_move bytes behind behind' p p' o o1 o2 parts parts' (inr (inr (n, is, small, some, few, made))) (inr (inl (n', is', small', nonzero', few', made'))) =
-    let same = same_two 0x2e n 0x2d n' behind behind' (sym (text_first bytes behind (0x2e ∷ n ∷ []) p (Cancel n false) parts is)
-    ∙ text_first bytes behind' (0x2d ∷ n' ∷ []) p' (Commit n') parts' is') in
-    absurd (omega (arith, same.0))
-one_move bytes behind behind' p p' o o1 o2 parts parts' (inr (inr (n, is, small, some, few, made))) (inr (inr (n', is', small', some', few', made'))) =
-    let same = same_two 0x2e n 0x2e n' behind behind' (sym (text_first bytes behind (0x2e ∷ n ∷ []) p (Cancel n false) parts is)
-    ∙ text_first bytes behind' (0x2e ∷ n' ∷ []) p' (Cancel n' false) parts' is') in
-    (same.2, made ∙ ap (λ (k : ℕ). record o { held = take (length o.held - k) o.held; cancelled = o.cancelled + k }) same.1 ∙ sym made')
+    let same = both_first bytes behind behind' p p' parts parts' is is' in
+    let rest = same_one n n' behind behind' same.1 in
+    (rest.1, made ∙ ap (λ (k : ℕ). record o { gone = o.gone ++ take k o.held; held = drop k o.held }) rest.0 ∙ sym made')
+one_move bytes behind behind' p p' o o1 o2 parts parts' (inr (inl (n, is, small, nonzero, few, made))) (inr (inr (inl (n', is', small', some', few', made')))) =
+    let same = same_header bytes behind behind' p p' parts parts' is is' in
+    absurd (omega (arith, same))
+one_move bytes behind behind' p p' o o1 o2 parts parts' (inr (inl (n, is, small, nonzero, few, made))) (inr (inr (inr (is', some', made')))) =
+    let same = same_header bytes behind behind' p p' parts parts' is is' in
+    absurd (omega (arith, same))
+one_move bytes behind behind' p p' o o1 o2 parts parts' (inr (inr (inl (n, is, small, some, few, made)))) (inl (byte, run, is', spells, fits, room, made')) =
+    let same = same_header bytes behind behind' p p' parts parts' is is' in
+    absurd (omega (arith, same, (no_other_tells byte (atoms_in run) spells).0))
+one_move bytes behind behind' p p' o o1 o2 parts parts' (inr (inr (inl (n, is, small, some, few, made)))) (inr (inl (n', is', small', nonzero', few', made'))) =
+    let same = same_header bytes behind behind' p p' parts parts' is is' in
+    absurd (omega (arith, same))
+one_move bytes behind behind' p p' o o1 o2 parts parts' (inr (inr (inl (n, is, small, some, few, made)))) (inr (inr (inl (n', is', small', some', few', made')))) =
+    let same = both_first bytes behind behind' p p' parts parts' is is' in
+    let rest = same_one n n' behind behind' same.1 in
+    (rest.1, made ∙ ap (λ (k : ℕ). record o { held = take (length o.held - k) o.held; cancelled = o.cancelled + k }) rest.0 ∙ sym made')
+one_move bytes behind behind' p p' o o1 o2 parts parts' (inr (inr (inl (n, is, small, some, few, made)))) (inr (inr (inr (is', some', made')))) =
+    let same = same_header bytes behind behind' p p' parts parts' is is' in
+    absurd (omega (arith, same))
+one_move bytes behind behind' p p' o o1 o2 parts parts' (inr (inr (inr (is, some, made)))) (inl (byte, run, is', spells, fits, room, made')) =
+    let same = same_header bytes behind behind' p p' parts parts' is is' in
+    absurd (omega (arith, same, (no_other_tells byte (atoms_in run) spells).0))
+one_move bytes behind behind' p p' o o1 o2 parts parts' (inr (inr (inr (is, some, made)))) (inr (inl (n', is', small', nonzero', few', made'))) =
+    let same = same_header bytes behind behind' p p' parts parts' is is' in
+    absurd (omega (arith, same))
+one_move bytes behind behind' p p' o o1 o2 parts parts' (inr (inr (inr (is, some, made)))) (inr (inr (inl (n', is', small', some', few', made')))) =
+    let same = same_header bytes behind behind' p p' parts parts' is is' in
+    absurd (omega (arith, same))
+one_move bytes behind behind' p p' o o1 o2 parts parts' (inr (inr (inr (is, some, made)))) (inr (inr (inr (is', some', made')))) =
+    ((both_first bytes behind behind' p p' parts parts' is is').1, made ∙ sym made')
 
 -- such a packet has a byte
 pub has_bytes : (p : List ℕ × Packet) (o o' : Outlook) → Moves o p o' → 0 < length p.0
 has_bytes p o o' (inl (byte, run, is, spells, fits, room, made)) = let e = ap (λ (q : List ℕ × Packet). length q.0) is in omega (arith, e)
 has_bytes p o o' (inr (inl (n, is, small, nonzero, few, made))) = let e = ap (λ (q : List ℕ × Packet). length q.0) is in omega (arith, e)
-has_bytes p o o' (inr (inr (n, is, small, some, few, made))) = let e = ap (λ (q : List ℕ × Packet). length q.0) is in omega (arith, e)
+has_bytes p o o' (inr (inr (inl (n, is, small, some, few, made)))) = let e = ap (λ (q : List ℕ × Packet). length q.0) is in omega (arith, e)
+has_bytes p o o' (inr (inr (inr (is, some, made)))) = let e = ap (λ (q : List ℕ × Packet). length q.0) is in omega (arith, e)
 
 -- ---- a packet at the front of some bytes
 
@@ -93,6 +115,10 @@ module _ (bytes rest : List ℕ) (byte : ℕ) (o o' : Outlook) (first : bytes �
       → o' ≡ record o { held = o.held ++ atoms_in run; made = o.made + run.count } → Tried bytes o 1 rest o'
   tried_atoms run spells fits room made = ((byte ∷ [], Atoms run), first, refl, omega arith, inl (byte, run, refl, spells, fits, room, made))
 
+  pub tried_flip : byte ≡ 0x30 → 0 < length o.held → o' ≡ record o { held = flip_newest_atom o.held } → Tried bytes o 1 rest o'
+  tried_flip header some made =
+      let whole : bytes ≡ 0x30 ∷ rest = cc in ((0x30 ∷ [], Mispredict no_atoms), whole, refl, omega arith, inr (inr (inr (refl, some, made))))
+
   module _ (n number : ℕ) (behind : List ℕ) (second : rest ≡ number ∷ behind) (same : n ≡ number) (small : number < 0x80) where
     pub tried_commit : byte ≡ 0x2d → (0 < n) × (n ≤ length o.held) → o' ≡ record o { gone = o.gone ++ take n o.held; held = drop n o.held }
         → Tried bytes o 2 behind o'
@@ -104,7 +130,7 @@ module _ (bytes rest : List ℕ) (byte : ℕ) (o o' : Outlook) (first : bytes �
         → o' ≡ record o { held = take (length o.held - n) o.held; cancelled = o.cancelled + n } → Tried bytes o 2 behind o'
     tried_cancel header few made =
         let whole : bytes ≡ 0x2e ∷ n ∷ behind = cc in
-        ((0x2e ∷ n ∷ [], Cancel n false), whole, refl, omega arith, inr (inr (n, refl, omega arith, few.0, few.1, made)))
+        ((0x2e ∷ n ∷ [], Cancel n false), whole, refl, omega arith, inr (inr (inl (n, refl, omega arith, few.0, few.1, made))))
 
 -- a byte that tells atoms is a packet of these, and there is room for them
 pub room_is : (bytes rest behind : List ℕ) (byte : ℕ) (run : AtomRun) (p : List ℕ × Packet) (o o' : Outlook) → bytes ≡ byte ∷ rest
@@ -116,9 +142,26 @@ room_is bytes rest behind byte run p o o' first spells parts (inl (b, other, is,
 room_is bytes rest behind byte run p o o' first spells parts (inr (inl (n, is, small, nonzero, few, made))) =
     let same = same_one byte 0x2d rest (n ∷ behind) (sym first ∙ text_first bytes behind (0x2d ∷ n ∷ []) p (Commit n) parts is) in
     absurd (omega (arith, same.0, (no_other_tells byte (atoms_in run) spells).0))
-room_is bytes rest behind byte run p o o' first spells parts (inr (inr (n, is, small, some, few, made))) =
+room_is bytes rest behind byte run p o o' first spells parts (inr (inr (inl (n, is, small, some, few, made)))) =
     let same = same_one byte 0x2e rest (n ∷ behind) (sym first ∙ text_first bytes behind (0x2e ∷ n ∷ []) p (Cancel n false) parts is) in
     absurd (omega (arith, same.0, (no_other_tells byte (atoms_in run) spells).0))
+room_is bytes rest behind byte run p o o' first spells parts (inr (inr (inr (is, some, made)))) =
+    let same = same_one byte 0x30 rest behind (sym first ∙ text_first bytes behind (0x30 ∷ []) p (Mispredict no_atoms) parts is) in
+    absurd (omega (arith, same.0, (no_other_tells byte (atoms_in run) spells).0))
+
+-- the header of a mispredict is a packet of that alone, and an atom is held
+pub some_held : (bytes rest behind : List ℕ) (byte : ℕ) (p : List ℕ × Packet) (o o' : Outlook) → bytes ≡ byte ∷ rest → byte ≡ 0x30 → bytes ≡ p.0 ++ behind
+    → Moves o p o' → 0 < length o.held
+some_held bytes rest behind byte p o o' first header parts (inl (b, run, is, spells, fits, room, made)) =
+    let same = same_one byte b rest behind (sym first ∙ text_first bytes behind (b ∷ []) p (Atoms run) parts is) in
+    absurd (omega (arith, same.0, header, (no_other_tells b (atoms_in run) spells).0))
+some_held bytes rest behind byte p o o' first header parts (inr (inl (n, is, small, nonzero, few, made))) =
+    let same = same_one byte 0x2d rest (n ∷ behind) (sym first ∙ text_first bytes behind (0x2d ∷ n ∷ []) p (Commit n) parts is) in
+    absurd (omega (arith, same.0, header))
+some_held bytes rest behind byte p o o' first header parts (inr (inr (inl (n, is, small, some, few, made)))) =
+    let same = same_one byte 0x2e rest (n ∷ behind) (sym first ∙ text_first bytes behind (0x2e ∷ n ∷ []) p (Cancel n false) parts is) in
+    absurd (omega (arith, same.0, header))
+some_held bytes rest behind byte p o o' first header parts (inr (inr (inr (is, some, made)))) = some
 
 -- a header and a number of one byte: a commit or a cancel of so many that are held
 pub record IsNumbered (byte : ℕ) (rest behind : List ℕ) (o : Outlook) : Type 0 where
@@ -129,30 +172,32 @@ pub record IsNumbered (byte : ℕ) (rest behind : List ℕ) (o : Outlook) : Type
   pub few : n ≤ length o.held
   pub which : (byte ≡ 0x2d) ⊎ (byte ≡ 0x2e)
 
--- another byte is a header, with a number behind it
+-- another byte, but for that of a mispredict, is a header with a number behind it
 pub numbered : (bytes rest behind : List ℕ) (byte : ℕ) (p : List ℕ × Packet) (o o' : Outlook) → bytes ≡ byte ∷ rest → byte < 0xc0
-    → bytes ≡ p.0 ++ behind → Moves o p o' → IsNumbered byte rest behind o
-numbered bytes rest behind byte p o o' first below parts (inl (b, run, is, spells, fits, room, made)) =
+    → (byte ≡ 0x30 → ⊥) → bytes ≡ p.0 ++ behind → Moves o p o' → IsNumbered byte rest behind o
+numbered bytes rest behind byte p o o' first below other parts (inl (b, run, is, spells, fits, room, made)) =
     let same = same_one byte b rest behind (sym first ∙ text_first bytes behind (b ∷ []) p (Atoms run) parts is) in
     absurd (omega (arith, same.0, below, (no_other_tells b (atoms_in run) spells).0))
-numbered bytes rest behind byte p o o' first below parts (inr (inl (n, is, small, nonzero, few, made))) =
+numbered bytes rest behind byte p o o' first below other parts (inr (inl (n, is, small, nonzero, few, made))) =
     let same = same_one byte 0x2d rest (n ∷ behind) (sym first ∙ text_first bytes behind (0x2d ∷ n ∷ []) p (Commit n) parts is) in
     record { n = n; second = same.1; small = small; some = nonzero; few = few; which = inl same.0 }
-numbered bytes rest behind byte p o o' first below parts (inr (inr (n, is, small, some, few, made))) =
+numbered bytes rest behind byte p o o' first below other parts (inr (inr (inl (n, is, small, some, few, made)))) =
     let same = same_one byte 0x2e rest (n ∷ behind) (sym first ∙ text_first bytes behind (0x2e ∷ n ∷ []) p (Cancel n false) parts is) in
     record { n = n; second = same.1; small = small; some = some; few = few; which = inr same.0 }
+numbered bytes rest behind byte p o o' first below other parts (inr (inr (inr (is, some, made)))) =
+    absurd (other (same_one byte 0x30 rest behind (sym first ∙ text_first bytes behind (0x30 ∷ []) p (Mispredict no_atoms) parts is)).0)
 
 -- where no number stands there, or one of several bytes, or another header, or fewer are held, there is no such packet
 module _ (bytes rest behind : List ℕ) (byte : ℕ) (p : List ℕ × Packet) (o o' : Outlook) (first : bytes ≡ byte ∷ rest) (below : byte < 0xc0)
-    (parts : bytes ≡ p.0 ++ behind) (moves : Moves o p o') where
+    (other : byte ≡ 0x30 → ⊥) (parts : bytes ≡ p.0 ++ behind) (moves : Moves o p o') where
   is : IsNumbered byte rest behind o
-  is = numbered bytes rest behind byte p o o' first below parts moves
+  is = numbered bytes rest behind byte p o o' first below other parts moves
 
   pub number_follows : length rest ≡ 0 → ⊥
   number_follows none = absurd (let e = ap (λ (l : List ℕ). length l) is.second in omega (arith, e, none))
 
   pub header_is : (byte ≡ 0x2d → ⊥) → byte ≡ 0x2e
-  header_is other = elim is.which [ inl commit ↦ absurd (other commit) | inr cancel ↦ cancel ]
+  header_is no_commit = elim is.which [ inl commit ↦ absurd (no_commit commit) | inr cancel ↦ cancel ]
 
   module _ (number : ℕ) (others : List ℕ) (second : rest ≡ number ∷ others) where
     number_is : number ≡ is.n

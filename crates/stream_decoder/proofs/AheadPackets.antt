@@ -16,15 +16,18 @@ use Rattle.stream_decoder.specs.Ahead.{Moves, MovesAll}
 pub some_bytes : (o o' : Outlook) (p : List ℕ × Packet) → Moves o p o' → 0 < length p.0
 some_bytes o o' p (inl (byte, run, is, spells, range, room, next)) = subst (λ (q : List ℕ × Packet). 0 < length q.0) (sym is) (omega arith)
 some_bytes o o' p (inr (inl (n, is, short, some, few, next))) = subst (λ (q : List ℕ × Packet). 0 < length q.0) (sym is) (omega arith)
-some_bytes o o' p (inr (inr (n, is, short, some, few, next))) = subst (λ (q : List ℕ × Packet). 0 < length q.0) (sym is) (omega arith)
+some_bytes o o' p (inr (inr (inl (n, is, short, some, few, next)))) = subst (λ (q : List ℕ × Packet). 0 < length q.0) (sym is) (omega arith)
+some_bytes o o' p (inr (inr (inr (is, some, next)))) = subst (λ (q : List ℕ × Packet). 0 < length q.0) (sym is) (omega arith)
 
 spelled : (s : Sizes) (o o' : Outlook) (p : List ℕ × Packet) → Moves o p o' → Spells s (Ok p.1) p.0
 spelled s o o' p (inl (byte, run, is, spells, range, room, next)) =
     let fits = no_other_tells byte (atoms_in run) spells in
     subst (λ (q : List ℕ × Packet). Spells s (Ok q.1) q.0) (sym is) (atoms_spelled s byte run fits.0 fits.1 spells range)
 spelled s o o' p (inr (inl (n, is, short, some, few, next))) = subst (λ (q : List ℕ × Packet). Spells s (Ok q.1) q.0) (sym is) (commit_spelled s n short)
-spelled s o o' p (inr (inr (n, is, short, some, few, next))) =
+spelled s o o' p (inr (inr (inl (n, is, short, some, few, next)))) =
     subst (λ (q : List ℕ × Packet). Spells s (Ok q.1) q.0) (sym is) (cancel_spelled s n short)
+spelled s o o' p (inr (inr (inr (is, some, next)))) =
+    subst (λ (q : List ℕ × Packet). Spells s (Ok q.1) q.0) (sym is) (0x30, (omega arith, omega arith, refl), refl)
 
 are_packets : (s : Sizes) (o o' : Outlook) (ps : List (List ℕ × Packet)) → Small (bytes_of ps) → MovesAll o ps o' → ArePackets s ps
 are_packets s o o' [] small moves = tt

@@ -11,7 +11,7 @@ use Rattle.etm_types.specs.declared.element.Elem.TheVariants as elem
 use Rattle.etm_types.specs.declared.element.Thing.{Thing}
 use Rattle.packet_grammar.proofs.Fitting.{small_back, small_front}
 use Rattle.packet_grammar.specs.declared.packet.Packet.{Packet}
-use Rattle.packet_grammar.specs.declared.packet.Packet.TheVariants.{Atoms, Commit, Cancel}
+use Rattle.packet_grammar.specs.declared.packet.Packet.TheVariants.{Atoms, Commit, Cancel, Mispredict}
 use Rattle.packet_grammar.specs.declared.stream_fault.Fault.{Fault}
 use Rattle.packet_reader.specs.Packets.{TakesPackets, bytes_of}
 use Rattle.packet_reader.specs.Stands.{Standing, TakesPacket}
@@ -29,7 +29,7 @@ use Rattle.stream_decoder.proofs.LettingGo.{items_joined, ran_by_dropping}
 use Rattle.stream_decoder.proofs.PacketRuns.{AtomsCount, Stays, are_elements, elements_are, placed, told_as_before}
 use Rattle.stream_decoder.proofs.Quiet.{goes_quiet, holds_quiet}
 use Rattle.stream_decoder.proofs.Yielding.{goes_nowhere, goes_on}
-use Rattle.stream_decoder.specs.Ahead.{GiveOut, GivesOut, HasElements, TakesEach}
+use Rattle.stream_decoder.specs.Ahead.{GiveOut, GivesOut, HasElements, TakesEach, no_atoms}
 use Rattle.stream_decoder.specs.AtomPackets.{RunsFront, RunsPacket, RunsPackets, bytes_in}
 use Rattle.stream_decoder.specs.Decoding.{AtRest, IsDecoding, decoding_of}
 use Rattle.stream_decoder.specs.Left.{Left, nothing_left}
@@ -96,6 +96,9 @@ counted_commit t n counts = rw counts.informed (rw counts.awaiting refl)
 counted_cancel : (t : Told) (n : ℕ) → AtomsCount t → is_misplaced t (Cancel n false) ≡ false
 counted_cancel t n counts = rw counts.informed (rw counts.awaiting refl)
 
+counted_flip : (t : Told) → AtomsCount t → is_misplaced t (Mispredict no_atoms) ≡ false
+counted_flip t counts = rw counts.informed (rw counts.awaiting refl)
+
 ready : (r r' : Standing) (t : Told) (text : List ℕ) (at : ℕ) (packet : Packet) (es : List Elem) → AtomsCount t → TakesPacket r r' text at packet
     → HasElements packet es → Ready t packet es
 ready r r' t text at packet es counts takes (inl (run, is, has)) =
@@ -113,12 +116,19 @@ ready r r' t text at packet es counts takes (inr (inl (n, is, has))) =
       told = ap (λ (b : Bool). if b then t else t) counts.informed;
       range = one_elem (elem.Commit n) tt;
     }))
-ready r r' t text at packet es counts takes (inr (inr (n, is, has))) =
+ready r r' t text at packet es counts takes (inr (inr (inl (n, is, has)))) =
     subst (λ (p : Packet). Ready t p es) (sym is) (subst (Ready t (Cancel n false)) (sym has) (record {
       placed = counted_cancel t n counts;
       elements = ap (λ (b : Bool). if b then elem.Cancel n ∷ [] else []) counts.informed;
       told = ap (λ (b : Bool). if b then t else t) counts.informed;
       range = one_elem (elem.Cancel n) tt;
+    }))
+ready r r' t text at packet es counts takes (inr (inr (inr (is, has)))) =
+    subst (λ (p : Packet). Ready t p es) (sym is) (subst (Ready t (Mispredict no_atoms)) (sym has) (record {
+      placed = counted_flip t counts;
+      elements = ap (λ (b : Bool). if b then elem.Flip ∷ [] else []) counts.informed;
+      told = ap (λ (b : Bool). if b then t else t) counts.informed;
+      range = one_elem elem.Flip tt;
     }))
 
 module _ (image : Image) (t : Told) (counts : AtomsCount t) (f : Option (ℕ × Fault)) (whole : f ≡ None) where

@@ -1,6 +1,7 @@
 -- Some atoms at the front are taken at once: that is the same as one after the other.
-use Rattle.std.proofs.Common.{◌≡◌, ℕ, zero, suc, ◌≤◌, ◌<◌, Bool, List, [], ◌∷◌, ◌++◌, length, take, drop, Option, Some, None}
-use Rattle.std.proofs.Common.{refl, sym, ap, subst, ◌∙◌, arith, inl}
+use Rattle.std.proofs.Common.{◌≡◌, ℕ, zero, suc, ◌+◌, ◌≤◌, ◌<◌, Bool, List, [], ◌∷◌, ◌++◌, length, take, drop, Option, Some, None}
+use Rattle.std.proofs.Common.{refl, sym, ap, subst, ◌∙◌, arith, inl, append_assoc, length-drop}
+use Rattle.std.proofs.Math.Seq.{take-add}
 use Rattle.std.proofs.lemmas.List.{length-map}
 use Rattle.element_queue.specs.Counting.{AreCounts, Balances}
 use Rattle.element_queue.specs.declared.ledger.Counts.{Counts}
@@ -182,6 +183,23 @@ module _ (image : Image) where
         refl,
       )
 
+  -- ---- one run of them behind the other
+
+  steps_joined : (w mid w' : Waiting) (s m s' : State) (xs ys : List Bool) (a b : List Stretch) → StepsByAtoms image w s xs a mid m
+      → StepsByAtoms image mid m ys b w' s' → StepsByAtoms image w s (xs ++ ys) (a ++ b) w' s'
+  steps_joined w mid w' s m s' [] ys a b (same, same_state, none) rest =
+      subst (λ (l : List Stretch). StepsByAtoms image w s ys (l ++ b) w' s') (sym none)
+      (subst (λ (v : Waiting). StepsByAtoms image v s ys b w' s') same (subst (λ (x : State). StepsByAtoms image mid x ys b w' s') same_state rest))
+  steps_joined w mid w' s m s' (taken ∷ xs) ys a b (next, after, first, more, step, steps, is) rest = (
+    next,
+    after,
+    first,
+    more ++ b,
+    step,
+    steps_joined next mid w' after m s' xs ys more b steps rest,
+    ap (λ (l : List Stretch). l ++ b) is ∙ append_assoc first more b,
+  )
+
 -- ---- some of them are taken
 
 module _ {V : Type 0} (Takes : V → List Stretch → V → Type 0) (image : Image) where
@@ -219,6 +237,18 @@ module _ {V : Type 0} (Takes : V → List Stretch → V → Type 0) (image : Ima
   pub takes_held : (w w' : Waiting) (s : State) (told : List Bool) (n : ℕ) (v : V) → Takes v [] v
       → (n ≤ length told) × StepsByAtoms image w s (take n told) [] w' s → TakesSome Takes image w s told v n w' s v
   takes_held w w' s told n v none steps = record { added = []; takes = none; within = steps.0; steps = steps.1 }
+
+  -- some, and others behind them
+  pub takes_joined : ((a b c : V) (xs ys : List Stretch) → Takes a xs b → Takes b ys c → Takes a (xs ++ ys) c) → (w mid w' : Waiting) (s m s' : State)
+      (told : List Bool) (n k : ℕ) (old v new : V) → TakesSome Takes image w s told old n mid m v
+      → TakesSome Takes image mid m (drop n told) v k w' s' new → TakesSome Takes image w s told old (n + k) w' s' new
+  takes_joined joins w mid w' s m s' told n k old v new first rest = record {
+    added = first.added ++ rest.added;
+    takes = joins old v new first.added rest.added first.takes rest.takes;
+    within = omega (arith, first.within, rest.within, length-drop n told);
+    steps = subst (λ (l : List Bool). StepsByAtoms image w s l (first.added ++ rest.added) w' s') (sym (take-add n k told))
+        (steps_joined image w mid w' s m s' (take n told) (take k (drop n told)) first.added rest.added first.steps rest.steps);
+  }
 
 -- where there is room for each, nothing is shown
 pub holds_some : (image : Image) (w w' : Waiting) (s : State) (told : List Bool) (n : ℕ) (left : List Elem) → IsState s

@@ -1,7 +1,6 @@
 -- An atom is taken that commits an entry, and that one is walked.
-use Rattle.std.proofs.Common.{◌≡◌, ◌≢◌, ℕ, ◌-◌, ◌<◌, Bool, List, [], ◌∷◌, ◌++◌, All, length, Option, Some, None, Ok, refl, sym, ap, subst, ◌∙◌, inl, append-nil}
+use Rattle.std.proofs.Common.{◌≡◌, ◌≢◌, ℕ, ◌<◌, Bool, List, [], ◌∷◌, Option, Some, None, Ok, refl, sym, ap, subst, ◌∙◌, inl, append-nil}
 use Rattle.std.specs.Prelude.{IfSome}
-use Rattle.std.proofs.lemmas.List.Elements.{All-append, All-cons, All-head, All-nil, All-take}
 use Rattle.element_queue.specs.Pending.{Taken, committing}
 use Rattle.element_queue.specs.Queued.{Queued, Takes}
 use Rattle.etm_types.specs.Walked.{items_of}
@@ -17,8 +16,8 @@ use Rattle.packet_grammar.specs.declared.stream_fault.Fault.{Fault}
 use Rattle.packet_reader.specs.Stands.{Standing}
 use Rattle.path_elements.specs.Elements.{Told}
 use Rattle.path_walker.specs.State.{State, IsState}
-use Rattle.path_walker.specs.Things.{IsAlignedThing, Walks}
-use Rattle.path_walker.specs.Walk.{Shows, ToldIsAligned}
+use Rattle.path_walker.specs.Things.{Walks}
+use Rattle.path_walker.specs.Walk.{Shows}
 use Rattle.program_image.specs.declared.image.Image.{Image}
 use Rattle.stream_decoder.proofs.Taking.{fewer_taken, holds_taken, leaves_taken}
 use Rattle.stream_decoder.proofs.Yielding.{goes_by_leaving}
@@ -45,18 +44,6 @@ committed_so q q' informed n w p0 things is none takes =
 pub whole_by : (f : Option (ℕ × Fault)) → (f ≢ None → ⊥) → f ≡ None
 whole_by None still = refl
 whole_by (Some stop) still = absurd (still (λ e. cc))
-
--- what an atom commits has the address of an instruction
-pub told_aligned : (r : Standing) (t : Told) (l : Left) (w : Waiting) (s : State) (f : Option (ℕ × Fault)) (taken : Bool) (entry : Entry) → w.due ≡ []
-    → committed_by w (Atom taken) ≡ Seen entry ∷ [] → IsDecoding (decoding_of r t l w s f) → ToldIsAligned entry.pre.addr
-told_aligned r t l w s f taken entry none gives is =
-    let newest : Thing = Seen (record { pre = (w.pending).pre; p0 = Atom taken }) in
-    let all : List Thing = (w.pending).held ++ newest ∷ [] in
-    let held : All IsAlignedThing (w.pending).held = subst (λ (d : List Thing). All IsAlignedThing (d ++ (w.pending).held)) none is.things in
-    let last : All IsAlignedThing (newest ∷ []) = All-cons IsAlignedThing newest [] (is.address, tt) (All-nil IsAlignedThing) in
-    let every : All IsAlignedThing all = All-append IsAlignedThing (w.pending).held (newest ∷ []) held last in
-    let given : All IsAlignedThing (Seen entry ∷ []) = subst (All IsAlignedThing) gives (All-take IsAlignedThing (length all - w.depth) all every) in
-    (All-head IsAlignedThing (Seen entry) [] given).0
 
 module _ (r : Standing) (t : Told) (l l' : Left) (w w' : Waiting) (s s' : State) (f : Option (ℕ × Fault)) (taken : Bool) (entry : Entry) (others : List Elem)
     (first : l.elements ≡ elem.P0 (Atom taken) ∷ others) (left_is : l' ≡ record l { elements = others }) (none : w.due ≡ [])

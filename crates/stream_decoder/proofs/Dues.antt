@@ -1,6 +1,5 @@
 -- The oldest that is due is an entry, and is walked.
-use Rattle.std.proofs.Common.{◌≡◌, ℕ, ◌<◌, List, [], ◌∷◌, ◌++◌, All, Option, Some, Ok, refl, sym, ap, subst, ◌∙◌, inl, append-nil}
-use Rattle.std.proofs.lemmas.List.Elements.{All-head}
+use Rattle.std.proofs.Common.{◌≡◌, ℕ, ◌<◌, List, [], ◌∷◌, Option, Some, Ok, refl, sym, ap, ◌∙◌, inl, append-nil}
 use Rattle.element_queue.specs.Counting.{counts_after}
 use Rattle.element_queue.specs.Pending.{committing}
 use Rattle.etm_types.specs.Walked.{items_of}
@@ -12,8 +11,8 @@ use Rattle.packet_grammar.specs.declared.stream_fault.Fault.{Fault}
 use Rattle.packet_reader.specs.Stands.{Standing}
 use Rattle.path_elements.specs.Elements.{Told}
 use Rattle.path_walker.specs.State.{State, IsState}
-use Rattle.path_walker.specs.Things.{IsAlignedThing, Walks}
-use Rattle.path_walker.specs.Walk.{Shows, ToldIsAligned}
+use Rattle.path_walker.specs.Things.{Walks}
+use Rattle.path_walker.specs.Walk.{Shows}
 use Rattle.program_image.specs.declared.image.Image.{Image}
 use Rattle.stream_decoder.proofs.Taking.{fewer_due, holds_due, leaves_due}
 use Rattle.stream_decoder.proofs.Yielding.{goes_by_leaving}
@@ -21,13 +20,6 @@ use Rattle.stream_decoder.specs.Decoding.{AtRest, Decoding, IsDecoding, decoding
 use Rattle.stream_decoder.specs.Left.{Left}
 use Rattle.stream_decoder.specs.Waiting.{IsWaiting, Waiting}
 use Rattle.stream_decoder.specs.Yields.{Goes, left}
-
--- its address is that of an instruction
-pub due_told_aligned : (d : Decoding) (entry : Entry) (others : List Thing) → d.due ≡ Seen entry ∷ others → IsDecoding d → ToldIsAligned entry.pre.addr
-due_told_aligned d entry others first is =
-    let all : All IsAlignedThing (Seen entry ∷ (others ++ (d.pending).held)) =
-    subst (λ (x : List Thing). All IsAlignedThing (x ++ (d.pending).held)) first is.things in
-    (All-head IsAlignedThing (Seen entry) (others ++ (d.pending).held) all).0
 
 module _ (r : Standing) (t : Told) (l : Left) (w w' : Waiting) (s s' : State) (f : Option (ℕ × Fault)) (entry : Entry) (others : List Thing)
     (first : w.due ≡ Seen entry ∷ others)

@@ -10,12 +10,12 @@ use Rattle.path_walker.specs.Walk.{items_in}
 use Rattle.path_walker.specs.declared.stretch.Stretch.{Stretch}
 use Rattle.program_image.specs.declared.image.Image.{Image}
 use Rattle.stream_decoder.proofs.Coming.{none_due}
-use Rattle.stream_decoder.proofs.Following.{FollowsAll, takes_on}
+use Rattle.stream_decoder.proofs.Following.{FollowsAll}
 use Rattle.stream_decoder.proofs.Growing.{Small, not_none, stands_on}
 use Rattle.stream_decoder.proofs.Yielding.{ends_at_rest, goes_to_end}
 use Rattle.stream_decoder.specs.AtomPackets.{RunsFront, RunsPacket, RunsPackets, bytes_in}
 use Rattle.stream_decoder.specs.Decoding.{Decoding}
-use Rattle.stream_decoder.specs.Follows.{FollowsFront, TakesMore, items_under}
+use Rattle.stream_decoder.specs.Follows.{FollowsFront}
 use Rattle.stream_decoder.specs.Stands.{Came}
 use Rattle.stream_decoder.specs.Yields.{BegunPacket, Ends}
 
@@ -66,8 +66,9 @@ module _ (image : Image) where
 
 -- ---- packets at the front of some bytes are taken, and what is left to do is done
 
-module _ {F : Type 0} (took : F → List (ℕ × Item) → Type 0) (Takes : F → List Stretch → F → Type 0) (image : Image) (id : ℕ) (d n d2 : Decoding)
-    (bytes behind : List ℕ) (old mid new : F) (runs : RunsFront Takes image d old bytes behind n mid) where
+module _ {F : Type 0} (Takes : F → List Item → F → Type 0) (none : (f : F) → Takes f [] f)
+    (joins : (a b c : F) (xs ys : List Item) → Takes a xs b → Takes b ys c → Takes a (xs ++ ys) c) (Adds : F → List Stretch → F → Type 0)
+    (image : Image) (d n d2 : Decoding) (bytes behind : List ℕ) (old mid new : F) (runs : RunsFront Adds image d old bytes behind n mid) where
   abbrev text : List ℕ
   text = bytes_in runs.first ++ runs.last
 
@@ -81,8 +82,8 @@ module _ {F : Type 0} (took : F → List (ℕ × Item) → Type 0) (Takes : F �
   long = length-append (bytes_in runs.first) runs.last
 
   pub runs_front : Small bytes → AreSettings ((d.reader).settings)
-      → ((added : List Stretch) → Takes old added mid → TakesMore took old mid (items_under id (items_in (d.walk).ctx added)))
-      → d2.reader ≡ n.reader → (n.fault ≡ None → FollowsAll took image id n d2 mid new) → FollowsFront took image id d bytes behind d2 old new
+      → ((added : List Stretch) → Adds old added mid → Takes old (items_in (d.walk).ctx added) mid)
+      → d2.reader ≡ n.reader → (n.fault ≡ None → FollowsAll Takes none joins image n d2 mid new) → FollowsFront Takes image d bytes behind d2 old new
   runs_front fits are shows unread follows =
       let f = follows (packets_whole image d n runs.first runs.last shown runs.packets) in
       record {
@@ -92,7 +93,7 @@ module _ {F : Type 0} (took : F → List (ℕ × Item) → Type 0) (Takes : F �
         follows = record {
           more = shown ++ f.0;
           came = packets_come image d n d2 runs.first runs.last shown f.0 (small_front bytes text behind parts fits) are runs.packets f.1;
-          takes = takes_on took id old mid new shown f.0 (shows runs.added runs.takes) f.2;
+          takes = joins old mid new shown f.0 (shows runs.added runs.takes) f.2;
           settings = ap (λ (r : Standing). r.settings) unread ∙ runs.settings;
           taken = ap (λ (r : Standing). r.taken) unread ∙ omega (arith, runs.taken, long);
         };

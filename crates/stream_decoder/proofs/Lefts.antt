@@ -1,7 +1,7 @@
 -- What is left of a list.
-use Rattle.std.proofs.Common.{◌≡◌, ℕ, zero, suc, ◌+◌, ◌<◌, List, [], ◌∷◌, length, drop, Some, None, refl, ap, ◌∙◌, arith}
+use Rattle.std.proofs.Common.{◌≡◌, ℕ, zero, suc, ◌+◌, List, [], ◌∷◌, drop, Some, None, refl, ap, ◌∙◌, arith}
 use Rattle.std.specs.Prelude.{slice_get}
-use Rattle.std.proofs.lemmas.List.{drop_more, length-drop}
+use Rattle.std.proofs.lemmas.List.{drop_more}
 use Rattle.std.proofs.lemmas.Option.{get_or_from_slice_get, slice_get_within}
 
 module _ {X : Type 0} (xs : List X) where
@@ -19,10 +19,6 @@ here_first [] zero x others e = absurd cc
 here_first [] (suc n) x others e = absurd cc
 here_first (y ∷ xs) zero x others e = let same : y ≡ x = cc in ap Some same
 here_first (y ∷ xs) (suc n) x others e = here_first xs n x others e
-
--- there is one more
-pub some_left : {X : Type 0} (xs : List X) (n : ℕ) (x : X) (others : List X) → drop n xs ≡ x ∷ others → n < length xs
-some_left xs n x others e = omega (arith, length-drop n xs, ap length e)
 
 abbrev tail_of : {X : Type 0} → List X → List X
 tail_of [] = []

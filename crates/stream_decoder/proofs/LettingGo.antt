@@ -26,7 +26,6 @@ use Rattle.program_image.specs.declared.image.Image.{Image}
 use Rattle.stream_decoder.proofs.Atoms.{fewer_by_atom, goes_by_atom, holds_by_atom}
 use Rattle.stream_decoder.proofs.Dues.{fewer_by_due, goes_by_due, holds_by_due}
 use Rattle.stream_decoder.proofs.Runs.{Ran}
-use Rattle.stream_decoder.proofs.Waits.{next_at}
 use Rattle.stream_decoder.proofs.Yielding.{goes_nowhere, goes_on}
 use Rattle.stream_decoder.specs.Decoding.{AtRest, Decoding, IsDecoding, decoding_of}
 use Rattle.stream_decoder.specs.Left.{Left}
@@ -34,27 +33,6 @@ use Rattle.stream_decoder.specs.Waiting.{Commits, DropsDue, DropsOldest, IsWaiti
 use Rattle.stream_decoder.specs.Yields.{Goes, WalksNext, WalksOldest, WalksOn, left}
 
 -- ---- one more
-
--- one more of the oldest is walked
-pub walks_oldest_more : (image : Image) (s mid next : State) (things : List Thing) (run : List Stretch) (stretch : Stretch) (addr : Option ℕ) (taken : Bool)
-    → WalksOldest image s things run mid → slice_get things (length run) ≡ Some (Seen (atom_at addr taken)) → mid.ctx ≡ s.ctx
-    → Shows image mid (atom_at addr taken) (walked_in mid.ctx stretch) next → IsState next
-    → WalksOldest image s things (run ++ stretch ∷ []) next
-walks_oldest_more image s mid next things [] stretch addr taken walks there same shows state = (
-  addr,
-  taken,
-  drop 1 things,
-  next,
-  next_at things 0 (Seen (atom_at addr taken)) there,
-  subst (λ (m : State). Shows image m (atom_at addr taken) (walked_in m.ctx stretch) next) walks shows,
-  state,
-  refl,
-)
-walks_oldest_more image s mid next things (x ∷ run) stretch addr taken (a, t, others, after, is, first, kept_state, rest) there same shows state =
-    let behind : slice_get others (length run) ≡ Some (Seen (atom_at addr taken)) =
-    sym (ap (λ (l : List Thing). slice_get l (suc (length run))) is) ∙ there in
-    let kept : mid.ctx ≡ after.ctx = same ∙ sym first.kept in
-    (a, t, others, after, is, first, kept_state, walks_oldest_more image after mid next others run stretch addr taken rest behind kept shows state)
 
 -- the address before an atom that waits is that of an instruction
 pub told_aligned_at : (things : List Thing) (n : ℕ) (addr : Option ℕ) (taken : Bool) → All IsAlignedThing things

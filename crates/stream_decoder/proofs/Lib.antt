@@ -8,10 +8,13 @@ pub mod Beginning
 pub mod Lefts
 pub mod Taking
 pub mod Stepping
+pub mod Turning
 pub mod Waits
-pub mod Printing
+pub mod AtFirst
 pub mod Quiet
 pub mod Following
+pub mod NearLines
+pub mod FlushedLines
 pub mod FollowedRuns
 pub mod FollowedPackets
 pub mod Standing
@@ -22,7 +25,6 @@ pub mod Examples
 pub mod Runs
 pub mod LettingGo
 pub mod Rotating
-pub mod HoldingRuns
 pub mod SkippedAtoms
 pub mod PacketRuns
 pub mod AddressRuns

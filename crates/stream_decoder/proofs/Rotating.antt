@@ -1,11 +1,11 @@
 -- Many atoms at once: a full queue takes those of a run one by one, and those that are due are given out one by one.
-use Rattle.std.proofs.Common.{◌≡◌, ℕ, zero, suc, ◌+◌, ◌-◌, ◌/◌, ◌%◌, ◌^◌, ◌==◌, ◌≤◌, ◌<◌, Bool, List, [], ◌∷◌, ◌++◌, length, map, take, drop, refl, sym, ap, subst, ◌∙◌, arith}
+use Rattle.std.proofs.Common.{◌≡◌, ℕ, zero, suc, ◌+◌, ◌-◌, ◌/◌, ◌%◌, ◌^◌, ◌==◌, ◌≤◌, ◌<◌, Bool, List, [], ◌∷◌, ◌++◌, length, map, take, drop, Option, refl, sym, ap, subst, ◌∙◌, arith}
 use Rattle.std.proofs.Common.{append-nil, append_assoc, length-append, length-take}
 use Rattle.std.proofs.Math.Nat.{mod-lt}
 use Rattle.std.proofs.lemmas.List.{drop-append-le, drop-drop, drop-take, length-map, take-append-drop, take-append-le, take-map, take-take}
 use Rattle.element_queue.specs.Counting.{AreCounts, Balances, add, counts_after, entries}
 use Rattle.element_queue.specs.Pending.{Pending, commits, committing}
-use Rattle.element_queue.specs.Queued.{IsQueued, Queued, plain_atom}
+use Rattle.element_queue.specs.Queued.{IsQueued, Queued, entry_of, given_atoms, plain_atom}
 use Rattle.element_queue.specs.declared.ledger.Counts.{Counts}
 use Rattle.etm_types.specs.Atoms.{low_bits}
 use Rattle.etm_types.specs.Pre.{nothing_told}
@@ -36,6 +36,18 @@ pub fewer_plain : (n m bits : ℕ) (things : List Thing) → m ≤ n → map pla
 fewer_plain n m bits things few oldest =
     ap (map plain_atom) (low_bits-take n m bits few) ∙ sym (take-map plain_atom m (low_bits n bits))
     ∙ ap (take m) oldest ∙ take-take m n things few
+
+-- the same where an address was given before the first
+given_take : (addr : Option ℕ) (m : ℕ) (atoms : List Bool) → given_atoms addr (take m atoms) ≡ take m (given_atoms addr atoms)
+given_take addr zero atoms = refl
+given_take addr (suc m) [] = refl
+given_take addr (suc m) (taken ∷ atoms) =
+    ap (λ (l : List Thing). Seen (entry_of (record { addr = addr; taken = taken })) ∷ l) (sym (take-map plain_atom m atoms))
+
+pub fewer_given : (addr : Option ℕ) (n m bits : ℕ) (things : List Thing) → m ≤ n → given_atoms addr (low_bits n bits) ≡ take n things
+    → given_atoms addr (low_bits m bits) ≡ take m things
+fewer_given addr n m bits things few oldest =
+    ap (given_atoms addr) (low_bits-take n m bits few) ∙ given_take addr m (low_bits n bits) ∙ ap (take m) oldest ∙ take-take m n things few
 
 -- ---- counts
 

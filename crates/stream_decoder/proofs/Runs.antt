@@ -1,10 +1,10 @@
 -- Atoms of a run are walked one after the other.
-use Rattle.std.proofs.Common.{◌≡◌, ℕ, suc, ◌+◌, ◌-◌, ◌^◌, ◌≤◌, ◌<◌, Bool, List, [], ◌∷◌, ◌++◌, length, take, drop, get_or, slice_get, take_all, ◌∙◌}
-use Rattle.std.proofs.Common.{Option, Some, None, refl, sym, ap, subst, arith, append-nil, append_assoc}
+use Rattle.std.proofs.Common.{◌≡◌, ℕ, suc, ◌+◌, ◌^◌, ◌≤◌, ◌<◌, Bool, List, [], ◌∷◌, ◌++◌, length, drop, slice_get, ◌∙◌}
+use Rattle.std.proofs.Common.{Option, Some, None, refl, sym, ap, subst, arith, append-nil}
 use Rattle.element_queue.specs.Counting.{AreCounts, Balances, add}
 use Rattle.element_queue.specs.declared.ledger.Counts.{Counts}
 use Rattle.etm_types.specs.Pre.{nothing_told}
-use Rattle.etm_types.specs.Walked.{instructions, items_of}
+use Rattle.etm_types.specs.Walked.{items_of}
 use Rattle.etm_types.specs.declared.element.Elem.{Elem}
 use Rattle.etm_types.specs.declared.element.Elem.TheVariants as elem
 use Rattle.etm_types.specs.declared.element.P0.TheVariants.{Atom}
@@ -14,21 +14,15 @@ use Rattle.path_elements.specs.Elements.{Told}
 use Rattle.path_walker.specs.State.{State, IsState}
 use Rattle.path_walker.specs.Walk.{Shows, atom_at, items_in, walked_in}
 use Rattle.path_walker.specs.declared.stretch.Stretch.{Stretch}
-use Rattle.path_text.proofs.LineLemmas.{lines_of-append, lines_of-instructions, shown_after_all-append, shown_after_all-instructions}
-use Rattle.path_text.specs.PathLines.{instruction_lines, lines_of, shown_after_all}
 use Rattle.program_image.specs.declared.image.Image.{Image}
 use Rattle.std.proofs.Math.Nat.{mod-lt}
-use Rattle.std.proofs.lemmas.List.{drop_more}
-use Rattle.etm_types.specs.declared.walked.Walked.{Walked}
 use Rattle.element_queue.specs.Pending.{committing}
 use Rattle.etm_types.specs.declared.element.Thing.{Thing}
 use Rattle.etm_types.specs.declared.element.Thing.TheVariants.{Seen}
-use Rattle.etm_types.specs.declared.context.Ctx.{Ctx}
 use Rattle.etm_types.specs.declared.item.Item.{Item}
 use Rattle.stream_decoder.proofs.Atoms.{fewer_by_atom, goes_by_atom, holds_by_atom}
 use Rattle.stream_decoder.proofs.Waits.{next_at}
 use Rattle.stream_decoder.proofs.Yielding.{goes_on}
-use Rattle.stream_decoder.specs.StretchLines.{stretch_lines}
 use Rattle.stream_decoder.specs.Decoding.{Decoding, IsDecoding, decoding_of}
 use Rattle.stream_decoder.specs.Left.{Left}
 use Rattle.stream_decoder.specs.Waiting.{Commits, IsWaiting, Waiting, committed_by, counts_passed, passed}
@@ -42,14 +36,6 @@ addr_behind addr (stretch ∷ run) = None
 pub none_behind : (run : List Stretch) → addr_behind None run ≡ None
 none_behind [] = refl
 none_behind (stretch ∷ run) = refl
-
-pub none_after : (addr : Option ℕ) (run : List Stretch) (stretch : Stretch) → None ≡ addr_behind addr (run ++ stretch ∷ [])
-none_after addr [] stretch = refl
-none_after addr (x ∷ run) stretch = refl
-
-pub some_stretch : (run : List Stretch) (stretch : Stretch) → run ++ stretch ∷ [] ≡ [] → ⊥
-some_stretch [] stretch e = absurd cc
-some_stretch (x ∷ run) stretch e = absurd cc
 
 -- one atom more is walked
 pub walks_more : (image : Image) (s mid next : State) (addr : Option ℕ) (elements : List Elem) (run : List Stretch) (stretch : Stretch) (taken : Bool)
@@ -204,10 +190,6 @@ none_walked image s s' addr elements [] walks none = refl
 none_walked image s s' addr elements (x ∷ run) (t, others, next, is, first, state, more) none = absurd (
     let e : [] ≡ elem.P0 (Atom t) ∷ others = sym none ∙ is in cc)
 
-pub some_run : (run : List Stretch) → (run ≡ [] → ⊥) → 0 < length run
-some_run [] none = absurd (none refl)
-some_run (x ∷ run) none = omega arith
-
 abbrev pub Ran : Image → Standing → Told → Option (ℕ × Fault) → State → State → List Stretch → Left → Left → Waiting → Waiting → Type 0
 Ran image r t f s s' run l l' w w' =
     Goes image (decoding_of r t l w s f) (items_in s.ctx run) (decoding_of r t l' w' s' f)
@@ -240,75 +222,3 @@ ran image r t f s s' addr (stretch ∷ run) l l' w w' none zero given is some wa
     subst (λ (v : Waiting). Ran image r t f s s' (stretch ∷ run) l l' v w') (sym same)
     (subst (λ (v : Waiting). Ran image r t f s s' (stretch ∷ run) l l' here v) (sym after)
     (subst (λ (x : Left). Ran image r t f s s' (stretch ∷ run) l x here (at_zero (w.pending).informed None (counts_passed n w.counts))) (sym left_is) all))
-
--- ---- the stretches one by one
-
--- the stretch at a place, and those behind it
-pub items_at : (ctx : Ctx) (all run : List Stretch) (n : ℕ) (d : Stretch) (w : Walked) → all ≡ run → n < length all
-    → w ≡ walked_in ctx (get_or all n d) → items_in ctx (drop n run) ≡ items_of w ++ items_in ctx (drop (n + 1) run)
-items_at ctx all run n d w same within is =
-    subst (λ (l : List Stretch). items_in ctx (drop n l) ≡ items_of w ++ items_in ctx (drop (n + 1) l)) same
-    (ap (items_in ctx) (drop_more all n d within) ∙ ap (λ (x : Walked). items_of x ++ items_in ctx (drop (n + 1) all)) (sym is))
-
--- ---- the lines of a run whose context was printed
-
-lines_of_stretch : (id : ℕ) (ctx : Ctx) (stretch : Stretch)
-    → lines_of id (Some ctx) (items_of (walked_in ctx stretch)) ≡ instruction_lines id stretch.start stretch.count
-lines_of_stretch id ctx stretch =
-    ap (lines_of id (Some ctx)) (append-nil (instructions ctx stretch.start stretch.count stretch.took))
-    ∙ lines_of-instructions id stretch.start ctx stretch.count stretch.took
-
-stretch_shown : (ctx : Ctx) (stretch : Stretch) → shown_after_all (Some ctx) (items_of (walked_in ctx stretch)) ≡ Some ctx
-stretch_shown ctx stretch =
-    ap (shown_after_all (Some ctx)) (append-nil (instructions ctx stretch.start stretch.count stretch.took))
-    ∙ shown_after_all-instructions ctx stretch.start stretch.count stretch.took
-
-first_lines : (id : ℕ) (ctx : Ctx) (stretch : Stretch) (rest : List Item)
-    → instruction_lines id stretch.start stretch.count ++ lines_of id (Some ctx) rest ≡ lines_of id (Some ctx) (items_of (walked_in ctx stretch) ++ rest)
-first_lines id ctx stretch rest =
-    ap (λ (t : List ℕ). t ++ lines_of id (Some ctx) rest) (sym (lines_of_stretch id ctx stretch))
-    ∙ ap (λ (s : Option Ctx). lines_of id (Some ctx) (items_of (walked_in ctx stretch)) ++ lines_of id s rest) (sym (stretch_shown ctx stretch))
-    ∙ sym (lines_of-append id (Some ctx) (items_of (walked_in ctx stretch)) rest)
-
-pub run_shown : (ctx : Ctx) (run : List Stretch) → shown_after_all (Some ctx) (items_in ctx run) ≡ Some ctx
-run_shown ctx [] = refl
-run_shown ctx (stretch ∷ run) =
-    shown_after_all-append (Some ctx) (items_of (walked_in ctx stretch)) (items_in ctx run)
-    ∙ ap (λ (s : Option Ctx). shown_after_all s (items_in ctx run)) (stretch_shown ctx stretch) ∙ run_shown ctx run
-
-pub lines_alone : (id : ℕ) (ctx : Ctx) (run : List Stretch) → stretch_lines id run ≡ lines_of id (Some ctx) (items_in ctx run)
-lines_alone id ctx [] = refl
-lines_alone id ctx (stretch ∷ run) =
-    ap (λ (t : List ℕ). instruction_lines id stretch.start stretch.count ++ t) (lines_alone id ctx run)
-    ∙ first_lines id ctx stretch (items_in ctx run)
-
-pub joined_lines : (id : ℕ) (first more : List Stretch) → stretch_lines id (first ++ more) ≡ stretch_lines id first ++ stretch_lines id more
-joined_lines id [] more = refl
-joined_lines id (stretch ∷ first) more =
-    ap (λ (t : List ℕ). instruction_lines id stretch.start stretch.count ++ t) (joined_lines id first more)
-    ∙ sym (append_assoc (instruction_lines id stretch.start stretch.count) (stretch_lines id first) (stretch_lines id more))
-
--- the lines of one stretch more
-pub more_lines : (id : ℕ) (first : List Stretch) (stretch : Stretch)
-    → stretch_lines id first ++ instruction_lines id stretch.start stretch.count ≡ stretch_lines id (first ++ stretch ∷ [])
-more_lines id first stretch =
-    ap (λ (t : List ℕ). stretch_lines id first ++ t) (sym (append-nil (instruction_lines id stretch.start stretch.count)))
-    ∙ sym (joined_lines id first (stretch ∷ []))
-
--- the first of some stretches, and those behind it
-pub first_and_rest : (all : List Stretch) (d : Stretch) → 1 ≤ length all → get_or all 0 d ∷ take (length all - 1) (drop 1 all) ≡ all
-first_and_rest [] d some = absurd (omega (arith, some))
-first_and_rest (stretch ∷ rest) d some =
-    let fewer : suc (length rest) - 1 ≡ length rest = omega arith in
-    ap (λ (l : List Stretch). stretch ∷ l) (ap (λ n. take n rest) fewer ∙ take_all (length rest) rest (omega arith))
-
--- one of them is taken behind others
-pub taken_behind : (first left all : List Stretch) (d : Stretch) → first ++ left ≡ all → 1 ≤ length left
-    → (first ++ get_or left 0 d ∷ []) ++ take (length left - 1) (drop 1 left) ≡ all
-taken_behind first left all d is some =
-    append_assoc first (get_or left 0 d ∷ []) (take (length left - 1) (drop 1 left))
-    ∙ ap (λ (l : List Stretch). first ++ l) (first_and_rest left d some) ∙ is
-
-pub none_left : (all : List Stretch) → length all < 1 → all ≡ []
-none_left [] few = refl
-none_left (stretch ∷ rest) few = absurd (omega (arith, few))

@@ -1,6 +1,6 @@
 -- What waits: of what a queue holds, the oldest may be due.
-use Rattle.std.proofs.Common.{◌≡◌, ℕ, zero, suc, ◌+◌, ◌-◌, ◌^◌, ◌≤◌, ◌<◌, Bool, true, false, List, [], ◌∷◌, ◌++◌, length, take, drop, replicate}
-use Rattle.std.proofs.Common.{slice_get, Some, Err, length-append, refl, sym, ap, subst, ◌∙◌, arith, append-nil}
+use Rattle.std.proofs.Common.{◌≡◌, ℕ, zero, suc, ◌+◌, ◌-◌, ◌^◌, ◌≤◌, ◌<◌, Bool, true, false, List, [], ◌∷◌, length, take, drop, replicate}
+use Rattle.std.proofs.Common.{slice_get, Some, Err, refl, sym, ap, subst, ◌∙◌, arith, append-nil}
 use Rattle.std.proofs.Math.Nat.{mod-lt}
 use Rattle.std.proofs.lemmas.Bool.{le-leb}
 use Rattle.std.proofs.lemmas.List.{drop_more, length-drop, length-take-le}
@@ -14,11 +14,10 @@ use Rattle.etm_types.specs.Pre.{trace_missing}
 use Rattle.etm_types.specs.declared.context.Ctx.{Ctx}
 use Rattle.etm_types.specs.declared.element.Elem.{Elem}
 use Rattle.etm_types.specs.declared.element.Elem.TheVariants as elem
-use Rattle.etm_types.specs.declared.element.P0.{P0}
 use Rattle.etm_types.specs.declared.element.Thing.{Thing}
-use Rattle.etm_types.specs.declared.element.Thing.TheVariants.{Gap, Seen, Stop, Unseen}
+use Rattle.etm_types.specs.declared.element.Thing.TheVariants.{Gap, Stop, Unseen}
 use Rattle.etm_types.specs.declared.queue_fault.QueueFault.{QueueFault}
-use Rattle.stream_decoder.specs.Waiting.{Commits, Waiting, committed_by, counted_with, waiting_of}
+use Rattle.stream_decoder.specs.Waiting.{Commits, Waiting, counted_with, waiting_of}
 
 -- ---- lists
 
@@ -34,19 +33,10 @@ none_from xs n within e = omega (arith, length-drop n xs, ap length e)
 pub none_to : {X : Type 0} (xs : List X) (n : ℕ) → n ≤ length xs → take n xs ≡ [] → n ≡ 0
 none_to xs n within e = omega (arith, length-take-le n xs within, ap length e)
 
-oldest_and_others : {X : Type 0} (xs : List X) (n : ℕ) → take (suc n) xs ≡ take 1 xs ++ take n (drop 1 xs)
-oldest_and_others [] zero = refl
-oldest_and_others [] (suc n) = refl
-oldest_and_others (x ∷ xs) n = refl
-
 behind_oldest : {X : Type 0} (xs : List X) (n : ℕ) → drop n (drop 1 xs) ≡ drop (suc n) xs
 behind_oldest [] zero = refl
 behind_oldest [] (suc n) = refl
 behind_oldest (x ∷ xs) n = refl
-
-pub take_one_less : {X : Type 0} (xs : List X) (n : ℕ) → (n ≡ 0 → ⊥) → take n xs ≡ take 1 xs ++ take (n - 1) (drop 1 xs)
-take_one_less xs zero some = absurd (some refl)
-take_one_less xs (suc n) some = let less : suc n - 1 ≡ n = omega arith in rw less (oldest_and_others xs n)
 
 pub drop_one_less : {X : Type 0} (xs : List X) (n : ℕ) → (n ≡ 0 → ⊥) → drop (n - 1) (drop 1 xs) ≡ drop n xs
 drop_one_less xs zero some = absurd (some refl)
@@ -210,28 +200,9 @@ gives_oldest q q' informed n w xs things is some queue same =
     subst (λ (v : Waiting). waiting_of q' informed (n - 1) ≡ record v { due = take (n - 1) q'.held; counts = counts_after v.counts 0 (committing things) })
     is one
 
--- of some that are due the oldest is the oldest of all
-pub oldest_due : (xs : List Thing) (n : ℕ) (x : Thing) → (n ≡ 0 → ⊥) → take 1 xs ≡ x ∷ [] → (others : List Thing) × (take n xs ≡ x ∷ others)
-oldest_due xs n x some first = (take (n - 1) (drop 1 xs), take_one_less xs n some ∙ ap (λ (l : List Thing). l ++ take (n - 1) (drop 1 xs)) first)
-
 -- the oldest of some that are due is the oldest of all
 pub oldest_of : (xs : List Thing) (n : ℕ) (x : Thing) (others : List Thing) → take n xs ≡ x ∷ others → take 1 xs ≡ x ∷ []
 oldest_of [] zero x others e = absurd cc
 oldest_of [] (suc n) x others e = absurd cc
 oldest_of (y ∷ xs) zero x others e = absurd cc
 oldest_of (y ∷ xs) (suc n) x others e = let same : y ≡ x = cc in ap (λ (t : Thing). t ∷ []) same
-
--- where there is room, one more commits nothing
-pub room_for : (w : Waiting) (p0 : P0) → length w.pending.held < w.depth → committed_by w p0 ≡ []
-room_for w p0 room =
-    let new : Thing = Seen (record { pre = w.pending.pre; p0 = p0 }) in
-    let none : length (w.pending.held ++ new ∷ []) - w.depth ≡ 0 = omega (arith, length-append w.pending.held (new ∷ []), room) in
-    rw none refl
-
--- where one more commits nothing, there is room
-pub is_room : (w : Waiting) (p0 : P0) → committed_by w p0 ≡ [] → length w.pending.held < w.depth
-is_room w p0 none =
-    let new : Thing = Seen (record { pre = w.pending.pre; p0 = p0 }) in
-    let all : List Thing = w.pending.held ++ new ∷ [] in
-    let nothing : length all - w.depth ≡ 0 = none_to all (length all - w.depth) (omega arith) none in
-    omega (arith, length-append w.pending.held (new ∷ []), nothing)

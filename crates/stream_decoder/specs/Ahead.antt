@@ -1,17 +1,18 @@
--- Packets of atoms, commits and cancels, where all that is held is atoms before which nothing was given: what these commit is known before any
--- of them is taken, and can be walked as one run (Arm IHI 0064, "Atom packets", "Commit packet", "Cancel packets").
+-- Packets of atoms, commits, cancels and mispredicts, where all that is held is atoms before which nothing was given: what these commit is known
+-- before any of them is taken, and can be walked as one run (Arm IHI 0064, "Atom packets", "Commit packet", "Cancel packets", "Mispredict packet").
 use Rattle.std.specs.Prelude.{◌≡◌, ◌⊎◌, ℕ, ◌+◌, ◌-◌, ◌<◌, ◌≤◌, Bool, false, List, [], ◌∷◌, ◌++◌, length, map, take, drop}
 use Rattle.atom_formats.specs.Formats.{Spells}
 use Rattle.element_queue.specs.Counting.{add}
-use Rattle.element_queue.specs.Outlooks.{Outlook, has_room}
+use Rattle.element_queue.specs.Outlooks.{Outlook, flip_newest_atom, has_room}
 use Rattle.element_queue.specs.Queued.{plain_atom}
 use Rattle.etm_types.specs.Atoms.{IsAtomRun, atoms_in}
 use Rattle.etm_types.specs.declared.atoms.AtomRun.{AtomRun}
+use Rattle.etm_types.specs.declared.atoms.FewAtoms.{FewAtoms}
 use Rattle.etm_types.specs.declared.element.Elem.{Elem}
 use Rattle.etm_types.specs.declared.element.Elem.TheVariants as elem
 use Rattle.etm_types.specs.declared.element.Thing.{Thing}
 use Rattle.packet_grammar.specs.declared.packet.Packet.{Packet}
-use Rattle.packet_grammar.specs.declared.packet.Packet.TheVariants.{Atoms, Commit, Cancel}
+use Rattle.packet_grammar.specs.declared.packet.Packet.TheVariants.{Atoms, Commit, Cancel, Mispredict}
 use Rattle.packet_reader.specs.Packets.{bytes_of}
 use Rattle.path_elements.specs.Elements.{atoms}
 use Rattle.stream_decoder.specs.Waiting.{Commits, DropsDue, IsWaiting, Waiting}
@@ -36,9 +37,17 @@ TakesNewestBack o p o' =
     (n : ℕ) × (p ≡ (0x2e ∷ n ∷ [], Cancel n false)) × (n < 0x80) × (0 < n) × (n ≤ length o.held)
     × (o' ≡ record o { held = take (length o.held - n) o.held; cancelled = o.cancelled + n })
 
+-- no atom
+abbrev pub no_atoms : FewAtoms
+no_atoms = record { count = 0; first = false }
+
+-- a Mispredict packet without atoms, where one is held
+abbrev pub FlipsNewest : Outlook → List ℕ × Packet → Outlook → Type 0
+FlipsNewest o p o' = (p ≡ (0x30 ∷ [], Mispredict no_atoms)) × (0 < length o.held) × (o' ≡ record o { held = flip_newest_atom o.held })
+
 -- what a packet, with its bytes, makes of an outlook
 abbrev pub Moves : Outlook → List ℕ × Packet → Outlook → Type 0
-Moves o p o' = HoldsMore o p o' ⊎ CommitsOldest o p o' ⊎ TakesNewestBack o p o'
+Moves o p o' = HoldsMore o p o' ⊎ CommitsOldest o p o' ⊎ TakesNewestBack o p o' ⊎ FlipsNewest o p o'
 
 -- what packets make of it, one after the other
 abbrev pub MovesAll : Outlook → List (List ℕ × Packet) → Outlook → Type 0
@@ -70,6 +79,7 @@ HasElements packet es =
     ((run : AtomRun) × (packet ≡ Atoms run) × (es ≡ atoms (atoms_in run)))
     ⊎ ((n : ℕ) × (packet ≡ Commit n) × (es ≡ elem.Commit n ∷ []))
     ⊎ ((n : ℕ) × (packet ≡ Cancel n false) × (es ≡ elem.Cancel n ∷ []))
+    ⊎ ((packet ≡ Mispredict no_atoms) × (es ≡ elem.Flip ∷ []))
 
 -- A packet is taken with all its elements, and the oldest of what is due then, these atoms, are given out.
 pub record GivesOut (w : Waiting) (packet : Packet) (gone : List Bool) (w' : Waiting) : Type 0 where

@@ -27,10 +27,10 @@ FindsWords image found.Gap = ⊤
 FindsWords image found.Stop = ⊤
 
 -- some of what is left to do of a stream is done, without a fault, and the items that it showed were taken
-pub record Follows {F : Type 0} (took : F → List (ℕ × Item) → Type 0) (image : Image) (id : ℕ) (d d' : Decoding) (old new : F) : Type 0 where
+pub record Follows {F : Type 0} (Takes : F → List Item → F → Type 0) (image : Image) (d d' : Decoding) (old new : F) : Type 0 where
   pub items : List Item
   pub goes : Goes image d items d'
-  pub takes : TakesMore took old new (items_under id items)
+  pub takes : Takes old items new
 
 -- the decoding took these bytes
 abbrev pub CameTo : Image → Decoding → List ℕ → Type 0
@@ -52,18 +52,18 @@ GrowsByEach image s bytes (byte ∷ run) more =
     × (more ≡ first ++ rest)
 
 -- bytes were taken, at whatever bytes the stream stood before, and the items by which its path grew were taken
-pub record FollowsRun {F : Type 0} (took : F → List (ℕ × Item) → Type 0) (image : Image) (id : ℕ) (d : Decoding) (run : List ℕ) (d' : Decoding)
-    (old new : F) : Type 0 where
+pub record FollowsRun {F : Type 0} (Takes : F → List Item → F → Type 0) (image : Image) (d : Decoding) (run : List ℕ) (d' : Decoding) (old new : F)
+    : Type 0 where
   pub more : List Item
   pub came : (bytes : List ℕ) (items : List Item) → Came image d bytes items → Came image d' (bytes ++ run) (items ++ more)
-  pub takes : TakesMore took old new (items_under id more)
+  pub takes : Takes old more new
   pub settings : (d'.reader).settings ≡ (d.reader).settings
   pub taken : (d'.reader).taken ≡ (d.reader).taken + length run
 
 -- bytes at the front of others were, at least one, and the others stand behind them
-pub record FollowsFront {F : Type 0} (took : F → List (ℕ × Item) → Type 0) (image : Image) (id : ℕ) (d : Decoding) (bytes behind : List ℕ) (d' : Decoding)
+pub record FollowsFront {F : Type 0} (Takes : F → List Item → F → Type 0) (image : Image) (d : Decoding) (bytes behind : List ℕ) (d' : Decoding)
     (old new : F) : Type 0 where
   pub text : List ℕ
   pub parts : bytes ≡ text ++ behind
   pub some : 0 < length text
-  pub follows : FollowsRun took image id d text d' old new
+  pub follows : FollowsRun Takes image d text d' old new

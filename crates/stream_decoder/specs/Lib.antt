@@ -3,7 +3,8 @@ pub mod AtomPackets
 pub mod Decoding
 pub mod Follows
 pub mod Left
+pub mod LineFollowing
+pub mod LinesPut
 pub mod Stands
-pub mod StretchLines
 pub mod Waiting
 pub mod Yields

@@ -77,29 +77,20 @@ GrowsBy image s bytes (byte ∷ run) shown more =
     (first : List Item) × (rest : List Item) × Grows image s bytes byte shown first
     × GrowsBy image s (bytes ++ byte ∷ []) run (shown_after_all shown first) rest × (more ≡ first ++ rest)
 
--- Bytes were taken behind others, and the lines of the items by which the path grows with them were written. Where a write failed,
--- some of the bytes were taken, and a front of their lines is written.
+-- Bytes were taken behind others, and the lines of the items by which the path grows with them were written, or a front of them where a write failed.
 pub record GrowsAlong (image : Image) (s : Sizes) (id : ℕ) (bytes run : List ℕ) (shown : Option Ctx) (old new : IoState)
     (result : Result (Unit {0}) Failed) : Type 0 where
-  pub took : List ℕ
-  pub others : List ℕ
-  pub parts : run ≡ took ++ others
   pub more : List Item
-  pub grows : GrowsBy image s bytes took shown more
+  pub grows : GrowsBy image s bytes run shown more
   pub writes : Writes old new result (lines_of id shown more)
-  pub all : IsOk result → others ≡ []
 
 -- The same of what is kept between bytes, at whatever bytes it stands: also where it stands behind those that were taken, and which
 -- context was printed last.
 pub record RunsAlong (image : Image) (id : ℕ) (d : Decoding) (shown : Option Ctx) (run : List ℕ) (d' : Decoding) (shown' : Option Ctx)
     (old new : IoState) (result : Result (Unit {0}) Failed) : Type 0 where
-  pub took : List ℕ
-  pub others : List ℕ
-  pub parts : run ≡ took ++ others
   pub more : List Item
-  pub taken : (d'.reader).taken ≡ (d.reader).taken + length took
-  pub grows : (bytes : List ℕ) (items : List Item) → Came image d bytes items → shown ≡ shown_after_all None items
-      → GrowsBy image ((d.reader).settings) bytes took shown more
+  pub came : (bytes : List ℕ) (items : List Item) → Came image d bytes items → Came image d' (bytes ++ run) (items ++ more)
   pub writes : Writes old new result (lines_of id shown more)
-  pub all : IsOk result → (others ≡ []) × (shown' ≡ shown_after_all shown more)
-      × ((bytes : List ℕ) (items : List Item) → Came image d bytes items → Came image d' (bytes ++ run) (items ++ more))
+  pub context : IsOk result → shown' ≡ shown_after_all shown more
+  pub settings : (d'.reader).settings ≡ (d.reader).settings
+  pub taken : (d'.reader).taken ≡ (d.reader).taken + length run

@@ -1,11 +1,10 @@
 -- What is left to do shows, and where it leads.
-use Rattle.std.specs.Prelude.{◌≡◌, ◌⊎◌, ℕ, ◌+◌, ◌*◌, ◌<◌, Bool, true, false, List, [], ◌∷◌, ◌++◌, length, Option, Some, None}
-use Rattle.std.specs.Prelude.{Result, Ok, Err, IsOk, option_to_list}
+use Rattle.std.specs.Prelude.{◌≡◌, ◌⊎◌, ℕ, ◌+◌, ◌*◌, Bool, true, false, List, [], ◌∷◌, ◌++◌, length, Option, Some, None}
+use Rattle.std.specs.Prelude.{Ok, Err, option_to_list}
 use Rattle.element_queue.specs.Counting.{counts_after, made_by, tally}
 use Rattle.element_queue.specs.Pending.{Gone, Pending, taken}
 use Rattle.element_queue.specs.declared.ledger.Counts.{Counts}
 use Rattle.etm_types.specs.Walked.{items_of}
-use Rattle.etm_types.specs.declared.context.Ctx.{Ctx}
 use Rattle.etm_types.specs.declared.element.Elem.{Elem}
 use Rattle.etm_types.specs.declared.element.Elem.TheVariants as elem
 use Rattle.etm_types.specs.declared.element.P0.TheVariants.{Atom}
@@ -25,8 +24,6 @@ use Rattle.packet_reader.specs.declared.step.Step.TheVariants.{Whole, Bad}
 use Rattle.path_elements.specs.Elements.{elements_of, told_after, is_misplaced, with_offset}
 use Rattle.path_elements.specs.Path.{unplaced}
 use Rattle.path_elements.specs.Running.{Outcome, Runs}
-use Rattle.path_text.specs.PathLines.{lines_of, shown_after_all}
-use Rattle.path_text.specs.Writing.{Writes}
 use Rattle.path_walker.specs.State.{State, IsState}
 use Rattle.path_walker.specs.Things.{Walks}
 use Rattle.path_walker.specs.Walk.{Shows, atom_at, items_in, walked_in}
@@ -35,8 +32,6 @@ use Rattle.program_image.specs.declared.image.Image.{Image}
 use Rattle.stream_decoder.specs.Decoding.{Decoding, AtRest, counted, depth_of}
 use Rattle.stream_decoder.specs.declared.found.Found.{Found}
 use Rattle.stream_decoder.specs.declared.found.Found.TheVariants as found
-use Rattle.trace_io.specs.State.{IoState}
-use Rattle.trace_io.specs.declared.traits.Failed.{Failed}
 
 -- the items that were found
 abbrev pub items_of_found : Found → List Item
@@ -195,30 +190,12 @@ pub record Ends (image : Image) (d : Decoding) (items : List Item) (d' : Decodin
   pub counts : is_walk_fault d'.fault ≡ false → d'.counts ≡ tally (depth_of d) d.pending (counted d) (unplaced took)
   pub rest : d' ≡ record d { pending = d'.pending; due = []; walk = d'.walk; todo = []; fault = d'.fault; counts = d'.counts }
 
--- what is left to do is printed, after the context that was printed last: the lines of all that it shows, or a front of them where a
--- write fails
-pub record Prints (image : Image) (id : ℕ) (d : Decoding) (shown : Option Ctx) (d' : Decoding) (shown' : Option Ctx) (old new : IoState)
-    (result : Result (Unit {0}) Failed) : Type 0 where
-  pub items : List Item
-  pub outcome : Outcome
-  pub took : List (ℕ × Elem)
-  pub yields : Yields image d items outcome took
-  pub writes : Writes old new result (lines_of id shown items)
-  pub ends : IsOk result → Ends image d items d' × (shown' ≡ shown_after_all shown items)
+-- ---- what the first of some bytes begins
 
--- ---- what bytes in front of others begin
-
--- where no fault was met, some of what is left to do may be done, as long as it shows nothing
-abbrev pub GoesQuietly : Decoding → Decoding → Type 0
-GoesQuietly d d' = (d' ≡ d) ⊎ ((d.fault ≡ None) × ((image : Image) → Goes image d [] d'))
-
--- Bytes at the front of others are taken, and the others stand behind them. What they begin is left to do, but for what shows nothing.
+-- It is taken, and the others stand behind it. What it begins is left to do.
 pub record BegunFront (d d' : Decoding) (bytes behind : List ℕ) : Type 0 where
-  pub text : List ℕ
-  pub parts : bytes ≡ text ++ behind
-  pub some : 0 < length text
-  pub begun : Decoding
-  pub begins : BegunBy d text begun
-  pub settings : (begun.reader).settings ≡ (d.reader).settings
-  pub taken : (begun.reader).taken ≡ (d.reader).taken + length text
-  pub quiet : GoesQuietly begun d'
+  pub byte : ℕ
+  pub parts : bytes ≡ byte ∷ behind
+  pub begins : BegunByte d byte d'
+  pub settings : (d'.reader).settings ≡ (d.reader).settings
+  pub taken : (d'.reader).taken ≡ (d.reader).taken + 1

@@ -11,7 +11,7 @@ ghost use Rattle.stream_decoder.specs.Decoding.{IsDecoding};
 ghost use Rattle.stream_decoder.specs.Follows.{CameTo};
 ghost use Rattle.trace_io.specs.Calls.{Serves};
 
-use crate::decoding::Decoding;
+use crate::machine::Decoding;
 use etm_types::Id;
 use packet_grammar::End;
 use path_text::write_end;

@@ -13,13 +13,13 @@ ghost use Rattle.path_text.specs.EndLines.{end_line};
 ghost use Rattle.path_text.specs.Writing.{Writes};
 ghost use Rattle.program_image.specs.declared.image.Image.{Image};
 ghost use Rattle.stream_decoder.specs.Decoding.{AtRest, IsDecoding};
-ghost use Rattle.stream_decoder.specs.Follows.{CameTo, FollowsFront, FollowsRun, GrowsBy, GrowsByEach, TakesMore, items_under};
+ghost use Rattle.stream_decoder.specs.Follows.{CameTo, FollowsFront, FollowsRun, GrowsBy, GrowsByEach};
 ghost use Rattle.stream_decoder.specs.Stands.{shows_walk_fault};
 ghost use Rattle.trace_io.specs.Calls.{Serves};
 
-use crate::decoding::Decoding;
 use crate::ending::finish;
 use crate::follower::{Follower, follow_rest};
+use crate::machine::Decoding;
 use element_queue::{Counts, Ledger};
 use etm_types::{Id, Settings};
 use program_image::Image;
@@ -59,27 +59,8 @@ impl FollowedStream {
         })
     }
 
-    /// Takes the next byte, and gives a follower the items by which the path grows, as those of the stream of an ID. Behind a fault of the
+    /// Takes the next bytes, and gives a follower the items by which the path grows, as those of the stream of an ID. Behind a fault of the
     /// stream none comes any more.
-    #[inline(always)]
-    pub fn take<F: Follower>(&mut self, image: &Image, id: Id, byte: u8, follower: &mut F)
-        requires few { self.old.reader.taken < 2 ^ 62 }
-        ensures stands { (bytes : List ℕ) → CameTo image.now self.old bytes → CameTo image.now self.new (bytes ++ byte ∷ []) }
-        ensures grows { (bytes : List ℕ) → CameTo image.now self.old bytes
-            → (more : List Item) × GrowsBy image.now self.old.reader.settings bytes byte more
-            × TakesMore (F.took image.now) follower.old follower.new (items_under id more) }
-        ensures stopped { self.old.fault ≢ None
-            → (follower.new ≡ follower.old) × (self.new ≡ record (self.old) { reader = self.new.reader }) }
-        ensures taken { self.new.reader.taken ≡ self.old.reader.taken + 1 }
-        ensures settings { self.new.reader.settings ≡ self.old.reader.settings }
-        ensures balanced { Balances self.new.counts (entries (self.new.due ++ self.new.pending.held)) }
-        ensures most { length (self.new.due ++ self.new.pending.held) ≤ self.new.reader.settings.depth }
-    {
-        self.decoding.begin(byte);
-        follow_rest(&mut self.decoding, image, id, follower);
-    }
-
-    /// Takes the next bytes, and gives a follower the items by which the path grows, as [`take`](FollowedStream::take) does of each.
     ///
     /// It is for speed: a packet that stands whole in the run, as most addresses and commits do, is read at once.
     pub fn take_run<F: Follower>(&mut self, image: &Image, id: Id, run: &[u8], follower: &mut F)
@@ -87,7 +68,7 @@ impl FollowedStream {
         ensures stands { (bytes : List ℕ) → CameTo image.now self.old bytes → CameTo image.now self.new (bytes ++ run.now) }
         ensures grows { (bytes : List ℕ) → CameTo image.now self.old bytes
             → (more : List Item) × GrowsByEach image.now self.old.reader.settings bytes run.now more
-            × TakesMore (F.took image.now) follower.old follower.new (items_under id more) }
+            × F.takes image.now id follower.old more follower.new }
         ensures stopped { self.old.fault ≢ None
             → (follower.new ≡ follower.old) × (self.new ≡ record (self.old) { reader = self.new.reader }) }
         ensures taken { self.new.reader.taken ≡ self.old.reader.taken + length run.now }
@@ -148,7 +129,7 @@ impl FollowedStream {
 }
 
 /// Takes the next bytes, and gives a follower what they show.
-fn follow_bytes<F: Follower>(
+pub fn follow_bytes<F: Follower>(
     decoding: &mut Decoding,
     image: &Image,
     id: Id,
@@ -158,7 +139,7 @@ fn follow_bytes<F: Follower>(
     requires holds { IsDecoding decoding.old }
     requires rest { AtRest decoding.old }
     requires few { decoding.old.reader.taken + length run.now ≤ 2 ^ 62 }
-    ensures follows { FollowsRun (F.took image.now) image.now id decoding.old run.now decoding.new follower.old follower.new }
+    ensures follows { FollowsRun (F.takes image.now id) image.now decoding.old run.now decoding.new follower.old follower.new }
     ensures stopped { decoding.old.fault ≢ None
         → (decoding.new ≡ record (decoding.old) { reader = decoding.new.reader }) × (follower.new ≡ follower.old) }
     ensures rest { AtRest decoding.new }
@@ -183,9 +164,9 @@ fn follow_front<'a, F: Follower>(
     requires holds { IsDecoding decoding.old }
     requires rest { AtRest decoding.old }
     requires few { decoding.old.reader.taken + length bytes.now ≤ 2 ^ 62 }
-    ensures follows { IfSome result (λ behind. FollowsFront (F.took image.now) image.now id decoding.old bytes.now behind.now decoding.new follower.old
+    ensures follows { IfSome result (λ behind. FollowsFront (F.takes image.now id) image.now decoding.old bytes.now behind.now decoding.new follower.old
         follower.new) }
-    ensures none { result ≡ None → (bytes.now ≡ []) × (decoding.new ≡ decoding.old) × TakesMore (F.took image.now) follower.old follower.new [] }
+    ensures none { result ≡ None → (bytes.now ≡ []) × (decoding.new ≡ decoding.old) × F.takes image.now id follower.old [] follower.new }
     ensures stopped { decoding.old.fault ≢ None
         → (decoding.new ≡ record (decoding.old) { reader = decoding.new.reader }) × (follower.new ≡ follower.old) }
     ensures rest { AtRest decoding.new }

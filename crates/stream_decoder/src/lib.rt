@@ -1,27 +1,21 @@
-//! From the bytes of one stream to the lines of its path (Arm IHI 0064).
+//! From the bytes of one stream to the items and the lines of its path (Arm IHI 0064).
 //!
-//! A [`StreamDecoder`] takes bytes, one or many, and writes what each adds to the path: packets become
-//! elements, elements become P0 elements that are held until they are committed, those are walked over an
-//! image, and what the walk shows is written. All memory is taken when it is made.
+//! Packets become elements, elements become P0 elements that are held until they are committed, and those are walked over an image. A
+//! machine that knows no sink does all that ([`machine`]), and gives the items by which the path of `path_elements` grew to a [`Follower`],
+//! whatever that makes of them. All memory is taken when a stream is made.
 //!
-//! Inside, decoding and printing are two things: a machine that knows no sink answers what was found, and a
-//! thin layer writes it. The layer above uses the contracts of [`StreamDecoder::take`] and
-//! [`StreamDecoder::take_run`]: from the bytes at which a decoder stands it comes to those and one or many
-//! more, and writes the lines by which the path of `path_elements` grew.
-//!
-//! A [`FollowedStream`] is the other layer over the same machine: it writes none of these lines, but gives the
-//! items themselves to a [`Follower`], whatever that makes of them.
+//! There are two layers over it. A [`FollowedStream`] has the follower of the caller. A [`StreamDecoder`] has one that writes lines: the layer
+//! above uses the contract of [`StreamDecoder::take_run`], by which it comes from the bytes at which it stands to those and more, and writes
+//! the lines of what they add.
 #![tactic(auto)]
 
-mod ahead;
 mod decoder;
-mod decoding;
 mod ending;
 mod followed;
 mod follower;
 mod found;
-mod front;
-mod oldest;
+mod line_follower;
+mod machine;
 mod todo;
 mod waiting;
 

@@ -4,10 +4,9 @@ ghost use Rattle.etm_types.specs.Atoms.{atoms_in, most_atoms};
 ghost use Rattle.etm_types.specs.declared.element.Elem.TheVariants as elem;
 ghost use Rattle.etm_types.specs.declared.element.P0.TheVariants.{Atom};
 ghost use Rattle.path_elements.specs.Elements.{atoms};
-ghost use Rattle.path_elements.specs.Held.{elem_of_correction};
 
 use etm_types::{AtomRun, Elem};
-use path_elements::{Correction, Elems};
+use path_elements::Elems;
 use std::marker::Model;
 
 /// The elements of one packet that are still to be taken, and its offset. Contracts see the offset and the
@@ -131,30 +130,6 @@ impl Todo {
         // nothing of this is left in the machine's code: it tells the proof that the sum fits
         let _ = self.elems.len();
         self.next += n;
-    }
-
-    /// How many the next one commits, where it is a commit and the first of its packet.
-    #[inline(always)]
-    pub fn first_commit(&self) -> Option<u32>
-        ensures { IfSome result (λ n. (others : List Elem) × (self.now.elements ≡ elem.Commit n ∷ others)) }
-    {
-        self.elems.commit(self.next)
-    }
-
-    /// What the next one corrects, where it is a cancel or a mispredict.
-    #[inline(always)]
-    pub fn first_correction(&self) -> Option<Correction>
-        ensures { IfSome result (λ c. (others : List Elem) × (self.now.elements ≡ elem_of_correction c ∷ others)) }
-    {
-        self.elems.correction(self.next)
-    }
-
-    /// Which address the next one is, where it is an address and the one element of its packet.
-    #[inline(always)]
-    pub fn first_address(&self) -> Option<u64>
-        ensures { IfSome result (λ addr. (others : List Elem) × (self.now.elements ≡ elem.Addr addr ∷ others)) }
-    {
-        self.elems.address(self.next)
     }
 
     /// The next one is taken.

@@ -4,7 +4,8 @@ ghost use Rattle.std.specs.Prelude.{◌≡◌, ◌+◌, ◌<◌, ◌≤◌, Bool
 ghost use Rattle.std.specs.Prelude.{IsTrue, IfOk, IfSome, IsSome, IsErr, None, Some, Err};
 ghost use Rattle.element_queue.specs.Counting.{Balances, counts_after, no_counts};
 ghost use Rattle.element_queue.specs.Pending.{committing, losing, taken};
-ghost use Rattle.element_queue.specs.Queued.{entry_of, plain_atom, things_of};
+ghost use Rattle.element_queue.specs.Queued.{entry_of, given_atoms, plain_atom, things_of};
+ghost use Rattle.element_queue.specs.declared.queue.AtomEntry.{AtomEntry};
 ghost use Rattle.element_queue.specs.Resolved.{at_first};
 ghost use Rattle.etm_types.specs.Atoms.{atoms_in, most_atoms};
 ghost use Rattle.etm_types.specs.declared.element.Elem.{Elem};
@@ -15,14 +16,12 @@ ghost use Rattle.etm_types.specs.declared.element.Thing.TheVariants.{Seen};
 ghost use Rattle.etm_types.specs.declared.element.Thing.{Thing};
 ghost use Rattle.etm_types.specs.declared.queue_fault.QueueFault.{QueueFault};
 ghost use Rattle.path_elements.specs.Elements.{atoms};
-ghost use Rattle.path_elements.specs.Held.{elem_of_correction};
 ghost use Rattle.stream_decoder.specs.Ahead.{settled_waiting};
 ghost use Rattle.stream_decoder.specs.Waiting.{Commits, DropsDue, HoldsAtoms, IsWaiting, TakesAtoms, all_of, committed_by, passed};
 ghost use Rattle.etm_types.specs.Pre.{nothing_told};
 
-use element_queue::{AtomEntry, Committed, Counts, Ledger, Outlook, PreElem, Queue};
+use element_queue::{Committed, Counts, GivenAtoms, Ledger, Outlook, PreElem, Queue};
 use etm_types::{AtomRun, Elem, P0, QueueFault, Thing};
-use path_elements::Correction;
 use std::alloc::{AllocError, Global};
 use std::marker::Model;
 
@@ -98,14 +97,25 @@ impl Waiting {
         Ok(None)
     }
 
-    /// Which atom the oldest of all that wait is. `None` where none waits, and where the oldest is anything but an atom before which nothing but
-    /// an address was given.
+    /// The oldest atoms of all that wait, at most so many, where nothing but an address was given before the first and nothing before the others.
+    /// `None` where none waits, and where the oldest is anything but an atom before which nothing but an address was given.
     #[inline(always)]
-    pub fn oldest_atom(&self) -> Option<AtomEntry>
-        ensures value { IfSome result (λ atom. slice_get (all_of self.now) 0 ≡ Some (Seen (entry_of atom))) }
+    pub fn oldest_given(&self, most: usize) -> Option<GivenAtoms>
+        ensures atoms { IfSome result (λ given. given_atoms given.addr (atoms_in given.atoms) ≡ take (given.atoms).count (all_of self.now)) }
+        ensures most { IfSome result (λ given. (given.atoms).count ≤ most) }
+        ensures few { IfSome result (λ given. (given.atoms).count ≤ most_atoms) }
+        ensures first { IfSome result (λ given. (taken : Bool)
+            × (slice_get (all_of self.now) 0 ≡ Some (Seen (entry_of (record { addr = given.addr; taken = taken }))))) }
         ensures some { IsSome result ↔ ((atom : AtomEntry) × (slice_get (all_of self.now) 0 ≡ Some (Seen (entry_of atom)))) }
     {
-        self.queue.oldest_atom()
+        let GivenAtoms { addr, atoms } = self.queue.oldest_given()?;
+        Some(GivenAtoms {
+            addr,
+            atoms: AtomRun {
+                count: usize::from(atoms.count).min(most) as u8,
+                bits: atoms.bits,
+            },
+        })
     }
 
     /// The oldest of all that wait, as atoms of one run of at most so many, as far as they are atoms before which nothing was given.
@@ -267,51 +277,6 @@ impl Waiting {
         ensures holds { IsWaiting self.new }
     {
         self.queue.pass_many(n);
-    }
-
-    /// Whether one P0 element more commits nothing: nothing is due, and there is room for it.
-    #[inline(always)]
-    pub fn has_room(&self) -> bool
-        ensures { IsTrue result ↔ ((self.now.due ≡ []) × ((p0 : P0) → committed_by self.now p0 ≡ [])) }
-    {
-        self.due == 0 && self.queue.has_room()
-    }
-
-    /// Takes a commit of so many where nothing is due and so many are held: they are due after it. Else nothing changes.
-    #[inline(always)]
-    pub fn take_commit(&mut self, n: u32) -> bool
-        ensures due { IsTrue result → self.old.due ≡ [] }
-        ensures commits { IsTrue result → Commits self.old (elem.Commit n) self.new [] }
-        ensures unchanged { result ≡ false → self.new ≡ self.old }
-        ensures holds { IsWaiting self.new }
-    {
-        if self.due > 0 {
-            return false;
-        }
-        match self.queue.check_commit(n) {
-            Ok(()) => {
-                self.due = n;
-                true
-            }
-            Err(_) => false,
-        }
-    }
-
-    /// Takes a cancel or a mispredict where nothing is due and the queue can be corrected so. Else nothing changes.
-    #[inline(always)]
-    pub fn take_correction(&mut self, correction: Correction) -> bool
-        ensures due { IsTrue result → self.old.due ≡ [] }
-        ensures commits { IsTrue result → Commits self.old (elem_of_correction correction) self.new [] }
-        ensures unchanged { result ≡ false → self.new ≡ self.old }
-        ensures holds { IsWaiting self.new }
-    {
-        if self.due > 0 {
-            return false;
-        }
-        match correction {
-            Correction::Cancel(n) => self.queue.cancel(n).is_ok(),
-            Correction::Flip => self.queue.flip().is_ok(),
-        }
     }
 
     /// Takes an address where nothing is due. Else nothing changes.

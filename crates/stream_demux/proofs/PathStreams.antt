@@ -105,11 +105,11 @@ pub path_adds : (image : Image) (s : Sizes) (id : ℕ) (bytes run : List ℕ) (s
     → GrowsAlong image s id bytes run shown a b result → RunAdds (paths image s) id bytes run a b result
 path_adds image s id bytes run shown a b result is =
     record {
-      took = is.took;
-      others = is.others;
-      parts = is.parts;
+      took = run;
+      others = [];
+      parts = sym (append-nil run);
       lines = line_list id shown is.more;
-      body = path_body image s id bytes is.took shown is.more is.grows;
+      body = path_body image s id bytes run shown is.more is.grows;
       writes = subst (Writes a b result) (sym (list_joined id shown is.more)) is.writes;
-      all = is.all;
+      all = λ ok. refl;
     }

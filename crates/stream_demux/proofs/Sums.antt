@@ -2,13 +2,13 @@
 use Rattle.std.proofs.Common.{◌≡◌, ℕ, Bool, true, false, None, List, [], ◌∷◌, ◌++◌, map, refl, sym, ap, subst, ◌∙◌, append-nil, append_assoc}
 use Rattle.std.specs.Prelude.{Result}
 use Rattle.std.specs.List.{concat}
+use Rattle.std.proofs.lemmas.List.{map-append}
 use Rattle.etm_types.specs.Id.{IsId}
 use Rattle.etm_types.specs.Settings.{Sizes}
 use Rattle.etm_types.specs.declared.item.Item.{Item}
 use Rattle.formatter_frames.specs.Symbols.{run_of}
-use Rattle.stream_decoder.proofs.Following.{takes_on, under-append}
 use Rattle.stream_decoder.specs.Follows.{items_under}
-use Rattle.stream_demux.specs.Streams.{SumAdds, SumGains, SumStands}
+use Rattle.stream_demux.specs.Streams.{SumAdds, SumStands}
 use Rattle.path_text.specs.Writing.{Writes}
 use Rattle.stream_demux.specs.Texts.{AddedFrom, AddsIf, IsSum, Listing, Printed, StreamAdded, by_sizes, is_source, of, sum_lines, text_of}
 use Rattle.trace_io.specs.State.{IoState}
@@ -16,6 +16,9 @@ use Rattle.stream_demux.proofs.Bodies.{of_run}
 use Rattle.stream_demux.proofs.Standing.{is_one}
 
 -- ---- items
+
+under-append : (id : ℕ) (xs ys : List Item) → items_under id (xs ++ ys) ≡ items_under id xs ++ items_under id ys
+under-append id xs ys = map-append (λ (i : Item). (id, i)) xs ys
 
 stream_added-append : (g : Listing) (id : ℕ) (before xs ys : List ℕ) (items more : List Item) → StreamAdded g id before xs items
     → StreamAdded g id (before ++ xs) ys more → StreamAdded g id before (xs ++ ys) (items ++ more)
@@ -67,20 +70,6 @@ added_by : (g : Sizes → Listing) (t : ℕ → Sizes) (id : ℕ) (before bytes 
     → StreamAdded (by_sizes g t) id before bytes items
 added_by g t id before [] items none = none
 added_by g t id before (b ∷ bytes) items (first, rest, adds, later, is) = (first, rest, adds, added_by g t id (before ++ b ∷ []) bytes rest later, is)
-
--- ---- the sum takes them
-
-module _ {Y : Type 0} (sums : Y → List (ℕ × Item) → Type 0) (g : Listing) (id : ℕ) (before : List ℕ) where
-  pub no_run_adds : (sum : Y) → SumAdds sums g id before [] sum sum
-  no_run_adds sum = ([], refl, λ items has. subst (sums sum) (sym (append-nil items)) has)
-
-  pub run_adds_more : (run : List ℕ) (byte : ℕ) (a b c : Y) → SumAdds sums g id before run a b → SumGains sums g id (before ++ run) byte b c
-      → SumAdds sums g id before (run ++ byte ∷ []) a c
-  run_adds_more run byte a b c (some, added, takes) (more, adds, takes_more) = (
-    some ++ more,
-    stream_added-append g id before run (byte ∷ []) some more added (more, [], adds, refl, sym (append-nil more)),
-    takes_on sums id a b c some more takes takes_more,
-  )
 
 -- ---- the sum of all streams
 

@@ -48,11 +48,7 @@ pub record AllStand {X Y : Type 0} (stands : X → List ℕ → Type 0) (sizes :
 abbrev pub SumTakes : {Y : Type 0} → (Y → List (ℕ × Item) → Type 0) → ℕ → Y → Y → List Item → Type 0
 SumTakes sums id old new more = TakesMore sums old new (items_under id more)
 
--- a byte of a stream adds items behind others of it, and the sum takes them
-abbrev pub SumGains : {Y : Type 0} → (Y → List (ℕ × Item) → Type 0) → Listing → ℕ → List ℕ → ℕ → Y → Y → Type 0
-SumGains sums g id before byte old new = (more : List Item) × g.adds id before byte more × SumTakes sums id old new more
-
--- bytes of a stream do so, one after the other
+-- bytes of a stream, one after the other, add items behind others of it, and the sum takes them
 abbrev pub SumAdds : {Y : Type 0} → (Y → List (ℕ × Item) → Type 0) → Listing → ℕ → List ℕ → List ℕ → Y → Y → Type 0
 SumAdds sums g id before run old new = (more : List Item) × StreamAdded g id before run more × SumTakes sums id old new more
 

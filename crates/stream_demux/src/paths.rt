@@ -3,12 +3,14 @@
 use crate::stream::Stream;
 use element_queue::{Counts, Ledger};
 use etm_types::{Id, Settings};
+use path_text::LineBlock;
 use program_image::Image;
 use std::alloc::{AllocError, Global};
 use stream_decoder::StreamDecoder;
 use trace_io::{Failed, Sink};
 
-/// What all streams share is the image of the program.
+/// What all streams share is the image of the program, and what they add to is the block in which their lines are put together: nothing is
+/// kept in it from run to run.
 impl Stream for StreamDecoder {
     ghost use Rattle.element_queue.specs.Counting.{counts_after};
     ghost use Rattle.element_queue.specs.Pending.{losing};
@@ -18,7 +20,7 @@ impl Stream for StreamDecoder {
 
     type Shared = Image;
 
-    type Sum = ();
+    type Sum = LineBlock;
 
     ghost sizes = { λ d. d.decoding.reader.settings };
 
@@ -40,35 +42,23 @@ impl Stream for StreamDecoder {
 
     ghost sums = { λ shared sum items. Unit {0} };
 
-    fn new_sum(_alloc: Global, _image: &Image) -> Result<(), AllocError> {
-        Ok(())
+    fn new_sum(_alloc: Global, _image: &Image) -> Result<LineBlock, AllocError> {
+        Ok(LineBlock::new())
     }
 
     fn new(alloc: Global, settings: &Settings) -> Result<StreamDecoder, AllocError> {
         StreamDecoder::new(alloc, settings)
     }
 
-    #[inline(always)]
-    fn take<K: Sink>(
-        &mut self,
-        image: &Image,
-        _sum: &mut (),
-        id: Id,
-        byte: u8,
-        sink: &mut K,
-    ) -> Result<(), Failed> {
-        StreamDecoder::take(self, image, id, byte, sink)
-    }
-
     fn take_run<K: Sink>(
         &mut self,
         image: &Image,
-        _sum: &mut (),
+        lines: &mut LineBlock,
         id: Id,
         run: &[u8],
         sink: &mut K,
     ) -> Result<(), Failed> {
-        StreamDecoder::take_run(self, image, id, run, sink)
+        StreamDecoder::take_run(self, image, lines, id, run, sink)
     }
 
     fn ledger(&self) -> Counts {
@@ -79,7 +69,7 @@ impl Stream for StreamDecoder {
         StreamDecoder::finish(self, id, sink)
     }
 
-    fn write_sum<K: Sink>(_sum: (), _image: &Image, _sink: &mut K) -> Result<(), Failed> {
+    fn write_sum<K: Sink>(_lines: LineBlock, _image: &Image, _sink: &mut K) -> Result<(), Failed> {
         Ok(())
     }
 

@@ -6,7 +6,7 @@ ghost use Rattle.element_queue.specs.declared.ledger.Counts.{Counts};
 ghost use Rattle.etm_types.specs.Settings.{Sizes};
 ghost use Rattle.etm_types.specs.declared.item.Item.{Item};
 ghost use Rattle.path_text.specs.Writing.{Writes};
-ghost use Rattle.stream_demux.specs.Streams.{HoldsToDepth, RunAdds, SettlesBut, SumAdds, SumGains};
+ghost use Rattle.stream_demux.specs.Streams.{HoldsToDepth, RunAdds, SettlesBut, SumAdds};
 ghost use Rattle.stream_demux.specs.Texts.{Listing, Printed, StreamEnds, text_of};
 ghost use Rattle.trace_io.specs.Calls.{Serves};
 
@@ -66,32 +66,8 @@ pub trait Stream {
         ensures ready { IfOk result (λ s. (broken s ≡ false) × (taken s ≡ 0)) }
         ensures most { IfOk result (HoldsToDepth held sizes) };
 
-    /// Takes the next byte, writes the lines that it adds, and adds its items to the sum. The error means that a write failed; then the
-    /// stream is broken.
-    fn take<K: Sink>(
-        &mut self,
-        shared: &Self::Shared,
-        sum: &mut Self::Sum,
-        id: Id,
-        byte: u8,
-        sink: &mut K,
-    ) -> Result<(), Failed>
-        requires whole { broken self.old ≡ false }
-        requires few { taken self.old < 2 ^ 62 }
-        ensures stands { IsOk result → (bytes : List ℕ) → stands shared.now self.old bytes → stands shared.now self.new (bytes ++ byte ∷ []) }
-        ensures gains { (bytes : List ℕ) → stands shared.now self.old bytes
-            → (lines : List (List ℕ)) × (listing shared.now (sizes self.old)).gains id bytes byte lines
-            × Writes (K.state sink.old) (K.state sink.new) result (concat lines) }
-        ensures adds { IsOk result → (bytes : List ℕ) → stands shared.now self.old bytes
-            → SumGains (sums shared.now) (listing shared.now (sizes self.old)) id bytes byte sum.old sum.new }
-        ensures serves { Serves (K.state sink.old) (K.state sink.new) result }
-        ensures broken { IsTrue (broken self.new) ↔ IsErr result }
-        ensures taken { taken self.new ≡ taken self.old + 1 }
-        ensures sizes { sizes self.new ≡ sizes self.old }
-        ensures most { HoldsToDepth held sizes self.new };
-
-    /// Takes the next bytes, as [`take`](Stream::take) does each. The error means that a write failed; then nothing more is taken, and
-    /// the stream is broken.
+    /// Takes the next bytes, writes the lines that they add, all before it returns, and adds their items to the sum. The error means that a
+    /// write failed: then a front of the lines is written, and the stream is broken.
     fn take_run<K: Sink>(
         &mut self,
         shared: &Self::Shared,
@@ -112,13 +88,7 @@ pub trait Stream {
         ensures taken { IsOk result → taken self.new ≡ taken self.old + length run.now }
         ensures between { (taken self.old ≤ taken self.new) × (taken self.new ≤ taken self.old + length run.now) }
         ensures sizes { sizes self.new ≡ sizes self.old }
-        ensures most { HoldsToDepth held sizes self.old → HoldsToDepth held sizes self.new }
-    {
-        for byte in run {
-            self.take(shared, sum, id, *byte, sink)?;
-        }
-        Ok(())
-    }
+        ensures most { HoldsToDepth held sizes self.old → HoldsToDepth held sizes self.new };
 
     /// What became of its P0 elements.
     fn ledger(&self) -> Counts

@@ -50,16 +50,18 @@ impl Stream for TimedDecoder {
         TimedDecoder::new(alloc, settings)
     }
 
-    #[inline(always)]
-    fn take<K: Sink>(
+    fn take_run<K: Sink>(
         &mut self,
         _shared: &(),
         _sum: &mut (),
         id: Id,
-        byte: u8,
+        run: &[u8],
         sink: &mut K,
     ) -> Result<(), Failed> {
-        TimedDecoder::take(self, id, byte, sink)
+        for byte in run {
+            self.take(id, *byte, sink)?;
+        }
+        Ok(())
     }
 
     fn ledger(&self) -> Counts {

@@ -78,12 +78,12 @@ impl Timing {
         }
     }
 
-    /// Whether no fault was met, and frequent packets count and may come. What a commit needs for that, all of them need.
+    /// Whether no fault was met, and frequent packets count and may come.
     #[inline(always)]
     pub fn is_ready(&self) -> bool
         ensures { IsTrue result ↔ IsReady self.now }
     {
-        self.line.fault.is_none() && self.maker.commit_of(0).is_some()
+        self.line.fault.is_none() && self.maker.is_ready()
     }
 
     /// Takes a frequent packet, and writes its lines. It has no timestamp and is no event.

@@ -5,8 +5,7 @@ use Rattle.packet_grammar.specs.declared.packet.Packet.TheVariants.{Mispredict, 
 use Rattle.packet_grammar.specs.Headers.{few_atoms}
 use Rattle.packet_grammar.proofs.Table.{headers, whole}
 use Rattle.packet_reader.specs.declared.state.Progress.TheVariants.{Done}
-use Rattle.packet_reader.specs.declared.correction.CorrectionPacket.{CorrectionPacket}
-use Rattle.packet_reader.specs.Corrections.{packet_of}
+use Rattle.packet_grammar.specs.declared.packet.Packet.{Packet}
 use Rattle.packet_reader.proofs.Rows.{says}
 use Rattle.packet_reader.proofs.Headed.{by_row}
 use Rattle.packet_reader.proofs.headers.correction_of.Goals as goal
@@ -30,4 +29,4 @@ unfolding headers
 returns-in-56-to-63 c =
     by_row c.args.h _ (whole (Cancel3 (c.args.h % 2 == 1) (c.args.h / 2 % 4 + 2)))
     (says c.args.h 0x38 0x3f (whole (Cancel3 (c.args.h % 2 == 1) (c.args.h / 2 % 4 + 2))) refl refl (omega arith) (omega arith))
-    (ap (λ (p : CorrectionPacket). Done (Ok (packet_of p))) c.cancel_3.ensures)
+    (ap (λ (p : Packet). Done (Ok p)) c.cancel_3.ensures)

@@ -1,7 +1,5 @@
-use Rattle.std.proofs.Common.{Ok, Err, refl, sym, ap, subst, ◌∙◌, arith}
-use Rattle.packet_grammar.specs.declared.packet.Packet.{Packet}
+use Rattle.std.proofs.Common.{Err, refl, sym, subst, arith}
 use Rattle.packet_reader.specs.declared.state.Progress.{Progress}
-use Rattle.packet_reader.specs.declared.state.Progress.TheVariants.{Done}
 use Rattle.packet_reader.specs.States.{HeadsBy}
 use Rattle.packet_grammar.specs.declared.packet.Packet.TheVariants.{On}
 use Rattle.packet_grammar.specs.declared.fault.RefusedKind.TheVariants.{CycleCount, TimeCycle, DataSync, MProfile}
@@ -93,6 +91,4 @@ pub returns-in-45-to-47-clause-row : goal.returns-in-45-to-47-clause-row
 returns-in-45-to-47-clause-row c = subst (λ (p : Progress). HeadsBy c.args.h p) (sym c.number.ensures) c.purpose_of.ensures
 
 pub returns-in-48-to-63-clause-row : goal.returns-in-48-to-63-clause-row
-returns-in-48-to-63-clause-row c =
-    let is = c.whole-in-48-to-63.ensures ∙ ap (λ (p : Packet). Done (Ok p)) c.packet.ensures in
-    subst (λ (p : Progress). HeadsBy c.args.h p) (sym is) c.correction_of.ensures
+returns-in-48-to-63-clause-row c = subst (λ (p : Progress). HeadsBy c.args.h p) (sym c.whole-in-48-to-63.ensures) c.correction_of.ensures

@@ -18,19 +18,20 @@ returns-in_err-behind-in-None-clause-none g c is =
 
 pub returns-clause-follows : goal.returns-clause-follows
 returns-clause-follows g c =
-    let image = c.args.image.now in let took = g.F.Follower.took image in let id = c.args.id in let d = c.args.decoding.now in let bytes = c.args.bytes.now in
+    let image = c.args.image.now in let takes = g.F.Follower.takes image c.args.id in let none = g.met.F.Follower.takes_none image c.args.id in
+    let joins = g.met.F.Follower.takes_joined image c.args.id in let id = c.args.id in let d = c.args.decoding.now in let bytes = c.args.bytes.now in
     let old = c.args.follower.now in let mid = c.run_packets.new.taker in let new = c.follow_rest.new.follower in let d2 = c.follow_rest.new.decoding in
     let fits = small_bytes bytes (λ k. omega (arith, c.type_inv.bytes k)) in let are = c.requires.holds.reads.settings in
     let shows = g.met.F.Follower.shows image id d.walk.ctx old mid in let f = c.follow_rest.ensures in
     elim c.match-run_packets.branch [
       | in-Some w ↦
           let adds = g.F.StretchTaker.adds image id d.walk.ctx in let m = c.run_packets.new.self in let behind = w.in-Some.behind.now in
-          rw w.behind-is (runs_front took adds image id d m d2 bytes behind old mid new w.in-Some.ensures.runs fits are shows
+          rw w.behind-is (runs_front takes none joins adds image d m d2 bytes behind old mid new w.in-Some.ensures.runs fits are shows
           (rw w.decoding-is at f.reader) (rw w.decoding-is at f.follows))
       | in-None+in_ok-behind-in-None w ↦
           let before = w.in-None.ensures.none refl in let n = w.begin_front.new.self in let behind = w.in_ok-behind-in-None.behind.now in
           let begun = subst (λ (x : Decoding). BegunFront x n bytes behind) before.0 w.in_ok-behind-in-None.ensures.begun in
-          rw w.behind-is (next_front took image id d n d2 bytes behind fits are old mid new begun (rw w.decoding-is at f.reader) (shows [] before.1)
+          rw w.behind-is (next_front takes none joins image d n d2 bytes behind fits are old mid new begun (rw w.decoding-is at f.reader) (shows [] before.1)
           (rw w.decoding-is at f.follows) (λ met. (rw w.decoding-is at f.stopped) (w.begin_front.ensures.holds.stopped met)))
     ]
 

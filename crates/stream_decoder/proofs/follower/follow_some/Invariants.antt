@@ -9,7 +9,7 @@ decreases-loop-id g l = left l.decoding
 
 abbrev pub invariant-loop-id : goal.invariant-loop-id
 invariant-loop-id g l = record {
-  follows : Follows (g.F.Follower.took l.image) l.image l.id l.fn.decoding l.decoding l.fn.follower l.follower;
+  follows : Follows (g.F.Follower.takes l.image l.id) l.image l.fn.decoding l.decoding l.fn.follower l.follower;
   reader : l.decoding.reader ≡ l.fn.decoding.reader;
   holds : IsDecoding l.decoding;
 }

@@ -33,6 +33,7 @@ returns-then-fits c =
       adds = subst (λ (l : List Item). TakesMore (CountsAre image) c.args.self.now new (items_under id l)) (sym (append-nil more))
           (subst (λ (x : PathCounting). TakesMore (CountsAre image) x new (items_under id more)) c.self.view_is
           (takes_more image id old new more counted (c.take_stretch.ensures ctx)));
+      begun = tt;
       space = omega arith;
     }
 
@@ -44,5 +45,6 @@ returns-else-fits c =
           let counts = ap (λ (x : PathCounting). x.counts) c.self.view_is ∙ is.counts in
           let fits = c.fits.ensures.value.1 (counts_fit c.args.image.now c.self.inside.counter (items_alone items) c.fits.ensures.parts counts) in
           absurd (let e : true ≡ false = sym fits ∙ c.if-fits.false in cc);
+      begun = tt;
       space = omega arith;
     }

@@ -1,6 +1,7 @@
 use Rattle.std.proofs.Common.{◌≡◌, ◌+◌, ◌%◌, ◌∷◌, [], None, true, ap, arith, refl, subst, sym, ◌∙◌}
 use Rattle.std.specs.Prelude.{◌==◌}
 use Rattle.etm_types.specs.Atoms.{low_bits}
+use Rattle.etm_types.specs.declared.context.Ctx.{Ctx}
 use Rattle.path_walker.specs.State.{IsPc, State, standing}
 use Rattle.path_walker.specs.Walk.{WalksRun}
 use Rattle.path_walker.specs.declared.pc.Pc.TheVariants.{Known}
@@ -21,6 +22,7 @@ loop-n-preserved-in-Some-walk_conditional g c =
       pc = is.next;
       context = is.context ∙ i.context;
       most = omega (arith, c.loop-n-test.true);
+      begun = subst (λ (x : Ctx). g.T.StretchTaker.begun x c.walk_conditional.new.taker) i.context is.begun;
       room = omega (arith, i.room, c.loop-n-test.true, is.space);
       space = omega (arith, i.space, is.space);
     }
@@ -51,6 +53,8 @@ returns-in_default-pc g c = record {
     c.walk_along.ensures.space,
     ap (g.T.StretchTaker.space) (c.in_default-walk_conditional.ensures.unchanged refl).1,
   );
+  begun = subst (λ (x : Ctx). g.T.StretchTaker.begun x c.walk_along.new.taker) (c.walk_conditional.ensures.context ∙ c.loop-n.invariant.context)
+      c.walk_along.ensures.begun;
   context = c.walk_along.ensures.context ∙ c.walk_conditional.ensures.context ∙ c.loop-n.invariant.context;
   state = c.walk_along.ensures.state;
 }
@@ -68,6 +72,8 @@ loop-n-preserved g c =
       pc = subst IsPc known c.walk_along.ensures.state.pc;
       context = c.walk_along.ensures.context ∙ c.walk_conditional.ensures.context ∙ i.context;
       most = omega (arith, c.loop-n-test.true);
+      begun = subst (λ (x : Ctx). g.T.StretchTaker.begun x c.walk_along.new.taker) (c.walk_conditional.ensures.context ∙ i.context)
+          c.walk_along.ensures.begun;
       room = omega (arith, i.room, c.loop-n-test.true, c.walk_along.ensures.space, ap (g.T.StretchTaker.space) same.1);
       space = omega (arith, i.space, c.walk_along.ensures.space, ap (g.T.StretchTaker.space) same.1);
     }

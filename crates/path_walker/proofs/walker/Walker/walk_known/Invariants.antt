@@ -16,6 +16,7 @@ invariant-loop-n g l =
       pc : l.pc % 4 ≡ 0;
       context : l.self.ctx ≡ l.fn.self.ctx;
       most : l.n ≤ l.most;
+      begun : g.T.StretchTaker.begun l.fn.self.ctx l.taker;
       room : l.most - l.n ≤ g.T.StretchTaker.space l.taker;
       space : g.T.StretchTaker.space l.fn.taker ≤ g.T.StretchTaker.space l.taker + l.n;
     }

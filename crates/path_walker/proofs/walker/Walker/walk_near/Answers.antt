@@ -1,5 +1,6 @@
 use Rattle.std.proofs.Common.{◌∙◌, ◌<◌, ◌-◌, ◌+◌, ◌/◌, ◌^◌, None, arith, refl, subst, sym}
 use Rattle.etm_types.specs.Atoms.{low_bits}
+use Rattle.etm_types.specs.declared.context.Ctx.{Ctx}
 use Rattle.path_walker.specs.State.{IsState, State}
 use Rattle.path_walker.specs.Walk.{WalksRun}
 use Rattle.path_walker.proofs.AtomRuns.{none_before, run_joined, run_of_more, run_of_none}
@@ -14,6 +15,7 @@ loop-n-init g c =
       walks = run_of_none (g.T.StretchTaker.adds image id) (g.met.T.StretchTaker.none image id) (g.met.T.StretchTaker.joins image id) image c.args.self.now
           None (low_bits c.args.most c.args.bits) c.args.taker.now;
       most = omega arith;
+      begun = c.requires.begun;
       room = omega (arith, c.requires.room);
       space = omega arith;
       context = refl;
@@ -44,6 +46,7 @@ loop-n-preserved g c =
       walks = run_joined adds none joins image s next.new.self other.new.self None most bits n 1 c.args.taker.now next.new.taker other.new.taker
           (omega (arith, below)) (none_before n) (next.ensures.context ∙ i.context) (near g (goal.at.loop-n-preserved g c).After-walk_known-n) one;
       most = omega (arith, below);
+      begun = subst (λ (x : Ctx). g.T.StretchTaker.begun x other.new.taker) (next.ensures.context ∙ i.context) other.ensures.begun;
       room = omega (arith, i.room, below, next.ensures.space, other.ensures.space);
       space = omega (arith, i.space, next.ensures.space, other.ensures.space);
       context = other.ensures.context ∙ next.ensures.context ∙ i.context;

@@ -12,6 +12,7 @@ invariant-loop-n g l =
     record {
       walks : WalksRun (g.T.StretchTaker.adds l.image l.id l.fn.self.ctx) l.image l.fn.self None (low_bits l.most l.bits) l.fn.taker l.n l.self l.taker;
       most : l.n ≤ l.most;
+      begun : g.T.StretchTaker.begun l.fn.self.ctx l.taker;
       room : l.most - l.n ≤ g.T.StretchTaker.space l.taker;
       space : g.T.StretchTaker.space l.fn.taker ≤ g.T.StretchTaker.space l.taker + l.n;
       context : l.self.ctx ≡ l.fn.self.ctx;

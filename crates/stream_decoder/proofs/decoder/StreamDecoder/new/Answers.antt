@@ -1,5 +1,5 @@
 use Rattle.std.proofs.Common.{[], refl}
-use Rattle.stream_decoder.proofs.Printing.{came_first}
+use Rattle.stream_decoder.proofs.AtFirst.{came_first}
 use Rattle.stream_decoder.proofs.decoder.StreamDecoder.new.Goals as goal
 
 pub returns-clause-stands : goal.returns-clause-stands

@@ -1,0 +1,17 @@
+use Rattle.std.proofs.Common.{◌≡◌, ap, ◌∙◌}
+use Rattle.std.proofs.lemmas.Result.{err_from_is_err_and}
+use Rattle.path_text.proofs.Putting.{puts_unwritten, puts_written}
+use Rattle.path_text.proofs.line_block.LineBlock.put_walked.Goals as goal
+
+pub returns-in_err-flush-clause-puts : goal.returns-in_err-flush-clause-puts
+returns-in_err-flush-clause-puts g c =
+    let p = err_from_is_err_and c.from_residual.result c.from_residual.ensures.1 in
+    rw p.1 (puts_unwritten _ _ c.in_err-flush.field-0.0 p.0 _ _ _ c.in_err-flush.ensures.writes)
+
+pub returns-clause-puts : goal.returns-clause-puts
+returns-clause-puts g c =
+    let view = c.self.view_is ∙ c.in_ok-flush.ensures.others in
+    let id : c.new.result.id ≡ c.args.self.now.id = c.new.ensures.id ∙ ap (λ b. b.id) view in
+    let shown : c.self.inside.shown ≡ c.args.self.now.shown = ap (λ b. b.shown) view in
+    puts_written _ _ _ _ c.write_walked_on.result _ _ _ (ap (λ b. b.put) view) c.in_ok-flush.ensures.writes
+    (rw shown at (rw id at c.write_walked_on.ensures.lines))

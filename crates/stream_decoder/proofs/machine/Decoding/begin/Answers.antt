@@ -1,0 +1,31 @@
+use Rattle.std.proofs.Common.{refl, sym, ap, ◌∙◌, subst}
+use Rattle.packet_grammar.specs.declared.packet.Packet.TheVariants.{Atoms}
+use Rattle.packet_reader.specs.Stands.{Standing}
+use Rattle.packet_reader.specs.declared.step.Step.TheVariants.{Whole}
+use Rattle.path_elements.proofs.Taken.{in_range}
+use Rattle.stream_decoder.proofs.Beginning.{begun_opening, kept_reading, unmet}
+use Rattle.stream_decoder.specs.Decoding.{Decoding, decoding_of}
+use Rattle.stream_decoder.specs.Yields.{BegunByte}
+use Rattle.stream_decoder.proofs.machine.Decoding.begin.Goals as goal
+
+pub invariant_of-self : goal.invariant_of-self
+invariant_of-self c =
+    let i = c.self.inside in let packet = Atoms c.in-Some.run' in let takes = c.in-Some.ensures.takes in
+    kept_reading i.reader c.take_atoms.new.self c.args.byte c.ranges.byte.fits (Whole c.in-Some.at packet) takes.settings takes.stands takes.gains
+    i.maker i.todo i.waiting i.walker i.fault c.self.invariant
+
+pub open_atoms-requires-clause-packet : goal.open_atoms-requires-clause-packet
+open_atoms-requires-clause-packet c = in_range c.self.inside.reader.settings (Atoms c.in-Some.run') c.in-Some.ensures.takes.values
+
+pub returns-in-Some-clause-begun : goal.returns-in-Some-clause-begun
+returns-in-Some-clause-begun c =
+    let i = c.self.inside in let packet = Atoms c.in-Some.run' in let takes = c.in-Some.ensures.takes in
+    begun_opening i.reader c.take_atoms.new.self c.args.byte c.ranges.byte.fits (Whole c.in-Some.at packet) takes.settings takes.stands takes.gains
+    i.maker i.todo i.waiting i.walker i.fault c.args.self.now c.self.view_is c.open_atoms.new.self c.open_atoms.ensures.reader
+    (unmet i.fault (sym c.is_some.ensures ∙ c.if-is_some.false)) c.open_atoms.ensures.opens
+
+pub returns-in-None-clause-begun : goal.returns-in-None-clause-begun
+returns-in-None-clause-begun c =
+    let i = c.self.inside in
+    let same = ap (λ (r : Standing). decoding_of r i.maker i.todo i.waiting i.walker i.fault) (c.in-None.ensures.none refl) ∙ c.self.view_is in
+    subst (λ (d : Decoding). BegunByte d c.args.byte c.begin_any-in-None.new.self) same c.begin_any-in-None.ensures.begun

@@ -1,0 +1,11 @@
+use Rattle.stream_decoder.proofs.machine.Decoding.begin_front.Goals as goal
+
+pub returns-clause-begun : goal.returns-clause-begun
+returns-clause-begun c =
+    record {
+      byte = c.in_ok-byte.byte.now;
+      parts = c.in_ok-byte.ensures.cases.0;
+      begins = c.begin.ensures.begun;
+      settings = c.begin.ensures.settings;
+      taken = c.begin.ensures.taken;
+    }
