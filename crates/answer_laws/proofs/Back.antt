@@ -4,15 +4,15 @@ use Rattle.std.proofs.Common.{refl, sym, ap, subst, ◌∙◌, inl, inr}
 use Rattle.std.proofs.lemmas.List.{append_cancel_left}
 use Rattle.std.specs.Option.{option_and_then}
 use Rattle.std.specs.Prelude.{nat_lt, if◌then◌else◌}
-use Rattle.bench_text.proofs.Benches.{parsed_good}
-use Rattle.bench_text.specs.BenchText.{parsed}
-use Rattle.bench_text.specs.Parts.{BenchParts, IsBench}
-use Rattle.bench_text.specs.Refusals.{bench_of, most_text, refusal_among, unless, unless_refused}
-use Rattle.bench_text.specs.declared.fault.BenchWhy.{BenchWhy}
-use Rattle.bench_text.specs.declared.fault.BenchWhy.TheVariants.{TooLong}
+use Rattle.run_file.proofs.Benches.{parsed_good}
+use Rattle.run_file.specs.BenchText.{parsed}
+use Rattle.run_file.specs.Parts.{BenchParts, IsBench}
+use Rattle.run_file.specs.Refusals.{bench_of, most_text, refusal_among, unless, unless_refused}
+use Rattle.run_file.specs.declared.fault.BenchWhy.{BenchWhy}
 use Rattle.command_words.specs.Words.{Program, program_of}
 use Rattle.command_words.specs.declared.words.ProgramForm.{ProgramForm}
 use Rattle.program_image.specs.declared.image.Image.{Image}
+use Rattle.run_file.specs.declared.fault.BenchWhy.TheVariants.{TooLong}
 use Rattle.answer_laws.specs.ReadBack.{AsksBack, PathReadsBack, ReadsBack, Traces}
 use Rattle.std.specs.Io.KnownBytes.{Appends}
 use Rattle.answer_laws.proofs.Complete.{paths_are_done}

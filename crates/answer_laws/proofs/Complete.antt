@@ -5,16 +5,16 @@ use Rattle.std.specs.Io.KnownBytes.{Consumes, IsAtEnd}
 use Rattle.std.proofs.lemmas.Bool.{lt-ltb}
 use Rattle.std.specs.Option.{option_and_then}
 use Rattle.bench_gen.specs.Bench.{generated}
-use Rattle.bench_text.specs.Parts.{BenchParts}
-use Rattle.bench_text.specs.Refusals.{bench_of, most_text}
-use Rattle.bench_text.specs.declared.fault.BenchWhy.{BenchWhy}
 use Rattle.etm_types.proofs.Tables.{are_settings}
 use Rattle.program_image.specs.ImageText.{image_of}
 use Rattle.program_image.specs.declared.fault.ImageWhy.{ImageWhy}
 use Rattle.program_image.specs.declared.image.Image.{Image}
+use Rattle.run_file.specs.Parts.{BenchParts}
+use Rattle.run_file.specs.Refusals.{bench_of, most_text}
+use Rattle.run_file.specs.declared.fault.BenchWhy.{BenchWhy}
+use Rattle.capture_streams.proofs.PathTexts.{one_text_of_paths}
+use Rattle.capture_streams.specs.Texts.{IsText, Printed}
 use Rattle.count_streams.proofs.OneText.{one_text_of_counts}
-use Rattle.stream_demux.proofs.PathTexts.{one_text_of_paths}
-use Rattle.stream_demux.specs.Texts.{IsText, Printed}
 use Rattle.packet_list.proofs.PacketTexts.{one_text_of_packets}
 use Rattle.time_marks.proofs.Texts.{one_text_of_times}
 use Rattle.answer_laws.proofs.TracedCalls.{image_taken, taken_are}

@@ -3,15 +3,15 @@ use Rattle.std.proofs.Common.{◌≡◌, ◌⊎◌, ℕ, ◌≤◌, List, [], �
 use Rattle.answer_laws.specs.Complete.{AreAlike, FaultsAreDecided, HasInput, HasRunFile, IsDone, IsDoneOrFaulted, NothingFailed, NumbersAreDone}
 use Rattle.answer_laws.specs.Complete.{PacketsAreDone, PathsAreDone, RunFilesAreDone, ShowAlike}
 use Rattle.answer_lines.specs.declared.status.Status.TheVariants as status
-use Rattle.bench_text.specs.Parts.{BenchParts}
-use Rattle.bench_text.specs.Refusals.{bench_of}
-use Rattle.bench_text.specs.declared.fault.BenchWhy.{BenchWhy}
-use Rattle.bench_text.specs.declared.fault.BenchWhy.TheVariants.{Run}
+use Rattle.run_file.specs.Parts.{BenchParts}
+use Rattle.run_file.specs.Refusals.{bench_of}
+use Rattle.run_file.specs.declared.fault.BenchWhy.{BenchWhy}
 use Rattle.command_words.specs.Words.{Program}
 use Rattle.command_words.specs.declared.words.ProgramForm.TheVariants as form
 use Rattle.input_pieces.specs.Listed.{most_input}
 use Rattle.program_image.specs.declared.image.Image.{Image}
 use Rattle.retired_paths.proofs.RetiredExamples as retired
+use Rattle.run_file.specs.declared.fault.BenchWhy.TheVariants.{Run}
 use Rattle.spec_run.specs.declared.run_fault.RunFault.TheVariants as fault
 use Rattle.trace_cmd.proofs.Programs.{apart}
 use Rattle.trace_cmd.proofs.StatusExamples as world

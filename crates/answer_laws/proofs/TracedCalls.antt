@@ -2,15 +2,15 @@
 use Rattle.std.proofs.Common.{◌≡◌, ℕ, ◌<◌, Bool, true, false, List, [], ◌++◌, length, Option, Some, None, IfSome, Ok, inl, inr}
 use Rattle.std.proofs.Common.{refl, sym, ap, subst, ◌∙◌, append-nil}
 use Rattle.std.specs.Io.KnownBytes.{Consumes, IsAtEnd}
-use Rattle.bench_text.specs.Parts.{BenchParts, IsBench}
 use Rattle.etm_types.specs.Settings.{Sizes}
 use Rattle.etm_types.specs.SettingsTable.{IsTable, sizes_at}
 use Rattle.formatter_frames.specs.Unframed.{begun_frame, unframed}
+use Rattle.run_file.specs.Parts.{BenchParts, IsBench}
+use Rattle.capture_streams.specs.Paths.{paths}
+use Rattle.capture_streams.specs.Texts.{IsText, Listing, Printed, by_sizes, text_of}
 use Rattle.formatter_frames.proofs.RoundTrip.{nothing_left}
 use Rattle.program_image.specs.Part.{IsImage}
 use Rattle.program_image.specs.declared.image.Image.{Image}
-use Rattle.stream_demux.specs.Paths.{paths}
-use Rattle.stream_demux.specs.Texts.{IsText, Listing, Printed, by_sizes, text_of}
 use Rattle.answer_laws.proofs.WordTables.{path_table}
 use Rattle.traced_runs.proofs.SyncedFrames.{synced_again}
 use Rattle.traced_runs.proofs.TracedStreams.{shows_traces, traces_are_shown}

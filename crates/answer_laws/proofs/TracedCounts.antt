@@ -2,7 +2,6 @@
 use Rattle.std.proofs.Common.{◌≡◌, ◌⊎◌, ℕ, Bool, true, false, if◌then◌else◌, List, [], ◌∷◌, ◌++◌, inl, inr}
 use Rattle.std.proofs.Common.{refl, sym, ap, subst, ◌∙◌, append-nil}
 use Rattle.std.specs.Prelude.{All, slice_index_or}
-use Rattle.bench_text.specs.Parts.{BenchParts, BenchStream, IsBench, events_of, has_stream}
 use Rattle.command_words.specs.Words.{Program}
 use Rattle.count_streams.proofs.EachStream.{each_stream_is_counted}
 use Rattle.count_streams.proofs.SumsOfStreams.{others_are_not_counted}
@@ -16,6 +15,14 @@ use Rattle.etm_types.specs.declared.item.Item.{Item}
 use Rattle.formatter_frames.specs.Unframed.{unframed}
 use Rattle.input_pieces.specs.Listed.{Completes}
 use Rattle.packet_grammar.specs.declared.end.End.{End}
+use Rattle.run_file.specs.Parts.{BenchParts, BenchStream, IsBench, events_of, has_stream}
+use Rattle.capture_streams.proofs.Alone.{others_have_none, source_is_alone, with_ends}
+use Rattle.capture_streams.proofs.AlonePaths.{nothing_shown}
+use Rattle.capture_streams.proofs.PathTexts.{one_path}
+use Rattle.capture_streams.proofs.Standing.{is_one}
+use Rattle.capture_streams.specs.Laws.{lines_with}
+use Rattle.capture_streams.specs.Texts.{BodyFrom, GainsIf, IsText, Listing, Printed, StreamBody, StreamEnds, by_sizes, is_source, lines_under, of}
+use Rattle.capture_streams.specs.Texts.{sources, sum_lines, text_of}
 use Rattle.packet_grammar.specs.declared.end.End.TheVariants as end
 use Rattle.path_elements.specs.Path.{IsPath}
 use Rattle.path_text.specs.EndLines.{end_line}
@@ -24,13 +31,6 @@ use Rattle.program_image.specs.declared.image.Image.{Image}
 use Rattle.retired_paths.specs.Retired.{items_after}
 use Rattle.spec_run.specs.RunAfter.{run_after}
 use Rattle.spec_run.specs.declared.event.Event.{Event}
-use Rattle.stream_demux.proofs.Alone.{others_have_none, source_is_alone, with_ends}
-use Rattle.stream_demux.proofs.AlonePaths.{nothing_shown}
-use Rattle.stream_demux.proofs.PathTexts.{one_path}
-use Rattle.stream_demux.proofs.Standing.{is_one}
-use Rattle.stream_demux.specs.Laws.{lines_with}
-use Rattle.stream_demux.specs.Texts.{BodyFrom, GainsIf, IsText, Listing, Printed, StreamBody, StreamEnds, by_sizes, is_source, lines_under, of}
-use Rattle.stream_demux.specs.Texts.{sources, sum_lines, text_of}
 use Rattle.trace_cmd.specs.Answers.{Answers, Asks, Call, IsRetired, IsTested, IsTraced}
 use Rattle.trace_cmd.specs.Printing.{CountsOf, PathsOf, PacketsOf, TimesOf, What, laid_in, laid_of, listing_of, sizes_by}
 use Rattle.trace_cmd.proofs.Programs.{spelled_image}

@@ -1,8 +1,8 @@
 -- What is answered where image and input are good, and no call failed.
 use Rattle.std.specs.Prelude.{◌≡◌, ◌⊎◌, ℕ, ◌≤◌, List, length, Option, Some, Ok}
-use Rattle.bench_text.specs.Parts.{BenchParts}
-use Rattle.bench_text.specs.Refusals.{bench_of}
 use Rattle.program_image.specs.declared.image.Image.{Image}
+use Rattle.run_file.specs.Parts.{BenchParts}
+use Rattle.run_file.specs.Refusals.{bench_of}
 use Rattle.trace_cmd.specs.Answers.{Answers, Call, HasImage, IsBareCall, IsPathCall, IsRunFileCall, IsSelftestOf}
 use Rattle.input_pieces.specs.Listed.{most_input}
 use Rattle.traced_runs.specs.Selftest.{AreGood}

@@ -1,12 +1,12 @@
 -- A call of `trace`, and one of `path` over what it appended.
 use Rattle.std.specs.Prelude.{◌≡◌, ℕ, ◌≤◌, List, ◌++◌, length, Option, Some, None, Ok}
-use Rattle.bench_text.specs.Parts.{BenchParts}
-use Rattle.bench_text.specs.Refusals.{bench_of}
 use Rattle.command_words.specs.declared.words.ProgramForm.{ProgramForm}
 use Rattle.etm_types.specs.Settings.{Sizes}
+use Rattle.run_file.specs.Parts.{BenchParts}
+use Rattle.run_file.specs.Refusals.{bench_of}
+use Rattle.capture_streams.specs.Texts.{Printed, text_of}
 use Rattle.command_words.specs.Words.{Path, Program, Trace, meaning}
 use Rattle.program_image.specs.declared.image.Image.{Image}
-use Rattle.stream_demux.specs.Texts.{Printed, text_of}
 use Rattle.trace_cmd.specs.Answers.{Answers, Call}
 use Rattle.trace_cmd.specs.Programs.{IsSpelled}
 use Rattle.answer_laws.specs.Complete.{IsDone, NothingFailed}

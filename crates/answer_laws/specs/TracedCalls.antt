@@ -1,6 +1,7 @@
 -- A call of `path`, with `--count` or without, for what `trace` wrote.
 use Rattle.std.specs.Prelude.{◌≡◌, ℕ, ◌<◌, All, false, true, List, [], ◌++◌, Option, Some, None, IfSome, ⊤}
-use Rattle.bench_text.specs.Parts.{BenchParts, BenchStream, events_of, has_stream}
+use Rattle.capture_streams.specs.Laws.{lines_with}
+use Rattle.capture_streams.specs.Texts.{Printed, lines_under, sum_lines, text_of}
 use Rattle.command_words.specs.Words.{Intake}
 use Rattle.count_streams.specs.Counted.{counted}
 use Rattle.count_streams.specs.Pairs.{items_of_stream}
@@ -8,9 +9,8 @@ use Rattle.etm_types.specs.Settings.{Sizes, default_sizes}
 use Rattle.etm_types.specs.declared.item.Item.{Item}
 use Rattle.program_image.specs.declared.image.Image.{Image}
 use Rattle.retired_paths.specs.Retired.{items_after}
+use Rattle.run_file.specs.Parts.{BenchParts, BenchStream, events_of, has_stream}
 use Rattle.spec_run.specs.RunAfter.{run_after}
-use Rattle.stream_demux.specs.Laws.{lines_with}
-use Rattle.stream_demux.specs.Texts.{Printed, lines_under, sum_lines, text_of}
 use Rattle.trace_cmd.specs.Answers.{Call, HasImage, IsCountsUnder, IsPathUnder}
 use Rattle.traced_runs.specs.Traced.{ShowsTraces, Suits, end_lines, is_of_one, trace_frames, with_syncs}
 use Rattle.answer_lines.specs.declared.status.Status.{Status}

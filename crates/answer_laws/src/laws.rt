@@ -1,6 +1,6 @@
 //! What the definitions of answers are as a whole.
-ghost use Rattle.bench_text.specs.Parts.{BenchParts, IsBench};
 ghost use Rattle.program_image.specs.declared.image.Image.{Image};
+ghost use Rattle.run_file.specs.Parts.{BenchParts, IsBench};
 ghost use Rattle.trace_cmd.specs.Answers.{Answers, Call};
 ghost use Rattle.answer_laws.specs.Complete.{FaultsAreDecided, NumbersAreDone, PacketsAreDone, PathsAreDone, RunFilesAreDone};
 ghost use Rattle.traced_runs.specs.Traced.{AreAccepted};

@@ -7,9 +7,9 @@ use Rattle.answer_lines.specs.Codes.{code_of}
 use Rattle.answer_lines.specs.ElfLine.{elf_line}
 use Rattle.answer_lines.specs.ImageLine.{image_line}
 use Rattle.answer_lines.specs.declared.status.Status.TheVariants as status
-use Rattle.bench_text.specs.declared.fault.BenchWhy.{BenchWhy}
-use Rattle.bench_text.specs.declared.fault.BenchWhy.TheVariants as why
+use Rattle.run_file.specs.declared.fault.BenchWhy.{BenchWhy}
 use Rattle.elf_image.specs.declared.fault.ElfWhy.{ElfWhy}
+use Rattle.run_file.specs.declared.fault.BenchWhy.TheVariants as why
 use Rattle.elf_image.specs.declared.fault.ElfWhy.TheVariants as elf
 use Rattle.path_text.specs.Lines.{in_base}
 use Rattle.program_image.specs.declared.fault.ImageWhy.{ImageWhy}

@@ -1,8 +1,8 @@
 -- The line of a run file that is bad.
 use Rattle.std.specs.Prelude.{ℕ, List, [], ◌∷◌, ◌++◌, codes}
-use Rattle.bench_text.specs.declared.fault.BenchWhy.{BenchWhy}
-use Rattle.bench_text.specs.declared.fault.BenchWhy.TheVariants as why
+use Rattle.run_file.specs.declared.fault.BenchWhy.{BenchWhy}
 use Rattle.path_text.specs.Lines.{decimal, hex}
+use Rattle.run_file.specs.declared.fault.BenchWhy.TheVariants as why
 use Rattle.spec_run.specs.declared.run_fault.RunFault.{RunFault}
 use Rattle.spec_run.specs.declared.run_fault.RunFault.TheVariants as fault
 

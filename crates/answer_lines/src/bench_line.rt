@@ -4,8 +4,8 @@ ghost use Rattle.path_text.specs.Lines.{AddsAtMost, HasRoom};
 ghost use Rattle.path_text.specs.Writing.{Writes};
 ghost use Rattle.answer_lines.specs.BenchLine.{bench_line, bench_why_text, fault_text, two_counts, at_address};
 
-use bench_text::BenchWhy;
 use path_text::Line;
+use run_file::BenchWhy;
 use spec_run::RunFault;
 use trace_io::{Failed, Sink};
 

@@ -1,9 +1,9 @@
 //! The answers of a call, and the exit status of each.
 ghost use Rattle.std.specs.Prelude.{◌≡◌};
 
-use bench_text::BenchWhy;
 use elf_image::ElfWhy;
 use program_image::ImageWhy;
+use run_file::BenchWhy;
 
 /// How a call ended.
 #[derive(Clone, Copy, Debug, PartialEq, Eq)]

@@ -9,15 +9,15 @@ use Rattle.etm_types.specs.Settings.{AreSettings, Sizes}
 use Rattle.etm_types.specs.declared.item.Item.{Item}
 use Rattle.packet_grammar.specs.Parsed.{SyncAt, no_sync}
 use Rattle.packet_grammar.specs.declared.end.End.{End}
+use Rattle.capture_streams.specs.Texts.{AddedFrom, AddsIf, Listing, StreamAdded, by_sizes, is_source, of}
 use Rattle.packet_grammar.specs.declared.end.End.TheVariants as end
 use Rattle.path_elements.specs.Path.{IsPath}
 use Rattle.program_image.specs.declared.image.Image.{Image}
 use Rattle.stream_decoder.specs.Follows.{items_under}
-use Rattle.stream_demux.specs.Texts.{AddedFrom, AddsIf, Listing, StreamAdded, by_sizes, is_source, of}
-use Rattle.stream_demux.proofs.Bodies.{of_other, of_this}
-use Rattle.stream_demux.proofs.Parted.{of_others}
-use Rattle.stream_demux.proofs.PathTexts.{one_path}
-use Rattle.stream_demux.proofs.Standing.{is_one, source_is}
+use Rattle.capture_streams.proofs.Bodies.{of_other, of_this}
+use Rattle.capture_streams.proofs.Parted.{of_others}
+use Rattle.capture_streams.proofs.PathTexts.{one_path}
+use Rattle.capture_streams.proofs.Standing.{is_one, source_is}
 use Rattle.count_streams.specs.CountLaws.{EachStreamIsCounted}
 use Rattle.count_streams.specs.Pairs.{items_of_stream}
 use Rattle.count_streams.specs.Counted.{counted}

@@ -8,14 +8,14 @@ use Rattle.path_elements.specs.Path.{IsPath}
 use Rattle.path_text.specs.EndLines.{end_line}
 use Rattle.path_text.specs.Writing.{Writes}
 use Rattle.program_image.specs.declared.image.Image.{Image}
+use Rattle.capture_streams.proofs.PathStreams.{path_ends, path_finished}
+use Rattle.capture_streams.specs.Paths.{paths}
+use Rattle.capture_streams.specs.Texts.{Printed, StreamEnds, text_of}
 use Rattle.etm_types.specs.Settings.{Sizes}
 use Rattle.stream_decoder.proofs.Standing.{ends_so}
 use Rattle.stream_decoder.specs.Decoding.{Decoder, Decoding}
 use Rattle.stream_decoder.specs.Follows.{CameTo}
 use Rattle.stream_decoder.specs.Stands.{end_at}
-use Rattle.stream_demux.proofs.PathStreams.{path_ends, path_finished}
-use Rattle.stream_demux.specs.Paths.{paths}
-use Rattle.stream_demux.specs.Texts.{Printed, StreamEnds, text_of}
 use Rattle.trace_io.specs.State.{IoState}
 use Rattle.trace_io.specs.declared.traits.Failed.{Failed}
 use Rattle.count_streams.specs.Counted.{counted}

@@ -13,16 +13,16 @@ use Rattle.packet_grammar.specs.declared.end.End.TheVariants as end
 use Rattle.path_counts.specs.CountLines.{mark_key}
 use Rattle.path_counts.specs.Counts.{first_exception, is_at, is_mark, times}
 use Rattle.path_counts.specs.Levels.{one_if}
+use Rattle.capture_streams.proofs.PathTexts.{one_path}
+use Rattle.capture_streams.specs.Paths.{paths}
 use Rattle.path_counts.proofs.Counted.{times-append}
 use Rattle.path_text.specs.EndLines.{end_text, frame_cut_line}
 use Rattle.path_text.specs.Lines.{hex, line_of}
 use Rattle.path_text.specs.PathLines.{context_line, exception_text, item_line_list, line_list, shown_after, where_any, whole_context_text}
 use Rattle.program_image.specs.declared.image.Image.{Image}
-use Rattle.stream_demux.proofs.PathTexts.{one_path}
-use Rattle.stream_demux.specs.Paths.{paths}
+use Rattle.capture_streams.specs.Texts.{AddedFrom, AddsIf, BodyFrom, EndsOf, GainsIf, IsText, Printed, StreamEnds, by_sizes, cut_lines, is_source}
+use Rattle.capture_streams.specs.Texts.{lines_under, of, sources}
 use Rattle.stream_decoder.specs.Follows.{items_under}
-use Rattle.stream_demux.specs.Texts.{AddedFrom, AddsIf, BodyFrom, EndsOf, GainsIf, IsText, Printed, StreamEnds, by_sizes, cut_lines, is_source}
-use Rattle.stream_demux.specs.Texts.{lines_under, of, sources}
 use Rattle.count_streams.proofs.HexTexts.{can_all_be_hex, hex_tells, is_no_hex, no_hex_is}
 use Rattle.count_streams.specs.CountLaws.{AddressesAreLines, AreAsMany, MarksAreLines, is_text, lines_that}
 use Rattle.count_streams.specs.Counted.{counted, items_alone}

@@ -1,12 +1,12 @@
 -- What bytes add is not taken back by those that follow.
 use Rattle.std.proofs.Common.{◌≡◌, ℕ, List, [], ◌∷◌, ◌++◌, refl, sym, ap, ◌∙◌, arith, append_assoc}
 use Rattle.std.proofs.lemmas.List.{map-append}
+use Rattle.capture_streams.specs.Texts.{AddedFrom, Listing, by_sizes}
 use Rattle.etm_types.specs.declared.item.Item.{Item}
 use Rattle.path_counts.proofs.Counted.{times-append}
 use Rattle.path_counts.specs.Counts.{times}
 use Rattle.stream_decoder.specs.Follows.{items_under}
-use Rattle.stream_demux.specs.Texts.{AddedFrom, Listing, by_sizes}
-use Rattle.stream_demux.proofs.OneText.{one_sum}
+use Rattle.capture_streams.proofs.OneText.{one_sum}
 use Rattle.count_streams.proofs.OneText.{add_once_by}
 use Rattle.count_streams.specs.CountLaws.{AddedItemsStay, CountsNeverFall}
 use Rattle.count_streams.specs.Counted.{counted, items_alone}

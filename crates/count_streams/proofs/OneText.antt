@@ -5,14 +5,14 @@ use Rattle.std.proofs.lemmas.List.{append_cancel_left, get_or_append_left, lengt
 use Rattle.etm_types.specs.Settings.{AreSettings, Sizes}
 use Rattle.etm_types.specs.declared.item.Item.{Item}
 use Rattle.path_elements.specs.Path.{IsPathTaking}
+use Rattle.capture_streams.specs.Laws.{AddsAlways, AddsOnce, EndsAlways, EndsOnce, GainsAlways, GainsOnce}
+use Rattle.capture_streams.specs.Texts.{by_sizes}
 use Rattle.path_elements.proofs.BytePaths as path
 use Rattle.program_image.specs.Part.{IsImage}
 use Rattle.program_image.specs.declared.image.Image.{Image}
-use Rattle.stream_demux.specs.Laws.{AddsAlways, AddsOnce, EndsAlways, EndsOnce, GainsAlways, GainsOnce}
-use Rattle.stream_demux.specs.Texts.{by_sizes}
-use Rattle.stream_demux.proofs.BySizes.{adds_always_by, adds_once_by, ends_always_by, ends_once_by, gains_always_by, gains_once_by}
-use Rattle.stream_demux.proofs.OneText.{one_text, some_text}
-use Rattle.stream_demux.proofs.PathTexts.{one_path, paths_end_always, paths_end_once}
+use Rattle.capture_streams.proofs.BySizes.{adds_always_by, adds_once_by, ends_always_by, ends_once_by, gains_always_by, gains_once_by}
+use Rattle.capture_streams.proofs.OneText.{one_text, some_text}
+use Rattle.capture_streams.proofs.PathTexts.{one_path, paths_end_always, paths_end_once}
 use Rattle.count_streams.specs.CountLaws.{OneTextOfCounts, SomeTextOfCounts}
 use Rattle.count_streams.specs.Counted.{counted}
 

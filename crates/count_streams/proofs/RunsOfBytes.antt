@@ -1,10 +1,10 @@
 -- What bytes of a stream add that were taken one after the other.
 use Rattle.std.proofs.Common.{ℕ, List, [], ◌∷◌, ◌++◌, refl}
+use Rattle.capture_streams.specs.Texts.{StreamAdded, StreamBody}
 use Rattle.etm_types.specs.Settings.{Sizes}
 use Rattle.etm_types.specs.declared.item.Item.{Item}
 use Rattle.program_image.specs.declared.image.Image.{Image}
 use Rattle.stream_decoder.specs.Follows.{GrowsByEach}
-use Rattle.stream_demux.specs.Texts.{StreamAdded, StreamBody}
 use Rattle.count_streams.specs.Counted.{counted}
 
 module _ (image : Image) (s : Sizes) (id : ℕ) where

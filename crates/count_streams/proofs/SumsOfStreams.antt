@@ -5,13 +5,13 @@ use Rattle.std.specs.Prelude.{⊤, sum_by}
 use Rattle.std.specs.List.{range_with_len}
 use Rattle.std.proofs.lemmas.Bool.Decides.{eqb_tells}
 use Rattle.std.proofs.lemmas.List.Sums.{sum-map, sum_by-cons}
+use Rattle.capture_streams.specs.Texts.{AddedFrom, AddsIf, Listing, by_sizes, is_source, sources}
 use Rattle.etm_types.specs.Id.{IsId}
 use Rattle.etm_types.specs.declared.item.Item.{Item}
 use Rattle.path_counts.specs.Counts.{times}
 use Rattle.path_counts.specs.Levels.{one_if}
 use Rattle.stream_decoder.specs.Follows.{items_under}
-use Rattle.stream_demux.specs.Texts.{AddedFrom, AddsIf, Listing, by_sizes, is_source, sources}
-use Rattle.stream_demux.proofs.Standing.{source_is}
+use Rattle.capture_streams.proofs.Standing.{source_is}
 use Rattle.count_streams.specs.CountLaws.{CountsAreSums}
 use Rattle.count_streams.specs.Pairs.{items_of_stream}
 use Rattle.count_streams.specs.Counted.{counted, items_alone}

@@ -11,6 +11,7 @@ use Rattle.etm_types.specs.declared.item.Item.{Item}
 use Rattle.etm_types.specs.declared.item.Item.TheVariants as item
 use Rattle.packet_grammar.specs.declared.end.End.{End}
 use Rattle.packet_grammar.specs.declared.stream_fault.Fault.{Fault}
+use Rattle.capture_streams.specs.Texts.{AddedFrom, AddsIf, by_sizes, is_source}
 use Rattle.packet_grammar.specs.declared.stream_fault.Fault.TheVariants as fault
 use Rattle.path_counts.specs.Counts.{is_at, times}
 use Rattle.path_counts.specs.Levels.{one_if}
@@ -19,7 +20,6 @@ use Rattle.program_image.specs.Blocks.{behind}
 use Rattle.program_image.specs.Part.{word_of}
 use Rattle.program_image.specs.declared.image.Image.{Image}
 use Rattle.stream_decoder.specs.Follows.{items_under}
-use Rattle.stream_demux.specs.Texts.{AddedFrom, AddsIf, by_sizes, is_source}
 use Rattle.count_streams.proofs.PathWords.{HasWord, walks_words}
 use Rattle.count_streams.specs.CountLaws.{OnlyWordsAreCounted}
 use Rattle.count_streams.specs.Counted.{counted, items_alone}

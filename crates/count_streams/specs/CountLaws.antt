@@ -2,6 +2,9 @@
 use Rattle.std.specs.Prelude.{◌≡◌, ◌≤◌, ◌+◌, ◌<◌, ◌^◌, ℕ, All, Bool, true, List, [], ◌∷◌, ◌++◌, bytes_eq, drop, map, nat_eq, sum}
 use Rattle.std.specs.Prelude.{IsSome}
 use Rattle.std.specs.List.{starts_with}
+use Rattle.capture_streams.specs.Laws.{HasByte}
+use Rattle.capture_streams.specs.Paths.{paths}
+use Rattle.capture_streams.specs.Texts.{AddedFrom, BodyFrom, IsText, Printed, by_sizes, is_source, of, sources}
 use Rattle.etm_types.specs.Settings.{AreSettings, Sizes}
 use Rattle.etm_types.specs.declared.item.Item.{Item}
 use Rattle.packet_grammar.specs.declared.end.End.{End}
@@ -13,9 +16,6 @@ use Rattle.path_elements.specs.PathLaws.{BeginsWith}
 use Rattle.path_text.specs.Lines.{hex}
 use Rattle.program_image.specs.Part.{IsImage, word_of}
 use Rattle.program_image.specs.declared.image.Image.{Image}
-use Rattle.stream_demux.specs.Laws.{HasByte}
-use Rattle.stream_demux.specs.Paths.{paths}
-use Rattle.stream_demux.specs.Texts.{AddedFrom, BodyFrom, IsText, Printed, by_sizes, is_source, of, sources}
 use Rattle.count_streams.specs.Counted.{counted, items_alone}
 use Rattle.count_streams.specs.Pairs.{items_of_stream}
 

@@ -1,6 +1,8 @@
 -- What is printed of streams whose paths are counted: nothing by a byte; once no more come, how often all paths have what is counted, and
 -- where their branches to a register went; and how each stream ends.
 use Rattle.std.specs.Prelude.{◌≡◌, ℕ, ◌+◌, ◌==◌, if◌then◌else◌, List, [], ◌∷◌, ◌++◌, codes, map}
+use Rattle.capture_streams.specs.Paths.{PathEnds}
+use Rattle.capture_streams.specs.Texts.{Listing}
 use Rattle.etm_types.specs.Settings.{Sizes}
 use Rattle.etm_types.specs.declared.item.Item.{Item}
 use Rattle.path_counts.specs.CountLines.{at_key, from_entries, mark_key, taken_key, to_key}
@@ -11,8 +13,6 @@ use Rattle.path_text.specs.Lines.{decimal}
 use Rattle.program_image.specs.Places.{word_addresses}
 use Rattle.program_image.specs.declared.image.Image.{Image}
 use Rattle.stream_decoder.specs.Follows.{GrowsBy}
-use Rattle.stream_demux.specs.Paths.{PathEnds}
-use Rattle.stream_demux.specs.Texts.{Listing}
 use Rattle.count_streams.specs.Pairs.{BranchesAre, Branching, pairs_of}
 
 -- ---- the lines of counts

@@ -1,13 +1,13 @@
 //! A stream whose path is counted, among others.
 
 use crate::counts::PathCounts;
+use capture_streams::Stream;
 use element_queue::{Counts, Ledger};
 use etm_types::{Id, Settings};
 use program_image::Image;
 use std::alloc::{AllocError, Global};
 use std::marker::Model;
 use stream_decoder::FollowedStream;
-use stream_demux::Stream;
 use trace_io::{Failed, Sink};
 
 /// A stream that adds the items of its path to the counts of all streams. It has no drop: it ends by `finish` or `abandon`.
@@ -26,12 +26,12 @@ impl Model for CountStream {
 
 /// What all streams share is the image of the program, and their sum are the counts of all paths.
 impl Stream for CountStream {
+    ghost use Rattle.capture_streams.specs.Paths.{PathTallies};
     ghost use Rattle.count_streams.specs.Counted.{CountsAre, counted};
     ghost use Rattle.element_queue.specs.Counting.{counts_after};
     ghost use Rattle.element_queue.specs.Pending.{losing};
     ghost use Rattle.std.specs.Prelude.{◌++◌, false, length};
     ghost use Rattle.stream_decoder.specs.Follows.{CameTo};
-    ghost use Rattle.stream_demux.specs.Paths.{PathTallies};
 
     type Shared = Image;
 

@@ -1,7 +1,7 @@
 //! How often each word of an image stands in the paths of all streams of an input (Arm IHI 0064), and where their branches to a register
 //! went, printed once no byte more comes.
 //!
-//! A [`CountStream`] is a stream of `stream_demux` that gives the items of its path to [`PathCounts`], the sum of all streams.
+//! A [`CountStream`] is a stream of `capture_streams` that gives the items of its path to [`PathCounts`], the sum of all streams.
 //! No line comes with a byte, and how a stream ends is printed as of its path. A branch and the place that it went to are items of one
 //! stream, whatever came of others between them.
 //!

@@ -1,6 +1,6 @@
 //! The words `retired IMAGE` on worked run files: what is printed, and the answer.
 use crate::tests::{Case, compare, compare_all};
-use bench_text::BenchWhy;
+use run_file::BenchWhy;
 use spec_run::RunFault;
 use std::test::Fail;
 use trace_cmd::Status;

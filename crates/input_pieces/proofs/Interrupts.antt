@@ -3,13 +3,13 @@ use Rattle.std.proofs.Common.{◌≡◌, ℕ, ◌+◌, ◌-◌, ◌≤◌, Bool,
 use Rattle.std.proofs.Common.{append_assoc, append-nil, length-append}
 use Rattle.std.proofs.KnownBytes.{Appends-kept, Appends-trans, Consumes-trans}
 use Rattle.std.proofs.lemmas.List.{take_all, take-append-drop, take-append-le}
+use Rattle.capture_streams.specs.Demuxed.{Gains}
 use Rattle.path_elements.specs.PathLaws.{BeginsWith}
-use Rattle.stream_demux.specs.Demuxed.{Gains}
+use Rattle.capture_streams.specs.Texts.{BodyFrom, IsSum, IsText, Listing, Printed, text_of}
 use Rattle.path_text.specs.Writing.{Writes}
-use Rattle.stream_demux.specs.Texts.{BodyFrom, IsSum, IsText, Listing, Printed, text_of}
-use Rattle.stream_demux.proofs.Bodies.{body-append, body_parts, text_of-append}
-use Rattle.stream_demux.proofs.Writing.{Gained}
-use Rattle.stream_demux.specs.Laid.{Grow, IsLaid, Laid, Rests}
+use Rattle.capture_streams.proofs.Bodies.{body-append, body_parts, text_of-append}
+use Rattle.capture_streams.proofs.Writing.{Gained}
+use Rattle.capture_streams.specs.Laid.{Grow, IsLaid, Laid, Rests}
 use Rattle.input_pieces.specs.Listed.{Breaks, Completes, Exceeds, FrontOfTaken, HasStopped, Interrupts, PrintsBody, PrintsTaken, Takes}
 use Rattle.input_pieces.specs.Listed.{most_at_once, most_input}
 use Rattle.trace_io.specs.Bytes.{AppendsAll, KeepsBytes, TakesAll}

@@ -4,15 +4,15 @@ use Rattle.std.proofs.Common.{append-nil, length-append}
 use Rattle.std.specs.Prelude.{get_or}
 use Rattle.answer_lines.specs.declared.status.Status.{Status}
 use Rattle.answer_lines.specs.declared.status.Status.TheVariants as status
+use Rattle.capture_streams.proofs.OneText.{one_body}
+use Rattle.capture_streams.proofs.Sums.{no_sum}
 use Rattle.etm_types.specs.declared.item.Item.TheVariants as item
 use Rattle.input_pieces.specs.Listed.{Breaks, Completes, IsTaken, Listed, most_at_once, most_input}
 use Rattle.path_elements.specs.PathLaws.{BeginsWith}
-use Rattle.stream_demux.proofs.OneText.{one_body}
-use Rattle.stream_demux.proofs.Sums.{no_sum}
-use Rattle.stream_demux.proofs.Printing.{PrintsBy, body, body_of, gains_once, printing, prints_by}
-use Rattle.stream_demux.specs.Demuxed.{raw_pairs}
-use Rattle.stream_demux.specs.Laid.{raw_laid}
-use Rattle.stream_demux.specs.Texts.{BodyFrom, IsText, Listing, PairGains, Printed, lines_under, sources, text_of}
+use Rattle.capture_streams.proofs.Printing.{PrintsBy, body, body_of, gains_once, printing, prints_by}
+use Rattle.capture_streams.specs.Demuxed.{raw_pairs}
+use Rattle.capture_streams.specs.Laid.{raw_laid}
+use Rattle.capture_streams.specs.Texts.{BodyFrom, IsText, Listing, PairGains, Printed, lines_under, sources, text_of}
 use Rattle.trace_io.specs.State.{IoState}
 use Rattle.trace_io.specs.declared.traits.Failed.{Failed}
 

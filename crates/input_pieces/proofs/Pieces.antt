@@ -3,12 +3,12 @@ use Rattle.std.proofs.Common.{◌≡◌, ◌⊎◌, ℕ, Bool, true, false, List
 use Rattle.std.proofs.Common.{append-nil, append_assoc}
 use Rattle.std.proofs.KnownBytes.{Appends-trans, Consumes-trans}
 use Rattle.std.proofs.lemmas.List.{take_all, take-append-le}
+use Rattle.capture_streams.specs.Demuxed.{Gains}
+use Rattle.capture_streams.specs.Texts.{BodyFrom, IsEnding, IsSum, IsText, Listing, Printed, text_of}
 use Rattle.path_text.specs.Writing.{Writes}
-use Rattle.stream_demux.specs.Demuxed.{Gains}
-use Rattle.stream_demux.specs.Texts.{BodyFrom, IsEnding, IsSum, IsText, Listing, Printed, text_of}
-use Rattle.stream_demux.proofs.Bodies.{body-append, text_of-append}
-use Rattle.stream_demux.proofs.Writing.{Gained, Written, added, more_gained}
-use Rattle.stream_demux.specs.Laid.{Grow, IsLaid, Laid, Rests}
+use Rattle.capture_streams.proofs.Bodies.{body-append, text_of-append}
+use Rattle.capture_streams.proofs.Writing.{Gained, Written, added, more_gained}
+use Rattle.capture_streams.specs.Laid.{Grow, IsLaid, Laid, Rests}
 use Rattle.answer_lines.specs.declared.status.Status.{Status}
 use Rattle.answer_lines.specs.declared.status.Status.TheVariants as status
 use Rattle.input_pieces.specs.Listed.{Breaks, Completes, Exceeds, Interrupts, Listed, PrintsBody, PrintsTaken, Takes, most_input}

@@ -1,9 +1,9 @@
 -- What is answered of an input that is taken by pieces, and what was printed then, for any listing and layout.
 use Rattle.std.specs.Prelude.{◌≡◌, ◌⊎◌, ℕ, ◌+◌, ◌-◌, ◌^◌, ◌≤◌, Bool, true, false, List, [], ◌∷◌, ◌++◌, length, take, Result, Ok, Err}
 use Rattle.std.specs.Io.KnownBytes.{Consumes, IsAtEnd}
+use Rattle.capture_streams.specs.Laid.{Laid}
+use Rattle.capture_streams.specs.Texts.{BodyFrom, IsSum, IsText, Listing, Printed, text_of}
 use Rattle.path_elements.specs.PathLaws.{BeginsWith}
-use Rattle.stream_demux.specs.Laid.{Laid}
-use Rattle.stream_demux.specs.Texts.{BodyFrom, IsSum, IsText, Listing, Printed, text_of}
 use Rattle.answer_lines.specs.declared.status.Status.{Status}
 use Rattle.answer_lines.specs.declared.status.Status.TheVariants as status
 use Rattle.trace_io.specs.Bytes.{AppendsAll, TakesAll}

@@ -3,9 +3,9 @@ use Rattle.std.specs.Prelude.{◌≡◌, ◌⊎◌, ℕ, ◌+◌, ◌<◌, ◌�
 use Rattle.std.specs.Io.KnownBytes.{IsAtEnd}
 use Rattle.answer_lines.specs.declared.status.Status.{Status}
 use Rattle.answer_lines.specs.declared.status.Status.TheVariants as status
+use Rattle.capture_streams.specs.Laid.{Laid, Rests}
+use Rattle.capture_streams.specs.Texts.{IsEnding, Listing, Printed, text_of}
 use Rattle.path_text.specs.Writing.{Writes}
-use Rattle.stream_demux.specs.Laid.{Laid, Rests}
-use Rattle.stream_demux.specs.Texts.{IsEnding, Listing, Printed, text_of}
 use Rattle.input_pieces.specs.Listed.{Interrupts, PrintsBody, Takes, most_at_once, most_input}
 use Rattle.input_pieces.specs.declared.input.InputEnd.{InputEnd}
 use Rattle.input_pieces.specs.declared.input.InputEnd.TheVariants.{End, TooLong, ReadFault}

@@ -1,14 +1,14 @@
 //! The reading of the input by pieces. The lines of each piece are written and flushed before the next is read.
 ghost use Rattle.std.specs.Prelude.{◌≡◌, ◌⊎◌, ◌<◌, ◌≤◌, ◌+◌, ◌^◌, ◌++◌, [], ℕ, List, false, length, Ok, Err, IsErr, IsOk};
+ghost use Rattle.capture_streams.specs.Demuxed.{Gains};
 ghost use Rattle.etm_types.specs.Settings.{Sizes};
-ghost use Rattle.stream_demux.specs.Demuxed.{Gains};
 ghost use Rattle.input_pieces.specs.Listed.{Listed, most_input};
 ghost use Rattle.input_pieces.specs.Reading.{Closes, GivesBytes, StopsSo, Took};
 ghost use Rattle.trace_io.specs.Causes.{KeepsFaults};
 ghost use Rattle.trace_io.specs.Calls.{Serves, Lasts};
 
 use answer_lines::Status;
-use stream_demux::Printer;
+use capture_streams::Printer;
 use trace_io::{Failed, Sink, Source};
 
 /// The most bytes of input.

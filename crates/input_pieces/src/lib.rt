@@ -1,5 +1,5 @@
 //! An input that is read by pieces of up to 4096 bytes: the lines of each are written and flushed before the next is
-//! read. It prints by any `stream_demux::Printer`, whatever the layout and whatever is printed of a stream.
+//! read. It prints by any `capture_streams::Printer`, whatever the layout and whatever is printed of a stream.
 //!
 //! The layer above uses these contracts:
 //! - [`print_input`]: `Listed`, in specs, says for each answer what was read, and which text was printed of that. Where

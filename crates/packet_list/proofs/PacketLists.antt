@@ -16,10 +16,10 @@ use Rattle.packet_grammar.proofs.Streams.{each_is_a_stream, one_stream}
 use Rattle.packet_reader.specs.declared.step.Step.{Step}
 use Rattle.packet_reader.specs.Stands.{Gains, Standing, StandsAt}
 use Rattle.packet_reader.specs.Answered.{told, fault_after, fault_of}
+use Rattle.capture_streams.specs.Texts.{Printed, StreamEnds, lines_under, text_of}
 use Rattle.packet_reader.proofs.Adds.{Told, gains_more, nothing_is_a_stream}
 use Rattle.path_text.specs.EndLines.{end_line}
 use Rattle.path_text.specs.PacketLines.{HasText}
-use Rattle.stream_demux.specs.Texts.{Printed, StreamEnds, lines_under, text_of}
 use Rattle.packet_list.specs.PacketList.{HasRead, IsReading, PacketEnds, PacketGains, packet_lines, packet_lists}
 
 pub has_text : (s : Sizes) (packet : Packet) → IsPacket s packet → HasText packet

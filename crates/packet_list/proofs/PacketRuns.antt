@@ -16,12 +16,12 @@ use Rattle.packet_grammar.proofs.Longer.{begins_alike}
 use Rattle.packet_grammar.proofs.Streams.{each_is_a_stream, one_stream}
 use Rattle.packet_reader.specs.declared.step.Step.{Step}
 use Rattle.packet_reader.specs.Stands.{Gains, Standing, StandsAt, TakesPacket}
+use Rattle.capture_streams.specs.Streams.{RunAdds}
+use Rattle.capture_streams.specs.Texts.{StreamBody}
 use Rattle.packet_reader.specs.Answered.{told, fault_after, fault_of}
 use Rattle.path_text.proofs.Wrote.{Wrote, fails_after, wrote_more, wrote_nothing, writes_all}
 use Rattle.path_text.specs.PacketLines.{packet_line}
 use Rattle.path_text.specs.Writing.{Writes}
-use Rattle.stream_demux.specs.Streams.{RunAdds}
-use Rattle.stream_demux.specs.Texts.{StreamBody}
 use Rattle.packet_list.proofs.PacketLists.{packets_more, read_more}
 use Rattle.packet_list.specs.PacketList.{HasRead, IsReading, TakesFront, packet_lines, packet_lists}
 use Rattle.trace_io.specs.State.{IoState}

@@ -1,5 +1,7 @@
 -- What holds of what is printed of packets as a whole.
 use Rattle.std.specs.Prelude.{◌≡◌, ℕ, All, Bool, List, [], ◌∷◌, ◌++◌}
+use Rattle.capture_streams.specs.Laws.{HasByte, lines_with}
+use Rattle.capture_streams.specs.Texts.{BodyFrom, IsText, Printed, by_sizes, lines_under, of}
 use Rattle.etm_types.specs.Id.{IsId}
 use Rattle.etm_types.specs.Settings.{AreSettings, Sizes}
 use Rattle.packet_grammar.specs.Ends.{end_of}
@@ -8,8 +10,6 @@ use Rattle.packet_grammar.specs.declared.packet.Packet.{Packet}
 use Rattle.path_elements.specs.PathLaws.{BeginsWith}
 use Rattle.path_text.specs.EndLines.{end_line}
 use Rattle.path_text.specs.Lines.{IsLine}
-use Rattle.stream_demux.specs.Laws.{HasByte, lines_with}
-use Rattle.stream_demux.specs.Texts.{BodyFrom, IsText, Printed, by_sizes, lines_under, of}
 use Rattle.packet_list.specs.PacketList.{packet_lines, packet_lists}
 
 -- pairs of an ID and a byte have one text of their packets at most, whatever the sizes of each stream

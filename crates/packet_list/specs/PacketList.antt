@@ -3,13 +3,13 @@ use Rattle.std.specs.Prelude.{◌≡◌, ℕ, ◌<◌, Bool, false, All, List, [
 use Rattle.etm_types.specs.Settings.{AreSettings, Sizes}
 use Rattle.packet_grammar.specs.declared.fault.PacketFault.{PacketFault}
 use Rattle.packet_grammar.specs.declared.packet.Packet.{Packet}
+use Rattle.capture_streams.specs.Texts.{Listing, adds_nothing, no_sums}
 use Rattle.packet_grammar.specs.Ends.{end_of, is_fault}
 use Rattle.packet_grammar.specs.Parsed.{Ending, IsStream}
 use Rattle.packet_reader.specs.Answered.{fault_of}
 use Rattle.packet_reader.specs.Stands.{Standing, StandsAt, TakesPacket}
 use Rattle.path_text.specs.EndLines.{end_line}
 use Rattle.path_text.specs.PacketLines.{packet_line}
-use Rattle.stream_demux.specs.Texts.{Listing, adds_nothing, no_sums}
 
 -- the lines of packets, each with its offset
 abbrev pub packet_lines : ℕ → List (ℕ × Packet) → List (List ℕ)

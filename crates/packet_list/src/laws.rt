@@ -1,8 +1,8 @@
 //! What a packet list is, as a whole.
 ghost use Rattle.std.specs.Prelude.{◌≡◌, ◌<◌, ℕ, List, Bool, All};
+ghost use Rattle.capture_streams.specs.Demuxed.{raw_pairs};
 ghost use Rattle.etm_types.specs.Settings.{Sizes, AreSettings};
 ghost use Rattle.formatter_frames.specs.Unframed.{unframed};
-ghost use Rattle.stream_demux.specs.Demuxed.{raw_pairs};
 ghost use Rattle.packet_list.specs.PacketLaws.{EachPacketIsALine, FrontsOfPacketsBegin, OneTextOfPackets, PacketsAreAlone, SomeTextOfPackets};
 ghost use Rattle.packet_list.specs.PacketList.{PacketEnds, PacketGains};
 

@@ -1,6 +1,6 @@
 //! The packets of a stream, a line each: what `etm packets` prints.
 //!
-//! A [`PacketStream`] is a stream for `stream_demux`: with each byte it writes the line of the packet that ends there, and at the end how
+//! A [`PacketStream`] is a stream for `capture_streams`: with each byte it writes the line of the packet that ends there, and at the end how
 //! the stream ends. Bytes that hold whole packets of the usual kinds are taken at once.
 //!
 //! The layer above uses that it is a `Stream` whose listing is `packet_lists` (`specs/PacketList.antt`), and two laws: the lines of the

@@ -2,14 +2,15 @@
 ghost use Rattle.std.specs.Prelude.{◌≡◌, ◌⊎◌, ◌<◌, ◌≤◌, ◌+◌, ◌^◌, ◌++◌, ◌∷◌, ℕ, List, [], length, None, Ok, IsOk, IfOk, IfSome};
 ghost use Rattle.std.specs.List.{concat};
 ghost use Rattle.packet_grammar.specs.declared.packet.Packet.{Packet};
+ghost use Rattle.capture_streams.specs.Streams.{RunAdds};
 ghost use Rattle.packet_grammar.specs.Ends.{end_of};
 ghost use Rattle.packet_reader.specs.Answered.{told, fault_after};
 ghost use Rattle.path_text.specs.PacketLines.{HasText, packet_line};
 ghost use Rattle.path_text.specs.Writing.{Writes};
-ghost use Rattle.stream_demux.specs.Streams.{RunAdds};
 ghost use Rattle.packet_list.specs.PacketList.{HasRead, IsReading, PacketGains, TakesFront, packet_lines, packet_lists};
 ghost use Rattle.trace_io.specs.Calls.{Serves};
 
+use capture_streams::Stream;
 use element_queue::{Counts, Ledger};
 use etm_types::{Id, Settings};
 use packet_grammar::{End, Fault, Packet, PacketFault};
@@ -17,7 +18,6 @@ use packet_reader::{PacketReader, Step};
 use path_text::{PacketLine, write_end};
 use std::alloc::{AllocError, Global};
 use std::marker::Model;
-use stream_demux::Stream;
 use trace_io::{Failed, Sink};
 
 /// One stream whose packets are listed. What it keeps of a line is made anew where the ID of a call is another one.

@@ -6,13 +6,13 @@ use Rattle.std.proofs.lemmas.List.{length-replicate, take-append-drop, take_all}
 use Rattle.std.proofs.lemmas.Option.{slice_get_cases}
 use Rattle.std.specs.Option.{option_and_then, option_map}
 use Rattle.std.specs.Prelude.{is_some, nat_lt, slice_get}
-use Rattle.bench_text.specs.Parts.{BenchStream, events_of}
-use Rattle.bench_text.specs.Refusals.{first_of, line_of, refusal_among, refused_line, stream_refusal}
-use Rattle.bench_text.specs.declared.fault.BenchWhy.{BenchWhy}
-use Rattle.bench_text.specs.declared.fault.BenchWhy.TheVariants.{Run}
-use Rattle.bench_text.specs.declared.line.BenchLine.{BenchLine}
+use Rattle.run_file.specs.Parts.{BenchStream, events_of}
+use Rattle.run_file.specs.Refusals.{first_of, line_of, refusal_among, refused_line, stream_refusal}
+use Rattle.run_file.specs.declared.fault.BenchWhy.{BenchWhy}
 use Rattle.etm_types.specs.Settings.{Sizes}
 use Rattle.program_image.specs.declared.image.Image.{Image}
+use Rattle.run_file.specs.declared.fault.BenchWhy.TheVariants.{Run}
+use Rattle.run_file.specs.declared.line.BenchLine.{BenchLine}
 use Rattle.spec_run.proofs.EventsJoined.{events_refused}
 use Rattle.spec_run.specs.RunAfter.{run_after}
 use Rattle.spec_run.specs.declared.event.Event.{Event}

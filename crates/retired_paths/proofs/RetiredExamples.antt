@@ -6,17 +6,17 @@ use Rattle.std.specs.Str.{chars, is_utf8}
 use Rattle.a64_branches.specs.Classes.{class_of}
 use Rattle.answer_lines.specs.declared.status.Status.{Status}
 use Rattle.answer_lines.specs.declared.status.Status.TheVariants as status
-use Rattle.bench_text.specs.BenchText.{parsed}
-use Rattle.bench_text.specs.Parts.{BenchParts, BenchStream}
-use Rattle.bench_text.specs.Refusals.{bench_of}
-use Rattle.bench_text.specs.declared.fault.BenchWhy.{BenchWhy}
-use Rattle.bench_text.specs.declared.fault.BenchWhy.TheVariants.{Syntax, Run}
-use Rattle.bench_text.specs.declared.line.BenchLine.{BenchLine}
+use Rattle.run_file.specs.BenchText.{parsed}
+use Rattle.run_file.specs.Parts.{BenchParts, BenchStream}
+use Rattle.run_file.specs.Refusals.{bench_of}
+use Rattle.run_file.specs.declared.fault.BenchWhy.{BenchWhy}
 use Rattle.etm_types.specs.declared.context.Ctx.{Ctx}
 use Rattle.hex.specs.Hex.{decode_pairs}
 use Rattle.path_text.specs.Lines.{in_base}
 use Rattle.program_image.specs.Part.{Part}
 use Rattle.retired_paths.specs.Retired.{IsBadBench, IsRetiredText, RetiresSo, retired_text}
+use Rattle.run_file.specs.declared.fault.BenchWhy.TheVariants.{Syntax, Run}
+use Rattle.run_file.specs.declared.line.BenchLine.{BenchLine}
 use Rattle.spec_run.specs.declared.event.Event.{Event}
 use Rattle.spec_run.specs.declared.event.Event.TheVariants as event
 use Rattle.spec_run.specs.declared.run_fault.RunFault.TheVariants as fault

@@ -4,16 +4,16 @@ use Rattle.std.proofs.Common.{refl, sym, ap, subst, ◌∙◌, append_assoc}
 use Rattle.std.proofs.lemmas.List.Elements.{All-head, All-tail}
 use Rattle.std.specs.Option.{option_map}
 use Rattle.std.specs.Prelude.{All, IfOk, slice_get}
-use Rattle.bench_text.specs.BenchText.{parsed}
-use Rattle.bench_text.specs.Parts.{BenchParts, BenchStream, IsBench, IsBenchLine, IsBenchStream, events_of}
-use Rattle.bench_text.specs.Refusals.{bench_of, first_of, most_text, refusal_among, refused_line, stream_refusal, unless, unless_refused}
-use Rattle.bench_text.specs.declared.fault.BenchWhy.{BenchWhy}
-use Rattle.bench_text.specs.declared.line.BenchLine.{BenchLine}
 use Rattle.etm_types.specs.Settings.{Sizes}
 use Rattle.path_text.specs.PathLines.{lines_of}
 use Rattle.path_text.specs.Writing.{Writes}
 use Rattle.program_image.specs.Blocks.{HasGap}
 use Rattle.program_image.specs.declared.image.Image.{Image}
+use Rattle.run_file.specs.BenchText.{parsed}
+use Rattle.run_file.specs.Parts.{BenchParts, BenchStream, IsBench, IsBenchLine, IsBenchStream, events_of}
+use Rattle.run_file.specs.Refusals.{bench_of, first_of, most_text, refusal_among, refused_line, stream_refusal, unless, unless_refused}
+use Rattle.run_file.specs.declared.fault.BenchWhy.{BenchWhy}
+use Rattle.run_file.specs.declared.line.BenchLine.{BenchLine}
 use Rattle.spec_run.proofs.EventsJoined.{events_front}
 use Rattle.spec_run.specs.RunAfter.{AreEvents, IsEvent, run_after}
 use Rattle.spec_run.specs.Runs.{Execution}

@@ -1,15 +1,15 @@
 -- What `retired` prints of a run file over an image, and how a bad run file is answered.
 use Rattle.std.specs.Prelude.{◌≡◌, ◌⊎◌, ℕ, ◌<◌, ◌≤◌, List, [], ◌∷◌, ◌++◌, length, codes, None, Result, Ok, Err}
 use Rattle.std.specs.Io.KnownBytes.{Consumes, IsAtEnd}
-use Rattle.bench_text.specs.Parts.{BenchParts, BenchStream, events_of}
-use Rattle.bench_text.specs.BenchText.{parsed}
-use Rattle.bench_text.specs.Refusals.{bench_of, most_text}
-use Rattle.bench_text.specs.declared.fault.BenchWhy.{BenchWhy}
-use Rattle.bench_text.specs.declared.fault.BenchWhy.TheVariants as why
+use Rattle.run_file.specs.Parts.{BenchParts, BenchStream, events_of}
+use Rattle.run_file.specs.BenchText.{parsed}
+use Rattle.run_file.specs.Refusals.{bench_of, most_text}
+use Rattle.run_file.specs.declared.fault.BenchWhy.{BenchWhy}
 use Rattle.etm_types.specs.declared.item.Item.{Item}
 use Rattle.path_text.specs.Lines.{decimal, hex}
 use Rattle.path_text.specs.PathLines.{lines_of}
 use Rattle.program_image.specs.declared.image.Image.{Image}
+use Rattle.run_file.specs.declared.fault.BenchWhy.TheVariants as why
 use Rattle.spec_run.specs.RetiredItems.{retired_of}
 use Rattle.spec_run.specs.RunAfter.{run_after}
 use Rattle.spec_run.specs.Runs.{Execution}

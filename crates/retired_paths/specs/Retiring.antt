@@ -1,11 +1,11 @@
 -- What stands while retired paths are printed as their events run.
 use Rattle.std.specs.Prelude.{◌≡◌, ℕ, zero, ◌+◌, ◌<◌, ◌^◌, List, [], ◌∷◌, ◌++◌, length, replicate, IsOk, Option, Some, None, Result, Ok, Err, ⊤}
-use Rattle.bench_text.specs.declared.fault.BenchWhy.{BenchWhy}
-use Rattle.bench_text.specs.declared.fault.BenchWhy.TheVariants.{Run}
-use Rattle.bench_text.specs.declared.line.BenchLine.{BenchLine}
+use Rattle.run_file.specs.declared.fault.BenchWhy.{BenchWhy}
 use Rattle.etm_types.specs.Settings.{Sizes}
 use Rattle.etm_types.specs.declared.context.Ctx.{Ctx}
 use Rattle.etm_types.specs.declared.item.Item.{Item}
+use Rattle.run_file.specs.declared.fault.BenchWhy.TheVariants.{Run}
+use Rattle.run_file.specs.declared.line.BenchLine.{BenchLine}
 use Rattle.etm_types.specs.declared.item.Item.TheVariants as item
 use Rattle.path_text.specs.PathLines.{lines_of, shown_after_all}
 use Rattle.path_text.specs.Writing.{Writes}

@@ -1,16 +1,16 @@
 //! The run file that a command reads, and the answer where it is bad.
 ghost use Rattle.std.specs.Prelude.{◌≡◌, ◌⊎◌, ℕ, ◌+◌, ◌≤◌, Err, IsErrOf, IfOk};
-ghost use Rattle.bench_text.specs.Parts.{IsBench};
-ghost use Rattle.bench_text.specs.Refusals.{most_text};
 ghost use Rattle.path_text.specs.Writing.{Writes};
 ghost use Rattle.retired_paths.specs.Retired.{TakesBench, TakesNoBench};
+ghost use Rattle.run_file.specs.Parts.{IsBench};
+ghost use Rattle.run_file.specs.Refusals.{most_text};
 ghost use Rattle.answer_lines.specs.BenchLine.{bench_line};
 ghost use Rattle.trace_io.specs.Bytes.{TakesAtMost};
 ghost use Rattle.trace_io.specs.Causes.{KeepsFaults, Rose};
 ghost use Rattle.trace_io.specs.Calls.{Lasts};
 
 use answer_lines::{Status, write_bench_bad};
-use bench_text::{Bench, BenchFault, BenchWhy};
+use run_file::{Bench, BenchFault, BenchWhy};
 use std::alloc::Global;
 use trace_io::{Failed, ReadAllFault, Sink, Source, read_all};
 

@@ -1,10 +1,10 @@
 //! The command `retired`: a run file is read and tested whole, and then its retired paths are printed.
 ghost use Rattle.std.specs.Prelude.{◌≡◌, ◌⊎◌, ◌+◌, ◌≤◌, List, [], None, Some, Ok, Err, IsOk, slice_get};
-ghost use Rattle.bench_text.specs.Parts.{BenchStream, IsBench, events_of};
-ghost use Rattle.bench_text.specs.Refusals.{most_text, refusal_among, stream_refusal};
 ghost use Rattle.etm_types.specs.Settings.{Sizes};
 ghost use Rattle.path_text.specs.Writing.{Writes};
 ghost use Rattle.program_image.specs.Blocks.{HasGap};
+ghost use Rattle.run_file.specs.Parts.{BenchStream, IsBench, events_of};
+ghost use Rattle.run_file.specs.Refusals.{most_text, refusal_among, stream_refusal};
 ghost use Rattle.spec_run.specs.Stands.{StandsAt};
 ghost use Rattle.retired_paths.specs.Retired.{RetiresSo, retired_text, stream_text};
 ghost use Rattle.retired_paths.specs.Retiring.{CanGoOn, RefusesLine, events_with, bad_line};
@@ -15,9 +15,9 @@ ghost use Rattle.trace_io.specs.Calls.{Serves, Lasts};
 use crate::bench_input::{Unread, read_bench, refuse};
 use crate::retiring::Retiring;
 use answer_lines::Status;
-use bench_text::{Bench, BenchLine, BenchWhy};
 use etm_types::Settings;
 use program_image::Image;
+use run_file::{Bench, BenchLine, BenchWhy};
 use spec_run::{Event, Run, RunFault};
 use std::alloc::Global;
 use trace_io::{Failed, Sink, Source};

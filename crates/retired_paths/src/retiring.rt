@@ -12,10 +12,10 @@ ghost use Rattle.spec_run.specs.declared.step.RunStep.{RunStep};
 ghost use Rattle.retired_paths.specs.Retiring.{AddsNothing, CanGoOn, CanRetire, CanShow, IsRetiring, PrintsRetired, StandsDone};
 ghost use Rattle.retired_paths.specs.Retiring.{asked, events_with, items_done};
 
-use bench_text::BenchLine;
 use etm_types::{Ctx, Id, Settings};
 use path_text::{write_gap, write_stop, write_walked};
 use program_image::Image;
+use run_file::BenchLine;
 use spec_run::{Done, Event, RetiredPath, Run, RunStep};
 use trace_io::{Failed, Sink};
 

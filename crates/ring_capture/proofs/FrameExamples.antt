@@ -2,9 +2,9 @@
 use Rattle.std.proofs.Common.{◌≡◌, ℕ, ◌+◌, ◌*◌, List, [], ◌∷◌, ◌++◌, length, drop, take, Some, None, Result}
 use Rattle.std.proofs.Common.{refl, ap, arith, length-append}
 use Rattle.std.specs.Prelude.{get_or, replicate}
+use Rattle.capture_streams.specs.Laid.{Rests}
+use Rattle.capture_streams.specs.Texts.{Listing, of}
 use Rattle.formatter_frames.specs.Unframed.{unframed}
-use Rattle.stream_demux.specs.Laid.{Rests}
-use Rattle.stream_demux.specs.Texts.{Listing, of}
 use Rattle.trace_io.specs.State.{IoState}
 use Rattle.ring_capture.specs.Ends.{EndsWith}
 use Rattle.ring_capture.specs.Laid.{wrapped_laid}

@@ -1,12 +1,12 @@
 -- What is written behind a byte that gives no frame.
 use Rattle.std.proofs.Common.{◌≡◌, ℕ, suc, ◌+◌, ◌<◌, slice_index_or, arith, List, [], ◌∷◌, ◌++◌, length, take, refl, sym, ap, ◌∙◌, append-nil}
 use Rattle.std.proofs.Math.Seq.{take-suc}
+use Rattle.capture_streams.specs.Texts.{Listing}
 use Rattle.formatter_frames.proofs.Going.{more_pairs}
 use Rattle.formatter_frames.specs.Symbols.{pairs_of}
 use Rattle.formatter_frames.specs.Unframed.{begun_frame, id_after_frames, symbols_of_frames, unframed}
 use Rattle.path_text.proofs.Wrote.{wrote_nothing}
-use Rattle.stream_demux.specs.Texts.{Listing}
-use Rattle.stream_demux.proofs.Writing.{Gained, Written}
+use Rattle.capture_streams.proofs.Writing.{Gained, Written}
 use Rattle.trace_io.specs.State.{IoState}
 use Rattle.ring_capture.specs.Rotated.{later_frames}
 use Rattle.ring_capture.specs.Laid.{later_grows, later_pairs}

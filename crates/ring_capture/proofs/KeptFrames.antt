@@ -6,10 +6,10 @@ use Rattle.std.proofs.Math.Seq.{take-add}
 use Rattle.std.proofs.lemmas.Bool.{cases_lt}
 use Rattle.std.proofs.lemmas.Bool.Decides.{nat_tests}
 use Rattle.std.proofs.lemmas.List.{take-append-drop}
+use Rattle.capture_streams.specs.Demuxed.{Gains}
+use Rattle.capture_streams.specs.Texts.{Listing}
 use Rattle.formatter_frames.specs.Unframed.{begun_frame, unframed}
-use Rattle.stream_demux.specs.Demuxed.{Gains}
-use Rattle.stream_demux.specs.Texts.{Listing}
-use Rattle.stream_demux.proofs.Writing.{Gained, all_gained, gain_fails, gained_more}
+use Rattle.capture_streams.proofs.Writing.{Gained, all_gained, gain_fails, gained_more}
 use Rattle.trace_io.specs.State.{IoState}
 use Rattle.ring_capture.specs.Rotated.{first_frames, whole_frames}
 use Rattle.ring_capture.specs.Unwrapping.{StandsAt, Unwrapping, frame_at}

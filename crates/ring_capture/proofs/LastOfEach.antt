@@ -7,8 +7,8 @@ use Rattle.std.proofs.Math.Seq.{drop-append_seam}
 use Rattle.std.proofs.lemmas.Bool.Decides.{nat_tests}
 use Rattle.formatter_frames.specs.Framed.{framed}
 use Rattle.formatter_frames.specs.Unframed.{unframed}
+use Rattle.capture_streams.specs.Texts.{of}
 use Rattle.formatter_frames.proofs.RoundTrip.{pairs_again}
-use Rattle.stream_demux.specs.Texts.{of}
 use Rattle.ring_capture.specs.Ends.{EndsWith}
 use Rattle.ring_capture.proofs.MissingFrames.{any_end}
 

@@ -2,10 +2,10 @@
 use Rattle.std.proofs.Common.{◌≡◌, ℕ, zero, suc, ◌*◌, ◌/◌, ◌≤◌, List, [], ◌∷◌, ◌++◌, length, take, drop}
 use Rattle.std.proofs.Common.{refl, ap, ◌∙◌, arith, length-append}
 use Rattle.std.proofs.lemmas.List.{drop_all, length-take-le, take-append-le}
+use Rattle.capture_streams.specs.Laid.{Grow, IsLaid, Laid}
 use Rattle.formatter_frames.proofs.Going.{more_pairs}
 use Rattle.formatter_frames.specs.Symbols.{pairs_of}
 use Rattle.formatter_frames.specs.Unframed.{begun_frame, id_after_frames, symbols_of_frames, unframed}
-use Rattle.stream_demux.specs.Laid.{Grow, IsLaid, Laid}
 use Rattle.ring_capture.specs.Rotated.{first_frames, later_frames, rotated, whole_frames}
 
 -- what the frames from frame k on carry, which come with the bytes

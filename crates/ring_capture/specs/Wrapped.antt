@@ -1,11 +1,11 @@
 -- What contracts see of frames of many sources in a capture buffer that was written round.
 use Rattle.std.specs.Prelude.{ℕ, ◌+◌, List, refl}
 use Rattle.std.specs.Coded.{Coded, code_by, coded×, coded_list, coded_ℕ}
+use Rattle.capture_streams.specs.Demuxed.{Demuxed, demuxed_code}
 use Rattle.etm_types.specs.Settings.{Sizes}
 use Rattle.etm_types.specs.declared.item.Item.{Item}
-use Rattle.stream_demux.specs.Demuxed.{Demuxed, demuxed_code}
-use Rattle.stream_demux.specs.Demuxed as demuxed
-use Rattle.stream_demux.specs.Texts.{Listing}
+use Rattle.capture_streams.specs.Demuxed as demuxed
+use Rattle.capture_streams.specs.Texts.{Listing}
 use Rattle.ring_capture.specs.Rotated.{later_frames}
 use Rattle.ring_capture.specs.Unwrapping.{StandsAt, Unwrapping, count_of}
 

@@ -1,9 +1,9 @@
 //! The last frames of a capture.
 ghost use Rattle.std.specs.Prelude.{◌≡◌, ◌<◌, ◌-◌, ◌%◌, ℕ, List, length, drop};
+ghost use Rattle.capture_streams.specs.Texts.{of};
 ghost use Rattle.formatter_frames.specs.Framed.{framed};
 ghost use Rattle.formatter_frames.specs.Sizes.{frame_bytes};
 ghost use Rattle.formatter_frames.specs.Unframed.{unframed};
-ghost use Rattle.stream_demux.specs.Texts.{of};
 ghost use Rattle.ring_capture.specs.Ends.{EndsWith};
 ghost use Rattle.ring_capture.specs.Rotated.{in_bytes};
 

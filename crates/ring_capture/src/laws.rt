@@ -1,13 +1,13 @@
 //! What frames carry where the first ones of a capture are missing, or where the oldest frame of a buffer is not its first one: laws, as
 //! contracts of functions that do nothing.
 ghost use Rattle.std.specs.Prelude.{◌≡◌, ℕ, ◌+◌, ◌<◌, ◌≤◌, List, ◌++◌, drop, length};
+ghost use Rattle.capture_streams.specs.Laid.{IsLaid};
+ghost use Rattle.capture_streams.specs.Texts.{of};
 ghost use Rattle.formatter_frames.specs.Framed.{framed};
 ghost use Rattle.formatter_frames.specs.Unframed.{begun_frame, unframed};
 ghost use Rattle.ring_capture.specs.Ends.{EndsWith};
 ghost use Rattle.ring_capture.specs.Laid.{wrapped_laid};
 ghost use Rattle.ring_capture.specs.Rotated.{in_bytes, later_frames, rotated};
-ghost use Rattle.stream_demux.specs.Laid.{IsLaid};
-ghost use Rattle.stream_demux.specs.Texts.{of};
 
 /// However many leading frames of a capture are missing, what is left carries the last bytes of each ID; and so of framed pairs.
 pub fn the_last_frames_carry_the_last_bytes()

@@ -1,20 +1,20 @@
 //! Frames of many sources in a capture buffer that was written round.
 ghost use Rattle.std.specs.Prelude.{◌≡◌, ◌<◌, ◌≤◌, ◌+◌, ◌^◌, ◌++◌, ◌∷◌, ◌↔◌, [], ℕ, List, Bool, false, not, length, IsOk, IsErr, IsTrue, IfOk};
+ghost use Rattle.capture_streams.specs.Demuxed.{Gains, StandsAt};
+ghost use Rattle.capture_streams.specs.Texts.{by_sizes};
 ghost use Rattle.etm_types.specs.Settings.{Sizes};
 ghost use Rattle.etm_types.specs.SettingsTable.{sizes_at};
 ghost use Rattle.formatter_frames.specs.Unframed.{begun_frame, unframed};
-ghost use Rattle.stream_demux.specs.Demuxed.{Gains, StandsAt};
-ghost use Rattle.stream_demux.specs.Texts.{by_sizes};
 ghost use Rattle.ring_capture.specs.Laid.{later_pairs};
 ghost use Rattle.ring_capture.specs.Rotated.{first_frames, later_frames, rotated};
 ghost use Rattle.ring_capture.specs.Wrapped.{HaveTaken, taken_of};
 ghost use Rattle.trace_io.specs.Calls.{Serves};
 
 use crate::unwrap::Unwrap;
+use capture_streams::{Demux, Printer, Stream};
 use etm_types::SettingsTable;
 use std::alloc::{AllocError, Global};
 use std::marker::Model;
-use stream_demux::{Demux, Printer, Stream};
 use trace_io::{Failed, Sink};
 
 /// Takes the bytes of a capture buffer whose oldest frame is not its first one, and writes the lines that its streams add: those of the
@@ -147,8 +147,8 @@ fn take_kept<S: Stream, K: Sink>(
 }
 
 impl<S: Stream> Printer for WrappedDemux<S> {
-    ghost use Rattle.stream_demux.specs.Demuxed.{StandsAt};
-    ghost use Rattle.stream_demux.specs.Texts.{by_sizes};
+    ghost use Rattle.capture_streams.specs.Demuxed.{StandsAt};
+    ghost use Rattle.capture_streams.specs.Texts.{by_sizes};
     ghost use Rattle.ring_capture.specs.Laid.{wrapped_laid, wrapped_laid_is};
     ghost use Rattle.ring_capture.specs.Rotated.{rotated};
     ghost use Rattle.ring_capture.specs.Wrapped.{HaveTaken, taken_of};

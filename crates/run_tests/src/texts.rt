@@ -1,6 +1,6 @@
 //! Run files and what is read of them.
-use bench_text::{Bench, BenchFault, BenchLine, BenchWhy};
 use etm_types::{Ctx, Settings};
+use run_file::{Bench, BenchFault, BenchLine, BenchWhy};
 use spec_run::{Event, RunFault};
 use std::alloc::Global;
 use std::test::Fail;

@@ -1,11 +1,11 @@
 //! The counts of one stream and of frames with two, call by call.
+use capture_streams::{Demux, RawStream};
 use count_streams::CountStream;
 use etm_types::{Settings, SettingsTable};
 use program_image::Image;
 use std::alloc::{AllocError, Global};
 use std::process::Abort;
 use std::test::Fail;
-use stream_demux::{Demux, RawStream};
 use trace_io::{Failed, MemSink};
 
 /// A NOP, a conditional branch to 100c, a NOP, and a branch to 1000; and a handler: a NOP and an ERET.

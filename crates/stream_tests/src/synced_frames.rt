@@ -1,10 +1,10 @@
 //! Small captures of a trace port, and frames that are written for one.
+use capture_streams::Printer;
 use etm_types::{Settings, SettingsTable};
 use program_image::Image;
 use std::alloc::Global;
 use std::test::Fail;
 use stream_decoder::StreamDecoder;
-use stream_demux::Printer;
 use sync_frames::{SyncedDemux, Unsync, write_synced};
 use trace_io::{Failed, MemSink};
 

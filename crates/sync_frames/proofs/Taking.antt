@@ -1,10 +1,10 @@
 -- Bytes of a trace port that are taken, and the bytes of frames among them.
 use Rattle.std.proofs.Common.{◌≡◌, ℕ, ◌<◌, List, [], ◌∷◌, ◌++◌, length, take, slice_index_or, Result, refl, sym, ap, subst, ◌∙◌, arith}
+use Rattle.capture_streams.specs.Demuxed.{Gains}
+use Rattle.capture_streams.specs.Laid.{Rests}
+use Rattle.capture_streams.specs.Streams.{Adds}
+use Rattle.capture_streams.specs.Texts.{Listing}
 use Rattle.formatter_frames.specs.Unframed.{unframed}
-use Rattle.stream_demux.specs.Demuxed.{Gains}
-use Rattle.stream_demux.specs.Laid.{Rests}
-use Rattle.stream_demux.specs.Streams.{Adds}
-use Rattle.stream_demux.specs.Texts.{Listing}
 use Rattle.sync_frames.specs.Laid.{synced_laid, synced_pairs}
 use Rattle.sync_frames.specs.Syncs.{unsynced}
 use Rattle.sync_frames.specs.Unsyncing.{StandsAt, Unsyncing}

@@ -4,7 +4,7 @@ use Rattle.std.specs.Prelude.{get_or, replicate, false, Some, None}
 use Rattle.sync_frames.specs.Laid.{synced_laid}
 use Rattle.sync_frames.specs.Syncs.{begins_full_sync, unsynced}
 use Rattle.sync_frames.specs.Unsyncing.{StandsAt, run_at}
-use Rattle.stream_demux.specs.Texts.{of}
+use Rattle.capture_streams.specs.Texts.{of}
 
 abbrev byte_at : ℕ → List ℕ → ℕ
 byte_at k bytes = get_or bytes k 0

@@ -3,11 +3,11 @@ use Rattle.std.proofs.Common.{◌≡◌, ◌⊎◌, ℕ, ◌+◌, ◌%◌, ◌<�
 use Rattle.std.proofs.Common.{refl, sym, ap, ◌∙◌, inl, inr, arith, append-nil, length-append}
 use Rattle.std.specs.Prelude.{◌==◌, ◌&&◌, if◌then◌else◌}
 use Rattle.std.proofs.lemmas.Bool.{cases_Bool, eqb-true}
+use Rattle.capture_streams.specs.Laid.{IsLaid, Laid}
 use Rattle.formatter_frames.proofs.Going.{begun_pairs, more_pairs}
 use Rattle.formatter_frames.proofs.Pieces.{length-left_over}
 use Rattle.formatter_frames.specs.Symbols.{pairs_of}
 use Rattle.formatter_frames.specs.Unframed.{begun_frame, id_after_frames, symbols_of_frames, unframed}
-use Rattle.stream_demux.specs.Laid.{IsLaid, Laid}
 use Rattle.sync_frames.specs.Syncs.{begins_full_sync, is_half_sync, kept_from, unsynced}
 
 -- what the frames behind the earliest full sync carry, without the syncs among them

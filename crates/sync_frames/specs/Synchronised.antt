@@ -1,11 +1,11 @@
 -- What contracts see of frames of many sources with synchronisation packets among them.
 use Rattle.std.specs.Prelude.{◌≡◌, ℕ, List, length, Option, refl}
 use Rattle.std.specs.Coded.{Coded, code_by, coded×, coded_list, coded_option, coded_ℕ}
+use Rattle.capture_streams.specs.Demuxed.{Demuxed, demuxed_code}
 use Rattle.etm_types.specs.Settings.{Sizes}
 use Rattle.etm_types.specs.declared.item.Item.{Item}
-use Rattle.stream_demux.specs.Demuxed.{Demuxed, demuxed_code}
-use Rattle.stream_demux.specs.Demuxed as demuxed
-use Rattle.stream_demux.specs.Texts.{Listing}
+use Rattle.capture_streams.specs.Demuxed as demuxed
+use Rattle.capture_streams.specs.Texts.{Listing}
 use Rattle.sync_frames.specs.Unsyncing.{StandsAt, Unsyncing}
 
 abbrev unsyncing_code : Coded Unsyncing

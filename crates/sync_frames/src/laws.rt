@@ -1,9 +1,9 @@
 //! Laws of synchronisation packets, as contracts of functions that do nothing.
 ghost use Rattle.std.specs.Prelude.{◌≡◌, ◌≢◌, ℕ, ◌+◌, ◌*◌, ◌%◌, ◌<◌, ◌≤◌, List, [], ◌∷◌, ◌++◌, drop, length, All};
+ghost use Rattle.capture_streams.specs.Laid.{IsLaid};
 ghost use Rattle.formatter_frames.specs.Framed.{framed};
 ghost use Rattle.formatter_frames.specs.Sizes.{frame_bytes};
 ghost use Rattle.formatter_frames.specs.Unframed.{unframed};
-ghost use Rattle.stream_demux.specs.Laid.{IsLaid};
 ghost use Rattle.sync_frames.specs.Laid.{synced_laid};
 ghost use Rattle.sync_frames.specs.Syncs.{full_sync, half_sync, kept_from, unsynced};
 ghost use Rattle.sync_frames.specs.Synced.{IsSourcePair, NoFFAtEven, Synced, synced_every};

@@ -1,18 +1,18 @@
 //! Frames of many sources in a capture of a trace port.
 ghost use Rattle.std.specs.Prelude.{◌≡◌, ◌<◌, ◌≤◌, ◌+◌, ◌^◌, ◌++◌, ◌∷◌, ◌↔◌, [], ℕ, List, Bool, false, not, length, take, IsOk, IsErr, IsTrue, IfOk};
+ghost use Rattle.capture_streams.specs.Demuxed.{Gains};
+ghost use Rattle.capture_streams.specs.Texts.{by_sizes};
 ghost use Rattle.etm_types.specs.Settings.{Sizes};
 ghost use Rattle.etm_types.specs.SettingsTable.{sizes_at};
-ghost use Rattle.stream_demux.specs.Demuxed.{Gains};
-ghost use Rattle.stream_demux.specs.Texts.{by_sizes};
 ghost use Rattle.sync_frames.specs.Laid.{synced_pairs};
 ghost use Rattle.sync_frames.specs.Synchronised.{HaveTaken, IsAfter};
 ghost use Rattle.trace_io.specs.Calls.{Serves};
 
 use crate::unsync::Unsync;
+use capture_streams::{Demux, Printer, Stream};
 use etm_types::SettingsTable;
 use std::alloc::{AllocError, Global};
 use std::marker::Model;
-use stream_demux::{Demux, Printer, Stream};
 use trace_io::{Failed, Sink};
 
 /// Takes the bytes of a trace port, and writes the lines that the frames among them add. Bytes before the first full sync add none. It has no
@@ -137,8 +137,8 @@ fn take_bytes<S: Stream, K: Sink>(
 }
 
 impl<S: Stream> Printer for SyncedDemux<S> {
-    ghost use Rattle.stream_demux.specs.Demuxed.{StandsAt};
-    ghost use Rattle.stream_demux.specs.Texts.{by_sizes};
+    ghost use Rattle.capture_streams.specs.Demuxed.{StandsAt};
+    ghost use Rattle.capture_streams.specs.Texts.{by_sizes};
     ghost use Rattle.sync_frames.specs.Laid.{synced_laid, synced_laid_is};
     ghost use Rattle.sync_frames.specs.Synchronised.{IsAfter};
     ghost use Rattle.sync_frames.specs.Syncs.{unsynced};

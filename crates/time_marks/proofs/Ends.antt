@@ -7,12 +7,12 @@ use Rattle.packet_grammar.proofs.Streams.{none_in}
 use Rattle.packet_grammar.specs.Parsed.{Ending, IsStream, no_sync}
 use Rattle.packet_grammar.specs.declared.packet.Packet.{Packet}
 use Rattle.packet_grammar.specs.declared.end.End.{End}
+use Rattle.capture_streams.specs.Texts.{Printed, StreamEnds, lines_under, text_of}
 use Rattle.packet_grammar.specs.declared.end.End.TheVariants as end
 use Rattle.packet_reader.proofs.Adds.{nothing_is_a_stream}
 use Rattle.path_text.specs.EndLines.{end_line}
 use Rattle.path_text.specs.Writing.{Writes}
 use Rattle.stream_decoder.proofs.Standing.{printed_end}
-use Rattle.stream_demux.specs.Texts.{Printed, StreamEnds, lines_under, text_of}
 use Rattle.time_marks.proofs.Lists.{one_times}
 use Rattle.time_marks.specs.Timed.{StandsAt, Timed, depth_of}
 use Rattle.time_marks.specs.TimeList.{IsTimes, times}

@@ -13,14 +13,14 @@ use Rattle.packet_reader.proofs.Adds.{nothing_is_a_stream}
 use Rattle.path_elements.specs.PathLaws.{BeginsWith}
 use Rattle.path_text.specs.EndLines.{end_line}
 use Rattle.path_text.specs.Lines.{IsLine, decimal, digit, in_base}
+use Rattle.capture_streams.specs.Laws.{AddsAlways, AddsOnce, EndsAlways, EndsOnce, GainsAlways, GainsOnce, StreamLines, lines_with}
+use Rattle.capture_streams.specs.Texts.{Printed, StreamBody, StreamEnds, by_sizes, lines_under, of}
 use Rattle.path_text.proofs.Feeds.{HasNone, end_is, line_is, written}
-use Rattle.stream_demux.specs.Laws.{AddsAlways, AddsOnce, EndsAlways, EndsOnce, GainsAlways, GainsOnce, StreamLines, lines_with}
-use Rattle.stream_demux.specs.Texts.{Printed, StreamBody, StreamEnds, by_sizes, lines_under, of}
-use Rattle.stream_demux.proofs.Alone.{source_is_alone}
-use Rattle.stream_demux.proofs.AlonePaths.{PrintsLines, each_is, print_by}
-use Rattle.stream_demux.proofs.BySizes.{adds_always_by, adds_once_by, ends_always_by, ends_once_by, gains_always_by, gains_once_by, own_lines}
-use Rattle.stream_demux.proofs.OneText.{one_body, one_text, some_text}
-use Rattle.stream_demux.proofs.Parted.{CarriesOn, fronts_begin}
+use Rattle.capture_streams.proofs.Alone.{source_is_alone}
+use Rattle.capture_streams.proofs.AlonePaths.{PrintsLines, each_is, print_by}
+use Rattle.capture_streams.proofs.BySizes.{adds_always_by, adds_once_by, ends_always_by, ends_once_by, gains_always_by, gains_once_by, own_lines}
+use Rattle.capture_streams.proofs.OneText.{one_body, one_text, some_text}
+use Rattle.capture_streams.proofs.Parted.{CarriesOn, fronts_begin}
 use Rattle.time_marks.proofs.Growing.{lines-append}
 use Rattle.time_marks.proofs.Lists.{one_end, one_gain, one_times, some_end, some_gain}
 use Rattle.time_marks.specs.Stamps.{Stamp}

@@ -1,5 +1,7 @@
 -- What holds of the times that are printed of streams, as a whole.
 use Rattle.std.specs.Prelude.{◌≡◌, ◌≤◌, ℕ, All, Bool, false, List, [], ◌∷◌, ◌++◌, length, None}
+use Rattle.capture_streams.specs.Laws.{HasByte, lines_with}
+use Rattle.capture_streams.specs.Texts.{BodyFrom, IsText, Printed, by_sizes, lines_under, of}
 use Rattle.element_queue.specs.Counting.{entries}
 use Rattle.etm_types.specs.Id.{IsId}
 use Rattle.etm_types.specs.Settings.{AreSettings, Sizes}
@@ -15,8 +17,6 @@ use Rattle.path_text.specs.EndLines.{end_line}
 use Rattle.path_text.specs.Lines.{IsLine}
 use Rattle.program_image.specs.declared.image.Image.{Image}
 use Rattle.stream_decoder.specs.Stands.{shows_walk_fault}
-use Rattle.stream_demux.specs.Laws.{HasByte, lines_with}
-use Rattle.stream_demux.specs.Texts.{BodyFrom, IsText, Printed, by_sizes, lines_under, of}
 use Rattle.time_marks.specs.MarkLaws.{HaveOwnStamps, stamps_of}
 use Rattle.time_marks.specs.TimeLines.{time_lines}
 use Rattle.time_marks.specs.TimeList.{IsTimes, times}

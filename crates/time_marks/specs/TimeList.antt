@@ -1,5 +1,6 @@
 -- What is printed of the events and P0 elements of a stream.
 use Rattle.std.specs.Prelude.{◌≡◌, ℕ, Bool, List, [], ◌∷◌, ◌++◌}
+use Rattle.capture_streams.specs.Texts.{Listing, adds_nothing, no_sums}
 use Rattle.element_queue.specs.Counting.{no_counts, tally}
 use Rattle.element_queue.specs.Resolved.{at_first}
 use Rattle.element_queue.specs.declared.ledger.Counts.{Counts}
@@ -11,7 +12,6 @@ use Rattle.packet_grammar.specs.declared.packet.Packet.{Packet}
 use Rattle.path_elements.specs.Elements.{all_elements, untold}
 use Rattle.path_elements.specs.Path.{unplaced}
 use Rattle.path_text.specs.EndLines.{end_line}
-use Rattle.stream_demux.specs.Texts.{Listing, adds_nothing, no_sums}
 use Rattle.time_marks.specs.TimeLines.{time_lines}
 use Rattle.time_marks.specs.Times.{Times, end_behind, times_of}
 use Rattle.time_marks.specs.declared.time_line.TimeLine.{TimeLine}

@@ -1,6 +1,6 @@
 //! What the times of streams are, as a whole: laws, as contracts of functions that do nothing.
+ghost use Rattle.capture_streams.specs.Demuxed.{raw_pairs};
 ghost use Rattle.formatter_frames.specs.Unframed.{unframed};
-ghost use Rattle.stream_demux.specs.Demuxed.{raw_pairs};
 ghost use Rattle.time_marks.specs.MarkLaws.{MarksAreOwn};
 ghost use Rattle.time_marks.specs.TimeLaws.{EachTimeIsALine, FrontsOfTimesBegin, OneTextOfTimes, SomeTextOfTimes, TimesAreAlone, TimesNumberPaths};
 

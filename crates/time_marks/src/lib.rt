@@ -6,7 +6,7 @@
 //! own. Nothing is walked, so no image is needed.
 //!
 //! The layers above use these contracts:
-//! - [`TimesDemux`]: a printer, the `Demux` of `stream_demux` with a [`TimedDecoder`] for each stream; its listing is `times`
+//! - [`TimesDemux`]: a printer, the `Demux` of `capture_streams` with a [`TimedDecoder`] for each stream; its listing is `times`
 //!   (`specs/TimeList.antt`).
 //! - [`TimedDecoder`], on which it stands, a `Stream`: it takes a byte a call, and writes the lines that the byte adds.
 //! - the laws: [`times_have_one_text`], of any input; [`marks_are_those_of_p0_elements`], that each P0 element has the mark of its own

@@ -1,10 +1,10 @@
 //! The times of a stream among others.
 
 use crate::decoder::TimedDecoder;
+use capture_streams::{Demux, Stream};
 use element_queue::{Counts, Ledger};
 use etm_types::{Id, Settings};
 use std::alloc::{AllocError, Global};
-use stream_demux::{Demux, Stream};
 use trace_io::{Failed, Sink};
 
 /// The streams of frames, each with its times.

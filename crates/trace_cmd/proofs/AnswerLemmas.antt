@@ -2,9 +2,9 @@
 use Rattle.std.proofs.Common.{◌≡◌, ℕ, ◌≤◌, true, false, List, [], None, Option, Result, Ok, Err, refl, sym, subst, inl, inr, arith}
 use Rattle.std.specs.Prelude.{IfOk}
 use Rattle.std.proofs.KnownBytes.{Appends-kept, Appends-nil, Consumes-nil}
-use Rattle.bench_text.specs.declared.fault.BenchWhy.{BenchWhy}
 use Rattle.path_text.specs.Writing.{Writes}
 use Rattle.program_image.specs.declared.image.Image.{Image}
+use Rattle.run_file.specs.declared.fault.BenchWhy.{BenchWhy}
 use Rattle.program_image.specs.declared.fault.ImageWhy.{ImageWhy}
 use Rattle.trace_cmd.specs.Answers.{Answers, AnswersSo, Asks, Call, HasRead, IsBenchBad, IsBenchFault, IsCall, IsCountsUnder, IsImageFault, IsNoMemory}
 use Rattle.trace_cmd.specs.Answers.{IsOwnBenchBad, IsOwnImageBad, IsOwnTooLong, IsPacketsUnder, IsPathUnder, IsProgramBad, IsRetired, IsRetiredCall}
@@ -14,8 +14,8 @@ use Rattle.trace_cmd.specs.Programs.{BadFile, BadText, NoProgram}
 use Rattle.trace_cmd.proofs.WordKinds.{counts_kind, one_kind, packets_kind, path_kind, retired_kind, times_kind, trace_kind}
 use Rattle.answer_lines.specs.UsageLine.{usage_line}
 use Rattle.answer_lines.specs.Prints.{Prints, PrintsFront}
+use Rattle.capture_streams.specs.Laid.{IsLaid, frames_laid_is, raw_laid_is}
 use Rattle.retired_paths.specs.Retired.{RetiresSo, RunsSo}
-use Rattle.stream_demux.specs.Laid.{IsLaid, frames_laid_is, raw_laid_is}
 use Rattle.input_pieces.specs.Listed.{Interrupts, Listed}
 use Rattle.trace_cmd.specs.Printing.{What, intake_of, laid_in, laid_of, listing_of}
 use Rattle.traced_runs.specs.Selftest.{TestsSo}

@@ -4,9 +4,9 @@ use Rattle.std.specs.Prelude.{IfOk}
 use Rattle.std.proofs.lemmas.List.{drop_all, take_all}
 use Rattle.etm_types.specs.Settings.{Sizes}
 use Rattle.formatter_frames.specs.Unframed.{begun_frame}
+use Rattle.capture_streams.specs.Demuxed.{Demuxed}
+use Rattle.capture_streams.specs.Texts.{Listing}
 use Rattle.etm_types.specs.declared.item.Item.{Item}
-use Rattle.stream_demux.specs.Demuxed.{Demuxed}
-use Rattle.stream_demux.specs.Texts.{Listing}
 use Rattle.sync_frames.specs.Synchronised.{IsAfter, Synchronised}
 use Rattle.ring_capture.specs.Laid.{later_none}
 use Rattle.ring_capture.specs.Unwrapping.{Unwrapping}

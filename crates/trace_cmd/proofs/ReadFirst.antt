@@ -2,13 +2,13 @@
 use Rattle.std.proofs.Common.{◌≡◌, ◌⊎◌, ℕ, List, Option, Result, Ok, Err, refl, subst, inl, inr, arith}
 use Rattle.answer_lines.specs.declared.status.Status.{Status}
 use Rattle.answer_lines.specs.declared.status.Status.TheVariants as status
+use Rattle.capture_streams.specs.Laid.{Laid}
+use Rattle.capture_streams.specs.Texts.{Listing}
 use Rattle.elf_image.specs.declared.fault.ElfWhy.{ElfWhy}
 use Rattle.input_pieces.specs.Listed.{Listed}
 use Rattle.program_image.specs.declared.fault.ImageWhy.{ImageWhy}
 use Rattle.program_image.specs.declared.image.Image.{Image}
 use Rattle.retired_paths.specs.Retired.{IsRetiredText, RetiresSo, RunsSo}
-use Rattle.stream_demux.specs.Laid.{Laid}
-use Rattle.stream_demux.specs.Texts.{Listing}
 use Rattle.trace_cmd.specs.Answers.{Call, ImageFirst, IsBareCall, ProgramFirst, ReadsFirst, ReadsProgram, call}
 use Rattle.trace_cmd.specs.Programs.{HasProgram, most_taken}
 use Rattle.command_words.specs.Words.{Program}

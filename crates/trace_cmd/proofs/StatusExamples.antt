@@ -6,10 +6,10 @@ use Rattle.std.specs.Prelude.{All, ◌||◌, drop, get_or, nat_lt, take}
 use Rattle.std.proofs.lemmas.List.Elements.{All-map}
 use Rattle.std.specs.Str.{chars, is_utf8}
 use Rattle.answer_lines.specs.declared.status.Status.TheVariants as status
-use Rattle.bench_text.specs.declared.fault.BenchWhy.{BenchWhy}
-use Rattle.bench_text.specs.declared.fault.BenchWhy.TheVariants.{Run}
+use Rattle.run_file.specs.declared.fault.BenchWhy.{BenchWhy}
 use Rattle.command_words.specs.Words.{Command, Counts, Intake, Packets, Program, Retired}
 use Rattle.command_words.specs.declared.words.Layout.{Layout}
+use Rattle.run_file.specs.declared.fault.BenchWhy.TheVariants.{Run}
 use Rattle.command_words.specs.declared.words.Layout.TheVariants.{Frames, Raw}
 use Rattle.command_words.specs.declared.words.ProgramForm.TheVariants as form
 use Rattle.elf_image.specs.ElfText.{elf_text}
@@ -26,14 +26,14 @@ use Rattle.packet_list.proofs.PacketTexts.{some_text_of_packets}
 use Rattle.path_text.specs.Lines.{in_base}
 use Rattle.program_image.specs.ImageText.{image_of}
 use Rattle.program_image.specs.declared.fault.ImageWhy.{ImageWhy}
+use Rattle.capture_streams.specs.Demuxed.{raw_pairs}
+use Rattle.capture_streams.specs.Laws.{HasByte}
+use Rattle.capture_streams.specs.Texts.{EndsOf, IsText, Listing, Printed, cut_lines, sources, sum_lines, text_of}
 use Rattle.program_image.specs.declared.fault.ImageWhy.TheVariants.{Unaligned}
 use Rattle.program_image.specs.declared.image.Image.{Image}
 use Rattle.retired_paths.proofs.RetiredExamples as retired
 use Rattle.retired_paths.specs.Retired.{IsBadBench, IsRetiredText}
 use Rattle.spec_run.specs.declared.run_fault.RunFault.TheVariants as fault
-use Rattle.stream_demux.specs.Demuxed.{raw_pairs}
-use Rattle.stream_demux.specs.Laws.{HasByte}
-use Rattle.stream_demux.specs.Texts.{EndsOf, IsText, Listing, Printed, cut_lines, sources, sum_lines, text_of}
 use Rattle.trace_cmd.proofs.Programs.{apart}
 use Rattle.trace_cmd.specs.Answers.{Answers, Asks, Call, HasRead, IsRunFileCall, IsSelftestOf, IsTextOf, IsTraceOf, Text, call}
 use Rattle.trace_cmd.specs.Answers.{BenchText, ImageText, OwnBenchText, OwnImageText, RetiredText, TestText, TraceText, UsageText}

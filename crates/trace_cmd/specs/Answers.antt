@@ -16,8 +16,8 @@ use Rattle.traced_runs.specs.Selftest.{HasBadBench, HasBadImage, IsSummary, IsTo
 use Rattle.traced_runs.specs.Traced.{AreWritten}
 use Rattle.command_words.specs.Words.{Command, Counts, Intake, Kind, Program, Path, Packets, Retired, Selftest, Times, Trace}
 use Rattle.command_words.specs.Words.{BareKind, NumberKind, PathKind, RunFileKind, kind_of, meaning}
-use Rattle.bench_text.specs.declared.fault.BenchWhy.{BenchWhy}
 use Rattle.input_pieces.specs.Listed.{Breaks, Completes, Exceeds, Interrupts}
+use Rattle.run_file.specs.declared.fault.BenchWhy.{BenchWhy}
 use Rattle.trace_cmd.specs.Printing.{What, CountsOf, PathsOf, PacketsOf, TimesOf, laid_of, listing_of}
 use Rattle.trace_cmd.specs.Programs.{BadFile, BadText, HasProgram, IsSpelled, NoProgram, TakesNoProgram, TakesProgram, line_of, most_of}
 use Rattle.trace_io.specs.declared.traits.Failed.{Failed}

@@ -2,15 +2,15 @@
 use Rattle.std.specs.Prelude.{ℕ}
 use Rattle.command_words.specs.Words.{Intake}
 use Rattle.command_words.specs.declared.words.Layout.{Layout}
+use Rattle.capture_streams.specs.Laid.{Laid, frames_laid, raw_laid}
+use Rattle.capture_streams.specs.Paths.{paths}
+use Rattle.capture_streams.specs.Texts.{Listing, by_sizes}
 use Rattle.command_words.specs.declared.words.Layout.TheVariants.{Raw, Frames, Wrapped, Synced}
 use Rattle.count_streams.specs.Counted.{counted}
 use Rattle.etm_types.specs.Settings.{Sizes}
 use Rattle.etm_types.specs.SettingsTable.{sizes_at}
 use Rattle.packet_list.specs.PacketList.{packet_lists}
 use Rattle.program_image.specs.declared.image.Image.{Image}
-use Rattle.stream_demux.specs.Laid.{Laid, frames_laid, raw_laid}
-use Rattle.stream_demux.specs.Paths.{paths}
-use Rattle.stream_demux.specs.Texts.{Listing, by_sizes}
 use Rattle.sync_frames.specs.Laid.{synced_laid}
 use Rattle.time_marks.specs.TimeList.{times}
 use Rattle.ring_capture.specs.Laid.{wrapped_laid}

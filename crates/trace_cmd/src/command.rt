@@ -1,6 +1,6 @@
 //! The top call: words, image and input, in this order, and what is written.
 ghost use Rattle.std.specs.Prelude.{◌≡◌, ◌⊎◌, ℕ, ◌+◌, ◌≤◌, ◌<◌, false, List, [], None, Some, Ok, Err, IfOk, IfSome, IsErr, IsTrue};
-ghost use Rattle.bench_text.specs.Refusals.{most_text};
+ghost use Rattle.run_file.specs.Refusals.{most_text};
 ghost use Rattle.trace_io.specs.Bytes.{ShowsAsBefore, TakesAtMost};
 ghost use Rattle.trace_io.specs.Causes.{KeepsFaults};
 ghost use Rattle.trace_io.specs.Calls.{Serves, Lasts};
@@ -12,12 +12,13 @@ ghost use Rattle.trace_cmd.specs.Printing.{laid_in, sizes_by};
 ghost use Rattle.trace_cmd.specs.Programs.{most_taken};
 ghost use Rattle.answer_lines.specs.UsageLine.{usage_line};
 ghost use Rattle.input_pieces.specs.Listed.{Listed};
+ghost use Rattle.capture_streams.specs.Laid.{Laid};
+ghost use Rattle.capture_streams.specs.Texts.{by_sizes};
 ghost use Rattle.command_words.specs.Said.{IsLaidOut, said_intake, said_program};
 ghost use Rattle.etm_types.specs.Settings.{Sizes};
-ghost use Rattle.stream_demux.specs.Laid.{Laid};
-ghost use Rattle.stream_demux.specs.Texts.{by_sizes};
 
 use answer_lines::{Status, write_elf_bad, write_image_bad, write_usage};
+use capture_streams::{Demux, Printer, RawStream, Stream};
 use command_words::{Command, Intake, Layout, Program, ProgramForm, command_of};
 use count_streams::CountStream;
 use elf_image::{ElfImageFault, ElfWhy, read_elf};
@@ -28,7 +29,6 @@ use retired_paths::retire_input;
 use ring_capture::WrappedDemux;
 use std::alloc::{AllocError, Global};
 use stream_decoder::StreamDecoder;
-use stream_demux::{Demux, Printer, RawStream, Stream};
 use sync_frames::SyncedDemux;
 use time_marks::TimedDecoder;
 use trace_io::{Failed, Sink, Source};

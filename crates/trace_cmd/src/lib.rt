@@ -1,7 +1,7 @@
 //! The commands of `etm`: words, image and input in, bytes out.
 //!
 //! `run` carries the promise of the whole program. `specs/Answers.antt` has a row for each answer: its cause, and what is printed with
-//! it. Where it answers `Done` or `Faulted` of an input, that is the text of the input, as `stream_demux` defines it over the paths of
+//! it. Where it answers `Done` or `Faulted` of an input, that is the text of the input, as `capture_streams` defines it over the paths of
 //! streams, `count_streams` over the counts of these, `packet_list` over their packets, and `time_marks` over their times. The program
 //! calls it with files, and tests call it with memory.
 //!

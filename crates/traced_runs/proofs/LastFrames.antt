@@ -5,7 +5,7 @@ use Rattle.std.proofs.KnownBytes.{Appends-nil}
 use Rattle.std.specs.Prelude.{IfOk, OnErr, OnOk, slice_index_or}
 use Rattle.answer_lines.specs.declared.status.Status.{Status}
 use Rattle.answer_lines.specs.declared.status.Status.TheVariants as status
-use Rattle.bench_text.specs.Parts.{BenchParts, IsBench}
+use Rattle.capture_streams.specs.Texts.{of}
 use Rattle.formatter_frames.proofs.Pieces.{length-left_over}
 use Rattle.formatter_frames.proofs.RoundTrip.{nothing_left}
 use Rattle.formatter_frames.specs.Framed.{framed}
@@ -15,7 +15,7 @@ use Rattle.program_image.specs.Part.{IsImage}
 use Rattle.program_image.specs.declared.image.Image.{Image}
 use Rattle.retired_paths.proofs.RetiredStreams.{bench_accepted}
 use Rattle.retired_paths.specs.Retired.{RunsSo, TakesBench}
-use Rattle.stream_demux.specs.Texts.{of}
+use Rattle.run_file.specs.Parts.{BenchParts, IsBench}
 use Rattle.trace_io.proofs.Known.{front_of_shorter}
 use Rattle.trace_io.specs.Bytes.{AppendsAll, AppendsShorter, ShowsAsBefore}
 use Rattle.trace_io.specs.Causes.{HasCause}

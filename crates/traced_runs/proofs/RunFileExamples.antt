@@ -7,13 +7,11 @@ use Rattle.std.specs.Str.{chars, is_utf8}
 use Rattle.a64_branches.specs.Classes.{class_of}
 use Rattle.atom_formats.specs.Bytes.{byte_of}
 use Rattle.atom_formats.specs.Formats.{atom_formats}
-use Rattle.bench_text.proofs.Benches.{parsed_good}
-use Rattle.bench_text.specs.BenchText.{parsed}
-use Rattle.bench_text.specs.Parts.{BenchParts, BenchStream}
-use Rattle.bench_text.specs.Refusals.{bench_of, unless_refused}
-use Rattle.bench_text.specs.declared.fault.BenchWhy.{BenchWhy}
-use Rattle.bench_text.specs.declared.fault.BenchWhy.TheVariants.{Run}
-use Rattle.bench_text.specs.declared.line.BenchLine.{BenchLine}
+use Rattle.run_file.proofs.Benches.{parsed_good}
+use Rattle.run_file.specs.BenchText.{parsed}
+use Rattle.run_file.specs.Parts.{BenchParts, BenchStream}
+use Rattle.run_file.specs.Refusals.{bench_of, unless_refused}
+use Rattle.run_file.specs.declared.fault.BenchWhy.{BenchWhy}
 use Rattle.etm_types.specs.Settings.{Sizes}
 use Rattle.etm_types.specs.SettingsTable.{IsTable}
 use Rattle.etm_types.specs.declared.context.Ctx.{Ctx}
@@ -22,11 +20,13 @@ use Rattle.path_text.specs.Lines.{in_base}
 use Rattle.program_image.proofs.Placed.{image_read}
 use Rattle.program_image.specs.ImageText.{image_of}
 use Rattle.program_image.specs.Part.{IsImage, Part}
+use Rattle.run_file.specs.declared.fault.BenchWhy.TheVariants.{Run}
+use Rattle.run_file.specs.declared.line.BenchLine.{BenchLine}
 use Rattle.spec_run.specs.declared.event.Event.{Event}
+use Rattle.capture_streams.specs.Laws.{lines_with}
+use Rattle.capture_streams.specs.Texts.{Printed, lines_under}
 use Rattle.spec_run.specs.declared.event.Event.TheVariants as event
 use Rattle.spec_run.specs.declared.run_fault.RunFault.TheVariants as fault
-use Rattle.stream_demux.specs.Laws.{lines_with}
-use Rattle.stream_demux.specs.Texts.{Printed, lines_under}
 use Rattle.trace_io.specs.Bytes.{TakesAll}
 use Rattle.trace_io.specs.State.{IoState}
 use Rattle.traced_runs.proofs.TracedExamples.{HasEnd, all_traces}

@@ -7,15 +7,15 @@ use Rattle.std.proofs.lemmas.Bool.{ne_eqb}
 use Rattle.std.proofs.lemmas.List.Elements.{All-head, All-tail}
 use Rattle.std.proofs.lemmas.List.Sums.{sum_by-append, sum_by-cons}
 use Rattle.std.proofs.lemmas.Result.{err_from_is_err_and}
-use Rattle.bench_text.specs.Parts.{BenchParts}
+use Rattle.capture_streams.specs.Laid.{frames_laid}
 use Rattle.etm_types.specs.SettingsTable.{sizes_at}
 use Rattle.formatter_frames.specs.Unframed.{begun_frame, unframed}
-use Rattle.stream_demux.specs.Laid.{frames_laid}
+use Rattle.run_file.specs.Parts.{BenchParts}
+use Rattle.capture_streams.proofs.AlonePaths.{each_is_a_line}
+use Rattle.capture_streams.specs.Paths.{paths}
+use Rattle.capture_streams.specs.Texts.{IsText, Printed, by_sizes, text_of}
 use Rattle.path_text.specs.Lines.{IsLine}
 use Rattle.program_image.specs.declared.image.Image.{Image}
-use Rattle.stream_demux.proofs.AlonePaths.{each_is_a_line}
-use Rattle.stream_demux.specs.Paths.{paths}
-use Rattle.stream_demux.specs.Texts.{IsText, Printed, by_sizes, text_of}
 use Rattle.traced_runs.proofs.SelftestTexts.{all_taken, none_failed}
 use Rattle.input_pieces.specs.Listed.{Completes, Listed, most_input}
 use Rattle.traced_runs.specs.Selftest.{HasLines, line_feeds}

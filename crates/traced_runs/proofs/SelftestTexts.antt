@@ -4,15 +4,15 @@ use Rattle.std.proofs.Common.{append-nil, length-append}
 use Rattle.std.proofs.lemmas.Bool.{lt-ltb}
 use Rattle.bench_gen.specs.Bench.{generated}
 use Rattle.bench_gen.specs.Texts.{Texts}
-use Rattle.bench_text.specs.BenchText.{parsed}
-use Rattle.bench_text.specs.Parts.{BenchParts}
-use Rattle.bench_text.specs.Refusals.{bench_of, most_text}
-use Rattle.bench_text.specs.declared.fault.BenchWhy.{BenchWhy}
-use Rattle.bench_text.specs.declared.fault.BenchWhy.TheVariants as why
+use Rattle.run_file.specs.BenchText.{parsed}
+use Rattle.run_file.specs.Parts.{BenchParts}
+use Rattle.run_file.specs.Refusals.{bench_of, most_text}
+use Rattle.run_file.specs.declared.fault.BenchWhy.{BenchWhy}
 use Rattle.program_image.proofs.TooLong.{too_long}
 use Rattle.program_image.specs.Answers.{TakesImage, TakesNoImage}
 use Rattle.program_image.specs.ImageText.{image_of, most_text as most_image_text}
 use Rattle.program_image.specs.declared.fault.ImageWhy.{ImageWhy}
+use Rattle.run_file.specs.declared.fault.BenchWhy.TheVariants as why
 use Rattle.program_image.specs.declared.fault.ImageWhy.TheVariants as image_why
 use Rattle.program_image.specs.declared.image.Image.{Image}
 use Rattle.retired_paths.proofs.RetiredStreams.{bench_accepted}

@@ -6,17 +6,17 @@ use Rattle.std.proofs.lemmas.List.Elements.{All-from_recursion, recursion_from_A
 use Rattle.a64_branches.specs.Classes.{class_of}
 use Rattle.atom_formats.specs.Bytes.{byte_of}
 use Rattle.atom_formats.specs.Formats.{atom_formats}
-use Rattle.bench_text.specs.Parts.{BenchParts, BenchStream, events_of}
+use Rattle.capture_streams.specs.Laws.{lines_with}
+use Rattle.capture_streams.specs.Paths.{paths}
+use Rattle.capture_streams.specs.Texts.{EndsOf, Listing, Printed, by_sizes, lines_under, of, sources, text_of}
 use Rattle.etm_types.proofs.Tables.{are_settings}
 use Rattle.etm_types.specs.Settings.{AreSettings, Sizes}
 use Rattle.etm_types.specs.SettingsTable.{IsTable, sizes_at}
 use Rattle.formatter_frames.specs.Unframed.{begun_frame, unframed}
 use Rattle.path_text.specs.Lines.{in_base}
 use Rattle.retired_paths.specs.Retired.{stream_text}
+use Rattle.run_file.specs.Parts.{BenchParts, BenchStream, events_of}
 use Rattle.spec_run.specs.declared.event.Event.TheVariants as event
-use Rattle.stream_demux.specs.Laws.{lines_with}
-use Rattle.stream_demux.specs.Paths.{paths}
-use Rattle.stream_demux.specs.Texts.{EndsOf, Listing, Printed, by_sizes, lines_under, of, sources, text_of}
 use Rattle.traced_runs.proofs.TracedExamples.{HasOwn, all_frames, all_traces, beginning, bench, frames_are, line, loop, of_five, once}
 use Rattle.traced_runs.proofs.TracedExamples.{sizes, stream, traces_are, user}
 use Rattle.traced_runs.specs.Traced.{IsTraceText, Suits, TracesAreShown, end_lines, is_of_one, trace_frames, trace_lines, traces}

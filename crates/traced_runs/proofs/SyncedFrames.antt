@@ -1,8 +1,8 @@
 -- Frames of traces stand again in what is written of them with synchronisation packets.
 use Rattle.std.proofs.Common.{◌≡◌, ℕ, ◌-◌, ◌*◌, ◌/◌, ◌%◌, ◌<◌, List, length, drop, Option, Some, None, refl, sym, ap, subst, ◌∙◌, arith}
-use Rattle.bench_text.specs.Parts.{BenchParts, IsBench}
 use Rattle.program_image.specs.Part.{IsImage}
 use Rattle.program_image.specs.declared.image.Image.{Image}
+use Rattle.run_file.specs.Parts.{BenchParts, IsBench}
 use Rattle.sync_frames.proofs.Written.{later_frames_back}
 use Rattle.sync_frames.specs.Synced.{synced_every}
 use Rattle.sync_frames.specs.Syncs.{unsynced}

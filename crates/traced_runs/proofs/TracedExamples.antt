@@ -5,18 +5,18 @@ use Rattle.std.specs.List.{concat}
 use Rattle.std.proofs.lemmas.List.Elements.{All-from_recursion, recursion_from_All}
 use Rattle.a64_branches.specs.Classes.{class_of}
 use Rattle.atom_formats.specs.Formats.{atom_formats}
-use Rattle.bench_text.specs.Parts.{BenchParts, BenchStream, events_of}
-use Rattle.bench_text.specs.declared.line.BenchLine.{BenchLine}
 use Rattle.etm_types.specs.Settings.{Sizes}
 use Rattle.etm_types.specs.SettingsTable.{sizes_at}
 use Rattle.etm_types.specs.declared.context.Ctx.{Ctx}
 use Rattle.formatter_frames.specs.Unframed.{unframed}
 use Rattle.path_text.specs.Lines.{in_base}
 use Rattle.program_image.specs.Part.{Part}
+use Rattle.run_file.specs.Parts.{BenchParts, BenchStream, events_of}
+use Rattle.run_file.specs.declared.line.BenchLine.{BenchLine}
 use Rattle.spec_run.specs.declared.event.Event.{Event}
+use Rattle.capture_streams.specs.Laws.{lines_with}
+use Rattle.capture_streams.specs.Texts.{Printed, lines_under, of, text_of}
 use Rattle.spec_run.specs.declared.event.Event.TheVariants as event
-use Rattle.stream_demux.specs.Laws.{lines_with}
-use Rattle.stream_demux.specs.Texts.{Printed, lines_under, of, text_of}
 use Rattle.retired_paths.specs.Retired.{stream_text}
 use Rattle.traced_runs.specs.Traced.{AreLast, ShowsTraces, Suits, end_lines, is_of_one, kept_frames, table_of, trace_frames, trace_lines, trace_pairs}
 use Rattle.traced_runs.specs.Traced.{traces, with_syncs}

@@ -10,16 +10,16 @@ use Rattle.etm_types.specs.declared.item.Item.{Item}
 use Rattle.packet_grammar.specs.Ends.{is_fault}
 use Rattle.packet_grammar.specs.Parsed.{Ending, SyncAt, no_sync}
 use Rattle.packet_grammar.specs.declared.end.End.{End}
+use Rattle.capture_streams.proofs.PathTexts.{one_path}
+use Rattle.capture_streams.specs.Laws.{PathPrinted, has_id, lines_with}
+use Rattle.capture_streams.specs.Paths.{PathEnds}
+use Rattle.capture_streams.specs.Texts.{BodyFrom, EndsOf, IsText, Listing, Printed, StreamEnds, lines_under, of, sources}
 use Rattle.packet_grammar.specs.declared.end.End.TheVariants as end
 use Rattle.packet_grammar.specs.declared.packet.Packet.{Packet}
 use Rattle.path_elements.specs.Path.{IsPath, IsPathOfPackets}
 use Rattle.path_text.specs.EndLines.{end_line}
 use Rattle.path_text.specs.PathLines.{line_list}
 use Rattle.program_image.specs.declared.image.Image.{Image}
-use Rattle.stream_demux.proofs.PathTexts.{one_path}
-use Rattle.stream_demux.specs.Laws.{PathPrinted, has_id, lines_with}
-use Rattle.stream_demux.specs.Paths.{PathEnds}
-use Rattle.stream_demux.specs.Texts.{BodyFrom, EndsOf, IsText, Listing, Printed, StreamEnds, lines_under, of, sources}
 
 -- ---- a path that ends clean is one of some bytes
 

@@ -7,18 +7,27 @@ use Rattle.std.proofs.lemmas.Bool.{eqb-true}
 use Rattle.std.proofs.lemmas.Bool.Decides.{leb_tells}
 use Rattle.std.proofs.lemmas.List.Elements.{All-append, All-cons, All-head, All-map, All-nil, All-replicate, All-tail}
 use Rattle.std.proofs.lemmas.List.Folds.{concat-append}
-use Rattle.bench_text.specs.Parts.{AreApart, BenchParts, BenchStream, IsBench, IsBenchStream, events_of, has_stream}
-use Rattle.bench_text.specs.Refusals.{refusal_among, stream_refusal}
 use Rattle.etm_types.specs.Id.{IsId}
 use Rattle.etm_types.specs.Settings.{AreSettings, Sizes}
 use Rattle.etm_types.specs.SettingsTable.{IsTable, sizes_at}
 use Rattle.etm_types.specs.declared.item.Item.{Item}
+use Rattle.run_file.specs.Parts.{AreApart, BenchParts, BenchStream, IsBench, IsBenchStream, events_of, has_stream}
+use Rattle.run_file.specs.Refusals.{refusal_among, stream_refusal}
 use Rattle.etm_types.proofs.Tables.{are_settings}
 use Rattle.formatter_frames.proofs.RoundTrip.{nothing_left, pairs_again}
 use Rattle.formatter_frames.specs.Unframed.{unframed}
 use Rattle.packet_grammar.specs.declared.end.End.TheVariants as end
 use Rattle.packet_grammar.specs.declared.packet.Packet.{Packet}
 use Rattle.path_elements.specs.Path.{IsPath}
+use Rattle.capture_streams.proofs.Alone.{others_have_none}
+use Rattle.capture_streams.proofs.AlonePaths.{path_is_alone}
+use Rattle.capture_streams.proofs.Bodies.{of-append, text_under}
+use Rattle.capture_streams.proofs.OtherSizes.{text_alike}
+use Rattle.capture_streams.proofs.Parted.{zeros_are_of_none}
+use Rattle.capture_streams.proofs.PathTexts.{one_text_of_paths, some_text_of_paths}
+use Rattle.capture_streams.specs.Laws.{HasByte, PathPrinted, lines_with}
+use Rattle.capture_streams.specs.Paths.{paths}
+use Rattle.capture_streams.specs.Texts.{Printed, by_sizes, lines_under, of, text_of}
 use Rattle.packet_writer.proofs.Having.{of_bytes}
 use Rattle.packet_writer.specs.Fitting.{HasSpelling}
 use Rattle.packet_writer.specs.Spelling.{spelling}
@@ -34,15 +43,6 @@ use Rattle.spec_run.specs.RunAfter.{AreEvents, run_after}
 use Rattle.spec_run.specs.Runs.{Execution}
 use Rattle.spec_run.specs.declared.event.Event.{Event}
 use Rattle.spec_run.specs.declared.run_fault.RunFault.{RunFault}
-use Rattle.stream_demux.proofs.Alone.{others_have_none}
-use Rattle.stream_demux.proofs.AlonePaths.{path_is_alone}
-use Rattle.stream_demux.proofs.Bodies.{of-append, text_under}
-use Rattle.stream_demux.proofs.OtherSizes.{text_alike}
-use Rattle.stream_demux.proofs.Parted.{zeros_are_of_none}
-use Rattle.stream_demux.proofs.PathTexts.{one_text_of_paths, some_text_of_paths}
-use Rattle.stream_demux.specs.Laws.{HasByte, PathPrinted, lines_with}
-use Rattle.stream_demux.specs.Paths.{paths}
-use Rattle.stream_demux.specs.Texts.{Printed, by_sizes, lines_under, of, text_of}
 use Rattle.retired_paths.proofs.RetiredStreams.{accepted_by, both_none, lines_are}
 use Rattle.traced_runs.proofs.TracedTables.{some_table_suits}
 use Rattle.traced_runs.proofs.TracedPaths.{EndsWell, clean_lines, ids_are, text_has, text_well}

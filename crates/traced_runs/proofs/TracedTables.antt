@@ -6,10 +6,10 @@ use Rattle.std.specs.Option.{option_map}
 use Rattle.std.proofs.lemmas.List.{get_or-set_other, get_or-set_same, length-set}
 use Rattle.std.proofs.lemmas.List.Elements.{All-cons, All-head, All-nil, All-set, All-tail}
 use Rattle.std.proofs.lemmas.Option.{unwrap_or-slice_get}
-use Rattle.bench_text.specs.Parts.{AreApart, BenchParts, BenchStream, IsBenchStream, has_stream}
 use Rattle.etm_types.specs.Id.{IsId}
 use Rattle.etm_types.specs.Settings.{AreSettings, Sizes, default_sizes}
 use Rattle.etm_types.specs.SettingsTable.{IsTable, no_sizes, sizes_at}
+use Rattle.run_file.specs.Parts.{AreApart, BenchParts, BenchStream, IsBenchStream, has_stream}
 use Rattle.etm_types.proofs.Tables.{all_alike}
 use Rattle.retired_paths.proofs.Refused.{dropped_next}
 use Rattle.traced_runs.specs.Traced.{SomeTableSuits, table_of, with_streams}

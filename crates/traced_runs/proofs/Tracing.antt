@@ -5,12 +5,12 @@ use Rattle.std.proofs.lemmas.List.{map-append}
 use Rattle.std.proofs.lemmas.List.Elements.{All-head, All-tail}
 use Rattle.std.specs.Option.{option_and_then}
 use Rattle.std.specs.Prelude.{All, slice_get}
-use Rattle.bench_text.specs.Parts.{BenchParts, BenchStream, IsBench, IsBenchLine, IsBenchStream, events_of}
-use Rattle.bench_text.specs.Refusals.{first_of, refusal_among, refused_line, stream_refusal}
-use Rattle.bench_text.specs.declared.line.BenchLine.{BenchLine}
 use Rattle.etm_types.specs.Settings.{Sizes}
 use Rattle.program_image.specs.Part.{IsImage}
 use Rattle.program_image.specs.declared.image.Image.{Image}
+use Rattle.run_file.specs.Parts.{BenchParts, BenchStream, IsBench, IsBenchLine, IsBenchStream, events_of}
+use Rattle.run_file.specs.Refusals.{first_of, refusal_among, refused_line, stream_refusal}
+use Rattle.run_file.specs.declared.line.BenchLine.{BenchLine}
 use Rattle.spec_run.proofs.OneEvent.{refused_behind}
 use Rattle.spec_run.specs.Checks.{check}
 use Rattle.spec_run.specs.RunAfter.{IsEvent, run_after}

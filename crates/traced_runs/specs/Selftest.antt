@@ -1,16 +1,16 @@
 -- What `selftest` prints of a number.
 use Rattle.std.specs.Prelude.{◌≡◌, ◌⊎◌, ℕ, ◌+◌, ◌%◌, ◌<◌, ◌≤◌, ◌==◌, Bool, List, [], length, take, count_by, Option, Some, None, Result, Ok, Err}
 use Rattle.bench_gen.specs.Bench.{generated}
-use Rattle.bench_text.specs.Parts.{BenchParts}
-use Rattle.bench_text.specs.Refusals.{bench_of}
-use Rattle.bench_text.specs.declared.fault.BenchWhy.{BenchWhy}
+use Rattle.capture_streams.specs.Paths.{paths}
+use Rattle.capture_streams.specs.Texts.{IsText, Printed, by_sizes}
 use Rattle.etm_types.specs.SettingsTable.{sizes_at}
 use Rattle.formatter_frames.specs.Unframed.{begun_frame, unframed}
 use Rattle.program_image.specs.ImageText.{image_of}
 use Rattle.program_image.specs.declared.fault.ImageWhy.{ImageWhy}
 use Rattle.program_image.specs.declared.image.Image.{Image}
-use Rattle.stream_demux.specs.Paths.{paths}
-use Rattle.stream_demux.specs.Texts.{IsText, Printed, by_sizes}
+use Rattle.run_file.specs.Parts.{BenchParts}
+use Rattle.run_file.specs.Refusals.{bench_of}
+use Rattle.run_file.specs.declared.fault.BenchWhy.{BenchWhy}
 use Rattle.answer_lines.specs.ImageLine.{image_line}
 use Rattle.input_pieces.specs.Listed.{most_input}
 use Rattle.answer_lines.specs.Prints.{Prints, PrintsFront}

@@ -2,9 +2,10 @@
 use Rattle.std.specs.Prelude.{◌≡◌, ℕ, ◌-◌, ◌≤◌, Bool, true, false, All, List, [], ◌∷◌, ◌++◌, length, drop, map, replicate, slice_set}
 use Rattle.std.specs.Prelude.{◌⊎◌, IfOk, Option, Some, None, Result, Ok}
 use Rattle.std.specs.List.{concat}
-use Rattle.bench_text.specs.declared.line.Weave.{Weave}
-use Rattle.bench_text.specs.Parts.{BenchParts, BenchStream, IsBench, events_of, has_stream}
-use Rattle.bench_text.specs.Refusals.{bench_of, refusal_among}
+use Rattle.run_file.specs.declared.line.Weave.{Weave}
+use Rattle.capture_streams.specs.Laws.{lines_with}
+use Rattle.capture_streams.specs.Paths.{paths}
+use Rattle.capture_streams.specs.Texts.{IsText, Printed, by_sizes, lines_under, of, text_of}
 use Rattle.etm_types.specs.Settings.{Sizes, default_sizes}
 use Rattle.etm_types.specs.SettingsTable.{IsTable, sizes_at}
 use Rattle.formatter_frames.specs.Framed.{framed}
@@ -14,11 +15,10 @@ use Rattle.path_text.specs.EndLines.{end_line}
 use Rattle.path_text.specs.PathLines.{line_list}
 use Rattle.path_text.specs.Writing.{Writes}
 use Rattle.program_image.specs.declared.image.Image.{Image}
+use Rattle.run_file.specs.Parts.{BenchParts, BenchStream, IsBench, events_of, has_stream}
+use Rattle.run_file.specs.Refusals.{bench_of, refusal_among}
 use Rattle.spec_run.specs.RunAfter.{run_after}
 use Rattle.spec_run.specs.declared.event.Event.{Event}
-use Rattle.stream_demux.specs.Laws.{lines_with}
-use Rattle.stream_demux.specs.Paths.{paths}
-use Rattle.stream_demux.specs.Texts.{IsText, Printed, by_sizes, lines_under, of, text_of}
 use Rattle.retired_paths.specs.Retired.{RunsSo, items_after, stream_text}
 use Rattle.sync_frames.specs.Synced.{synced_every}
 use Rattle.woven_traces.specs.Woven.{woven}

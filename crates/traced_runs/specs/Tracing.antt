@@ -1,8 +1,8 @@
 -- What stands while the streams of a run file are traced.
 use Rattle.std.specs.Prelude.{◌≡◌, ℕ, List, Option, Some}
-use Rattle.bench_text.specs.declared.fault.BenchWhy.{BenchWhy}
-use Rattle.bench_text.specs.declared.fault.BenchWhy.TheVariants.{Run}
+use Rattle.run_file.specs.declared.fault.BenchWhy.{BenchWhy}
 use Rattle.program_image.specs.declared.image.Image.{Image}
+use Rattle.run_file.specs.declared.fault.BenchWhy.TheVariants.{Run}
 use Rattle.spec_run.specs.declared.event.Event.{Event}
 use Rattle.spec_run.specs.declared.run_fault.RunFault.{RunFault}
 use Rattle.trace_unit.specs.Kept.{Kept, StandsAt}

@@ -1,7 +1,7 @@
 //! What holds of what is traced.
-ghost use Rattle.bench_text.specs.Parts.{BenchParts, IsBench};
 ghost use Rattle.program_image.specs.Part.{IsImage};
 ghost use Rattle.program_image.specs.declared.image.Image.{Image};
+ghost use Rattle.run_file.specs.Parts.{BenchParts, IsBench};
 ghost use Rattle.std.specs.Prelude.{◌≡◌, ◌<◌, ℕ, Option, Some};
 ghost use Rattle.sync_frames.specs.Syncs.{unsynced};
 ghost use Rattle.traced_runs.specs.Traced.{AreAccepted, NoEventNoLine, SomeTableSuits, TracesAreShown, kept_frames, trace_frames, with_syncs};

@@ -2,13 +2,13 @@
 //! of their paths are counted. It tries both ends on a machine without a file.
 ghost use Rattle.std.specs.Prelude.{◌≡◌, ◌≢◌, ◌≤◌, ◌<◌, ℕ, List, IfOk, None, Ok, Err, length, Some};
 ghost use Rattle.bench_gen.specs.Bench.{generated};
-ghost use Rattle.bench_text.specs.Parts.{BenchParts, IsBench};
-ghost use Rattle.bench_text.specs.Refusals.{bench_of, most_text, refusal_among};
-ghost use Rattle.bench_text.specs.BenchText.{parsed};
+ghost use Rattle.run_file.specs.Parts.{BenchParts, IsBench};
+ghost use Rattle.run_file.specs.Refusals.{bench_of, most_text, refusal_among};
+ghost use Rattle.capture_streams.specs.Texts.{Printed};
 ghost use Rattle.program_image.specs.ImageText.{image_of};
 ghost use Rattle.program_image.specs.Part.{IsImage};
 ghost use Rattle.program_image.specs.declared.image.Image.{Image as Parts};
-ghost use Rattle.stream_demux.specs.Texts.{Printed};
+ghost use Rattle.run_file.specs.BenchText.{parsed};
 ghost use Rattle.input_pieces.specs.Listed.{most_input};
 ghost use Rattle.traced_runs.specs.Selftest.{AreGood, HasLines, IsTooLong, TestsSo, kept_of, line_feeds, piece_of};
 ghost use Rattle.traced_runs.specs.Traced.{table_of, trace_frames};
@@ -17,14 +17,14 @@ ghost use Rattle.trace_io.specs.Calls.{Serves};
 use crate::traced::{Untraced, traced_streams, woven_frames};
 use answer_lines::{Status, write_image_bad, write_summary};
 use bench_gen::{Generated, generate};
-use bench_text::{Bench, BenchWhy};
+use capture_streams::Demux;
 use etm_types::{Settings, SettingsTable};
 use input_pieces::{MOST_INPUT, print_input};
 use program_image::{Image, ImageFault, ImageWhy};
 use retired_paths::{Unread, read_bench, refuse};
+use run_file::{Bench, BenchWhy};
 use std::alloc::{AllocError, Global};
 use stream_decoder::StreamDecoder;
-use stream_demux::Demux;
 use trace_io::{Failed, MemSink, SafeSource, Sink};
 
 /// The most bytes of a text that are read at once.

@@ -3,11 +3,11 @@
 //! Nothing is written before the last stream is traced, so that a run file that is bad, or want of memory, leaves no frame. Where only
 //! the last frames are wanted, or synchronisation packets among them, all frames are woven in memory first.
 ghost use Rattle.std.specs.Prelude.{◌≡◌, ◌⊎◌, ℕ, ◌+◌, ◌%◌, ◌≤◌, ◌<◌, List, [], length, None, Some, Ok, Err, IsOk, IfOk, IfSome, slice_get};
-ghost use Rattle.bench_text.specs.Parts.{BenchStream, IsBench, events_of};
-ghost use Rattle.bench_text.specs.Refusals.{most_text, refusal_among, stream_refusal};
 ghost use Rattle.formatter_frames.specs.Framed.{framed};
 ghost use Rattle.formatter_frames.specs.Sizes.{frame_bytes};
 ghost use Rattle.path_text.specs.Writing.{Writes};
+ghost use Rattle.run_file.specs.Parts.{BenchStream, IsBench, events_of};
+ghost use Rattle.run_file.specs.Refusals.{most_text, refusal_among, stream_refusal};
 ghost use Rattle.spec_run.specs.RunAfter.{IsEvent};
 ghost use Rattle.spec_run.specs.declared.run_fault.RunFault.{RunFault as Refusal};
 ghost use Rattle.retired_paths.specs.Retiring.{RefusesLine, events_with};
@@ -21,11 +21,11 @@ ghost use Rattle.trace_io.specs.Calls.{Serves, Lasts};
 ghost use Rattle.trace_unit.specs.Written.{settled};
 
 use answer_lines::Status;
-use bench_text::{Bench, BenchLine, BenchWhy};
 use formatter_frames::FRAME_BYTES;
 use program_image::Image;
 use retired_paths::{Unread, read_bench, refuse};
 use ring_capture::last_frames;
+use run_file::{Bench, BenchLine, BenchWhy};
 use spec_run::{Event, RunFault};
 use std::alloc::{AllocError, Global};
 use sync_frames::write_synced;

@@ -1,8 +1,8 @@
 -- Weaves that were worked out by hand, beside what a wrong rule would weave.
 use Rattle.std.proofs.Common.{◌≡◌, ℕ, false, true, List, [], ◌∷◌, length, refl, ap, arith}
 use Rattle.std.specs.Prelude.{get_or}
-use Rattle.bench_text.specs.declared.line.Weave.{Weave}
-use Rattle.stream_demux.specs.Texts.{of}
+use Rattle.capture_streams.specs.Texts.{of}
+use Rattle.run_file.specs.declared.line.Weave.{Weave}
 use Rattle.woven_traces.specs.Woven.{has_id, woven}
 
 abbrev take_of : ℕ → ℕ → Weave

@@ -6,7 +6,7 @@ use Rattle.std.specs.List.{position_or_len}
 use Rattle.std.proofs.lemmas.Bool.{eqb-true, ltb-false, ltb-true}
 use Rattle.std.proofs.lemmas.List.{drop_all, drop_more, take_all}
 use Rattle.std.proofs.lemmas.Option.{get_or_from_slice_get, slice_get_cases, slice_get_within}
-use Rattle.bench_text.specs.declared.line.Weave.{Weave}
+use Rattle.run_file.specs.declared.line.Weave.{Weave}
 use Rattle.woven_traces.proofs.WovenWhole.{neither, next_none}
 use Rattle.woven_traces.specs.Weaving.{all_left, is_of, left_of}
 use Rattle.woven_traces.specs.Woven.{has_id, in_a_row, left_behind, next_of, under, woven}

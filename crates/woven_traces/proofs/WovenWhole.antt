@@ -6,10 +6,10 @@ use Rattle.std.proofs.lemmas.Bool.{eq-eqb, eqb-false, eqb-true}
 use Rattle.std.proofs.lemmas.Bool.Decides.{eqb_tells}
 use Rattle.std.proofs.lemmas.List.{take-append-drop}
 use Rattle.std.proofs.lemmas.List.Elements.{All-append, All-cons, All-drop, All-head, All-map, All-nil, All-tail, All-take, All-weaker}
-use Rattle.bench_text.specs.declared.line.Weave.{Weave}
-use Rattle.stream_demux.proofs.Bodies.{of-append}
-use Rattle.stream_demux.proofs.Parted.{of_others}
-use Rattle.stream_demux.specs.Texts.{of}
+use Rattle.capture_streams.proofs.Bodies.{of-append}
+use Rattle.capture_streams.proofs.Parted.{of_others}
+use Rattle.capture_streams.specs.Texts.{of}
+use Rattle.run_file.specs.declared.line.Weave.{Weave}
 use Rattle.woven_traces.specs.Woven.{AreApart, OthersHaveNoByte, WovenAlone, WovenBytes, WovenWhole, has_id, in_a_row, left_behind, next_of, under, woven}
 
 -- ---- tests

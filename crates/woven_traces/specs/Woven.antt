@@ -1,8 +1,8 @@
 -- The order in which the bytes of several streams go into one trace. That is this project's own choice.
 use Rattle.std.specs.Prelude.{◌≡◌, ℕ, ◌==◌, ◌<◌, Bool, true, false, if◌then◌else◌, All, List, [], ◌∷◌, ◌++◌, drop, map, take, ⊤}
 use Rattle.std.specs.List.{flat_map, list_any}
-use Rattle.bench_text.specs.declared.line.Weave.{Weave}
-use Rattle.stream_demux.specs.Texts.{of}
+use Rattle.capture_streams.specs.Texts.{of}
+use Rattle.run_file.specs.declared.line.Weave.{Weave}
 
 -- bytes of a stream, each with its ID
 abbrev pub under : ℕ → List ℕ → List (ℕ × ℕ)

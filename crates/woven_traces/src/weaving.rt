@@ -6,9 +6,9 @@ ghost use Rattle.woven_traces.specs.Weaving.{IsWeaving, Weaves, all_left, is_of,
 ghost use Rattle.woven_traces.specs.Woven.{in_a_row, left_behind, next_of, under, woven};
 ghost use Rattle.trace_io.specs.State.{IoState};
 
-use bench_text::{Bench, Weave};
 use etm_types::Id;
 use formatter_frames::FrameWriter;
+use run_file::{Bench, Weave};
 use trace_io::{Failed, Sink};
 
 /// The trace of a stream, and how many of its bytes are woven.

@@ -1,8 +1,8 @@
 use Rattle.std.proofs.Common.{subst}
 use Rattle.input_pieces.specs.Reading.{TookUpTo}
 use Rattle.input_pieces.specs.Listed.{Listed}
+use Rattle.capture_streams.proofs.Standing.{by_err}
 use Rattle.input_pieces.proofs.Pieces.{closed, closes_by, read_failed, read_failed_cut, sums_by, too_long_cut, was_too_long}
-use Rattle.stream_demux.proofs.Standing.{by_err}
 use Rattle.input_pieces.proofs.input.print_input.Goals as goal
 
 pub returns-in-Ok-End-clause-answer : goal.returns-in-Ok-End-clause-answer

@@ -1,7 +1,7 @@
 use Rattle.std.proofs.Common.{◌≡◌, ◌++◌, length, take, length-append, refl, sym, subst, ◌∙◌, arith}
 use Rattle.std.proofs.KnownBytes.{Consumes-trans}
 use Rattle.std.proofs.lemmas.List.{length-take-le}
-use Rattle.stream_demux.proofs.Standing.{by_err}
+use Rattle.capture_streams.proofs.Standing.{by_err}
 use Rattle.input_pieces.specs.Reading.{StopsSo, Took}
 use Rattle.input_pieces.proofs.Interrupts.{cut_within}
 use Rattle.input_pieces.proofs.Pieces.{body_printed, gains_by, piece_gained, stop_kept}

@@ -1,6 +1,6 @@
 use Rattle.std.proofs.Common.{◌≡◌, ◌-◌, ◌≤◌, [], List, ℕ, length, false}
+use Rattle.capture_streams.proofs.Writing.{Gained}
 use Rattle.etm_types.specs.Settings.{Sizes}
-use Rattle.stream_demux.proofs.Writing.{Gained}
 use Rattle.input_pieces.specs.Listed.{Takes, most_input}
 use Rattle.input_pieces.proofs.input.take_input.Given as goal
 use Rattle.trace_io.specs.Bytes.{ShowsAsBefore}

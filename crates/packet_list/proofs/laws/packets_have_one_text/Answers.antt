@@ -1,6 +1,6 @@
+use Rattle.capture_streams.specs.Demuxed.{raw_pairs}
 use Rattle.formatter_frames.specs.Unframed.{unframed}
-use Rattle.stream_demux.specs.Demuxed.{raw_pairs}
-use Rattle.stream_demux.proofs.Parted.{frames_carry_on, raw_carries_on}
+use Rattle.capture_streams.proofs.Parted.{frames_carry_on, raw_carries_on}
 use Rattle.packet_list.proofs.PacketTexts.{each_packet_is_a_line, fronts_of_packets_begin, one_text_of_packets, packets_are_alone, some_text_of_packets}
 use Rattle.packet_list.proofs.laws.packets_have_one_text.Goals as goal
 

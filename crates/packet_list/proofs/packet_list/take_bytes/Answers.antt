@@ -1,11 +1,11 @@
 use Rattle.std.proofs.Common.{◌≡◌, ℕ, List, Ok, inl, inr, refl, sym, ap, subst, ◌∙◌, arith}
 use Rattle.std.specs.List.{concat}
+use Rattle.capture_streams.proofs.Standing.{by_err}
+use Rattle.capture_streams.specs.Streams.{RunAdds}
 use Rattle.packet_reader.specs.Answered.{told}
 use Rattle.packet_reader.specs.Stands.{Standing, StandsAt}
 use Rattle.path_text.proofs.Wrote.{wrote_by}
 use Rattle.path_text.specs.PacketLines.{packet_line}
-use Rattle.stream_demux.proofs.Standing.{by_err}
-use Rattle.stream_demux.specs.Streams.{RunAdds}
 use Rattle.packet_list.proofs.PacketLists.{has_text}
 use Rattle.packet_list.proofs.PacketRuns.{Along, along_adds, along_first, along_read, along_reads, front_between, front_fails, front_more, front_reads}
 use Rattle.packet_list.proofs.PacketRuns.{small_bytes, some_is_not_none, step_between, step_fails, step_more, step_reads}

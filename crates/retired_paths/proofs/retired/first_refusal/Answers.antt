@@ -1,5 +1,5 @@
 use Rattle.std.proofs.Common.{◌+◌, ◌<◌, [], length, arith, drop, subst, sym, ◌∙◌}
-use Rattle.bench_text.specs.Refusals.{refusal_among, stream_refusal}
+use Rattle.run_file.specs.Refusals.{refusal_among, stream_refusal}
 use Rattle.spec_run.specs.Stands.{StandsAt}
 use Rattle.retired_paths.proofs.Refused.{among_next, there_is, bad_line_none, bad_line_some, settings_found}
 use Rattle.retired_paths.proofs.retired.first_refusal.Goals as goal

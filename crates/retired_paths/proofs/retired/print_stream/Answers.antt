@@ -2,10 +2,10 @@ use Rattle.std.proofs.Common.{arith, sym, take, ◌∙◌}
 use Rattle.std.proofs.lemmas.Option.{slice_get_within}
 use Rattle.std.proofs.lemmas.Result.{err_from_is_err_and}
 use Rattle.std.specs.Prelude.{slice_get}
-use Rattle.bench_text.specs.Parts.{events_of}
 use Rattle.retired_paths.proofs.Refused.{looked_up, some_line}
 use Rattle.retired_paths.proofs.RetiredStreams.{can_line, id_found, line_fails, line_more, stream_done, whole_stream}
 use Rattle.retired_paths.proofs.retired.print_stream.Goals as goal
+use Rattle.run_file.specs.Parts.{events_of}
 
 pub print_line-requires : goal.print_line-requires
 print_line-requires g c =

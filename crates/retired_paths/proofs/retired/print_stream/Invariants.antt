@@ -1,9 +1,9 @@
 use Rattle.std.proofs.Common.{◌≡◌, ◌-◌, [], Some, length, take}
 use Rattle.std.specs.Prelude.{slice_get}
-use Rattle.bench_text.specs.Parts.{BenchStream, events_of}
 use Rattle.retired_paths.proofs.Refused.{lines_in}
 use Rattle.retired_paths.proofs.RetiredEvents.{Printed}
 use Rattle.retired_paths.specs.Retiring.{CanGoOn}
+use Rattle.run_file.specs.Parts.{BenchStream, events_of}
 use Rattle.retired_paths.proofs.retired.print_stream.Given as goal
 
 abbrev pub invariant-loop-line : goal.invariant-loop-line

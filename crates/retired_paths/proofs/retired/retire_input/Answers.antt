@@ -1,8 +1,8 @@
 use Rattle.std.proofs.Common.{inl, sym}
 use Rattle.std.proofs.lemmas.Result.{err_from_is_err_and}
-use Rattle.bench_text.specs.declared.fault.BenchWhy.TheVariants.{Run}
 use Rattle.retired_paths.proofs.RetiredStreams.{bad_bench, refuses_so, retired_so}
 use Rattle.retired_paths.specs.Retired.{retired_text}
+use Rattle.run_file.specs.declared.fault.BenchWhy.TheVariants.{Run}
 use Rattle.retired_paths.proofs.retired.retire_input.Goals as goal
 
 pub returns-in-Some-clause-answer : goal.returns-in-Some-clause-answer

@@ -1,8 +1,8 @@
 use Rattle.std.proofs.Common.{ap, arith, refl, subst, sym, take, ◌∙◌}
 use Rattle.std.proofs.lemmas.Option.{slice_get_within}
 use Rattle.std.specs.Prelude.{slice_get}
-use Rattle.bench_text.specs.Parts.{events_of}
-use Rattle.bench_text.specs.Refusals.{refused_line}
+use Rattle.run_file.specs.Parts.{events_of}
+use Rattle.run_file.specs.Refusals.{refused_line}
 use Rattle.spec_run.specs.Stands.{StandsAt}
 use Rattle.retired_paths.proofs.Refused.{all_lines, events_next, looked_up, refused_there, some_line}
 use Rattle.retired_paths.proofs.retired.stream_refusal.Goals as goal

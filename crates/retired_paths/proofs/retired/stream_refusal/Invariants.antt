@@ -1,6 +1,6 @@
 use Rattle.std.proofs.Common.{◌≡◌, ◌-◌, [], Some, length, take}
 use Rattle.std.specs.Prelude.{slice_get}
-use Rattle.bench_text.specs.Parts.{BenchStream, events_of}
+use Rattle.run_file.specs.Parts.{BenchStream, events_of}
 use Rattle.spec_run.specs.Stands.{StandsAt}
 use Rattle.retired_paths.proofs.Refused.{lines_in}
 use Rattle.retired_paths.proofs.retired.stream_refusal.Given as goal

@@ -1,6 +1,6 @@
 use Rattle.std.proofs.Common.{◌∷◌, []}
-use Rattle.stream_demux.specs.Texts.{by_sizes}
-use Rattle.stream_demux.proofs.Writing.{all_gained}
+use Rattle.capture_streams.specs.Texts.{by_sizes}
+use Rattle.capture_streams.proofs.Writing.{all_gained}
 use Rattle.ring_capture.specs.Laid.{later_pairs}
 use Rattle.ring_capture.proofs.GivenFrames.{none_gained}
 use Rattle.ring_capture.proofs.wrapped.take_byte.Goals as goal

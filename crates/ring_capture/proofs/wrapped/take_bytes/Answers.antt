@@ -1,8 +1,8 @@
 use Rattle.std.proofs.Common.{◌≡◌, ◌+◌, ◌∷◌, [], ◌++◌, Ok, Err, take, drop, slice_index_or, refl, sym, ap, subst, ◌∙◌, arith, append_assoc}
 use Rattle.std.proofs.lemmas.List.{take_all, take-append-drop}
-use Rattle.stream_demux.specs.Demuxed.{Gains}
-use Rattle.stream_demux.specs.Texts.{by_sizes}
-use Rattle.stream_demux.proofs.Writing.{Gained, all_gained, gain_fails, gained_more}
+use Rattle.capture_streams.specs.Demuxed.{Gains}
+use Rattle.capture_streams.specs.Texts.{by_sizes}
+use Rattle.capture_streams.proofs.Writing.{Gained, all_gained, gain_fails, gained_more}
 use Rattle.trace_io.specs.declared.traits.Failed.{Failed}
 use Rattle.ring_capture.specs.Laid.{later_pairs}
 use Rattle.ring_capture.specs.Wrapped.{HaveTaken}

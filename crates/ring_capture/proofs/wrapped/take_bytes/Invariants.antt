@@ -1,7 +1,7 @@
 use Rattle.std.proofs.Common.{◌≡◌, ◌+◌, ◌-◌, ◌≤◌, ℕ, List, ◌++◌, length, take, false}
+use Rattle.capture_streams.specs.Texts.{by_sizes}
 use Rattle.etm_types.specs.Settings.{Sizes}
-use Rattle.stream_demux.specs.Texts.{by_sizes}
-use Rattle.stream_demux.proofs.Writing.{Gained}
+use Rattle.capture_streams.proofs.Writing.{Gained}
 use Rattle.trace_io.specs.Bytes.{ShowsAsBefore}
 use Rattle.trace_io.specs.Causes.{KeepsFaults}
 use Rattle.ring_capture.specs.Laid.{later_pairs}

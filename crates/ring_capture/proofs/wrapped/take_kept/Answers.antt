@@ -1,11 +1,11 @@
 use Rattle.std.proofs.Common.{◌≡◌, ◌+◌, ◌*◌, ◌++◌, Err, length, take, drop, refl, sym, ap, subst, ◌∙◌, arith, append_assoc}
 use Rattle.std.proofs.lemmas.List.{length-drop, length-take-le}
+use Rattle.capture_streams.specs.Demuxed.{Gains, StandsAt}
+use Rattle.capture_streams.specs.Texts.{by_sizes}
 use Rattle.formatter_frames.proofs.Going.{more_pairs}
 use Rattle.formatter_frames.specs.Symbols.{pairs_of}
 use Rattle.formatter_frames.specs.Unframed.{begun_frame, id_after_frames, symbols_of_frames, unframed}
-use Rattle.stream_demux.specs.Demuxed.{Gains, StandsAt}
-use Rattle.stream_demux.specs.Texts.{by_sizes}
-use Rattle.stream_demux.proofs.Writing.{Gained, gain_fails, gained_more}
+use Rattle.capture_streams.proofs.Writing.{Gained, gain_fails, gained_more}
 use Rattle.ring_capture.specs.Rotated.{first_frames, later_frames}
 use Rattle.ring_capture.proofs.KeptFrames.{all_behind, frame_there, next_frame, none_there, not_true, rest_behind, then_gains}
 use Rattle.ring_capture.proofs.wrapped.take_kept.Goals as goal

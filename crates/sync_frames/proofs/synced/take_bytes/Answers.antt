@@ -1,9 +1,9 @@
 use Rattle.std.proofs.Common.{◌≡◌, ◌+◌, ◌-◌, ◌++◌, Err, Result, length, take, drop, refl, sym, ap, subst, ◌∙◌, arith, append_assoc}
 use Rattle.std.specs.Prelude.{IsOk, OnOk}
 use Rattle.std.proofs.lemmas.List.{length-drop, length-take-le, take_all, take-append-drop}
-use Rattle.stream_demux.specs.Demuxed.{Gains}
-use Rattle.stream_demux.specs.Texts.{by_sizes}
-use Rattle.stream_demux.proofs.Writing.{Gained, all_gained, front_behind, gain_fails, gained_more}
+use Rattle.capture_streams.specs.Demuxed.{Gains}
+use Rattle.capture_streams.specs.Texts.{by_sizes}
+use Rattle.capture_streams.proofs.Writing.{Gained, all_gained, front_behind, gain_fails, gained_more}
 use Rattle.sync_frames.specs.Laid.{synced_grows, synced_pairs}
 use Rattle.sync_frames.specs.Synchronised.{HaveTaken}
 use Rattle.sync_frames.proofs.synced.take_bytes.Goals as goal

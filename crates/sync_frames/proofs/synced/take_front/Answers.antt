@@ -1,5 +1,5 @@
 use Rattle.std.proofs.Common.{◌++◌, take, arith}
-use Rattle.stream_demux.specs.Texts.{by_sizes}
+use Rattle.capture_streams.specs.Texts.{by_sizes}
 use Rattle.sync_frames.proofs.Taking.{byte_stands, gains_of}
 use Rattle.sync_frames.proofs.synced.take_front.Goals as goal
 

@@ -1,6 +1,6 @@
+use Rattle.capture_streams.specs.Demuxed.{raw_pairs}
 use Rattle.formatter_frames.specs.Unframed.{unframed}
-use Rattle.stream_demux.specs.Demuxed.{raw_pairs}
-use Rattle.stream_demux.proofs.Parted.{frames_carry_on, raw_carries_on}
+use Rattle.capture_streams.proofs.Parted.{frames_carry_on, raw_carries_on}
 use Rattle.time_marks.proofs.Texts.{each_time_is_a_line, fronts_of_times_begin, one_text_of_times, some_text_of_times, times_are_alone}
 use Rattle.time_marks.proofs.laws.times_have_one_text.Goals as goal
 

@@ -1,7 +1,7 @@
 use Rattle.std.proofs.Common.{◌≡◌, ◌++◌, Result, Ok, Err, ap, subst, ◌∙◌, arith}
 use Rattle.std.specs.List.{concat}
+use Rattle.capture_streams.proofs.Standing.{by_err}
 use Rattle.path_text.specs.Writing.{Writes}
-use Rattle.stream_demux.proofs.Standing.{by_err}
 use Rattle.time_marks.proofs.Going.{committed_fails, committed_more}
 use Rattle.time_marks.proofs.Steps.{less_more, shown_more}
 use Rattle.time_marks.specs.Marked.{Marked, less, out_first}

@@ -1,6 +1,6 @@
 use Rattle.std.proofs.Common.{Ok, refl, ap, subst}
 use Rattle.std.specs.Option.{option_and_then}
-use Rattle.stream_demux.proofs.Standing.{by_err}
+use Rattle.capture_streams.proofs.Standing.{by_err}
 use Rattle.trace_cmd.specs.Answers.{AnswersSo, call}
 use Rattle.command_words.specs.Said.{said_program}
 use Rattle.command_words.specs.Words.{program_of}

@@ -1,6 +1,6 @@
 use Rattle.std.proofs.Common.{◌≡◌, ℕ, Err, sym, ap, ◌∙◌}
-use Rattle.bench_text.specs.Refusals.{bench_of}
-use Rattle.bench_text.specs.declared.fault.BenchWhy.{BenchWhy}
+use Rattle.run_file.specs.Refusals.{bench_of}
+use Rattle.run_file.specs.declared.fault.BenchWhy.{BenchWhy}
 use Rattle.traced_runs.proofs.SelftestTexts.{no_bench_read}
 use Rattle.traced_runs.proofs.selftest.bench_in.Goals as goal
 

@@ -1,9 +1,9 @@
 use Rattle.std.proofs.Common.{◌≤◌, List, ℕ, length, Ok, ap, subst, sym, ◌∙◌}
+use Rattle.capture_streams.specs.Laid.{frames_laid}
+use Rattle.capture_streams.specs.Paths.{paths}
+use Rattle.capture_streams.specs.Texts.{by_sizes}
 use Rattle.etm_types.specs.Settings.{Sizes}
 use Rattle.etm_types.specs.SettingsTable.{sizes_at}
-use Rattle.stream_demux.specs.Laid.{frames_laid}
-use Rattle.stream_demux.specs.Paths.{paths}
-use Rattle.stream_demux.specs.Texts.{by_sizes}
 use Rattle.traced_runs.proofs.SelftestLines.{Counts, lines_counted}
 use Rattle.input_pieces.specs.Listed.{Listed, most_input}
 use Rattle.traced_runs.specs.Selftest.{line_feeds}

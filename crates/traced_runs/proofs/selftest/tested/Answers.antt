@@ -1,10 +1,10 @@
 use Rattle.std.proofs.Common.{◌≡◌, ◌≤◌, ℕ, List, length, ap, arith, subst, sym, ◌∙◌}
 use Rattle.std.proofs.lemmas.Result.{IfOk-weaker}
-use Rattle.bench_text.specs.BenchText.{parsed}
-use Rattle.bench_text.specs.Parts.{BenchParts}
-use Rattle.bench_text.specs.Refusals.{most_text}
 use Rattle.program_image.specs.ImageText.{image_of}
 use Rattle.program_image.specs.declared.image.Image.{Image}
+use Rattle.run_file.specs.BenchText.{parsed}
+use Rattle.run_file.specs.Parts.{BenchParts}
+use Rattle.run_file.specs.Refusals.{most_text}
 use Rattle.traced_runs.proofs.SelftestLines.{Counts, kept_ok}
 use Rattle.traced_runs.proofs.SelftestTexts.{are_good}
 use Rattle.input_pieces.specs.Listed.{most_input}

@@ -1,9 +1,9 @@
 use Rattle.std.proofs.Common.{◌≡◌, Err, ap, arith, refl, subst, sym, take, ◌∙◌}
 use Rattle.std.proofs.lemmas.Option.{slice_get_within}
 use Rattle.std.specs.Prelude.{slice_get}
-use Rattle.bench_text.specs.Parts.{events_of}
 use Rattle.etm_types.specs.Settings.{Sizes}
 use Rattle.retired_paths.proofs.Refused.{events_next, looked_up, refused_there, some_line}
+use Rattle.run_file.specs.Parts.{events_of}
 use Rattle.traced_runs.proofs.Tracing.{all_traced, line_is}
 use Rattle.retired_paths.specs.Retiring.{RefusesLine}
 use Rattle.traced_runs.specs.Tracing.{IsTracing, refused_at}

@@ -1,7 +1,7 @@
 use Rattle.std.proofs.Common.{◌≡◌, ◌-◌, [], Some, length, take}
 use Rattle.std.specs.Prelude.{slice_get}
-use Rattle.bench_text.specs.Parts.{BenchStream, events_of}
 use Rattle.retired_paths.proofs.Refused.{lines_in}
+use Rattle.run_file.specs.Parts.{BenchStream, events_of}
 use Rattle.traced_runs.specs.Tracing.{IsTracing}
 use Rattle.traced_runs.proofs.traced.trace_lines.Given as goal
 

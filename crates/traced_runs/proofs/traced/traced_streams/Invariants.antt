@@ -1,5 +1,5 @@
 use Rattle.std.proofs.Common.{◌≡◌, drop, take}
-use Rattle.bench_text.specs.Refusals.{refusal_among}
+use Rattle.run_file.specs.Refusals.{refusal_among}
 use Rattle.traced_runs.proofs.Tracing.{traces_of}
 use Rattle.woven_traces.specs.Weaving.{all_left}
 use Rattle.traced_runs.proofs.traced.traced_streams.Given as goal

@@ -1,7 +1,7 @@
 use Rattle.std.proofs.Common.{◌≡◌, List, sym, subst, ◌∙◌}
+use Rattle.capture_streams.specs.Texts.{Printed, StreamEnds, text_of}
 use Rattle.stream_decoder.specs.Decoding.{Decoding}
 use Rattle.stream_decoder.specs.Follows.{CameTo}
-use Rattle.stream_demux.specs.Texts.{Printed, StreamEnds, text_of}
 use Rattle.std.specs.Prelude.{Bool, IfOk, not}
 use Rattle.path_text.specs.Writing.{Writes}
 use Rattle.count_streams.specs.Counted.{counted}

@@ -1,10 +1,10 @@
 use Rattle.std.proofs.Common.{◌++◌, length, subst}
+use Rattle.capture_streams.proofs.PathStreams.{seen_within}
+use Rattle.capture_streams.specs.Paths.{PathTallies}
+use Rattle.capture_streams.specs.Streams.{SettlesBut}
 use Rattle.element_queue.specs.Counting.{entries}
 use Rattle.stream_decoder.specs.Decoding.{Decoding}
 use Rattle.stream_decoder.specs.Follows.{CameTo}
-use Rattle.stream_demux.proofs.PathStreams.{seen_within}
-use Rattle.stream_demux.specs.Paths.{PathTallies}
-use Rattle.stream_demux.specs.Streams.{SettlesBut}
 use Rattle.count_streams.proofs.count_stream.CountStreamStream.ledger.Goals as goal
 
 pub returns-clause-tallied : goal.returns-clause-tallied

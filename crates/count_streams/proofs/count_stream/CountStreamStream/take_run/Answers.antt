@@ -1,9 +1,9 @@
 use Rattle.std.proofs.Common.{[], sym, ap, subst}
+use Rattle.capture_streams.proofs.Runs.{run_added}
 use Rattle.etm_types.specs.Settings.{Sizes}
 use Rattle.path_text.proofs.Wrote.{wrote_nothing}
 use Rattle.stream_decoder.specs.Decoding.{Decoding}
 use Rattle.stream_decoder.specs.Follows.{CameTo, GrowsByEach}
-use Rattle.stream_demux.proofs.Runs.{run_added}
 use Rattle.count_streams.proofs.RunsOfBytes.{items_added, no_lines}
 use Rattle.count_streams.specs.Counted.{counted}
 use Rattle.count_streams.proofs.count_stream.CountStreamStream.take_run.Goals as goal

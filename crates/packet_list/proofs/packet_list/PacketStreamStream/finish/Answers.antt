@@ -1,12 +1,12 @@
 use Rattle.std.proofs.Common.{◌≡◌, ℕ, Bool, true, false, List, [], ◌∷◌, length, Result, Ok, Err, refl, sym, ap, subst, ◌∙◌}
 use Rattle.std.specs.Prelude.{IfOk, not}
+use Rattle.capture_streams.proofs.Standing.{by_err}
+use Rattle.capture_streams.specs.Texts.{Printed, StreamEnds, lines_under, text_of}
 use Rattle.packet_grammar.specs.Ends.{end_of, is_fault}
 use Rattle.packet_grammar.specs.Parsed.{IsStream}
 use Rattle.path_text.proofs.Wrote.{answers_err, answers_ok, wrote_nothing, writes_all}
 use Rattle.path_text.specs.EndLines.{end_line}
 use Rattle.path_text.specs.Writing.{Writes}
-use Rattle.stream_demux.proofs.Standing.{by_err}
-use Rattle.stream_demux.specs.Texts.{Printed, StreamEnds, lines_under, text_of}
 use Rattle.packet_list.proofs.PacketLists.{nothing_ends, stream_ends, whole_line, whole_where}
 use Rattle.packet_list.specs.PacketList.{HasRead, Listed, packet_lists}
 use Rattle.trace_io.specs.declared.traits.Failed.{Failed}

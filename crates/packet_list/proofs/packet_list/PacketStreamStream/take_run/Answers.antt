@@ -1,6 +1,6 @@
 use Rattle.std.proofs.Common.{ℕ, [], Ok, Err, refl, sym, subst}
-use Rattle.stream_demux.specs.Streams.{RunAdds}
-use Rattle.stream_demux.proofs.Sums.{no_stream_items}
+use Rattle.capture_streams.specs.Streams.{RunAdds}
+use Rattle.capture_streams.proofs.Sums.{no_stream_items}
 use Rattle.packet_list.specs.PacketList.{HasRead, Listed, packet_lists}
 use Rattle.packet_list.proofs.packet_list.PacketStreamStream.take_run.Goals as goal
 use Rattle.trace_io.specs.declared.traits.Failed.{Failed}

@@ -1,6 +1,6 @@
 use Rattle.std.proofs.Common.{sym, subst}
+use Rattle.capture_streams.specs.Demuxed.{StandsAt}
 use Rattle.etm_types.specs.SettingsTable.{sizes_at}
-use Rattle.stream_demux.specs.Demuxed.{StandsAt}
 use Rattle.ring_capture.specs.Laid.{later_none}
 use Rattle.ring_capture.proofs.wrapped.WrappedDemux.new.Goals as goal
 

@@ -1,5 +1,5 @@
 use Rattle.std.proofs.Common.{sym, subst}
-use Rattle.stream_demux.specs.Demuxed.{StandsAt}
+use Rattle.capture_streams.specs.Demuxed.{StandsAt}
 use Rattle.ring_capture.specs.Rotated.{later_frames}
 use Rattle.ring_capture.specs.Wrapped.{Wrapped}
 use Rattle.ring_capture.proofs.wrapped.WrappedDemuxPrinter.close.Goals as goal

@@ -1,7 +1,7 @@
 use Rattle.std.proofs.Common.{ap, length, subst, sym}
+use Rattle.capture_streams.specs.Demuxed.{StandsAt}
+use Rattle.capture_streams.specs.Texts.{IsEnding, by_sizes}
 use Rattle.formatter_frames.specs.Unframed.{unframed}
-use Rattle.stream_demux.specs.Demuxed.{StandsAt}
-use Rattle.stream_demux.specs.Texts.{IsEnding, by_sizes}
 use Rattle.ring_capture.specs.Rotated.{rotated}
 use Rattle.ring_capture.specs.Wrapped.{Wrapped}
 use Rattle.ring_capture.proofs.Oldest.{left_rotated}

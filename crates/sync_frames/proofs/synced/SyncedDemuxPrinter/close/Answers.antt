@@ -1,5 +1,5 @@
 use Rattle.std.proofs.Common.{sym, subst}
-use Rattle.stream_demux.specs.Texts.{IsSum, by_sizes}
+use Rattle.capture_streams.specs.Texts.{IsSum, by_sizes}
 use Rattle.sync_frames.specs.Synchronised.{IsAfter, Synchronised}
 use Rattle.sync_frames.proofs.Standing.{held_back}
 use Rattle.sync_frames.proofs.synced.SyncedDemuxPrinter.close.Goals as goal

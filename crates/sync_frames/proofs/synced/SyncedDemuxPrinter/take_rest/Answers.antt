@@ -1,5 +1,5 @@
 use Rattle.std.proofs.Common.{◌++◌, ap, sym, subst, ◌∙◌}
-use Rattle.stream_demux.specs.Texts.{by_sizes}
+use Rattle.capture_streams.specs.Texts.{by_sizes}
 use Rattle.sync_frames.specs.Synchronised.{IsAfter, Synchronised}
 use Rattle.sync_frames.specs.Unsyncing.{StandsAt}
 use Rattle.sync_frames.proofs.Taking.{rests_of}

@@ -1,12 +1,12 @@
 use Rattle.std.proofs.Common.{◌≡◌, ◌+◌, ◌∷◌, ◌++◌, [], List, ℕ, Ok, Err, take, drop, get_or, refl, sym, ap, subst, ◌∙◌, arith, append_assoc}
 use Rattle.std.specs.List.{concat}
 use Rattle.std.proofs.lemmas.List.{take_all, take_more, take-append-drop}
+use Rattle.capture_streams.specs.Streams.{RunAdds}
 use Rattle.etm_types.specs.Settings.{Sizes}
 use Rattle.path_text.proofs.Wrote.{wrote_by}
-use Rattle.stream_demux.specs.Streams.{RunAdds}
-use Rattle.stream_demux.proofs.Runs.{RunWritten, run_added, run_fails, run_more, stream_body_one}
-use Rattle.stream_demux.proofs.Standing.{by_err, whole_where_ok}
-use Rattle.stream_demux.proofs.Sums.{no_stream_items}
+use Rattle.capture_streams.proofs.Runs.{RunWritten, run_added, run_fails, run_more, stream_body_one}
+use Rattle.capture_streams.proofs.Standing.{by_err, whole_where_ok}
+use Rattle.capture_streams.proofs.Sums.{no_stream_items}
 use Rattle.time_marks.specs.TimeList.{times}
 use Rattle.time_marks.specs.Timed.{StandsAt}
 use Rattle.time_marks.proofs.streams.TimedDecoderStream.take_run.Goals as goal

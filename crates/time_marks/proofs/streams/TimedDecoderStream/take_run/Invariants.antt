@@ -1,5 +1,5 @@
 use Rattle.std.proofs.Common.{◌≡◌, ◌≤◌, ◌+◌, ℕ, List, ◌++◌, length, take, false}
-use Rattle.stream_demux.proofs.Runs.{RunWritten}
+use Rattle.capture_streams.proofs.Runs.{RunWritten}
 use Rattle.time_marks.specs.Timed.{StandsAt}
 use Rattle.time_marks.specs.TimeList.{times}
 use Rattle.time_marks.proofs.streams.TimedDecoderStream.take_run.Given as goal

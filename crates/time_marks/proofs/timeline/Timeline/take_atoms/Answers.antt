@@ -1,10 +1,10 @@
 use Rattle.std.proofs.Common.{◌≡◌, ◌≤◌, ◌<◌, ◌+◌, ◌/◌, ◌%◌, ◌^◌, ◌==◌, ℕ, drop, Result, Ok, Err, refl, sym, subst, ◌∙◌, arith}
 use Rattle.std.specs.Prelude.{IsOk}
+use Rattle.capture_streams.proofs.Standing.{by_err}
 use Rattle.etm_types.specs.Atoms.{atoms_in}
 use Rattle.etm_types.specs.declared.element.Elem.TheVariants as elem
 use Rattle.etm_types.specs.declared.element.P0.TheVariants.{Atom}
 use Rattle.path_elements.specs.Elements.{atoms}
-use Rattle.stream_demux.proofs.Standing.{by_err}
 use Rattle.time_marks.proofs.Frequents.{next_atom, no_more_atoms}
 use Rattle.time_marks.proofs.Going.{along_done, along_fails, along_next}
 use Rattle.time_marks.specs.Timed.{IsAt, Prints}

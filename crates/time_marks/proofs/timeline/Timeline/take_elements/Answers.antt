@@ -1,9 +1,9 @@
 use Rattle.std.proofs.Common.{◌≡◌, ◌+◌, ℕ, true, false, drop, Option, Some, None, Result, Ok, Err, refl, sym, subst, ◌∙◌, inl, inr, arith}
 use Rattle.std.specs.Prelude.{IsOk}
 use Rattle.std.proofs.lemmas.Bool.{cases_Bool}
+use Rattle.capture_streams.proofs.Standing.{by_err}
 use Rattle.stream_decoder.proofs.Lefts.{none_left}
 use Rattle.stream_decoder.proofs.Waits.{next_at}
-use Rattle.stream_demux.proofs.Standing.{by_err}
 use Rattle.time_marks.proofs.Going.{along_done, along_fails, along_next, along_stopped, at_place, fault_there, is_info, no_fault}
 use Rattle.time_marks.specs.Marked.{IsInfo}
 use Rattle.time_marks.specs.Timed.{IsAt, Prints}

@@ -1,8 +1,8 @@
 use Rattle.std.proofs.Common.{◌≡◌, sym, ap, subst, ◌∙◌, inl, inr, Result, Ok, Err}
 use Rattle.std.specs.Prelude.{All, IsOk}
 use Rattle.std.proofs.lemmas.Bool.{cases_Bool}
+use Rattle.capture_streams.proofs.Standing.{by_err}
 use Rattle.path_elements.specs.Elements.{Told}
-use Rattle.stream_demux.proofs.Standing.{by_err}
 use Rattle.time_marks.proofs.Going.{printed_more, printed_none}
 use Rattle.time_marks.proofs.Packets.{all_prints, all_times, begun_at, begun_stamp, comes_first, event_fails, event_prints, first_packet, stays_told}
 use Rattle.time_marks.specs.Marked.{IsInfo}

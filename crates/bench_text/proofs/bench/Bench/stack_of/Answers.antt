@@ -1,5 +1,0 @@
-use Rattle.bench_text.proofs.Entries.{stack_within}
-use Rattle.bench_text.proofs.bench.Bench.stack_of.Goals as goal
-
-pub returns-clause-within : goal.returns-clause-within
-returns-clause-within c = stack_within c.self.inside.streams.streams c.args.s _ c.stack_at.ensures c.self.invariant.streams
