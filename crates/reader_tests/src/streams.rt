@@ -32,6 +32,20 @@ fn code(alloc: Global) -> Result<Image, Fail> {
     Ok(Image::read(alloc, &mut text).ok().ok_or("it is an image")?)
 }
 
+/// A decoder takes a run of bytes more, and no write fails.
+fn take(
+    rt: &impl Abort,
+    decoder: &mut StreamDecoder,
+    image: &Image,
+    lines: &mut LineBlock,
+    id: Id,
+    run: &[u8],
+    sink: &mut MemSink,
+) {
+    assert!(rt; !decoder.broken() && decoder.taken() < MOST_BYTES && run.len() < 100);
+    assert_eq!(rt; decoder.take_run(image, lines, id, run, sink), Ok(()));
+}
+
 /// A decoder of a depth that took these bytes behind `HEAD`, where no write failed.
 fn decoder_at(
     rt: &impl Abort,
@@ -46,11 +60,7 @@ fn decoder_at(
     let mut decoder = StreamDecoder::new(alloc, &settings)?;
     let mut lines = LineBlock::new();
     for byte in HEAD.iter().chain(bytes) {
-        assert!(rt; !decoder.broken() && decoder.taken() < MOST_BYTES);
-        assert_eq!(rt;
-            decoder.take_run(&image, &mut lines, id, &[*byte], sink),
-            Ok(())
-        );
+        take(rt, &mut decoder, &image, &mut lines, id, &[*byte], sink);
     }
     Ok(decoder)
 }
@@ -176,11 +186,7 @@ fn a_run_that_is_cut_anywhere(rt: HostRuntime) -> Result<(), Fail> {
         let mut lines = LineBlock::new();
         let (first, second) = RUN.split_at(cut);
         for run in [first, second] {
-            assert!(rt; !decoder.broken() && decoder.taken() < MOST_BYTES);
-            assert_eq!(rt;
-                decoder.take_run(&image, &mut lines, id, run, &mut sink),
-                Ok(())
-            );
+            take(&rt, &mut decoder, &image, &mut lines, id, run, &mut sink);
         }
         assert_eq!(rt; decoder.taken(), 34);
         let (counts, _) = counts_of(decoder);
