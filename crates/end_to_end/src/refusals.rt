@@ -21,15 +21,13 @@ const FRAMES: &[u8] = &[
     0x84, 0x00, 0x08, 0x00, 0x00, 0x00, 0x00, 0x00, 0x00, 0x31, 0xf6, 0xf7, 0x01, 0xf6, 0x00, 0x61,
 ];
 
-/// The lines of their paths, one by one.
-const LINES: &[&[u8]] = &[
+/// What is written of their paths, call by call: lines of instructions that come with a run of bytes are put together.
+const WRITTEN: &[&[u8]] = &[
     b"02 on\n",
     b"02 ctx el1 ns 0 0\n",
     b"02 1000\n",
     b"02 1004\n",
-    b"02 100c\n",
-    b"02 1000\n",
-    b"02 1004\n",
+    b"02 100c\n02 1000\n02 1004\n",
     b"01 fault 15 broken-sync\n",
     b"02 end\n",
 ];
@@ -129,11 +127,11 @@ fn each_write_fails(rt: &impl Abort, alloc: Global, case: &Written) -> Result<()
 }
 
 #[test]
-fn each_line_of_a_path_is_refused_in_turn(rt: HostRuntime) -> Result<(), Fail> {
+fn each_write_of_a_path_is_refused_in_turn(rt: HostRuntime) -> Result<(), Fail> {
     let path = Written {
         command: PATH,
         input: FRAMES,
-        pieces: LINES,
+        pieces: WRITTEN,
         status: Status::Faulted,
     };
     each_write_fails(&rt, rt.alloc(), &path)
