@@ -66,7 +66,7 @@ def at_depth(depth):
     some = depth // 2
     return [
         Kind("each atom committed by a packet", THREE, E_ATOM + commit(1), lambda n: 3 * n + 3, depth),
-        Kind(f"{some} atoms committed at once", THREE, E_ATOM * some + commit(some), lambda n: 3 * some * n + 3, depth),
+        Kind(f"{some} atoms committed together", THREE, E_ATOM * some + commit(some), lambda n: 3 * some * n + 3, depth),
         Kind(f"{some} of {some + 1} atoms taken back", THREE, E_ATOM * (some + 1) + cancel(some) + commit(1),
              lambda n: 3 * n + 3, depth),
         Kind("each second branch turned", TURNED, E_ATOM + MISPREDICT + E_ATOM, lambda n: 2 * n + 3, depth,

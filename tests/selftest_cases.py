@@ -25,7 +25,7 @@ NUMBERS = [
     (111, None),  # one stream, two rounds
     (221, None),
     (999, None),  # the largest pieces
-    (1000, None),  # a byte at once
+    (1000, None),  # a byte at a time
     (1775, None),  # all streams, and the first exception
     (3441, None),
     (7103, None),  # all streams, and the first synchronisation

@@ -31,29 +31,10 @@ fn the_oldest_falls_out(rt: HostRuntime) -> Result<(), Fail> {
 #[test]
 fn depth_0_keeps_nothing(rt: HostRuntime) -> Result<(), Fail> {
     let mut stack = ReturnStack::new(rt.alloc(), 0)?;
-    let other = ReturnStack::new(rt.alloc(), 0)?;
     stack.push(0x1000);
     assert_eq!(rt; stack.top(), None);
-    stack.copy_from(&other);
     stack.clear();
     assert_eq!(rt; stack.pop(), None);
-    Ok(())
-}
-
-#[test]
-fn a_copy_goes_its_own_way(rt: HostRuntime) -> Result<(), Fail> {
-    let mut stack = ReturnStack::new(rt.alloc(), 2)?;
-    let mut copy = ReturnStack::new(rt.alloc(), 2)?;
-    stack.push(0x1000);
-    stack.push(0x2000);
-    stack.push(0x3000);
-    copy.push(0x4000);
-    copy.copy_from(&stack);
-    stack.clear();
-    assert_eq!(rt; stack.top(), None);
-    assert_eq!(rt; copy.pop(), Some(0x3000));
-    assert_eq!(rt; copy.pop(), Some(0x2000));
-    assert_eq!(rt; copy.pop(), None);
     Ok(())
 }
 

@@ -66,7 +66,7 @@ module _ (image : Image) (d : Decoder) where
 
 -- a decoder that stands at no bytes
 pub fresh : {E : Type 0} (result : Result Decoder E) → IfOk result (λ (d : Decoder). (image : Image) → StandsAt image d [])
-    → IfOk result (λ (d : Decoder). (d.broken ≡ false) × ((d.decoding).reader.taken ≡ 0))
+    → IfOk result (λ (d : Decoder). (d.broken ≡ false) × ((d.decoding).reader.offset ≡ 0))
 fresh (Ok d) stands = let at = stands [] in (at.whole, sym at.came.reads.0)
 fresh (Err e) stands = tt
 

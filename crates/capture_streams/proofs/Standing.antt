@@ -99,16 +99,16 @@ pub ready_at : {X : Type 0} (P : X → Type 0) (streams : List X) (k : ℕ) (str
 ready_at P streams k stream all at =
     subst P (get_or_from_slice_get streams k stream stream (sym at)) (All-get_or P streams k stream (slice_get_within streams k stream (sym at)) all)
 
-module _ {X : Type 0} (broken : X → Bool) (taken : X → ℕ) where
-  pub later_ready : (m n : ℕ) (streams : List X) → m ≤ n → All (IsReady broken taken m) streams → All (IsReady broken taken n) streams
+module _ {X : Type 0} (broken : X → Bool) (offset : X → ℕ) where
+  pub later_ready : (m n : ℕ) (streams : List X) → m ≤ n → All (IsReady broken offset m) streams → All (IsReady broken offset n) streams
   later_ready m n streams more all k d within =
       let one = all k d within in record { whole = one.whole; few = omega (arith, one.few, more) }
 
-  pub one_ready : (m n k : ℕ) (streams : List X) (stream next : X) → All (IsReady broken taken m) streams → Some stream ≡ slice_get streams k
-      → broken next ≡ false → taken next ≡ taken stream + n → All (IsReady broken taken (m + n)) (slice_set streams k next)
+  pub one_ready : (m n k : ℕ) (streams : List X) (stream next : X) → All (IsReady broken offset m) streams → Some stream ≡ slice_get streams k
+      → broken next ≡ false → offset next ≡ offset stream + n → All (IsReady broken offset (m + n)) (slice_set streams k next)
   one_ready m n k streams stream next all at whole more =
-      let before = ready_at (IsReady broken taken m) streams k stream all at in
-      All-set (IsReady broken taken (m + n)) streams k next (record { whole = whole; few = omega (arith, more, before.few) })
+      let before = ready_at (IsReady broken offset m) streams k stream all at in
+      All-set (IsReady broken offset (m + n)) streams k next (record { whole = whole; few = omega (arith, more, before.few) })
       (later_ready m (m + n) streams (omega arith) all)
 
 -- a stream gives way to one with the same image

@@ -19,13 +19,13 @@ reading_code =
 pub record Demuxed (X Y : Type 0) : Type 0 where
   pub frames : frames.Reading
   pub sources : Summed X Y
-  pub taken : ℕ
+  pub offset : ℕ
   pub broken : Bool
 
 abbrev pub demuxed_code : {X Y : Type 0} → Coded X → Coded Y → Coded (Demuxed X Y)
 demuxed_code {X} {Y} stream sum =
     code_by (frames.Reading × (Summed X Y × (ℕ × Bool))) (coded× reading_code (coded× (summed_code stream sum) (coded× coded_ℕ coded_bool)))
-    (λ d. (d.frames, (d.sources, (d.taken, d.broken)))) (λ p. record { frames = p.0; sources = p.1.0; taken = p.1.1.0; broken = p.1.1.1 })
+    (λ d. (d.frames, (d.sources, (d.offset, d.broken)))) (λ p. record { frames = p.0; sources = p.1.0; offset = p.1.1.0; broken = p.1.1.1 })
     (λ _. refl)
 
 -- the most bytes that are taken
@@ -37,7 +37,7 @@ most_bytes = 2 ^ 30
 pub record StandsAt {X Y : Type 0} (stands : X → List ℕ → Type 0) (sizes : X → Sizes) (sums : Y → List (ℕ × Item) → Type 0) (g : Sizes → Listing)
     (t : ℕ → Sizes) (d : Demuxed X Y) (bytes : List ℕ) : Type 0 where
   pub whole : d.broken ≡ false
-  pub taken : d.taken ≡ length bytes
+  pub offset : d.offset ≡ length bytes
   pub frames : frames.StandsAt d.frames bytes
   pub streams : AllStand stands sizes sums g t d.sources (unframed bytes)
 
@@ -68,10 +68,10 @@ raw_code {X} {Y} stream sum =
     code_by (X × Y) (coded× stream sum) (λ r. (r.stream, r.sum)) (λ p. record { stream = p.0; sum = p.1 }) (λ _. refl)
 
 -- these bytes of it were taken, under the sizes of its ID, and no write failed; and the sum has what they add
-pub record RawStandsAt {X Y : Type 0} (stands : X → List ℕ → Type 0) (sizes : X → Sizes) (broken : X → Bool) (taken : X → ℕ)
+pub record RawStandsAt {X Y : Type 0} (stands : X → List ℕ → Type 0) (sizes : X → Sizes) (broken : X → Bool) (offset : X → ℕ)
     (sums : Y → List (ℕ × Item) → Type 0) (g : Sizes → Listing) (t : ℕ → Sizes) (r : RawSummed X Y) (bytes : List ℕ) : Type 0 where
   pub whole : broken r.stream ≡ false
-  pub count : taken r.stream ≡ length bytes
+  pub count : offset r.stream ≡ length bytes
   pub stand : stands r.stream bytes
   pub same : sizes r.stream ≡ t raw_id
   pub sum : SumStands sums (by_sizes g t) r.sum (raw_pairs bytes)

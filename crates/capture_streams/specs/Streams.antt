@@ -53,9 +53,9 @@ abbrev pub SumAdds : {Y : Type 0} → (Y → List (ℕ × Item) → Type 0) → 
 SumAdds sums g id before run old new = (more : List Item) × StreamAdded g id before run more × SumTakes sums id old new more
 
 -- a stream of which no write failed, and which took no more bytes than so many
-pub record IsReady {X : Type 0} (broken : X → Bool) (taken : X → ℕ) (most : ℕ) (stream : X) : Type 0 where
+pub record IsReady {X : Type 0} (broken : X → Bool) (offset : X → ℕ) (most : ℕ) (stream : X) : Type 0 where
   pub whole : broken stream ≡ false
-  pub few : taken stream ≤ most
+  pub few : offset stream ≤ most
 
 -- a stream that holds no more P0 elements than the depth that its sizes give
 abbrev pub HoldsToDepth : {X : Type 0} → (X → ℕ) → (X → Sizes) → X → Type 0

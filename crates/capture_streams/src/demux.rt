@@ -30,7 +30,7 @@ pub struct Demux<S: Stream> {
     frames: FrameReader,
     sources: Sources<S>,
     /// How many bytes were taken.
-    taken: u64,
+    offset: u64,
     /// Whether a write failed.
     broken: bool,
 }
@@ -44,9 +44,9 @@ impl<S: Stream> Model for Demux<S> {
 
     ghost coded = { demuxed_code S.code S.Sum.code };
 
-    ghost view = { λ d. record { frames = d.frames; sources = d.sources; taken = d.taken; broken = d.broken } };
+    ghost view = { λ d. record { frames = d.frames; sources = d.sources; offset = d.offset; broken = d.broken } };
 
-    ghost invariant = { λ d. (d.taken ≤ most_bytes) × (d.broken ≡ false → All (IsReady S.broken S.taken (15 * d.taken)) d.sources.streams)
+    ghost invariant = { λ d. (d.offset ≤ most_bytes) × (d.broken ≡ false → All (IsReady S.broken S.offset (15 * d.offset)) d.sources.streams)
         × All (HoldsToDepth S.held S.sizes) d.sources.streams };
 }
 
@@ -65,7 +65,7 @@ impl<S: Stream> Demux<S> {
         Ok(Demux {
             frames: FrameReader::new(),
             sources: Sources::new(alloc, shared, table)?,
-            taken: 0,
+            offset: 0,
             broken: false,
         })
     }
@@ -79,7 +79,7 @@ impl<S: Stream> Demux<S> {
         sink: &mut K,
     ) -> Result<(), Failed>
         requires whole { self.old.broken ≡ false }
-        requires few { self.old.taken + length piece.now ≤ 2 ^ 30 }
+        requires few { self.old.offset + length piece.now ≤ 2 ^ 30 }
         ensures stands { (t : ℕ → Sizes) (bytes : List ℕ)
             → StandsAt (S.stands shared.now) S.sizes (S.sums shared.now) (S.listing shared.now) t self.old bytes → IsOk result
             → StandsAt (S.stands shared.now) S.sizes (S.sums shared.now) (S.listing shared.now) t self.new (bytes ++ piece.now) }
@@ -88,8 +88,8 @@ impl<S: Stream> Demux<S> {
             → Gains unframed (by_sizes (S.listing shared.now) t) bytes piece.now (K.state sink.old) (K.state sink.new) result }
         ensures serves { Serves (K.state sink.old) (K.state sink.new) result }
         ensures broken { IsTrue self.new.broken ↔ IsErr result }
-        ensures taken { IsOk result → self.new.taken ≡ self.old.taken + length piece.now }
-        ensures between { (self.old.taken ≤ self.new.taken) × (self.new.taken ≤ self.old.taken + length piece.now) }
+        ensures offset { IsOk result → self.new.offset ≡ self.old.offset + length piece.now }
+        ensures between { (self.old.offset ≤ self.new.offset) × (self.new.offset ≤ self.old.offset + length piece.now) }
         ensures sizes { map S.sizes self.new.sources.streams ≡ map S.sizes self.old.sources.streams }
         ensures most { All (HoldsToDepth S.held S.sizes) self.new.sources.streams }
     {
@@ -103,7 +103,7 @@ impl<S: Stream> Demux<S> {
                 sink,
             ) {
                 Ok(count) => {
-                    self.taken += count as u64;
+                    self.offset += count as u64;
                     at += count;
                 }
                 Err(failed) => {
@@ -123,13 +123,13 @@ impl<S: Stream> Demux<S> {
     }
 
     /// How many bytes of frames were taken.
-    pub fn taken(&self) -> u64
-        ensures value { result ≡ self.now.taken }
+    pub fn offset(&self) -> u64
+        ensures value { result ≡ self.now.offset }
         ensures all { (shared : S.Shared) (t : ℕ → Sizes) (bytes : List ℕ)
             → StandsAt (S.stands shared) S.sizes (S.sums shared) (S.listing shared) t self.now bytes
             → result ≡ length bytes }
     {
-        self.taken
+        self.offset
     }
 
     /// What became of the P0 elements of all streams. Never more are held of a stream than the depth that its sizes give, whatever
@@ -158,7 +158,7 @@ impl<S: Stream> Demux<S> {
         let Demux {
             frames,
             sources,
-            taken: _,
+            offset: _,
             broken: _,
         } = self;
         let left = frames.left();
@@ -181,7 +181,7 @@ impl<S: Stream> Demux<S> {
         let Demux {
             frames: _,
             sources,
-            taken: _,
+            offset: _,
             broken: _,
         } = self;
         sources.close(shared, sink)
@@ -195,7 +195,7 @@ impl<S: Stream> Demux<S> {
         let Demux {
             frames: _,
             sources,
-            taken: _,
+            offset: _,
             broken: _,
         } = self;
         sources.abandon()
@@ -211,7 +211,7 @@ fn take_front<S: Stream, K: Sink>(
     piece: &[u8],
     sink: &mut K,
 ) -> Result<usize, Failed>
-    requires { All (IsReady S.broken S.taken (2 ^ 61)) sources.old.streams }
+    requires { All (IsReady S.broken S.offset (2 ^ 61)) sources.old.streams }
     ensures frames { (bytes : List ℕ) → reader.StandsAt frames.old bytes → IfOk result (λ n. reader.StandsAt frames.new (bytes ++ take n piece.now)) }
     ensures stands { (t : ℕ → Sizes) (bytes : List ℕ) → reader.StandsAt frames.old bytes
         → AllStand (S.stands shared.now) S.sizes (S.sums shared.now) (S.listing shared.now) t sources.old (unframed bytes)
@@ -222,8 +222,8 @@ fn take_front<S: Stream, K: Sink>(
         → (n : ℕ) × Gains unframed (by_sizes (S.listing shared.now) t) bytes (take n piece.now) (K.state sink.old) (K.state sink.new) result
         × IfOk result (λ count. count ≡ n) }
     ensures serves { Serves (K.state sink.old) (K.state sink.new) result }
-    ensures ready { (most : ℕ) → All (IsReady S.broken S.taken most) sources.old.streams → IsOk result
-        → All (IsReady S.broken S.taken (most + 15)) sources.new.streams }
+    ensures ready { (most : ℕ) → All (IsReady S.broken S.offset most) sources.old.streams → IsOk result
+        → All (IsReady S.broken S.offset (most + 15)) sources.new.streams }
     ensures sizes { map S.sizes sources.new.streams ≡ map S.sizes sources.old.streams }
     ensures most { All (HoldsToDepth S.held S.sizes) sources.old.streams → All (HoldsToDepth S.held S.sizes) sources.new.streams }
     ensures some { IfOk result (λ n. (n ≤ length piece.now) × (0 < length piece.now → 0 < n)) }
@@ -235,14 +235,14 @@ fn take_front<S: Stream, K: Sink>(
     Ok(count)
 }
 
-/// Takes the bytes that a frame carries, in order, those of one ID at once.
+/// Takes the bytes that a frame carries, in order, those of one ID together.
 fn take_frame<S: Stream, K: Sink>(
     sources: &mut Sources<S>,
     shared: &S::Shared,
     frame: &FrameBytes,
     sink: &mut K,
 ) -> Result<(), Failed>
-    requires { All (IsReady S.broken S.taken (2 ^ 61)) sources.old.streams }
+    requires { All (IsReady S.broken S.offset (2 ^ 61)) sources.old.streams }
     ensures stands { (t : ℕ → Sizes) (pairs : List (ℕ × ℕ))
         → AllStand (S.stands shared.now) S.sizes (S.sums shared.now) (S.listing shared.now) t sources.old pairs → IsOk result
         → AllStand (S.stands shared.now) S.sizes (S.sums shared.now) (S.listing shared.now) t sources.new (pairs ++ frame.now) }
@@ -250,8 +250,8 @@ fn take_frame<S: Stream, K: Sink>(
         → AllStand (S.stands shared.now) S.sizes (S.sums shared.now) (S.listing shared.now) t sources.old pairs
         → Adds (by_sizes (S.listing shared.now) t) pairs frame.now (K.state sink.old) (K.state sink.new) result }
     ensures serves { Serves (K.state sink.old) (K.state sink.new) result }
-    ensures ready { (most : ℕ) → All (IsReady S.broken S.taken most) sources.old.streams → IsOk result
-        → All (IsReady S.broken S.taken (most + 15)) sources.new.streams }
+    ensures ready { (most : ℕ) → All (IsReady S.broken S.offset most) sources.old.streams → IsOk result
+        → All (IsReady S.broken S.offset (most + 15)) sources.new.streams }
     ensures sizes { map S.sizes sources.new.streams ≡ map S.sizes sources.old.streams }
     ensures most { All (HoldsToDepth S.held S.sizes) sources.old.streams → All (HoldsToDepth S.held S.sizes) sources.new.streams }
 {

@@ -26,7 +26,7 @@ impl Stream for StreamDecoder {
 
     ghost broken = { λ d. d.broken };
 
-    ghost taken = { λ d. d.decoding.reader.taken };
+    ghost offset = { λ d. d.decoding.reader.offset };
 
     ghost held = { λ d. length (d.decoding.due ++ d.decoding.pending.held) };
 

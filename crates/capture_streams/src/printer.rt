@@ -23,7 +23,7 @@ pub trait Printer {
     ghost broken: { Self → Bool };
 
     /// How many bytes were taken.
-    ghost taken: { Self → ℕ };
+    ghost offset: { Self → ℕ };
 
     /// These bytes were taken, under these sizes of the trace units, by ID.
     ghost stands: { Self.Shared → (ℕ → Sizes) → Self → List ℕ → Type 0 };
@@ -48,20 +48,20 @@ pub trait Printer {
         sink: &mut K,
     ) -> Result<(), Failed>
         requires whole { broken self.old ≡ false }
-        requires few { taken self.old + length piece.now ≤ 2 ^ 30 }
+        requires few { offset self.old + length piece.now ≤ 2 ^ 30 }
         ensures stands { (t : ℕ → Sizes) (bytes : List ℕ) → stands shared.now t self.old bytes → IsOk result
             → stands shared.now t self.new (bytes ++ piece.now) }
         ensures gains { (t : ℕ → Sizes) (bytes : List ℕ) → stands shared.now t self.old bytes
             → Gains (laid (frames self.old)).carried (listing shared.now t) bytes piece.now (K.state sink.old) (K.state sink.new) result }
         ensures serves { Serves (K.state sink.old) (K.state sink.new) result }
         ensures broken { IsTrue (broken self.new) ↔ IsErr result }
-        ensures taken { IsOk result → taken self.new ≡ taken self.old + length piece.now }
+        ensures offset { IsOk result → offset self.new ≡ offset self.old + length piece.now }
         ensures frames { frames self.new ≡ frames self.old };
 
     /// No more bytes come: writes the lines of the pairs that did not come with them. The error means that a write failed.
     fn take_rest<K: Sink>(&mut self, shared: &Self::Shared, sink: &mut K) -> Result<(), Failed>
         requires whole { broken self.old ≡ false }
-        requires few { taken self.old ≤ 2 ^ 30 }
+        requires few { offset self.old ≤ 2 ^ 30 }
         ensures ended { (t : ℕ → Sizes) (bytes : List ℕ) → stands shared.now t self.old bytes → IsOk result
             → ended shared.now t self.new bytes }
         ensures rests { (t : ℕ → Sizes) (bytes : List ℕ) → stands shared.now t self.old bytes
@@ -103,7 +103,7 @@ impl<S: Stream> Printer for Demux<S> {
 
     ghost broken = { λ d. d.broken };
 
-    ghost taken = { λ d. d.taken };
+    ghost offset = { λ d. d.offset };
 
     ghost stands = { λ shared t d bytes. StandsAt (S.stands shared) S.sizes (S.sums shared) (S.listing shared) t d bytes };
 
@@ -154,13 +154,13 @@ impl<S: Stream> Printer for RawStream<S> {
 
     ghost broken = { λ r. S.broken r.stream };
 
-    ghost taken = { λ r. S.taken r.stream };
+    ghost offset = { λ r. S.offset r.stream };
 
-    ghost stands = { λ shared t r bytes. RawStandsAt (S.stands shared) S.sizes S.broken S.taken (S.sums shared) (S.listing shared) t r bytes };
+    ghost stands = { λ shared t r bytes. RawStandsAt (S.stands shared) S.sizes S.broken S.offset (S.sums shared) (S.listing shared) t r bytes };
 
     ghost listing = { λ shared t. by_sizes (S.listing shared) t };
 
-    ghost ended = { λ shared t r bytes. RawStandsAt (S.stands shared) S.sizes S.broken S.taken (S.sums shared) (S.listing shared) t r bytes };
+    ghost ended = { λ shared t r bytes. RawStandsAt (S.stands shared) S.sizes S.broken S.offset (S.sums shared) (S.listing shared) t r bytes };
 
     ghost frames = { λ r. 0 };
 

@@ -46,7 +46,7 @@ impl<S: Stream> RawStream<S> {
         table: &SettingsTable,
     ) -> Result<RawStream<S>, AllocError>
         ensures stands { IfOk result (λ r.
-            RawStandsAt (S.stands shared.now) S.sizes S.broken S.taken (S.sums shared.now) (S.listing shared.now) (sizes_at table.now) r []) }
+            RawStandsAt (S.stands shared.now) S.sizes S.broken S.offset (S.sums shared.now) (S.listing shared.now) (sizes_at table.now) r []) }
         ensures most { IfOk result (λ r. HoldsToDepth S.held S.sizes r.stream) }
     {
         let sum = S::new_sum(alloc, shared)?;
@@ -65,18 +65,18 @@ impl<S: Stream> RawStream<S> {
         sink: &mut K,
     ) -> Result<(), Failed>
         requires whole { S.broken self.old.stream ≡ false }
-        requires few { S.taken self.old.stream + length piece.now ≤ 2 ^ 30 }
+        requires few { S.offset self.old.stream + length piece.now ≤ 2 ^ 30 }
         ensures stands { (t : ℕ → Sizes) (bytes : List ℕ)
-            → RawStandsAt (S.stands shared.now) S.sizes S.broken S.taken (S.sums shared.now) (S.listing shared.now) t self.old bytes → IsOk result
-            → RawStandsAt (S.stands shared.now) S.sizes S.broken S.taken (S.sums shared.now) (S.listing shared.now) t self.new (bytes ++ piece.now) }
+            → RawStandsAt (S.stands shared.now) S.sizes S.broken S.offset (S.sums shared.now) (S.listing shared.now) t self.old bytes → IsOk result
+            → RawStandsAt (S.stands shared.now) S.sizes S.broken S.offset (S.sums shared.now) (S.listing shared.now) t self.new (bytes ++ piece.now) }
         ensures gains { (t : ℕ → Sizes) (bytes : List ℕ)
-            → RawStandsAt (S.stands shared.now) S.sizes S.broken S.taken (S.sums shared.now) (S.listing shared.now) t self.old bytes
+            → RawStandsAt (S.stands shared.now) S.sizes S.broken S.offset (S.sums shared.now) (S.listing shared.now) t self.old bytes
             → Gains raw_pairs (by_sizes (S.listing shared.now) t) bytes piece.now (K.state sink.old) (K.state sink.new) result }
         ensures serves { Serves (K.state sink.old) (K.state sink.new) result }
         ensures broken { IsTrue (S.broken self.new.stream) ↔ IsErr result }
-        ensures taken { IsOk result → S.taken self.new.stream ≡ S.taken self.old.stream + length piece.now }
-        ensures between { (S.taken self.old.stream ≤ S.taken self.new.stream)
-            × (S.taken self.new.stream ≤ S.taken self.old.stream + length piece.now) }
+        ensures offset { IsOk result → S.offset self.new.stream ≡ S.offset self.old.stream + length piece.now }
+        ensures between { (S.offset self.old.stream ≤ S.offset self.new.stream)
+            × (S.offset self.new.stream ≤ S.offset self.old.stream + length piece.now) }
         ensures sizes { S.sizes self.new.stream ≡ S.sizes self.old.stream }
         ensures most { HoldsToDepth S.held S.sizes self.new.stream }
     {
@@ -88,7 +88,7 @@ impl<S: Stream> RawStream<S> {
     pub fn finish<K: Sink>(self, shared: &S::Shared, sink: &mut K) -> Result<bool, Failed>
         requires { S.broken self.stream ≡ false }
         ensures ending { (t : ℕ → Sizes) (bytes : List ℕ)
-            → RawStandsAt (S.stands shared.now) S.sizes S.broken S.taken (S.sums shared.now) (S.listing shared.now) t self bytes
+            → RawStandsAt (S.stands shared.now) S.sizes S.broken S.offset (S.sums shared.now) (S.listing shared.now) t self bytes
             → (lines : List Printed) × (faulty : Bool) × IsEnding (by_sizes (S.listing shared.now) t) (raw_pairs bytes) 0 lines faulty
             × Writes (K.state sink.old) (K.state sink.new) result (text_of lines) × IfOk result (λ whole. whole ≡ not faulty) }
         ensures serves { Serves (K.state sink.old) (K.state sink.new) result }
@@ -104,7 +104,7 @@ impl<S: Stream> RawStream<S> {
     /// Writes the lines of the sum, and ends it without more.
     pub fn close<K: Sink>(self, shared: &S::Shared, sink: &mut K) -> Result<(), Failed>
         ensures sum { (t : ℕ → Sizes) (bytes : List ℕ)
-            → RawStandsAt (S.stands shared.now) S.sizes S.broken S.taken (S.sums shared.now) (S.listing shared.now) t self bytes
+            → RawStandsAt (S.stands shared.now) S.sizes S.broken S.offset (S.sums shared.now) (S.listing shared.now) t self bytes
             → (sums : List Printed) × IsSum (by_sizes (S.listing shared.now) t) (raw_pairs bytes) sums
             × Writes (K.state sink.old) (K.state sink.new) result (text_of sums) }
         ensures serves { Serves (K.state sink.old) (K.state sink.new) result }

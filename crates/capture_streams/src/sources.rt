@@ -59,7 +59,7 @@ impl<S: Stream> Sources<S> {
         table: &SettingsTable,
     ) -> Result<Sources<S>, AllocError>
         ensures stands { IfOk result (λ all. AllStand (S.stands shared.now) S.sizes (S.sums shared.now) (S.listing shared.now) (sizes_at table.now) all []) }
-        ensures ready { IfOk result (λ all. All (IsReady S.broken S.taken 0) all.streams) }
+        ensures ready { IfOk result (λ all. All (IsReady S.broken S.offset 0) all.streams) }
         ensures most { IfOk result (λ all. All (HoldsToDepth S.held S.sizes) all.streams) }
     {
         let sum = S::new_sum(alloc, shared)?;
@@ -76,7 +76,7 @@ impl<S: Stream> Sources<S> {
         run: &[u8],
         sink: &mut K,
     ) -> Result<(), Failed>
-        requires { (most : ℕ) × All (IsReady S.broken S.taken most) self.old.streams × (most + length run.now ≤ 2 ^ 62) }
+        requires { (most : ℕ) × All (IsReady S.broken S.offset most) self.old.streams × (most + length run.now ≤ 2 ^ 62) }
         ensures stands { (t : ℕ → Sizes) (pairs : List (ℕ × ℕ))
             → AllStand (S.stands shared.now) S.sizes (S.sums shared.now) (S.listing shared.now) t self.old pairs
             → IsOk result → AllStand (S.stands shared.now) S.sizes (S.sums shared.now) (S.listing shared.now) t self.new (pairs ++ run_of id run.now) }
@@ -84,8 +84,8 @@ impl<S: Stream> Sources<S> {
             → AllStand (S.stands shared.now) S.sizes (S.sums shared.now) (S.listing shared.now) t self.old pairs
             → Adds (by_sizes (S.listing shared.now) t) pairs (run_of id run.now) (K.state sink.old) (K.state sink.new) result }
         ensures serves { Serves (K.state sink.old) (K.state sink.new) result }
-        ensures ready { (most : ℕ) → All (IsReady S.broken S.taken most) self.old.streams → IsOk result
-            → All (IsReady S.broken S.taken (most + length run.now)) self.new.streams }
+        ensures ready { (most : ℕ) → All (IsReady S.broken S.offset most) self.old.streams → IsOk result
+            → All (IsReady S.broken S.offset (most + length run.now)) self.new.streams }
         ensures sizes { map S.sizes self.new.streams ≡ map S.sizes self.old.streams }
         ensures most { All (HoldsToDepth S.held S.sizes) self.old.streams → All (HoldsToDepth S.held S.sizes) self.new.streams }
     {
@@ -100,7 +100,7 @@ impl<S: Stream> Sources<S> {
 
     /// Writes the lines of the sum, and then that of how each stream ends that had a byte, by ID. Says whether all end without a fault.
     pub fn finish<K: Sink>(self, shared: &S::Shared, sink: &mut K) -> Result<bool, Failed>
-        requires { (most : ℕ) × All (IsReady S.broken S.taken most) self.streams }
+        requires { (most : ℕ) × All (IsReady S.broken S.offset most) self.streams }
         ensures ends { (t : ℕ → Sizes) (pairs : List (ℕ × ℕ))
             → AllStand (S.stands shared.now) S.sizes (S.sums shared.now) (S.listing shared.now) t self pairs
             → (sums : List Printed) × IsSum (by_sizes (S.listing shared.now) t) pairs sums
@@ -158,7 +158,7 @@ impl<S: Stream> Sources<S> {
 fn new_streams<S: Stream>(alloc: Global, table: &SettingsTable) -> Result<SpendRing<S>, AllocError>
     ensures count { IfOk result (λ ring. length ring.items ≡ source_count) }
     ensures stands { IfOk result (λ ring. (shared : S.Shared) → StandFrom (S.stands shared) S.sizes (sizes_at table.now) 1 ring.items []) }
-    ensures ready { IfOk result (λ ring. All (IsReady S.broken S.taken 0) ring.items) }
+    ensures ready { IfOk result (λ ring. All (IsReady S.broken S.offset 0) ring.items) }
     ensures most { IfOk result (λ ring. All (HoldsToDepth S.held S.sizes) ring.items) }
 {
     let mut ring = SpendRing::with_capacity(alloc, SOURCES)?;
@@ -178,7 +178,7 @@ fn new_streams<S: Stream>(alloc: Global, table: &SettingsTable) -> Result<SpendR
 
 /// Writes the line of how each stream ends that had a byte, by ID, and says whether all end without a fault.
 fn finish_all<S: Stream, K: Sink>(mut ring: SpendRing<S>, sink: &mut K) -> Result<bool, Failed>
-    requires ready { (most : ℕ) × All (IsReady S.broken S.taken most) ring.items }
+    requires ready { (most : ℕ) × All (IsReady S.broken S.offset most) ring.items }
     requires count { length ring.items ≡ source_count }
     ensures ends { (shared : S.Shared) (t : ℕ → Sizes) (pairs : List (ℕ × ℕ)) → StandFrom (S.stands shared) S.sizes t 1 ring.items pairs
         → (lines : List Printed) × (faulty : Bool) × EndsOf (by_sizes (S.listing shared) t) pairs sources lines faulty

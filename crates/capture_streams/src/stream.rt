@@ -32,7 +32,7 @@ pub trait Stream {
     ghost broken: { Self → Bool };
 
     /// How many bytes were taken.
-    ghost taken: { Self → ℕ };
+    ghost offset: { Self → ℕ };
 
     /// How many P0 elements it holds. They are not committed yet.
     ghost held: { Self → ℕ };
@@ -63,7 +63,7 @@ pub trait Stream {
     fn new(alloc: Global, settings: &Settings) -> Result<Self, AllocError>
         ensures stands { IfOk result (λ s. (shared : Self.Shared) → stands shared s []) }
         ensures sizes { IfOk result (λ s. sizes s ≡ settings.now) }
-        ensures ready { IfOk result (λ s. (broken s ≡ false) × (taken s ≡ 0)) }
+        ensures ready { IfOk result (λ s. (broken s ≡ false) × (offset s ≡ 0)) }
         ensures most { IfOk result (HoldsToDepth held sizes) };
 
     /// Takes the next bytes, writes the lines that they add, all before it returns, and adds their items to the sum. The error means that a
@@ -77,7 +77,7 @@ pub trait Stream {
         sink: &mut K,
     ) -> Result<(), Failed>
         requires whole { broken self.old ≡ false }
-        requires few { taken self.old + length run.now ≤ 2 ^ 62 }
+        requires few { offset self.old + length run.now ≤ 2 ^ 62 }
         ensures stands { IsOk result → (bytes : List ℕ) → stands shared.now self.old bytes → stands shared.now self.new (bytes ++ run.now) }
         ensures gains { (bytes : List ℕ) → stands shared.now self.old bytes
             → RunAdds (listing shared.now (sizes self.old)) id bytes run.now (K.state sink.old) (K.state sink.new) result }
@@ -85,8 +85,8 @@ pub trait Stream {
             → SumAdds (sums shared.now) (listing shared.now (sizes self.old)) id bytes run.now sum.old sum.new }
         ensures serves { Serves (K.state sink.old) (K.state sink.new) result }
         ensures broken { IsTrue (broken self.new) ↔ IsErr result }
-        ensures taken { IsOk result → taken self.new ≡ taken self.old + length run.now }
-        ensures between { (taken self.old ≤ taken self.new) × (taken self.new ≤ taken self.old + length run.now) }
+        ensures offset { IsOk result → offset self.new ≡ offset self.old + length run.now }
+        ensures between { (offset self.old ≤ offset self.new) × (offset self.new ≤ offset self.old + length run.now) }
         ensures sizes { sizes self.new ≡ sizes self.old }
         ensures most { HoldsToDepth held sizes self.old → HoldsToDepth held sizes self.new };
 

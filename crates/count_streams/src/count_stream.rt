@@ -41,7 +41,7 @@ impl Stream for CountStream {
 
     ghost broken = { λ d. false };
 
-    ghost taken = { λ d. d.reader.taken };
+    ghost offset = { λ d. d.reader.offset };
 
     ghost held = { λ d. length (d.due ++ d.pending.held) };
 

@@ -67,6 +67,7 @@ impl Follower for PathCounts {
 
     ghost takes = { λ image id old items new. TakesMore (CountsAre image) old new (items_under id items) };
 
+    /// Counts are of the words of one image. Where they are of another, nothing is counted, and nothing is said of them.
     #[inline(always)]
     fn take_walked(&mut self, image: &Image, id: Id, walked: &Walked) {
         if self.counter.fits(image) {
@@ -113,6 +114,7 @@ impl StretchTaker for PathCounts {
     #[inline(always)]
     fn begin(&mut self, _ctx: &Ctx) {}
 
+    /// As of what a walk shows, nothing is counted where the counts are of another image.
     #[inline(always)]
     fn take_stretch(&mut self, image: &Image, id: Id, _ctx: &Ctx, stretch: Stretch) {
         if self.counter.fits(image) {

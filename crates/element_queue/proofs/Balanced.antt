@@ -16,7 +16,7 @@ committed_one was now before held e h b =
 pub same_counts : (a b : Counts) → a.made ≡ b.made → a.committed ≡ b.committed → a.cancelled ≡ b.cancelled → a.lost ≡ b.lost → a ≡ b
 same_counts a b made committed cancelled lost k = record { made = made k; committed = committed k; cancelled = cancelled k; lost = lost k }
 
--- ---- many at once
+-- ---- many together
 
 pub passed_many : (was now : Counts) (n held : ℕ)
     → now ≡ record was { made = add was.made n; committed = add was.committed n } → Balances was held → Balances now held

@@ -7,7 +7,7 @@ use Rattle.etm_types.specs.Atoms.{most_atoms}
 use Rattle.etm_types.specs.declared.element.Entry.{Entry}
 use Rattle.element_queue.specs.Kept.{AreOldest, IsFront, NoPlainAt, entries_in}
 use Rattle.element_queue.specs.Queued.{plain_entry}
-use Rattle.element_queue.specs.declared.entries.Run.{Run}
+use Rattle.element_queue.specs.declared.entries.AtomsAndEntry.{AtomsAndEntry}
 use Rattle.element_queue.proofs.EntryRuns.{only_plain}
 
 -- ---- what a front tells
@@ -47,16 +47,16 @@ front_all front items n (others, is, none) all less taken there =
 
 -- ---- the first run, and where there is none
 
-pub plain_front : (runs : List Run) (plain : List Bool) → length runs ≡ 0 → IsFront plain (entries_in runs plain)
+pub plain_front : (runs : List AtomsAndEntry) (plain : List Bool) → length runs ≡ 0 → IsFront plain (entries_in runs plain)
 plain_front runs plain none = ([], only_plain runs plain none ∙ sym (append-nil (map plain_entry plain)), λ less taken there. no_first (plain_entry taken) there)
 
-first_run : (runs : List Run) (run : Run) (plain : List Bool) → slice_get runs 0 ≡ Some run
+first_run : (runs : List AtomsAndEntry) (run : AtomsAndEntry) (plain : List Bool) → slice_get runs 0 ≡ Some run
     → (others : List Entry) × (entries_in runs plain ≡ map plain_entry run.plain ++ run.last ∷ others)
 first_run [] run plain is = absurd cc
 first_run (x ∷ runs) run plain is =
-    let same : x ≡ run = cc in (entries_in runs plain, ap (λ (r : Run). map plain_entry r.plain ++ r.last ∷ entries_in runs plain) same)
+    let same : x ≡ run = cc in (entries_in runs plain, ap (λ (r : AtomsAndEntry). map plain_entry r.plain ++ r.last ∷ entries_in runs plain) same)
 
-pub first_front : (runs : List Run) (run : Run) (plain : List Bool) → slice_get runs 0 ≡ Some run
+pub first_front : (runs : List AtomsAndEntry) (run : AtomsAndEntry) (plain : List Bool) → slice_get runs 0 ≡ Some run
     → ((others : List Entry) → IsFront run.plain (map plain_entry run.plain ++ run.last ∷ others)) → IsFront run.plain (entries_in runs plain)
 first_front runs run plain is ends =
     let first = first_run runs run plain is in subst (IsFront run.plain) (sym first.1) (ends first.0)
@@ -120,18 +120,18 @@ front_enough old plain front last others is enough = (
 
 -- ---- one run behind the other
 
-drop_there : (runs : List Run) (run : Run) (i : ℕ) → slice_get runs i ≡ Some run → drop i runs ≡ run ∷ drop (i + 1) runs
+drop_there : (runs : List AtomsAndEntry) (run : AtomsAndEntry) (i : ℕ) → slice_get runs i ≡ Some run → drop i runs ≡ run ∷ drop (i + 1) runs
 drop_there [] run i is = absurd cc
-drop_there (x ∷ runs) run zero is = let same : x ≡ run = cc in ap (λ (r : Run). r ∷ runs) same
+drop_there (x ∷ runs) run zero is = let same : x ≡ run = cc in ap (λ (r : AtomsAndEntry). r ∷ runs) same
 drop_there (x ∷ runs) run (suc i) is =
     let next : suc (i + 1) ≡ suc i + 1 = omega arith in drop_there runs run i is ∙ ap (λ (k : ℕ). run ∷ drop k (x ∷ runs)) next
 
-next_run : (runs : List Run) (run : Run) (plain : List Bool) (i : ℕ) → slice_get runs i ≡ Some run
+next_run : (runs : List AtomsAndEntry) (run : AtomsAndEntry) (plain : List Bool) (i : ℕ) → slice_get runs i ≡ Some run
     → entries_in (drop i runs) plain ≡ map plain_entry run.plain ++ run.last ∷ entries_in (drop (i + 1) runs) plain
-next_run runs run plain i is = ap (λ (l : List Run). entries_in l plain) (drop_there runs run i is)
+next_run runs run plain i is = ap (λ (l : List AtomsAndEntry). entries_in l plain) (drop_there runs run i is)
 
 -- the front so far, and the runs that are left
-pub goes_on : (items : List Entry) (runs : List Run) (run : Run) (plain old front : List Bool) (i : ℕ) → slice_get runs i ≡ Some run
+pub goes_on : (items : List Entry) (runs : List AtomsAndEntry) (run : AtomsAndEntry) (plain old front : List Bool) (i : ℕ) → slice_get runs i ≡ Some run
     → items ≡ map plain_entry old ++ entries_in (drop i runs) plain
     → map plain_entry front ≡ map plain_entry old ++ map plain_entry run.plain ++ run.last ∷ []
     → items ≡ map plain_entry front ++ entries_in (drop (i + 1) runs) plain
@@ -142,7 +142,7 @@ goes_on items runs run plain old front i is split more =
     ∙ sym (append_assoc (map plain_entry old ++ map plain_entry run.plain) (run.last ∷ []) left)
     ∙ ap (λ (l : List Entry). l ++ left) (sym more)
 
-pub ends_there : (items : List Entry) (runs : List Run) (run : Run) (plain old front : List Bool) (i : ℕ) → slice_get runs i ≡ Some run
+pub ends_there : (items : List Entry) (runs : List AtomsAndEntry) (run : AtomsAndEntry) (plain old front : List Bool) (i : ℕ) → slice_get runs i ≡ Some run
     → items ≡ map plain_entry old ++ entries_in (drop i runs) plain
     → ((others : List Entry) → IsFront front (map plain_entry old ++ map plain_entry run.plain ++ run.last ∷ others))
     → IsFront front items
@@ -154,14 +154,14 @@ ends_there items runs run plain old front i is split ends =
     (ends left)
 
 -- behind the last run the bits alone are left
-pub ends_plain : (items : List Entry) (runs : List Run) (plain old front : List Bool) (i n : ℕ) → length runs ≤ i
+pub ends_plain : (items : List Entry) (runs : List AtomsAndEntry) (plain old front : List Bool) (i n : ℕ) → length runs ≤ i
     → items ≡ map plain_entry old ++ entries_in (drop i runs) plain → front ≡ old ++ take n plain
     → (length front < most_atoms → n ≡ length plain) → IsFront front items
 ends_plain items runs plain old front i n past split is ends =
     let gone : drop i runs ≡ [] = nil_from_length (drop i runs) (omega (arith, length-drop i runs, past)) in
     let left = map plain_entry (drop n plain) in (
       left,
-      split ∙ ap (λ (l : List Run). map plain_entry old ++ entries_in l plain) gone
+      split ∙ ap (λ (l : List AtomsAndEntry). map plain_entry old ++ entries_in l plain) gone
           ∙ ap (λ (l : List Bool). map plain_entry old ++ map plain_entry l) (sym (take-append-drop n plain))
           ∙ ap (λ (l : List Entry). map plain_entry old ++ l) (map-append plain_entry (take n plain) (drop n plain))
           ∙ sym (append_assoc (map plain_entry old) (map plain_entry (take n plain)) left)

@@ -9,7 +9,7 @@ use Rattle.etm_types.specs.declared.element.Thing.{Thing}
 use Rattle.etm_types.specs.declared.element.Thing.TheVariants.{Seen}
 use Rattle.element_queue.specs.Kept.{NoPlainAt, entries_in}
 use Rattle.element_queue.specs.Queued.{BeginsWith, NoPlainAtomAt, entry_of, given_atoms, plain_atom, plain_entry}
-use Rattle.element_queue.specs.declared.entries.Run.{Run}
+use Rattle.element_queue.specs.declared.entries.AtomsAndEntry.{AtomsAndEntry}
 use Rattle.element_queue.specs.declared.given_atoms.GivenAtoms.{GivenAtoms}
 use Rattle.element_queue.specs.declared.queue.AtomEntry.{AtomEntry}
 use Rattle.element_queue.proofs.Held.{things}
@@ -22,7 +22,7 @@ behind : (bits : List Bool) (last x : Entry) (others : List Entry) → NoPlainAt
 behind [] last x others none is = let same : last ≡ x = cc in ap (λ (e : Entry). e ∷ others) same
 behind (taken ∷ bits) last x others none is = absurd (none taken refl)
 
-pub first_then : (runs : List Run) (plain : List Bool) (x : Entry) → NoPlainAt 0 (entries_in runs plain) → slice_get (entries_in runs plain) 0 ≡ Some x
+pub first_then : (runs : List AtomsAndEntry) (plain : List Bool) (x : Entry) → NoPlainAt 0 (entries_in runs plain) → slice_get (entries_in runs plain) 0 ≡ Some x
     → entries_in runs plain ≡ x ∷ entries_in (drop 1 runs) plain
 first_then [] [] x none is = absurd cc
 first_then [] (taken ∷ plain) x none is = absurd (none taken refl)

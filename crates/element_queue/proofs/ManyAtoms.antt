@@ -1,4 +1,4 @@
--- Many atoms at once, before which nothing was given.
+-- Many atoms together, before which nothing was given.
 use Rattle.std.proofs.Common.{◌≡◌, ℕ, zero, suc, ◌≤◌, ◌<◌, Bool, Some, List, [], ◌∷◌, ◌++◌, length, map, take, drop, replicate}
 use Rattle.std.proofs.Common.{refl, sym, ap, ◌∙◌, arith, append_assoc, inl, inr, slice_get}
 use Rattle.std.specs.Prelude.{◌⊎◌}

@@ -16,7 +16,7 @@ use Rattle.element_queue.specs.Outlooks.{flip_newest_atom}
 use Rattle.element_queue.specs.Packed.{addr_of, ctx_of, p0_of, unpacked}
 use Rattle.element_queue.specs.Pending.{Taken as Outcome, committing, nothing_gone}
 use Rattle.element_queue.specs.Queued.{AreOldestPlain, BeginsWith, IsHeld, IsQueued, NoPlainAtomAt, Queued, Takes, TakesInfo, TakesPre, holding, passed, pending_of, plain_atom, plain_entry, rotated, things_of}
-use Rattle.element_queue.specs.declared.entries.Run.{Run}
+use Rattle.element_queue.specs.declared.entries.AtomsAndEntry.{AtomsAndEntry}
 use Rattle.element_queue.specs.declared.given_atoms.GivenAtoms.{GivenAtoms}
 use Rattle.element_queue.specs.declared.ledger.Counts.{Counts}
 use Rattle.element_queue.specs.declared.packed.Context.TheVariants.{NotGiven, Secure, NonSecure}
@@ -145,7 +145,7 @@ takes_what_is_given = (
   record { rule = λ informed. refl; counts = refl; depth = refl },
 )
 
--- three at once at depth 0
+-- three together at depth 0
 pub three_passed : passed 3 (record empty { pre = all_given; depth = 0; counts = record { made = 5; committed = 2 ^ 64 - 1; cancelled = 1; lost = 2 } })
     ≡ record { held = []; pre = none_given; depth = 0; counts = record { made = 8; committed = 2; cancelled = 1; lost = 2 } }
 three_passed = refl
@@ -157,7 +157,7 @@ pub things_committed : things_of None ∷ things_of (Some committed.Unseen) ∷ 
     ≡ [] ∷ (Unseen ∷ []) ∷ (seen all_given (Exc 2 0x6000) ∷ []) ∷ []
 things_committed = refl
 
--- ---- many atoms at once
+-- ---- many atoms together
 
 -- the address that was given before a thing
 abbrev addr_before : Thing → Option ℕ
@@ -323,7 +323,7 @@ told = record { pre = record none_given { addr = Some 0x4000 }; p0 = Atom false 
 abbrev an_atom : Bool → Entry
 an_atom taken = record { pre = none_given; p0 = Atom taken }
 
-abbrev two_runs : List Run
+abbrev two_runs : List AtomsAndEntry
 two_runs = record { plain = true ∷ false ∷ []; last = interrupt } ∷ record { plain = []; last = told } ∷ []
 
 -- the atoms of a run stand before its last entry, one run stands before the next, and the other atoms behind all

@@ -11,7 +11,7 @@ use Rattle.etm_types.specs.declared.element.Thing.TheVariants.{Unseen, Gap}
 use Rattle.etm_types.specs.declared.queue_fault.QueueFault.{QueueFault}
 use Rattle.etm_types.specs.declared.queue_fault.QueueFault.TheVariants.{CancelOverrun}
 use Rattle.element_queue.specs.Resolved.{Resolved, resolve_all, with_done}
-use Rattle.element_queue.specs.Rewriting.{KeepsTrace, SpareAll, Spares, elements_of_run, room_made, taken_at_once}
+use Rattle.element_queue.specs.Rewriting.{KeepsTrace, SpareAll, Spares, elements_of_run, room_made, taken_together}
 use Rattle.element_queue.proofs.Examples.{program, second, seen}
 
 abbrev all_given : Pre
@@ -61,7 +61,7 @@ pub three_at_once : resolve_all 3 two (elements_of_run (Atom true ∷ Atom false
     ≡ comes_to (Gap ∷ Unseen ∷ second ∷ []) (told true ∷ bare false ∷ seen none_given (Exc 2 0x6000) ∷ []) none_given
 three_at_once = refl
 
-pub held_at_once : taken_at_once 3 two.pending (Atom true ∷ Atom false ∷ Exc 2 0x6000 ∷ [])
+pub held_at_once : taken_together 3 two.pending (Atom true ∷ Atom false ∷ Exc 2 0x6000 ∷ [])
     ≡ Ok (
       record { held = told true ∷ bare false ∷ seen none_given (Exc 2 0x6000) ∷ []; pre = none_given; informed = true },
       record { committed = Unseen ∷ second ∷ []; cancelled = []; lost = [] },
@@ -69,7 +69,7 @@ pub held_at_once : taken_at_once 3 two.pending (Atom true ∷ Atom false ∷ Exc
 held_at_once = refl
 
 -- without one, what was given stays
-pub none_at_once : resolve_all 3 two (elements_of_run []) ≡ with_done two.done (taken_at_once 3 two.pending []) → ⊥
+pub none_at_once : resolve_all 3 two (elements_of_run []) ≡ with_done two.done (taken_together 3 two.pending []) → ⊥
 none_at_once = λ q. let a = ap flush_in q in cc
 
 -- ---- inverting

@@ -17,7 +17,7 @@ use Rattle.etm_types.specs.declared.queue_fault.QueueFault.{QueueFault}
 use Rattle.etm_types.specs.declared.queue_fault.QueueFault.TheVariants.{CancelOverrun, NoAtomToFlip}
 use Rattle.element_queue.specs.Pending.{Pending, Taken, cancelling, commits, committing, flips, nothing_gone, taken}
 use Rattle.element_queue.specs.Resolved.{Resolved, resolve_all, then_resolve, with_done}
-use Rattle.element_queue.specs.Rewriting.{elements_of_run, taken_at_once, things_of_run}
+use Rattle.element_queue.specs.Rewriting.{elements_of_run, taken_together, things_of_run}
 use Rattle.element_queue.proofs.Cancelled.{pre_since, some, takes_back}
 use Rattle.element_queue.proofs.Flipped.{flip_newest_at, pre_behind_at}
 use Rattle.element_queue.proofs.Joined.{one_by_one}
@@ -118,7 +118,7 @@ two_steps depth n front back count =
 
 run_from : (depth : ℕ) (done held : List Thing) (pre : Pre) (informed : Bool) (p0 : P0) (run : List P0)
     → resolve_all depth (record { done = done; pending = record { held = held; pre = pre; informed = informed } }) (elements_of_run (p0 ∷ run))
-    ≡ with_done done (taken_at_once depth (record { held = held; pre = pre; informed = informed }) (p0 ∷ run))
+    ≡ with_done done (taken_together depth (record { held = held; pre = pre; informed = informed }) (p0 ∷ run))
 run_from depth done held pre informed p0 [] = refl
 run_from depth done held pre informed p0 (next ∷ run) =
     let newest : List Thing = Seen (record { pre = pre; p0 = p0 }) ∷ [] in
@@ -137,7 +137,7 @@ run_from depth done held pre informed p0 (next ∷ run) =
     (append_assoc done (take k all) (take (length back - depth) back) ∙ ap (λ l. done ++ l) (two.0 ∙ ap (take n) whole)) (two.1 ∙ ap (drop n) whole)
 
 pub at_once : (depth : ℕ) (r : Resolved) (p0 : P0) (run : List P0)
-    → resolve_all depth r (elements_of_run (p0 ∷ run)) ≡ with_done r.done (taken_at_once depth r.pending (p0 ∷ run))
+    → resolve_all depth r (elements_of_run (p0 ∷ run)) ≡ with_done r.done (taken_together depth r.pending (p0 ∷ run))
 at_once depth r p0 run = run_from depth r.done r.pending.held r.pending.pre r.pending.informed p0 run
 
 -- ---- inverting

@@ -2,7 +2,7 @@
 use Rattle.std.specs.Prelude.{◌≡◌, ◌≢◌, ◌<◌, ℕ, Bool, List, [], ◌∷◌, ◌++◌, length, map, take, slice_get, Some}
 use Rattle.etm_types.specs.Atoms.{most_atoms}
 use Rattle.etm_types.specs.declared.element.Entry.{Entry}
-use Rattle.element_queue.specs.declared.entries.Run.{Run}
+use Rattle.element_queue.specs.declared.entries.AtomsAndEntry.{AtomsAndEntry}
 use Rattle.element_queue.specs.Queued.{plain_entry}
 
 -- the entries, oldest first, and how many there may be
@@ -14,7 +14,7 @@ abbrev pub kept : List Entry → ℕ → Kept
 kept items capacity = record { items = items; capacity = capacity }
 
 -- the entries of runs, one run after the other, and atoms behind them
-abbrev pub entries_in : List Run → List Bool → List Entry
+abbrev pub entries_in : List AtomsAndEntry → List Bool → List Entry
 entries_in [] plain = map plain_entry plain
 entries_in (run ∷ runs) plain = map plain_entry run.plain ++ run.last ∷ entries_in runs plain
 

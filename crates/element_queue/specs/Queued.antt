@@ -111,7 +111,7 @@ abbrev pub things_of : Option Committed → List Thing
 things_of None = []
 things_of (Some c) = thing_of c ∷ []
 
--- ---- many atoms at once
+-- ---- many atoms together
 
 -- a plain atom: nothing was given before it
 abbrev pub plain_entry : Bool → Entry

@@ -20,9 +20,9 @@ abbrev pub things_of_run : Pre → List P0 → List Thing
 things_of_run pre [] = []
 things_of_run pre (p0 ∷ run) = Seen (record { pre = pre; p0 = p0 }) ∷ things_of_run nothing_told run
 
--- all of them at once, one at least: all are held, and then the oldest of what is more than the depth are committed
-abbrev pub taken_at_once : ℕ → Pending → List P0 → Taken
-taken_at_once depth p run = let all = p.held ++ things_of_run p.pre run in commits p nothing_told all (length all - depth)
+-- all of them together, one at least: all are held, and then the oldest of what is more than the depth are committed
+abbrev pub taken_together : ℕ → Pending → List P0 → Taken
+taken_together depth p run = let all = p.held ++ things_of_run p.pre run in commits p nothing_told all (length all - depth)
 
 -- ---- elements that a commit may stand behind
 

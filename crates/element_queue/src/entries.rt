@@ -16,17 +16,17 @@ use std::alloc::{AllocError, Global};
 use std::marker::Model;
 
 /// Atoms before which nothing was given, and behind them an entry of any kind.
-pub(crate) struct Run {
+pub(crate) struct AtomsAndEntry {
     plain: PlainAtoms,
     last: Slot,
 }
 
-const _: () = prove!(size_of::<Run>() == 48);
+const _: () = prove!(size_of::<AtomsAndEntry>() == 48);
 
 /// Entries, oldest first, at most so many as the capacity. Atoms before which nothing was given are kept as bits: those before another entry
 /// with it, as a run, and the newest by themselves, at most 64 of each. It has no drop: `close` ends it.
 pub(crate) struct Entries {
-    runs: SpendRing<Run>,
+    runs: SpendRing<AtomsAndEntry>,
     plain: PlainAtoms,
     /// How many entries there are.
     count: u32,

@@ -9,7 +9,7 @@ ghost use Rattle.etm_types.specs.declared.element.Thing.{Thing};
 ghost use Rattle.etm_types.specs.declared.queue_fault.QueueFault.TheVariants.{CancelOverrun, NoAtomToFlip};
 ghost use Rattle.element_queue.specs.Counting.{entries, no_counts, p0s, tally};
 ghost use Rattle.element_queue.specs.Resolved.{Resolved, at_first, resolve_all, then_resolve, unresolved, with_done};
-ghost use Rattle.element_queue.specs.Rewriting.{KeepsTrace, SpareAll, elements_of_run, room_made, taken_at_once};
+ghost use Rattle.element_queue.specs.Rewriting.{KeepsTrace, SpareAll, elements_of_run, room_made, taken_together};
 
 /// Elements are resolved one by one: those of a joined list are those of the second from what the first left, up
 /// to the first fault.
@@ -46,14 +46,14 @@ pub fn a_tally_counts_what_is_resolved()
 // Two ways of writing the same trace. By `elements_are_resolved_one_by_one` each of these laws can be used at any place of a list.
 
 /// Packing: which atoms share a packet changes nothing. Here are elements alone: P0 elements that stand together are resolved
-/// like those of many packets, one after the other. A run of them is as good as held at once, and the oldest of what is more than
+/// like those of many packets, one after the other. A run of them is as good as held as one, and the oldest of what is more than
 /// the depth are committed then.
 pub fn packed_atoms_are_taken_one_by_one()
     ensures packets { (depth : ℕ) (r : Resolved) (before after : List Elem) (packets : List (List P0))
         → resolve_all depth r (before ++ elements_of_run (flat_map (λ packet. packet) packets) ++ after)
         ≡ resolve_all depth r (before ++ flat_map elements_of_run packets ++ after) }
     ensures at_once { (depth : ℕ) (r : Resolved) (p0 : P0) (run : List P0)
-        → resolve_all depth r (elements_of_run (p0 ∷ run)) ≡ with_done r.done (taken_at_once depth r.pending (p0 ∷ run)) }
+        → resolve_all depth r (elements_of_run (p0 ∷ run)) ≡ with_done r.done (taken_together depth r.pending (p0 ∷ run)) }
 {}
 
 /// Inverting: an atom that is flipped at once is the other atom, also where the queue is full. At depth 0 it was committed, so

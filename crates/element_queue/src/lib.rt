@@ -7,7 +7,7 @@
 //! nothing was given, a bit each. Neither form has a drop.
 //!
 //! The layer above uses the contracts of [`Queue`]: each call is one case of the rules in
-//! `specs/Pending.antt`, or so many of them at once. What the rules make of a list of elements is in `specs/Resolved.antt`, and the
+//! `specs/Pending.antt`, or of so many of them together. What the rules make of a list of elements is in `specs/Resolved.antt`, and the
 //! contracts of the laws say how that goes on from list to list, and how it is counted.
 #![tactic(auto)]
 

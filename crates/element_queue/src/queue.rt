@@ -11,7 +11,7 @@ ghost use Rattle.element_queue.specs.Pending.{cancelling, committing, losing, no
 ghost use Rattle.element_queue.specs.Queued.{IsQueued, Refuses, Takes, TakesInfo, TakesPre};
 ghost use Rattle.element_queue.specs.Queued.{noted, pending_of, thing_of, things_of};
 
-mod many_at_once;
+mod many_together;
 
 use crate::entries::Entries;
 use crate::ledger::{Counts, Ledger};

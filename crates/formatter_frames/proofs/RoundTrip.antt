@@ -19,7 +19,7 @@ use Rattle.formatter_frames.proofs.Places.{symbols_at, symbols_in_is, pair_small
 use Rattle.formatter_frames.proofs.Pieces.{length-left_over}
 use Rattle.formatter_frames.proofs.Writing.{frames_of-append, frames_of_full}
 
--- no ID follows an ID at once
+-- no ID follows an ID directly
 abbrev FitsPair : Symbol → Symbol → Type 0
 FitsPair (NewId _) (NewId _) = ⊥
 FitsPair _ _ = Unit {0}

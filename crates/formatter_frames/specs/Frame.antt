@@ -49,7 +49,7 @@ data_byte (NewId id) = 0
 data_byte (Data byte) = byte
 
 -- Two symbols as a pair of bytes. An ID has no place among the data bytes: it takes the place before, and the byte that
--- stood there comes after it, with the auxiliary bit 1. An ID never follows an ID at once.
+-- stood there comes after it, with the auxiliary bit 1. An ID never follows an ID directly.
 abbrev pub pair_of : Symbol → Symbol → BytePair
 pair_of first (Data byte) = record { mixed = mixed_byte first; «data» = byte; bit = auxiliary_bit first }
 pair_of first (NewId id) = record { mixed = 2 * id + 1; «data» = data_byte first; bit = 1 }

@@ -87,7 +87,7 @@ fn data_byte(symbol: &Symbol) -> u8
     }
 }
 
-/// Two symbols as a pair of bytes. An ID never follows an ID at once.
+/// Two symbols as a pair of bytes. An ID never follows an ID directly.
 pub fn pair_of(first: &Symbol, second: &Symbol) -> BytePair
     ensures value { result ≡ pair_of first.now second.now }
     ensures within { result.bit < 2 }

@@ -15,7 +15,7 @@ use Rattle.trace_io.specs.declared.traits.Failed.{Failed}
 abbrev pub most_input : ℕ
 most_input = 2 ^ 30
 
--- the most bytes that are taken at once
+-- the most bytes that are taken at a time
 abbrev pub most_at_once : ℕ
 most_at_once = 4096
 

@@ -14,7 +14,7 @@ use trace_io::{Failed, Sink, Source};
 /// The most bytes of input.
 pub const MOST_INPUT: usize = 1 << 30;
 
-/// The most bytes that are taken at once.
+/// The most bytes that are taken at a time.
 const MOST_AT_ONCE: usize = 4096;
 
 /// Why no more of an input is taken.
@@ -62,11 +62,11 @@ fn take_input<P: Printer, J: Source, K: Sink>(
     input: &mut J,
     out: &mut K,
 ) -> Result<InputEnd, Failed>
-    requires fresh { (P.broken printer.old ≡ false) × (P.taken printer.old ≡ 0) }
+    requires fresh { (P.broken printer.old ≡ false) × (P.offset printer.old ≡ 0) }
     ensures took { (t : ℕ → Sizes) → P.stands shared.now t printer.old []
         → Took (P.stands shared.now t printer.new) (P.laid (P.frames printer.old)) (P.listing shared.now t)
         (J.state input.old) (J.state input.new) (K.state out.old) (K.state out.new) result }
-    ensures whole { (stop : InputEnd) → result ≡ Ok stop → (P.broken printer.new ≡ false) × (P.taken printer.new ≤ most_input) }
+    ensures whole { (stop : InputEnd) → result ≡ Ok stop → (P.broken printer.new ≡ false) × (P.offset printer.new ≤ most_input) }
     ensures frames { P.frames printer.new ≡ P.frames printer.old }
     ensures kept { (result ≡ Ok InputEnd.ReadFault) ⊎ KeepsFaults (J.state input.old) (J.state input.new) }
     ensures serves { Serves (K.state out.old) (K.state out.new) result }
@@ -92,7 +92,7 @@ pub fn print_input<P: Printer, J: Source, K: Sink>(
     input: &mut J,
     out: &mut K,
 ) -> Result<Status, Failed>
-    requires fresh { (P.broken printer ≡ false) × (P.taken printer ≡ 0) }
+    requires fresh { (P.broken printer ≡ false) × (P.offset printer ≡ 0) }
     ensures answer { (t : ℕ → Sizes) → P.stands shared.now t printer [] → Listed (P.laid (P.frames printer)) (P.listing shared.now t)
         (J.state input.old) (J.state input.new) (K.state out.old) (K.state out.new) result }
     ensures kept { (result ≡ Ok Status.ReadFault) ⊎ IsErr result ⊎ KeepsFaults (J.state input.old) (J.state input.new) }
@@ -123,7 +123,7 @@ fn print_end<P: Printer, K: Sink>(
     out: &mut K,
 ) -> Result<Status, Failed>
     requires whole { P.broken printer ≡ false }
-    requires few { P.taken printer ≤ 2 ^ 30 }
+    requires few { P.offset printer ≤ 2 ^ 30 }
     ensures closes { (t : ℕ → Sizes) (bytes : List ℕ) → P.stands shared.now t printer bytes
         → Closes (P.laid (P.frames printer)) (P.listing shared.now t) bytes (K.state out.old) (K.state out.new) result }
     ensures serves { Serves (K.state out.old) (K.state out.new) result }
@@ -147,14 +147,14 @@ fn print_piece<P: Printer, K: Sink>(
     out: &mut K,
 ) -> Result<(), Failed>
     requires whole { P.broken printer.old ≡ false }
-    requires few { P.taken printer.old + length piece.now ≤ 2 ^ 30 }
+    requires few { P.offset printer.old + length piece.now ≤ 2 ^ 30 }
     ensures stands { (t : ℕ → Sizes) (bytes : List ℕ) → P.stands shared.now t printer.old bytes → IsOk result
         → P.stands shared.now t printer.new (bytes ++ piece.now) }
     ensures gains { (t : ℕ → Sizes) (bytes : List ℕ) → P.stands shared.now t printer.old bytes
         → Gains (P.laid (P.frames printer.old)).carried (P.listing shared.now t) bytes piece.now (K.state out.old) (K.state out.new) result }
     ensures serves { Serves (K.state out.old) (K.state out.new) result }
     ensures whole { IsOk result → P.broken printer.new ≡ false }
-    ensures taken { IsOk result → P.taken printer.new ≡ P.taken printer.old + length piece.now }
+    ensures offset { IsOk result → P.offset printer.new ≡ P.offset printer.old + length piece.now }
     ensures frames { P.frames printer.new ≡ P.frames printer.old }
 {
     printer.take_piece(shared, piece, out)?;

@@ -3,10 +3,10 @@ use Rattle.std.specs.Prelude.{◌≡◌, true, List, [], ◌∷◌, ◌++◌, le
 use Rattle.element_queue.specs.Resolved.{Resolved}
 use Rattle.etm_types.specs.declared.element.Thing.{Thing}
 use Rattle.late_reader.specs.Marks.{Marks, old}
-use Rattle.late_reader.specs.Rows.{AreAlike, NoneSeen, Place, PreAt, Row, late_of, mark_of, place_behind, whole_of}
+use Rattle.late_reader.specs.Rows.{AreAlike, NoneSeen, Whereabouts, PreAt, Row, late_of, mark_of, place_behind, whole_of}
 
 -- where the late reader is behind all of them
-abbrev pub places_behind : Place → List Row → Place
+abbrev pub places_behind : Whereabouts → List Row → Whereabouts
 places_behind place [] = place
 places_behind place (r ∷ rows) = places_behind (place_behind place r.late) rows
 

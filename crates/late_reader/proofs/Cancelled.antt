@@ -13,7 +13,7 @@ use Rattle.etm_types.specs.declared.queue_fault.QueueFault.TheVariants.{CancelOv
 use Rattle.element_queue.specs.Pending.{Taken, tells, cancels, pre_of}
 use Rattle.element_queue.specs.Resolved.{Resolved, resolve, with_done}
 use Rattle.late_reader.specs.Marks.{Mark, old, Marks, marked, on_of}
-use Rattle.late_reader.specs.Rows.{AreAlike, BehindEntry, BehindGap, NoneSeen, Place, PreAt, Row, ThingAt, late_of, mark_of, whole_of}
+use Rattle.late_reader.specs.Rows.{AreAlike, BehindEntry, BehindGap, NoneSeen, Whereabouts, PreAt, Row, ThingAt, late_of, mark_of, whole_of}
 use Rattle.late_reader.proofs.Alike.{Alike, places_behind}
 use Rattle.late_reader.proofs.Lists.{bools, same_fine, never_fine, kept_at, newest_at, alike_fronts, alike_rests, marks_apart}
 use Rattle.late_reader.proofs.Told.{Follows, Goes, told, told_alike}
@@ -23,13 +23,13 @@ abbrev pub back : Resolved → List Thing → ℕ → Resolved
 back r held n =
     record { done = r.done ++ []; pending = record (r.pending) { held = take (length held - n) held; pre = pre_of (drop (length held - n) held) } }
 
-pub missing_at : (place : Place) (on : Bool) → false ≡ on → PreAt place on trace_missing trace_missing
+pub missing_at : (place : Whereabouts) (on : Bool) → false ≡ on → PreAt place on trace_missing trace_missing
 missing_at NoneSeen on e = record { lost = refl; addr = tt; ctx = tt; on = e }
 missing_at BehindGap on e = (refl, e, refl)
 missing_at BehindEntry on e = (refl, e)
 
 -- what is pending is what was told before a thing that goes
-pub told_before : (place : Place) (m : Mark) (t u : Thing) (ts us : List Thing) → ThingAt place m t u
+pub told_before : (place : Whereabouts) (m : Mark) (t u : Thing) (ts us : List Thing) → ThingAt place m t u
     → PreAt place m.on (pre_of (t ∷ ts)) (pre_of (u ∷ us))
 told_before place m t (Seen entry) ts us a = subst (λ z. PreAt place m.on (pre_of (z ∷ ts)) entry.pre) (sym a.same) a.pres
 told_before place m t Unseen ts us a =
@@ -40,12 +40,12 @@ told_before place m t Gap ts us a =
 told_before place m t Stop ts us a =
     subst (λ z. PreAt place m.on (pre_of (z ∷ ts)) trace_missing) (sym a.0) (missing_at place m.on (sym (ap (λ (z : Mark). z.on) a.1)))
 
-back_to : (place : Place) (n : ℕ) (gone : List Row) → (n == 0) ≡ false → length gone ≡ n → AreAlike place gone
+back_to : (place : Whereabouts) (n : ℕ) (gone : List Row) → (n == 0) ≡ false → length gone ≡ n → AreAlike place gone
     → PreAt place (on_of (map mark_of gone)) (pre_of (map whole_of gone)) (pre_of (map late_of gone))
 back_to place n [] some e a = absurd (let x = sym some ∙ ap (λ k. k == 0) (sym e) in cc)
 back_to place n (x ∷ gone) some e a = told_before place x.mark x.whole x.late (map whole_of gone) (map late_of gone) a.0
 
-same_pres : (place : Place) (a b : Bool) (p p' q q' : Pre) → a ≡ b → p ≡ p' → q ≡ q' → PreAt place b p' q' → PreAt place a p q
+same_pres : (place : Whereabouts) (a b : Bool) (p p' q q' : Pre) → a ≡ b → p ≡ p' → q ≡ q' → PreAt place b p' q' → PreAt place a p q
 same_pres place a b p p' q q' e f g x =
     subst (λ z. PreAt place z p q) (sym e) (subst (λ z. PreAt place b z q) (sym f) (subst (λ z. PreAt place b p' z) (sym g) x))
 

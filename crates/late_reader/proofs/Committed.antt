@@ -13,7 +13,7 @@ use Rattle.etm_types.specs.declared.queue_fault.QueueFault.TheVariants.{CommitOv
 use Rattle.element_queue.specs.Pending.{commits, Taken}
 use Rattle.element_queue.specs.Resolved.{Resolved, resolve, with_done}
 use Rattle.late_reader.specs.Marks.{Mark, Marks, mark, old}
-use Rattle.late_reader.specs.Rows.{AreAlike, BehindEntry, EntryAt, NoneSeen, Place, PreAt, Row, late_of, mark_of, whole_of}
+use Rattle.late_reader.specs.Rows.{AreAlike, BehindEntry, EntryAt, NoneSeen, Whereabouts, PreAt, Row, late_of, mark_of, whole_of}
 use Rattle.late_reader.proofs.Alike.{Alike, places_behind}
 use Rattle.late_reader.proofs.Lists.{fine, same_fine, never_fine, places-append, alike_joined, marks_apart}
 use Rattle.late_reader.proofs.Told.{Follows, Goes}
@@ -53,7 +53,7 @@ left_alike base whole all on late done_rows rows p q n done shown marks alike pr
       begun = begun;
     }
 
-nothing_at : (place : Place) → place ≡ BehindEntry → PreAt place false nothing_told nothing_told
+nothing_at : (place : Whereabouts) → place ≡ BehindEntry → PreAt place false nothing_told nothing_told
 nothing_at place e = subst (λ l. PreAt l false nothing_told nothing_told) (sym e) (refl, refl)
 
 pub p0_goes : (p0 : P0) → Follows (elem.P0 p0)

@@ -18,9 +18,9 @@ use Rattle.path_walker.specs.Start.{start_of, pc_before, mismatch_of, context_of
 use Rattle.path_walker.specs.Steps.{next_of, stack_after}
 use Rattle.path_walker.specs.Walk.{Leads, Shows, mark_of, takes}
 use Rattle.late_reader.specs.Marks.{Mark}
-use Rattle.late_reader.specs.Rows.{BehindEntry, BehindGap, NoneSeen, Place, PreAt}
+use Rattle.late_reader.specs.Rows.{BehindEntry, BehindGap, NoneSeen, Whereabouts, PreAt}
 use Rattle.path_elements.specs.PathLaws.{BeginsWith}
-use Rattle.late_reader.specs.Walked.{EntryWalks, Standing, context_where, told_by}
+use Rattle.late_reader.specs.Walked.{EntryWalks, BothWalks, context_where, told_by}
 use Rattle.late_reader.proofs.Lists.{heads}
 use Rattle.late_reader.proofs.Starts.{AreLike, BothStart, LastAt, LastIs, StartsUnknown, StatesAt, contexts, standing, starts}
 
@@ -137,35 +137,35 @@ unknown_returns (Exc kind ret) e = absurd cc
 -- ---- the entry
 
 -- where both walks stand behind it
-abbrev pub stands_behind : Standing → Pre → Walked → State → State → Standing
+abbrev pub stands_behind : BothWalks → Pre → Walked → State → State → BothWalks
 stands_behind there q late w' v' = standing BehindEntry (told_by there.told q) (Some late) w' v'
 
 -- the late reader's walk shows it, and the two go on alike
-pub record WalksOn (image : Image) (there : Standing) (p q : Pre) (p0 : P0) (m : Mark) (w' : State) (whole : Walked) : Type 0 where
+pub record WalksOn (image : Image) (there : BothWalks) (p q : Pre) (p0 : P0) (m : Mark) (w' : State) (whole : Walked) : Type 0 where
   pub next : State
   pub late : Walked
   pub walks : EntryWalks image there (stands_behind there q late w' next) p q p0 m whole late
   pub like : AreLike (told_by there.told q) w' next
   pub is : LastIs image (Some late) next
 
-front_before : (place : Place) (told : Bool) (w v : State) → StatesAt place told w v → BeginsWith v.stack w.stack
+front_before : (place : Whereabouts) (told : Bool) (w v : State) → StatesAt place told w v → BeginsWith v.stack w.stack
 front_before NoneSeen told w v s = subst (λ (z : State). BeginsWith z.stack w.stack) (sym s.0) (w.stack, refl)
 front_before BehindGap told w v s = s.front
 front_before BehindEntry told w v s = s.front
 
-on_at : (place : Place) (on : Bool) (p q : Pre) → PreAt place on p q → q.on ≡ on
+on_at : (place : Whereabouts) (on : Bool) (p q : Pre) → PreAt place on p q → q.on ≡ on
 on_at NoneSeen on p q a = a.on
 on_at BehindGap on p q a = a.1
 on_at BehindEntry on p q a = a.1
 
 -- what both have before the entry, wherever it begins
-record Before (there : Standing) (p q : Pre) (m : Mark) : Type 0 where
+record Before (there : BothWalks) (p q : Pre) (m : Mark) : Type 0 where
   agrees : mismatch_of (pc_before there.late q) q.addr ≡ None
   ctx : context_of there.late q ≡ context_where (told_by there.told q) (context_of there.whole p)
   on : q.on ≡ m.on
   front : BeginsWith there.late.stack there.whole.stack
 
-known_walked : (image : Image) (there : Standing) (p q : Pre) (p0 : P0) (m : Mark) (w' : State) (whole : Walked)
+known_walked : (image : Image) (there : BothWalks) (p q : Pre) (p0 : P0) (m : Mark) (w' : State) (whole : Walked)
     → Shows image there.whole (record { pre = p; p0 = p0 }) whole w' → Before there p q m → BothStart there.whole there.late p q
     → WalksOn image there p q p0 m w' whole
 known_walked image there p q p0 m w' whole shows f b =
@@ -223,7 +223,7 @@ known_walked image there p q p0 m w' whole shows f b =
       };
     }
 
-unknown_walked : (image : Image) (there : Standing) (p q : Pre) (p0 : P0) (m : Mark) (w' : State) (whole : Walked)
+unknown_walked : (image : Image) (there : BothWalks) (p q : Pre) (p0 : P0) (m : Mark) (w' : State) (whole : Walked)
     → Shows image there.whole (record { pre = p; p0 = p0 }) whole w' → Before there p q m → StartsUnknown image there p q
     → WalksOn image there p q p0 m w' whole
 unknown_walked image there p q p0 m w' whole shows f b =
@@ -269,7 +269,7 @@ unknown_walked image there p q p0 m w' whole shows f b =
       is = record { walked = late; shown = refl; lost = λ e. refl; returns = λ e. absurd (unknown_returns p0 e) };
     }
 
-pub entry_walks : (image : Image) (place : Place) (told : Bool) (last : Option Walked) (w v : State) (p q : Pre) (p0 : P0) (m : Mark) (w' : State)
+pub entry_walks : (image : Image) (place : Whereabouts) (told : Bool) (last : Option Walked) (w v : State) (p q : Pre) (p0 : P0) (m : Mark) (w' : State)
     (whole : Walked) → PreAt place m.on p q → StatesAt place told w v → LastAt image place last v
     → Shows image w (record { pre = p; p0 = p0 }) whole w' → whole.unknown ≡ false
     → WalksOn image (standing place told last w v) p q p0 m w' whole

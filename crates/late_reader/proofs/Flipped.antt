@@ -15,7 +15,7 @@ use Rattle.etm_types.specs.declared.queue_fault.QueueFault.TheVariants.{NoAtomTo
 use Rattle.element_queue.specs.Pending.{flips, flip_newest, flip_thing, pre_behind, is_unseen}
 use Rattle.element_queue.specs.Resolved.{Resolved, resolve, with_done}
 use Rattle.late_reader.specs.Marks.{Mark, old, Marks}
-use Rattle.late_reader.specs.Rows.{AreAlike, BehindEntry, BehindGap, NoneSeen, Place, PreAt, Row, ThingAt, late_of, mark_of, place_behind}
+use Rattle.late_reader.specs.Rows.{AreAlike, BehindEntry, BehindGap, NoneSeen, Whereabouts, PreAt, Row, ThingAt, late_of, mark_of, place_behind}
 use Rattle.late_reader.specs.Rows.{whole_of}
 use Rattle.late_reader.proofs.Alike.{Alike, places_behind}
 use Rattle.late_reader.proofs.Lists.{fine, same_fine, never_fine, Newest, newest_of, alike_fronts, alike_rests, alike_joined, places-append}
@@ -106,7 +106,7 @@ turned_alike base whole marks late done_rows others t u f g m done shown all ali
     }
 
 -- what is pending, by the thing that is turned
-unseen_pres : (place : Place) (on : Bool) (t : Thing) (p q : Pre) → place ≡ NoneSeen → PreAt place on p q
+unseen_pres : (place : Whereabouts) (on : Bool) (t : Thing) (p q : Pre) → place ≡ NoneSeen → PreAt place on p q
     → PreAt place on (turned_pre t p) (turned_pre Unseen q)
 unseen_pres NoneSeen on t p q e a = record { lost = refl; addr = tt; ctx = a.ctx; on = a.on }
 unseen_pres BehindGap on t p q e a = absurd cc

@@ -7,7 +7,7 @@ use Rattle.etm_types.specs.declared.queue_fault.QueueFault.{QueueFault}
 use Rattle.element_queue.specs.Resolved.{Resolved}
 use Rattle.late_reader.specs.Marks.{Mark}
 use Rattle.late_reader.proofs.Alike.{places_behind}
-use Rattle.late_reader.specs.Rows.{AreAlike, Place, Row, mark_of, place_behind}
+use Rattle.late_reader.specs.Rows.{AreAlike, Whereabouts, Row, mark_of, place_behind}
 
 pub heads : {X : Type 0} (x y : X) (xs ys : List X) → x ∷ xs ≡ y ∷ ys → (x ≡ y) × (xs ≡ ys)
 heads x y xs ys e = (cc, cc)
@@ -51,19 +51,19 @@ newest_of x (y ∷ xs) = let rest = newest_of y xs in record { others = x ∷ re
 
 -- ---- rows
 
-pub places-append : (p : Place) (xs ys : List Row) → places_behind p (xs ++ ys) ≡ places_behind (places_behind p xs) ys
+pub places-append : (p : Whereabouts) (xs ys : List Row) → places_behind p (xs ++ ys) ≡ places_behind (places_behind p xs) ys
 places-append p [] ys = refl
 places-append p (x ∷ xs) ys = places-append (place_behind p x.late) xs ys
 
-pub alike_fronts : (p : Place) (xs ys : List Row) → AreAlike p (xs ++ ys) → AreAlike p xs
+pub alike_fronts : (p : Whereabouts) (xs ys : List Row) → AreAlike p (xs ++ ys) → AreAlike p xs
 alike_fronts p [] ys a = tt
 alike_fronts p (x ∷ xs) ys a = (a.0, alike_fronts (place_behind p x.late) xs ys a.1)
 
-pub alike_rests : (p : Place) (xs ys : List Row) → AreAlike p (xs ++ ys) → AreAlike (places_behind p xs) ys
+pub alike_rests : (p : Whereabouts) (xs ys : List Row) → AreAlike p (xs ++ ys) → AreAlike (places_behind p xs) ys
 alike_rests p [] ys a = a
 alike_rests p (x ∷ xs) ys a = alike_rests (place_behind p x.late) xs ys a.1
 
-pub alike_joined : (p : Place) (xs ys : List Row) → AreAlike p xs → AreAlike (places_behind p xs) ys → AreAlike p (xs ++ ys)
+pub alike_joined : (p : Whereabouts) (xs ys : List Row) → AreAlike p xs → AreAlike (places_behind p xs) ys → AreAlike p (xs ++ ys)
 alike_joined p [] ys a b = b
 alike_joined p (x ∷ xs) ys a b = (a.0, alike_joined (place_behind p x.late) xs ys a.1 b)
 

@@ -9,7 +9,7 @@ use Rattle.etm_types.specs.declared.element.Thing.{Thing}
 use Rattle.etm_types.specs.declared.element.Thing.TheVariants.{Gap, Stop}
 use Rattle.element_queue.specs.Resolved.{Resolved}
 use Rattle.late_reader.specs.Marks.{mark, old, Marks}
-use Rattle.late_reader.specs.Rows.{AreAlike, BehindGap, NoneSeen, Place, PreAt, Row, ThingAt, late_of, mark_of, place_behind, whole_of}
+use Rattle.late_reader.specs.Rows.{AreAlike, BehindGap, NoneSeen, Whereabouts, PreAt, Row, ThingAt, late_of, mark_of, place_behind, whole_of}
 use Rattle.late_reader.proofs.Alike.{Alike, places_behind}
 use Rattle.late_reader.proofs.Lists.{same_fine, alike_fronts, alike_joined, places-append, marks_apart}
 use Rattle.late_reader.proofs.Told.{Follows, Goes}
@@ -17,8 +17,8 @@ use Rattle.late_reader.proofs.Told.{Follows, Goes}
 abbrev pub lost : Resolved → Thing → Resolved
 lost r t = record { done = r.done ++ t ∷ []; pending = record (r.pending) { held = []; pre = trace_missing } }
 
-lost_alike : (base : List Thing) (whole : Resolved) (marks : Marks) (late : Resolved) (t : Thing) → ((p : Place) → ThingAt p (mark true false) t t)
-    → ((p : Place) → place_behind p t ≡ BehindGap)
+lost_alike : (base : List Thing) (whole : Resolved) (marks : Marks) (late : Resolved) (t : Thing) → ((p : Whereabouts) → ThingAt p (mark true false) t t)
+    → ((p : Whereabouts) → place_behind p t ≡ BehindGap)
     → Alike base whole marks late
     → Alike base (lost whole t) (record { all = take (length whole.done) marks.all ++ mark true false ∷ []; on = false }) (lost late t)
 lost_alike base whole marks late t is to a =

@@ -24,9 +24,9 @@ use Rattle.path_walker.specs.Walk.{Shows}
 use Rattle.path_walker.specs.declared.pc.Pc.TheVariants.{Awaited, Known, Lost}
 use Rattle.program_image.specs.declared.image.Image.{Image}
 use Rattle.late_reader.specs.Marks.{Mark, Marks, mark, marked, marks_at, marks_behind, old}
-use Rattle.late_reader.specs.Rows.{AreAlike, BehindEntry, BehindGap, NoneSeen, Place, PreAt, Row, late_of, whole_of}
+use Rattle.late_reader.specs.Rows.{AreAlike, BehindEntry, BehindGap, NoneSeen, Whereabouts, PreAt, Row, late_of, whole_of}
 use Rattle.late_reader.specs.Part.{ShowsPart}
-use Rattle.late_reader.specs.Walked.{EntryWalks, IsCause, Standing, UnseenWalks, WalkAlike, context_where, told_by}
+use Rattle.late_reader.specs.Walked.{EntryWalks, IsCause, BothWalks, UnseenWalks, WalkAlike, context_where, told_by}
 
 abbrev number_of : Option ℕ → ℕ
 number_of None = 0
@@ -229,7 +229,7 @@ pub behind_unknown : (image : Image) (pre : Pre)
 behind_unknown image pre = inl (record { walked = unknown; shown = refl; unknown = refl })
 
 -- behind one that was shown, only where the whole takes a return address, and the late reader has none
-abbrev behind_known : State → State → Standing
+abbrev behind_known : State → State → BothWalks
 behind_known whole late = record { place = BehindEntry; told = true; last = Some known; whole = whole; late = late }
 
 pub none_to_take : (image : Image) → IsCause image (behind_known (awaiting []) (awaiting [])) nothing_told nothing_told → ⊥
@@ -322,7 +322,7 @@ unknown_shown image =
 abbrev told_before : Pre
 told_before = record nothing_told { addr = Some 0x1004; ctx = Some kernel }
 
-abbrev entered : State → Standing
+abbrev entered : State → BothWalks
 entered whole = record { place = NoneSeen; told = false; last = None; whole = whole; late = first_state }
 
 pub unknown_at_first :
@@ -352,7 +352,7 @@ unknown_at_first = record {
 }
 
 -- both are told the address, and the late reader the context too
-abbrev found : Standing
+abbrev found : BothWalks
 found = record { place = BehindEntry; told = true; last = Some (jumped kernel); whole = there_with (0x3004 ∷ []) kernel; late = there_with [] kernel }
 
 pub known_behind : EntryWalks returning found found nothing_told nothing_told (Atom true) (mark true false) (jumped kernel) (jumped kernel)
@@ -374,7 +374,7 @@ known_behind = record {
 }
 
 -- an unseen thing in the place of that entry, a gap and a stop; then all of them one after the other
-abbrev standing : Place → Option Walked → Standing
+abbrev standing : Whereabouts → Option Walked → BothWalks
 standing place last = record { place = place; told = true; last = last; whole = there_with (0x3004 ∷ []) kernel; late = there_with [] kernel }
 
 abbrev their_rows : List Row
@@ -446,7 +446,7 @@ the_whole_goes_on = record {
 
 -- ---- an entry: what does not stand for what the whole shows of it
 
-module _ (image : Image) (at next : Standing) (p q : Pre) (p0 : P0) (m : Mark) where
+module _ (image : Image) (at next : BothWalks) (p q : Pre) (p0 : P0) (m : Mark) where
   abbrev Walks : Walked → Walked → Type 0
   Walks whole late = EntryWalks image at next p q p0 m whole late
 
@@ -494,7 +494,7 @@ module _ (image : Image) (at next : Standing) (p q : Pre) (p0 : P0) (m : Mark) w
 
 -- ---- things: a gap is shown to both, and an unseen thing to the whole alone
 
-module _ (image : Image) (at : Standing) where
+module _ (image : Image) (at : BothWalks) where
   pub gap_is_shown : WalkAlike image at (row Gap (mark true false) Gap ∷ []) (item.Gap ∷ []) [] → ⊥
   gap_is_shown (next, first, rest, one, others, walks, ends, parts, are) =
       absurd (omega (arith, ap length are, ap length walks.others_are, length-append one others))

@@ -30,8 +30,8 @@ use Rattle.trace_unit.specs.Written.{settled}
 use Rattle.late_reader.specs.LastBytes.{LastBytesShow}
 use Rattle.late_reader.specs.Marks.{Mark, mark, marked, marks_at, marks_behind, old}
 use Rattle.late_reader.specs.Part.{AreCertain, ShowsPart, entering}
-use Rattle.late_reader.specs.Rows.{AreAlike, BehindEntry, BehindGap, NoneSeen, Place, PreAt, Row, ThingAt, late_of, mark_of, whole_of}
-use Rattle.late_reader.specs.Walked.{GapWalks, Standing, ThingWalks, UnseenWalks, WalkAlike}
+use Rattle.late_reader.specs.Rows.{AreAlike, BehindEntry, BehindGap, NoneSeen, Whereabouts, PreAt, Row, ThingAt, late_of, mark_of, whole_of}
+use Rattle.late_reader.specs.Walked.{GapWalks, BothWalks, ThingWalks, UnseenWalks, WalkAlike}
 
 abbrev user : Ctx
 user = record { el = 0; ns = false; vmid = 0; cid = 0 }
@@ -115,7 +115,7 @@ there = record { pc = Known 0x1004; stack = 0x2000 ∷ []; ctx = kernel }
 abbrev known : Walked
 known = record { on = false; unknown = false; ctx = kernel; start = 0x1000; count = 1; took = false; exc = None }
 
-abbrev not_told : Place → Option Walked → Standing
+abbrev not_told : Whereabouts → Option Walked → BothWalks
 not_told place last = record { place = place; told = false; last = last; whole = awaiting; late = there }
 
 pub unseen_shows_nothing : (image : Image) → UnseenWalks image (not_told BehindEntry (Some known)) (not_told BehindEntry (Some known)) Unseen [] []
@@ -232,7 +232,7 @@ module _ (image : Image) (items : List Item) (part : ShowsPart image 4 0 nothing
   shown_before before state (none, same) = (none, let e : state ≡ first_state = cc in e)
 
   -- and behind it the gap, to both
-  gaps_shown : (at : Standing) (rows : List Row) (behind late : List Item) → map late_of rows ≡ Gap ∷ [] → WalkAlike image at rows behind late
+  gaps_shown : (at : BothWalks) (rows : List Row) (behind late : List Item) → map late_of rows ≡ Gap ∷ [] → WalkAlike image at rows behind late
       → (behind ≡ item.Gap ∷ []) × (late ≡ item.Gap ∷ [])
   gaps_shown at [] behind late gap walks = absurd cc
   gaps_shown at (r ∷ []) behind late gap (next, first, rest, one, more, walks, ends, parts, others) =

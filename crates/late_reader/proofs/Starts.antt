@@ -13,13 +13,13 @@ use Rattle.path_walker.specs.declared.pc.Pc.{Pc}
 use Rattle.path_walker.specs.declared.pc.Pc.TheVariants.{Known, Awaited, Lost}
 use Rattle.path_walker.specs.State.{State, first_state}
 use Rattle.path_walker.specs.Start.{Start, start_of, start_by, untold, emptied, pc_before, stack_before, mismatch_of, context_of}
-use Rattle.late_reader.specs.Rows.{BehindEntry, BehindGap, NoneSeen, Place, PreAt, Unsure, Within}
-use Rattle.late_reader.specs.Walked.{EndsInReturn, IsCause, Standing, context_where, told_by}
+use Rattle.late_reader.specs.Rows.{BehindEntry, BehindGap, NoneSeen, Whereabouts, PreAt, Unsure, Within}
+use Rattle.late_reader.specs.Walked.{EndsInReturn, IsCause, BothWalks, context_where, told_by}
 use Rattle.late_reader.proofs.Lists.{heads}
 
 -- ---- the two walks
 
-abbrev pub standing : Place → Bool → Option Walked → State → State → Standing
+abbrev pub standing : Whereabouts → Bool → Option Walked → State → State → BothWalks
 standing place told last w v = record { place = place; told = told; last = last; whole = w; late = v }
 
 pub record AreLike (told : Bool) (w v : State) : Type 0 where
@@ -27,7 +27,7 @@ pub record AreLike (told : Bool) (w v : State) : Type 0 where
   pub front : BeginsWith v.stack w.stack
   pub ctx : v.ctx ≡ context_where told w.ctx
 
-abbrev pub StatesAt : Place → Bool → State → State → Type 0
+abbrev pub StatesAt : Whereabouts → Bool → State → State → Type 0
 StatesAt NoneSeen told w v = (v ≡ first_state) × (told ≡ false)
 StatesAt BehindGap told w v = AreLike told w v
 StatesAt BehindEntry told w v = AreLike told w v
@@ -39,7 +39,7 @@ pub record LastIs (image : Image) (last : Option Walked) (v : State) : Type 0 wh
   pub lost : v.pc ≡ Lost → walked.unknown ≡ true
   pub returns : v.pc ≡ Awaited true → EndsInReturn image walked
 
-abbrev pub LastAt : Image → Place → Option Walked → State → Type 0
+abbrev pub LastAt : Image → Whereabouts → Option Walked → State → Type 0
 LastAt image NoneSeen last v = last ≡ None
 LastAt image BehindGap last v = last ≡ None
 LastAt image BehindEntry last v = LastIs image last v
@@ -52,13 +52,13 @@ pub record BothStart (w v : State) (p q : Pre) : Type 0 where
   pub late : (start_of v q).at ≡ Some address
   pub front : BeginsWith (start_of v q).stack (start_of w p).stack
 
-pub record StartsUnknown (image : Image) (there : Standing) (p q : Pre) : Type 0 where
+pub record StartsUnknown (image : Image) (there : BothWalks) (p q : Pre) : Type 0 where
   pub none : (start_of there.late q).at ≡ None
   pub stack : (start_of there.late q).stack ≡ []
   pub addr : q.addr ≡ None
   pub cause : IsCause image there p q
 
-abbrev pub Starts : Image → Standing → Pre → Pre → Type 0
+abbrev pub Starts : Image → BothWalks → Pre → Pre → Type 0
 Starts image there p q =
     (mismatch_of (pc_before there.late q) q.addr ≡ None) × (BothStart there.whole there.late p q ⊎ StartsUnknown image there p q)
 
@@ -100,7 +100,7 @@ told_start w v p q a e f front =
     }
 
 -- none was told, and the address is not known
-untold_lost : (image : Image) (there : Standing) (p q : Pre) → q.addr ≡ None → pc_before there.late q ≡ Lost → IsCause image there p q
+untold_lost : (image : Image) (there : BothWalks) (p q : Pre) → q.addr ≡ None → pc_before there.late q ≡ Lost → IsCause image there p q
     → StartsUnknown image there p q
 untold_lost image there p q e lost cause =
     let stack = stack_before there.late q in
@@ -222,7 +222,7 @@ behind_starts image told last w v p None e lost known like =
     let stack = stack_before w p in
     absurd (known (ap (λ (s : Start). s.at) (at_same p.addr None (pc_before w p) stack e ∙ ap (λ pc. untold pc stack) (lost_before w p lost))))
 
-pub starts : (image : Image) (place : Place) (told : Bool) (last : Option Walked) (w v : State) (on : Bool) (p q : Pre) → PreAt place on p q
+pub starts : (image : Image) (place : Whereabouts) (told : Bool) (last : Option Walked) (w v : State) (on : Bool) (p q : Pre) → PreAt place on p q
     → StatesAt place told w v → LastAt image place last v → mismatch_of (pc_before w p) p.addr ≡ None → ((start_of w p).at ≡ None → ⊥)
     → Starts image (standing place told last w v) p q
 starts image NoneSeen told last w v on p q a s is agrees known = first_starts image told last w v p q on q.addr refl a s.0
@@ -246,7 +246,7 @@ later_ctx false None wc vc e = e
 later_ctx true (Some x) wc vc e = refl
 later_ctx false (Some x) wc vc e = refl
 
-pub contexts : (place : Place) (told : Bool) (w v : State) (on : Bool) (p q : Pre) → PreAt place on p q → StatesAt place told w v
+pub contexts : (place : Whereabouts) (told : Bool) (w v : State) (on : Bool) (p q : Pre) → PreAt place on p q → StatesAt place told w v
     → context_of v q ≡ context_where (told_by told q) (context_of w p)
 contexts NoneSeen told w v on p q a s = ap (λ (z : State). unwrap_or q.ctx z.ctx) s.0 ∙ first_ctx told p.ctx q.ctx w.ctx s.1 a.ctx
 contexts BehindGap told w v on p q a s =

@@ -7,7 +7,7 @@ use Rattle.etm_types.specs.declared.element.Pre.{Pre}
 use Rattle.etm_types.specs.declared.element.Thing.{Thing}
 use Rattle.element_queue.specs.Resolved.{Resolved, resolve}
 use Rattle.late_reader.specs.Marks.{Marks, marked}
-use Rattle.late_reader.specs.Rows.{BehindEntry, BehindGap, NoneSeen, Place, PreAt}
+use Rattle.late_reader.specs.Rows.{BehindEntry, BehindGap, NoneSeen, Whereabouts, PreAt}
 use Rattle.late_reader.proofs.Alike.{Alike, places_behind}
 use Rattle.late_reader.proofs.Lists.{same_fine}
 
@@ -42,25 +42,25 @@ told_alike base whole marks late on p q a pres =
       begun = a.begun;
     }
 
-on_told : (place : Place) (on : Bool) (p q : Pre) → PreAt place on p q → PreAt place true (record p { on = true; addr = None })
+on_told : (place : Whereabouts) (on : Bool) (p q : Pre) → PreAt place on p q → PreAt place true (record p { on = true; addr = None })
     (record q { on = true; addr = None })
 on_told NoneSeen on p q a = record { lost = a.lost; addr = tt; ctx = a.ctx; on = refl }
 on_told BehindGap on p q a = (ap (λ (z : Pre). record z { on = true; addr = None }) a.0, refl, a.2)
 on_told BehindEntry on p q a = (ap (λ (z : Pre). record z { on = true; addr = None }) a.0, refl)
 
-ctx_told : (place : Place) (on : Bool) (p q : Pre) (c : Ctx) → PreAt place on p q → PreAt place on (record p { ctx = Some c })
+ctx_told : (place : Whereabouts) (on : Bool) (p q : Pre) (c : Ctx) → PreAt place on p q → PreAt place on (record p { ctx = Some c })
     (record q { ctx = Some c })
 ctx_told NoneSeen on p q c a = record { lost = a.lost; addr = a.addr; ctx = refl; on = a.on }
 ctx_told BehindGap on p q c a = (ap (λ (z : Pre). record z { ctx = Some c }) a.0, a.1, a.2)
 ctx_told BehindEntry on p q c a = (ap (λ (z : Pre). record z { ctx = Some c }) a.0, a.1)
 
-addr_told : (place : Place) (on : Bool) (p q : Pre) (x : ℕ) → PreAt place on p q → PreAt place on (record p { addr = Some x })
+addr_told : (place : Whereabouts) (on : Bool) (p q : Pre) (x : ℕ) → PreAt place on p q → PreAt place on (record p { addr = Some x })
     (record q { addr = Some x })
 addr_told NoneSeen on p q x a = record { lost = a.lost; addr = refl; ctx = a.ctx; on = a.on }
 addr_told BehindGap on p q x a = (ap (λ (z : Pre). record z { addr = Some x }) a.0, a.1, a.2)
 addr_told BehindEntry on p q x a = (ap (λ (z : Pre). record z { addr = Some x }) a.0, a.1)
 
-flush_told : (place : Place) (on : Bool) (p q : Pre) → PreAt place on p q → PreAt place on (record p { flush = true }) (record q { flush = true })
+flush_told : (place : Whereabouts) (on : Bool) (p q : Pre) → PreAt place on p q → PreAt place on (record p { flush = true }) (record q { flush = true })
 flush_told NoneSeen on p q a = record { lost = a.lost; addr = a.addr; ctx = a.ctx; on = a.on }
 flush_told BehindGap on p q a = (ap (λ (z : Pre). record z { flush = true }) a.0, a.1, a.2)
 flush_told BehindEntry on p q a = (ap (λ (z : Pre). record z { flush = true }) a.0, a.1)

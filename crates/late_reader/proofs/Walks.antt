@@ -11,7 +11,7 @@ use Rattle.etm_types.specs.declared.walked.Walked.{Walked}
 use Rattle.path_walker.specs.State.{State, first_state}
 use Rattle.path_walker.specs.Things.{Gives, Walks}
 use Rattle.late_reader.specs.Marks.{Mark}
-use Rattle.late_reader.specs.Rows.{AreAlike, BehindEntry, BehindGap, NoneSeen, Place, Row, ThingAt, late_of, place_behind, whole_of}
+use Rattle.late_reader.specs.Rows.{AreAlike, BehindEntry, BehindGap, NoneSeen, Whereabouts, Row, ThingAt, late_of, place_behind, whole_of}
 use Rattle.late_reader.specs.Part.{AreCertain}
 use Rattle.late_reader.specs.Walked.{ThingWalks, WalkAlike, told_by}
 use Rattle.late_reader.proofs.Starts.{AreLike, LastAt, StatesAt, standing}
@@ -39,7 +39,7 @@ certain walked a = certain_by walked.on walked.unknown (instructions walked.ctx 
 -- ---- one thing
 
 -- the late reader shows it too, and the two go on alike
-pub record OneThing (image : Image) (place : Place) (told : Bool) (last : Option Walked) (w v : State) (t : Thing) (m : Mark) (u : Thing) (w' : State)
+pub record OneThing (image : Image) (place : Whereabouts) (told : Bool) (last : Option Walked) (w v : State) (t : Thing) (m : Mark) (u : Thing) (w' : State)
     (items : List Item) : Type 0 where
   pub next : State
   pub told' : Bool
@@ -50,19 +50,19 @@ pub record OneThing (image : Image) (place : Place) (told : Bool) (last : Option
   pub states : StatesAt (place_behind place u) told' w' next
   pub is : LastAt image (place_behind place u) last' next
 
-unseen_states : (place : Place) (told : Bool) (w v w' : State) → place ≡ NoneSeen → StatesAt place told w v → StatesAt place told w' v
+unseen_states : (place : Whereabouts) (told : Bool) (w v w' : State) → place ≡ NoneSeen → StatesAt place told w v → StatesAt place told w' v
 unseen_states NoneSeen told w v w' e s = s
 unseen_states BehindGap told w v w' e s = absurd cc
 unseen_states BehindEntry told w v w' e s = absurd cc
 
-gap_states : (place : Place) (told : Bool) (w v : State) → StatesAt place told w v → AreLike told w v
+gap_states : (place : Whereabouts) (told : Bool) (w v : State) → StatesAt place told w v → AreLike told w v
 gap_states NoneSeen told w v s =
     subst (λ (z : State). AreLike told w z) (sym s.0)
     (subst (λ b. AreLike b w first_state) (sym s.1) (record { pc = inl refl; front = (w.stack, refl); ctx = refl }))
 gap_states BehindGap told w v s = s
 gap_states BehindEntry told w v s = s
 
-module _ (image : Image) (place : Place) (told : Bool) (last : Option Walked) (w v : State) (t : Thing) (m : Mark) (items : List Item)
+module _ (image : Image) (place : Whereabouts) (told : Bool) (last : Option Walked) (w v : State) (t : Thing) (m : Mark) (items : List Item)
     (w' : State) where
   unseen_thing : place ≡ NoneSeen → StatesAt place told w v → LastAt image place last v → Gives image w t items w'
       → OneThing image place told last w v t m Unseen w' items
@@ -128,14 +128,14 @@ module _ (image : Image) (place : Place) (told : Bool) (last : Option Walked) (w
 
 -- ---- all of them
 
-pub record AllThings (image : Image) (place : Place) (told : Bool) (last : Option Walked) (w v : State) (rows : List Row) (items : List Item)
+pub record AllThings (image : Image) (place : Whereabouts) (told : Bool) (last : Option Walked) (w v : State) (rows : List Row) (items : List Item)
     : Type 0 where
   pub others : List Item
   pub after : State
   pub walks : Walks image v (map late_of rows) others (Ok after)
   pub walk_alike : WalkAlike image (standing place told last w v) rows items others
 
-pub all_things : (image : Image) (place : Place) (told : Bool) (last : Option Walked) (w v end : State) (rows : List Row) (items : List Item)
+pub all_things : (image : Image) (place : Whereabouts) (told : Bool) (last : Option Walked) (w v end : State) (rows : List Row) (items : List Item)
     → AreAlike place rows → StatesAt place told w v → LastAt image place last v → Walks image w (map whole_of rows) items (Ok end) → AreCertain items
     → AllThings image place told last w v rows items
 all_things image place told last w v end [] items a s is g c =

@@ -10,7 +10,7 @@ use Rattle.path_walker.specs.Things.{Walks}
 use Rattle.program_image.specs.declared.image.Image.{Image}
 use Rattle.late_reader.specs.Marks.{marks_at, marks_behind, old}
 use Rattle.late_reader.specs.Rows.{AreAlike, NoneSeen, Row, late_of, mark_of, whole_of}
-use Rattle.late_reader.specs.Walked.{Standing, WalkAlike}
+use Rattle.late_reader.specs.Walked.{BothWalks, WalkAlike}
 
 -- no stretch of a path is unknown, as in a retired path
 abbrev pub IsCertain : Item → Type 0
@@ -22,7 +22,7 @@ AreCertain [] = ⊤
 AreCertain (i ∷ items) = IsCertain i × AreCertain items
 
 -- the late reader begins as each reader does, beside a walk of the whole that stands somewhere
-abbrev pub entering : State → Standing
+abbrev pub entering : State → BothWalks
 entering whole = record { place = NoneSeen; told = false; last = None; whole = whole; late = first_state }
 
 -- In the whole all elements are resolved to `whole`, whose things show `items`; at the trace info, which announces so many P0 elements, it

@@ -21,12 +21,12 @@ use Rattle.path_walker.specs.declared.pc.Pc.TheVariants.{Awaited}
 use Rattle.program_image.specs.Blocks.{behind, class_at}
 use Rattle.program_image.specs.declared.image.Image.{Image}
 use Rattle.late_reader.specs.Marks.{Mark}
-use Rattle.late_reader.specs.Rows.{BehindEntry, BehindGap, NoneSeen, Place, Row}
+use Rattle.late_reader.specs.Rows.{BehindEntry, BehindGap, NoneSeen, Whereabouts, Row}
 
 -- Where both walks stand: the place of the late reader, whether it was told a context, what the entry just before showed to it, where one
 -- did, and the states of the two walks.
-pub record Standing : Type 0 where
-  pub place : Place
+pub record BothWalks : Type 0 where
+  pub place : Whereabouts
   pub told : Bool
   pub last : Option Walked
   pub whole : State
@@ -50,7 +50,7 @@ pub record EndsInReturn (image : Image) (walked : Walked) : Type 0 where
   pub returns : class_at image (behind walked.start before) ≡ Some (Ind false)
 
 -- directly behind a BR or RET that the late reader shows, the whole goes on at a return address that the late reader does not have
-pub record PopsApart (image : Image) (at : Standing) (p q : Pre) : Type 0 where
+pub record PopsApart (image : Image) (at : BothWalks) (p q : Pre) : Type 0 where
   pub walked : Walked
   pub shown : at.last ≡ Some walked
   pub ends : EndsInReturn image walked
@@ -62,14 +62,14 @@ pub record PopsApart (image : Image) (at : Standing) (p q : Pre) : Type 0 where
   pub empty : stack_before at.late q ≡ []
 
 -- the entry just before was unknown
-pub record FollowsUnknown (at : Standing) : Type 0 where
+pub record FollowsUnknown (at : BothWalks) : Type 0 where
   pub walked : Walked
   pub shown : at.last ≡ Some walked
   pub unknown : walked.unknown ≡ true
 
 -- An entry is unknown to the late reader because the one before it was, or because it is the first and trace is missing before it, or
 -- because a return address is missing.
-abbrev pub IsCause : Image → Standing → Pre → Pre → Type 0
+abbrev pub IsCause : Image → BothWalks → Pre → Pre → Type 0
 IsCause image at p q = FollowsUnknown at ⊎ (((at.place ≡ NoneSeen) × (q.lost ≡ true)) ⊎ PopsApart image at p q)
 
 -- ---- one entry
@@ -84,7 +84,7 @@ pub record SameInstructions (whole late : Walked) : Type 0 where
 -- An entry with the same P0 element in both, before which this was told to the one and to the other: it shows the same instructions or is
 -- unknown, the same exception, an On from behind the info alone, and the same context once one was told. The return addresses of the late
 -- reader are the newest of those of the whole.
-pub record EntryWalks (image : Image) (at next : Standing) (p q : Pre) (p0 : P0) (m : Mark) (whole late : Walked) : Type 0 where
+pub record EntryWalks (image : Image) (at next : BothWalks) (p q : Pre) (p0 : P0) (m : Mark) (whole late : Walked) : Type 0 where
   pub shows : Shows image at.whole (record { pre = p; p0 = p0 }) whole next.whole
   pub shown : Shows image at.late (record { pre = q; p0 = p0 }) late next.late
   pub on : late.on ≡ m.on
@@ -101,7 +101,7 @@ pub record EntryWalks (image : Image) (at next : Standing) (p q : Pre) (p0 : P0)
 
 -- ---- one thing, and the items that it shows in the whole and to the late reader
 
-pub record SeenWalks (image : Image) (at next : Standing) (t : Thing) (m : Mark) (entry : Entry) (items others : List Item) : Type 0 where
+pub record SeenWalks (image : Image) (at next : BothWalks) (t : Thing) (m : Mark) (entry : Entry) (items others : List Item) : Type 0 where
   pub pre : Pre
   pub same : t ≡ Seen (record { pre = pre; p0 = entry.p0 })
   pub whole : Walked
@@ -111,18 +111,18 @@ pub record SeenWalks (image : Image) (at next : Standing) (t : Thing) (m : Mark)
   pub others_are : others ≡ items_of late
 
 -- an unseen thing shows nothing to the late reader
-pub record UnseenWalks (image : Image) (at next : Standing) (t : Thing) (items others : List Item) : Type 0 where
+pub record UnseenWalks (image : Image) (at next : BothWalks) (t : Thing) (items others : List Item) : Type 0 where
   pub gives : Gives image at.whole t items next.whole
   pub none : others ≡ []
   pub stays : next ≡ record at { whole = next.whole }
 
 -- a gap or a stop shows itself to both, and ends a run of unknown entries
-pub record GapWalks (at next : Standing) (shown : Item) (items others : List Item) : Type 0 where
+pub record GapWalks (at next : BothWalks) (shown : Item) (items others : List Item) : Type 0 where
   pub items_are : items ≡ shown ∷ []
   pub others_are : others ≡ shown ∷ []
   pub stays : next ≡ record at { place = BehindGap; last = None }
 
-abbrev pub ThingWalks : Image → Standing → Standing → Thing → Mark → Thing → List Item → List Item → Type 0
+abbrev pub ThingWalks : Image → BothWalks → BothWalks → Thing → Mark → Thing → List Item → List Item → Type 0
 ThingWalks image at next t m (Seen entry) items others = SeenWalks image at next t m entry items others
 ThingWalks image at next t m Unseen items others = UnseenWalks image at next t items others
 ThingWalks image at next t m Gap items others = GapWalks at next item.Gap items others
@@ -130,8 +130,8 @@ ThingWalks image at next t m Stop items others = GapWalks at next item.Stop item
 
 -- ---- all things, one after the other
 
-abbrev pub WalkAlike : Image → Standing → List Row → List Item → List Item → Type 0
+abbrev pub WalkAlike : Image → BothWalks → List Row → List Item → List Item → Type 0
 WalkAlike image at [] items others = (items ≡ []) × (others ≡ [])
 WalkAlike image at (r ∷ rows) items others =
-    (next : Standing) × (first : List Item) × (rest : List Item) × (one : List Item) × (more : List Item)
+    (next : BothWalks) × (first : List Item) × (rest : List Item) × (one : List Item) × (more : List Item)
     × ThingWalks image at next r.whole r.mark r.late first one × WalkAlike image next rows rest more × (items ≡ first ++ rest) × (others ≡ one ++ more)

@@ -27,7 +27,7 @@ use Rattle.packet_grammar.proofs.Table.{Body, alone, atoms, extension, trace_inf
 use Rattle.packet_grammar.proofs.Table.{long_64, long_32_with_context, long_64_with_context, headers, body_in}
 use Rattle.packet_grammar.proofs.Table.{body_of, pick, whole, Follows, Told, AfterZero, AtomsOf, Exception, exception_by}
 use Rattle.packet_grammar.specs.Spelling.{Section, Mode, TraceInfo, SpellsPacket, OneOf}
-use Rattle.packet_grammar.specs.Faults.{SpellsFault, ShowsAt, Place, in_header, in_sync}
+use Rattle.packet_grammar.specs.Faults.{SpellsFault, ShowsAt, FaultyPart, in_header, in_sync}
 use Rattle.packet_grammar.specs.Faults.{in_info, in_exception, in_number, in_context, in_context_of_32, in_context_of_64}
 use Rattle.packet_grammar.specs.Parsed.{Spells}
 
@@ -653,7 +653,7 @@ module _ (s : Sizes) (f : PacketFault) (bytes : List ℕ) where
   number_back h rest (inr (inr z)) e is = record
       { header = 47; rest = rest; body = cancel true; whole = e ∙ (λ i. z i ∷ rest); says = refl; follows = inr (f, refl, is) }
 
-  fault_back : (place : Place) → ShowsAt s place f bytes → Told s (Err f) bytes
+  fault_back : (place : FaultyPart) → ShowsAt s place f bytes → Told s (Err f) bytes
   unfolding headers refused_headers
   fault_back in_header (h, e, row) = record { header = h; rest = []; body = alone (Err f); whole = e; says = fault_row h f row; follows = refl }
   fault_back in_sync (rest, e, is) = record { header = 0; rest = rest; body = extension; whole = e; says = refl; follows = is }

@@ -29,17 +29,17 @@ BadSync BrokenSync bytes = BreaksSync bytes
 BadSync fault bytes = ⊥
 
 -- the packet that a fault is in
-pub data Place : Type 0 where
-  in_header : Place
-  in_sync : Place
-  in_info : Place
-  in_exception : Place
-  in_number : Place
-  in_context : Place
-  in_context_of_32 : Place
-  in_context_of_64 : Place
+pub data FaultyPart : Type 0 where
+  in_header : FaultyPart
+  in_sync : FaultyPart
+  in_info : FaultyPart
+  in_exception : FaultyPart
+  in_number : FaultyPart
+  in_context : FaultyPart
+  in_context_of_32 : FaultyPart
+  in_context_of_64 : FaultyPart
 
-abbrev pub ShowsAt : Sizes → Place → PacketFault → List ℕ → Type 0
+abbrev pub ShowsAt : Sizes → FaultyPart → PacketFault → List ℕ → Type 0
 -- a header that is no packet's
 ShowsAt s in_header fault bytes = (h : ℕ) × (bytes ≡ h ∷ []) × (fault_in refused_headers h ≡ Some fault)
 -- Alignment Synchronization packet, Discard packet, Overflow packet
@@ -62,4 +62,4 @@ ShowsAt s in_context_of_64 fault bytes =
 
 -- the bytes show the fault, and the last of them is the first that does
 abbrev pub SpellsFault : Sizes → PacketFault → List ℕ → Type 0
-SpellsFault s fault bytes = (place : Place) × ShowsAt s place fault bytes
+SpellsFault s fault bytes = (place : FaultyPart) × ShowsAt s place fault bytes

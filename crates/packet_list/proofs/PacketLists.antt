@@ -14,7 +14,7 @@ use Rattle.packet_grammar.specs.Ranges.{IsPacket}
 use Rattle.packet_grammar.proofs.Longer.{begins_alike}
 use Rattle.packet_grammar.proofs.Streams.{each_is_a_stream, one_stream}
 use Rattle.packet_reader.specs.declared.step.Step.{Step}
-use Rattle.packet_reader.specs.Stands.{Gains, Standing, StandsAt}
+use Rattle.packet_reader.specs.Stands.{Gains, PacketReading, StandsAt}
 use Rattle.packet_reader.specs.Answered.{told, fault_after, fault_of}
 use Rattle.capture_streams.specs.Texts.{Printed, StreamEnds, lines_under, text_of}
 use Rattle.packet_reader.proofs.Adds.{Told, gains_more, nothing_is_a_stream}
@@ -30,7 +30,7 @@ has_text s packet is = tt
 
 -- ---- what was read
 
-pub nothing_read : (r : Standing) → StandsAt r [] → HasRead r None []
+pub nothing_read : (r : PacketReading) → StandsAt r [] → HasRead r None []
 nothing_read r stands = record {
   small = All-nil (λ (b : ℕ). b < 256);
   stands = stands;
@@ -40,14 +40,14 @@ nothing_read r stands = record {
   fault = refl;
 }
 
-pub reads_first : (r : Standing) → AreSettings r.settings → StandsAt r [] → IsReading r None
+pub reads_first : (r : PacketReading) → AreSettings r.settings → StandsAt r [] → IsReading r None
 reads_first r are stands = record { settings = are; bytes = []; read = nothing_read r stands }
 
 one_more : (bytes : List ℕ) (byte : ℕ) → All (λ b. b < 256) bytes → byte < 256 → All (λ b. b < 256) (bytes ++ byte ∷ [])
 one_more bytes byte small fits = All-append (λ (b : ℕ). b < 256) bytes (byte ∷ []) small
     (All-cons (λ (b : ℕ). b < 256) byte [] fits (All-nil (λ (b : ℕ). b < 256)))
 
-module _ (old new : Standing) (found : Option (ℕ × PacketFault)) (byte : ℕ) (step : Step) (are : AreSettings old.settings) (fits : byte < 256)
+module _ (old new : PacketReading) (found : Option (ℕ × PacketFault)) (byte : ℕ) (step : Step) (are : AreSettings old.settings) (fits : byte < 256)
     (same : new.settings ≡ old.settings) (stands : (bytes : List ℕ) → StandsAt old bytes → StandsAt new (bytes ++ byte ∷ []))
     (gains : (bytes : List ℕ) → StandsAt old bytes → Gains old.settings bytes byte step) where
   grown : (bytes : List ℕ) (is : HasRead old found bytes) → Told old.settings (bytes ++ byte ∷ []) (is.packets ++ told step) (fault_after found step)

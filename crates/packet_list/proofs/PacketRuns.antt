@@ -1,4 +1,4 @@
--- Bytes of a packet list that are taken one after the other, or whole packets at once.
+-- Bytes of a packet list that are taken one after the other, or whole packets together.
 use Rattle.std.proofs.Common.{◌≡◌, ℕ, ◌+◌, ◌<◌, ◌≤◌, List, [], ◌∷◌, ◌++◌, length, get_or, Option, Result, Some, None, Ok, Err, refl, sym, ap, subst, ◌∙◌, arith}
 use Rattle.std.proofs.Common.{append_assoc, append-nil, length-append}
 use Rattle.std.specs.Prelude.{All, IsOk}
@@ -15,7 +15,7 @@ use Rattle.packet_grammar.proofs.GoesOn.{fault_stays}
 use Rattle.packet_grammar.proofs.Longer.{begins_alike}
 use Rattle.packet_grammar.proofs.Streams.{each_is_a_stream, one_stream}
 use Rattle.packet_reader.specs.declared.step.Step.{Step}
-use Rattle.packet_reader.specs.Stands.{Gains, Standing, StandsAt, TakesPacket}
+use Rattle.packet_reader.specs.Stands.{Gains, PacketReading, StandsAt, TakesPacket}
 use Rattle.capture_streams.specs.Streams.{RunAdds}
 use Rattle.capture_streams.specs.Texts.{StreamBody}
 use Rattle.packet_reader.specs.Answered.{told, fault_after, fault_of}
@@ -68,7 +68,7 @@ module _ (s : Sizes) (are : AreSettings s) (id : ℕ) where
 -- ---- what a reader takes
 
 -- what is read of the same bytes
-moved : (r : Standing) (found : Option (ℕ × PacketFault)) (bytes more : List ℕ) → bytes ≡ more → (is : HasRead r found bytes)
+moved : (r : PacketReading) (found : Option (ℕ × PacketFault)) (bytes more : List ℕ) → bytes ≡ more → (is : HasRead r found bytes)
     → (now : HasRead r found more) × (now.packets ≡ is.packets)
 moved r found bytes more same is = (
   record {
@@ -83,39 +83,39 @@ moved r found bytes more same is = (
 )
 
 -- a reader took bytes, and with them these packets were told
-pub record Came (old new : Standing) (found next : Option (ℕ × PacketFault)) (text : List ℕ) (more : List (ℕ × Packet)) : Type 0 where
+pub record Came (old new : PacketReading) (found next : Option (ℕ × PacketFault)) (text : List ℕ) (more : List (ℕ × Packet)) : Type 0 where
   pub settings : new.settings ≡ old.settings
-  pub taken : new.taken ≡ old.taken + length text
+  pub offset : new.offset ≡ old.offset + length text
   pub read : (bytes : List ℕ) (is : HasRead old found bytes) → (now : HasRead new next (bytes ++ text)) × (now.packets ≡ is.packets ++ more)
 
-pub came_nothing : (r : Standing) (found : Option (ℕ × PacketFault)) → Came r r found found [] []
+pub came_nothing : (r : PacketReading) (found : Option (ℕ × PacketFault)) → Came r r found found [] []
 came_nothing r found =
     record {
       settings = refl;
-      taken = omega arith;
+      offset = omega arith;
       read = λ bytes is. let now = moved r found bytes (bytes ++ []) (sym (append-nil bytes)) is in (now.0, now.1 ∙ sym (append-nil is.packets));
     }
 
-pub came_more : (a b c : Standing) (f g h : Option (ℕ × PacketFault)) (xs ys : List ℕ) (ps qs : List (ℕ × Packet)) → Came a b f g xs ps → Came b c g h ys qs
+pub came_more : (a b c : PacketReading) (f g h : Option (ℕ × PacketFault)) (xs ys : List ℕ) (ps qs : List (ℕ × Packet)) → Came a b f g xs ps → Came b c g h ys qs
     → Came a c f h (xs ++ ys) (ps ++ qs)
 came_more a b c f g h xs ys ps qs p q =
     record {
       settings = q.settings ∙ p.settings;
-      taken = omega (arith, p.taken, q.taken, length-append xs ys);
+      offset = omega (arith, p.offset, q.offset, length-append xs ys);
       read = λ bytes is.
           let one = p.read bytes is in let two = q.read (bytes ++ xs) one.0 in
           let now = moved c h ((bytes ++ xs) ++ ys) (bytes ++ (xs ++ ys)) (append_assoc bytes xs ys) two.0 in
           (now.0, now.1 ∙ two.1 ∙ ap (λ (l : List (ℕ × Packet)). l ++ qs) one.1 ∙ append_assoc is.packets ps qs);
     }
 
-pub came_byte : (old new : Standing) (found : Option (ℕ × PacketFault)) (byte : ℕ) (step : Step) → AreSettings old.settings → byte < 256
-    → new.settings ≡ old.settings → new.taken ≡ old.taken + 1
+pub came_byte : (old new : PacketReading) (found : Option (ℕ × PacketFault)) (byte : ℕ) (step : Step) → AreSettings old.settings → byte < 256
+    → new.settings ≡ old.settings → new.offset ≡ old.offset + 1
     → ((bytes : List ℕ) → StandsAt old bytes → StandsAt new (bytes ++ byte ∷ []))
     → ((bytes : List ℕ) → StandsAt old bytes → Gains old.settings bytes byte step) → Came old new found (fault_after found step) (byte ∷ []) (told step)
 came_byte old new found byte step are fits same taken stands gains =
     record {
       settings = same;
-      taken = taken;
+      offset = taken;
       read = λ bytes is. (
         read_more old new found byte step are fits same stands gains bytes is,
         packets_more old new found byte step are fits same stands gains bytes is,
@@ -132,12 +132,12 @@ no_fault s are bytes text packets others (fault at f) is now =
     let same : fault at f ≡ clean =
     (one_stream s are (bytes ++ text) packets others (fault at f) clean (fault_stays s bytes text packets at f is) now).1 in absurd cc
 
-pub came_packet : (old new : Standing) (found : Option (ℕ × PacketFault)) (text : List ℕ) (at : ℕ) (packet : Packet) → AreSettings old.settings → Small text
+pub came_packet : (old new : PacketReading) (found : Option (ℕ × PacketFault)) (text : List ℕ) (at : ℕ) (packet : Packet) → AreSettings old.settings → Small text
     → TakesPacket old new text at packet → Came old new found found text ((at, packet) ∷ [])
 came_packet old new found text at packet are fits t =
     record {
       settings = t.settings;
-      taken = t.taken;
+      offset = t.offset;
       read = λ bytes is.
           let (packets, ending, was, now) = t.gains bytes is.stands in
           let same = one_stream old.settings are bytes packets is.packets ending is.ending was is.stream in
@@ -158,17 +158,17 @@ came_packet old new found text at packet are fits t =
 -- ---- how far a run was taken
 
 -- a front of the bytes was taken, and the lines of its packets were written
-pub record Along (id : ℕ) (old new : Standing) (found next : Option (ℕ × PacketFault)) (a b : IoState) (run rest : List ℕ) : Type 0 where
+pub record Along (id : ℕ) (old new : PacketReading) (found next : Option (ℕ × PacketFault)) (a b : IoState) (run rest : List ℕ) : Type 0 where
   pub front : List ℕ
   pub parts : run ≡ front ++ rest
   pub more : List (ℕ × Packet)
   pub came : Came old new found next front more
   pub wrote : Wrote a b (concat (packet_lines id more))
 
-pub along_first : (id : ℕ) (r : Standing) (found : Option (ℕ × PacketFault)) (a : IoState) (run : List ℕ) → Along id r r found found a a run run
+pub along_first : (id : ℕ) (r : PacketReading) (found : Option (ℕ × PacketFault)) (a : IoState) (run : List ℕ) → Along id r r found found a a run run
 along_first id r found a run = record { front = []; parts = refl; more = []; came = came_nothing r found; wrote = wrote_nothing a }
 
-pub along_reads : (id : ℕ) (old new : Standing) (found next : Option (ℕ × PacketFault)) (a b : IoState) (run rest : List ℕ) → IsReading old found
+pub along_reads : (id : ℕ) (old new : PacketReading) (found next : Option (ℕ × PacketFault)) (a b : IoState) (run rest : List ℕ) → IsReading old found
     → Along id old new found next a b run rest → IsReading new next
 along_reads id old new found next a b run rest reads is =
     record {
@@ -177,7 +177,7 @@ along_reads id old new found next a b run rest reads is =
       read = (is.came.read reads.bytes reads.read).0;
     }
 
-came_reads : (old new : Standing) (found next : Option (ℕ × PacketFault)) (text : List ℕ) (more : List (ℕ × Packet)) → IsReading old found
+came_reads : (old new : PacketReading) (found next : Option (ℕ × PacketFault)) (text : List ℕ) (more : List (ℕ × Packet)) → IsReading old found
     → Came old new found next text more → IsReading new next
 came_reads old new found next text more reads is =
     record {
@@ -187,21 +187,21 @@ came_reads old new found next text more reads is =
     }
 
 -- how many bytes were taken, and are left
-pub along_taken : (id : ℕ) (old new : Standing) (found next : Option (ℕ × PacketFault)) (a b : IoState) (run rest : List ℕ)
-    → Along id old new found next a b run rest → new.taken + length rest ≡ old.taken + length run
-along_taken id old new found next a b run rest is = omega (arith, is.came.taken, ap length is.parts, length-append is.front rest)
+pub along_taken : (id : ℕ) (old new : PacketReading) (found next : Option (ℕ × PacketFault)) (a b : IoState) (run rest : List ℕ)
+    → Along id old new found next a b run rest → new.offset + length rest ≡ old.offset + length run
+along_taken id old new found next a b run rest is = omega (arith, is.came.offset, ap length is.parts, length-append is.front rest)
 
 -- a part of what was left is taken more
-between : (id : ℕ) (old mid new : Standing) (found here : Option (ℕ × PacketFault)) (a b : IoState) (run rest text behind : List ℕ)
-    → Along id old mid found here a b run rest → rest ≡ text ++ behind → new.taken ≡ mid.taken + length text
-    → (old.taken ≤ new.taken) × (new.taken ≤ old.taken + length run)
+between : (id : ℕ) (old mid new : PacketReading) (found here : Option (ℕ × PacketFault)) (a b : IoState) (run rest text behind : List ℕ)
+    → Along id old mid found here a b run rest → rest ≡ text ++ behind → new.offset ≡ mid.offset + length text
+    → (old.offset ≤ new.offset) × (new.offset ≤ old.offset + length run)
 between id old mid new found here a b run rest text behind is parts taken =
     let sum = along_taken id old mid found here a b run rest is in
     let left : length rest ≡ length text + length behind = ap length parts ∙ length-append text behind in
-    (omega (arith, taken, is.came.taken), omega (arith, taken, sum, left))
+    (omega (arith, taken, is.came.offset), omega (arith, taken, sum, left))
 
 -- what a run adds
-adds_so : {T E : Type 0} (id : ℕ) (old new : Standing) (found next : Option (ℕ × PacketFault)) (took others : List ℕ) (more : List (ℕ × Packet))
+adds_so : {T E : Type 0} (id : ℕ) (old new : PacketReading) (found next : Option (ℕ × PacketFault)) (took others : List ℕ) (more : List (ℕ × Packet))
     (a b : IoState) (result : Result T E) → AreSettings old.settings → Came old new found next took more → Writes a b result (concat (packet_lines id more))
     → (IsOk result → others ≡ []) → (bytes : List ℕ) → HasRead old found bytes
     → RunAdds (packet_lists old.settings) id bytes (took ++ others) a b result
@@ -219,8 +219,8 @@ adds_so id old new found next took others more a b result are came writes all by
       all = all;
     }
 
-module _ (id : ℕ) (old : Standing) (found : Option (ℕ × PacketFault)) (a : IoState) (run : List ℕ) (reads : IsReading old found) where
-  module _ (new : Standing) (next : Option (ℕ × PacketFault)) (b : IoState) where
+module _ (id : ℕ) (old : PacketReading) (found : Option (ℕ × PacketFault)) (a : IoState) (run : List ℕ) (reads : IsReading old found) where
+  module _ (new : PacketReading) (next : Option (ℕ × PacketFault)) (b : IoState) where
     -- all of it was taken
     pub along_read : (rest : List ℕ) → length rest ≡ 0 → Along id old new found next a b run rest → (bytes : List ℕ) → HasRead old found bytes
         → HasRead new next (bytes ++ run)
@@ -237,7 +237,7 @@ module _ (id : ℕ) (old : Standing) (found : Option (ℕ × PacketFault)) (a : 
         (writes_all a b x (concat (packet_lines id is.more)) is.wrote) (λ ok. refl) bytes read)
     along_adds x (y ∷ rest) none is bytes read = absurd (omega (arith, none))
 
-  module _ (mid new : Standing) (here next : Option (ℕ × PacketFault)) (b c : IoState) (rest text behind : List ℕ) (told : List (ℕ × Packet))
+  module _ (mid new : PacketReading) (here next : Option (ℕ × PacketFault)) (b c : IoState) (rest text behind : List ℕ) (told : List (ℕ × Packet))
       (is : Along id old mid found here a b run rest) (parts : rest ≡ text ++ behind) (came : Came mid new here next text told) where
     both : Came old new found next (is.front ++ text) (is.more ++ told)
     both = came_more old mid new found here next is.front text is.more told is.came came
@@ -274,8 +274,8 @@ module _ (id : ℕ) (old : Standing) (found : Option (ℕ × PacketFault)) (a : 
 
 -- ---- a packet, or a byte
 
-module _ (id : ℕ) (old : Standing) (found : Option (ℕ × PacketFault)) (a : IoState) (run : List ℕ) (reads : IsReading old found) (small : Small run)
-    (mid new : Standing) (here : Option (ℕ × PacketFault)) (b c : IoState) (rest : List ℕ) (is : Along id old mid found here a b run rest) where
+module _ (id : ℕ) (old : PacketReading) (found : Option (ℕ × PacketFault)) (a : IoState) (run : List ℕ) (reads : IsReading old found) (small : Small run)
+    (mid new : PacketReading) (here : Option (ℕ × PacketFault)) (b c : IoState) (rest : List ℕ) (is : Along id old mid found here a b run rest) where
   pub along_settings : AreSettings mid.settings
   along_settings = subst AreSettings (sym is.came.settings) reads.settings
 
@@ -300,8 +300,8 @@ module _ (id : ℕ) (old : Standing) (found : Option (ℕ × PacketFault)) (a : 
     pub front_reads : IsReading new here
     front_reads = more_reads id old found a run reads mid new here here b c rest front.text behind one is front.parts took
 
-    pub front_between : (old.taken ≤ new.taken) × (new.taken ≤ old.taken + length run)
-    front_between = between id old mid new found here a b run rest front.text behind is front.parts front.takes.taken
+    pub front_between : (old.offset ≤ new.offset) × (new.offset ≤ old.offset + length run)
+    front_between = between id old mid new found here a b run rest front.text behind is front.parts front.takes.offset
 
     -- and its line could not be written
     pub front_fails : {T U E : Type 0} (e d : E) → Writes {T = T} b c (Err e) (packet_line id at packet) → (bytes : List ℕ) → HasRead old found bytes
@@ -311,7 +311,7 @@ module _ (id : ℕ) (old : Standing) (found : Option (ℕ × PacketFault)) (a : 
         (subst (Writes {T = T} {E = E} b c (Err e)) line writes) bytes read
 
   module _ (byte : ℕ) (later : List ℕ) (step : Step) (parts : rest ≡ byte ∷ later) (fits : byte < 256) (same : new.settings ≡ mid.settings)
-      (taken : new.taken ≡ mid.taken + 1) (stands : (bytes : List ℕ) → StandsAt mid bytes → StandsAt new (bytes ++ byte ∷ []))
+      (taken : new.offset ≡ mid.offset + 1) (stands : (bytes : List ℕ) → StandsAt mid bytes → StandsAt new (bytes ++ byte ∷ []))
       (gains : (bytes : List ℕ) → StandsAt mid bytes → Gains mid.settings bytes byte step) (next : Option (ℕ × PacketFault))
       (is_next : next ≡ fault_after here step) where
     stepped : Came mid new here next (byte ∷ []) (told step)
@@ -325,7 +325,7 @@ module _ (id : ℕ) (old : Standing) (found : Option (ℕ × PacketFault)) (a : 
     pub step_reads : IsReading new next
     step_reads = more_reads id old found a run reads mid new here next b c rest (byte ∷ []) later (told step) is parts stepped
 
-    pub step_between : (old.taken ≤ new.taken) × (new.taken ≤ old.taken + length run)
+    pub step_between : (old.offset ≤ new.offset) × (new.offset ≤ old.offset + length run)
     step_between = between id old mid new found here a b run rest (byte ∷ []) later is parts taken
 
     -- and it could not be written

@@ -7,7 +7,7 @@ use Rattle.capture_streams.specs.Texts.{Listing, adds_nothing, no_sums}
 use Rattle.packet_grammar.specs.Ends.{end_of, is_fault}
 use Rattle.packet_grammar.specs.Parsed.{Ending, IsStream}
 use Rattle.packet_reader.specs.Answered.{fault_of}
-use Rattle.packet_reader.specs.Stands.{Standing, StandsAt, TakesPacket}
+use Rattle.packet_reader.specs.Stands.{PacketReading, StandsAt, TakesPacket}
 use Rattle.path_text.specs.EndLines.{end_line}
 use Rattle.path_text.specs.PacketLines.{packet_line}
 
@@ -35,12 +35,12 @@ packet_lists s = record { gains = PacketGains s; ends = PacketEnds s; adds = add
 
 -- a stream whose packets are listed: the reader of its packets, the fault that its bytes showed, and whether a write failed
 pub record Listed : Type 0 where
-  pub reader : Standing
+  pub reader : PacketReading
   pub fault : Option (ℕ × PacketFault)
   pub broken : Bool
 
 -- a reader took these bytes, and this is the fault that they show
-pub record HasRead (r : Standing) (found : Option (ℕ × PacketFault)) (bytes : List ℕ) : Type 0 where
+pub record HasRead (r : PacketReading) (found : Option (ℕ × PacketFault)) (bytes : List ℕ) : Type 0 where
   pub small : All (λ b. b < 256) bytes
   pub stands : StandsAt r bytes
   pub packets : List (ℕ × Packet)
@@ -49,7 +49,7 @@ pub record HasRead (r : Standing) (found : Option (ℕ × PacketFault)) (bytes :
   pub fault : fault_of ending ≡ found
 
 -- a reader took some bytes, under settings
-pub record IsReading (r : Standing) (found : Option (ℕ × PacketFault)) : Type 0 where
+pub record IsReading (r : PacketReading) (found : Option (ℕ × PacketFault)) : Type 0 where
   pub settings : AreSettings r.settings
   pub bytes : List ℕ
   pub read : HasRead r found bytes
@@ -60,7 +60,7 @@ pub record ListedAt (l : Listed) (bytes : List ℕ) : Type 0 where
   pub read : HasRead l.reader l.fault bytes
 
 -- a reader took the packet at the front of some bytes, and the others stand behind it
-pub record TakesFront (old new : Standing) (bytes behind : List ℕ) (at : ℕ) (packet : Packet) : Type 0 where
+pub record TakesFront (old new : PacketReading) (bytes behind : List ℕ) (at : ℕ) (packet : Packet) : Type 0 where
   pub text : List ℕ
   pub parts : bytes ≡ text ++ behind
   pub some : 0 < length text

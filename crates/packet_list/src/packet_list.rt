@@ -77,7 +77,7 @@ impl Stream for PacketStream {
 
     ghost broken = { λ p. p.broken };
 
-    ghost taken = { λ p. p.reader.taken };
+    ghost offset = { λ p. p.reader.offset };
 
     ghost held = { λ p. 0 };
 
@@ -125,7 +125,7 @@ impl Stream for PacketStream {
     }
 
     fn finish<K: Sink>(self, id: Id, sink: &mut K) -> Result<bool, Failed> {
-        if self.reader.taken() == 0 {
+        if self.reader.offset() == 0 {
             return Ok(true);
         }
         write_end(id, &end_at(&self.reader, self.fault), sink)?;
@@ -165,11 +165,11 @@ fn take_bytes<K: Sink>(
     sink: &mut K,
 ) -> Result<(), Failed>
     requires reads { IsReading reader.old fault.old }
-    requires few { reader.old.taken + length run.now ≤ 2 ^ 62 }
+    requires few { reader.old.offset + length run.now ≤ 2 ^ 62 }
     ensures reads { IsReading reader.new fault.new }
     ensures settings { reader.new.settings ≡ reader.old.settings }
-    ensures taken { IsOk result → reader.new.taken ≡ reader.old.taken + length run.now }
-    ensures between { (reader.old.taken ≤ reader.new.taken) × (reader.new.taken ≤ reader.old.taken + length run.now) }
+    ensures offset { IsOk result → reader.new.offset ≡ reader.old.offset + length run.now }
+    ensures between { (reader.old.offset ≤ reader.new.offset) × (reader.new.offset ≤ reader.old.offset + length run.now) }
     ensures line { line.new ≡ line.old }
     ensures read { IsOk result → (bytes : List ℕ) → HasRead reader.old fault.old bytes → HasRead reader.new fault.new (bytes ++ run.now) }
     ensures gains { (bytes : List ℕ) → HasRead reader.old fault.old bytes
@@ -197,7 +197,7 @@ fn take_front<'a, K: Sink>(
     bytes: &'a [u8],
     sink: &mut K,
 ) -> Result<Option<&'a [u8]>, Failed>
-    requires { reader.old.taken + length bytes.now ≤ 2 ^ 62 }
+    requires { reader.old.offset + length bytes.now ≤ 2 ^ 62 }
     ensures line { line.new ≡ line.old }
     ensures none { result ≡ Ok None → (reader.new ≡ reader.old) × (sink.new ≡ sink.old) }
     ensures front { (result ≡ Ok None) ⊎ ((behind : List ℕ) × (at : ℕ) × (packet : Packet)

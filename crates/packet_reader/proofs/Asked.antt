@@ -32,11 +32,11 @@ synced_when s (Within state) start bytes is =
     ((λ e. (old.0, now)), (λ found. refl))
 synced_when s Failed start bytes is = ((λ e. is_found s bytes is.0 (fault is.1 is.2) (not_fault is.1 is.2) is.3), (λ found. refl))
 
-pub rest_when : (s : Sizes) (phase : Phase) (start taken : ℕ) (bytes : List ℕ) → FitsPhase phase → length bytes ≡ taken → InPhase s phase start bytes
-    → (packets : List (ℕ × Packet)) × (ending : Ending) × IsStream s bytes packets ending × (rest_in phase start taken ≡ rest_of ending)
-rest_when s (Hunting zeros) start taken bytes fits all is = (_, no_sync, inr (is.0, refl, refl), refl)
-rest_when s Between start taken bytes fits all is = (is.1.0, clean, is.1.1, refl)
-rest_when s (Within state) start taken bytes fits all is =
+pub rest_when : (s : Sizes) (phase : Phase) (start offset : ℕ) (bytes : List ℕ) → FitsPhase phase → length bytes ≡ offset → InPhase s phase start bytes
+    → (packets : List (ℕ × Packet)) × (ending : Ending) × IsStream s bytes packets ending × (rest_in phase start offset ≡ rest_of ending)
+rest_when s (Hunting zeros) start offset bytes fits all is = (_, no_sync, inr (is.0, refl, refl), refl)
+rest_when s Between start offset bytes fits all is = (is.1.0, clean, is.1.1, refl)
+rest_when s (Within state) start offset bytes fits all is =
     let a : At s (tree_of s state) start is.packets bytes =
     record { front = is.front; text = is.text; parts = is.parts; starts = is.starts; some = is.some; whole = is.whole; follows = is.follows } in (
       is.packets,
@@ -45,4 +45,4 @@ rest_when s (Within state) start taken bytes fits all is =
       omega
           (arith, all, ap length is.parts, length-append is.front is.text, is.starts),
     )
-rest_when s Failed start taken bytes fits all is = (is.0, fault is.1 is.2, is.3, refl)
+rest_when s Failed start offset bytes fits all is = (is.0, fault is.1 is.2, is.3, refl)

@@ -154,14 +154,14 @@ goes_on s start bytes text packets packet place whole spells =
     subst (λ at. IsStream s (bytes ++ text) (packets ++ (at, packet) ∷ []) clean) place (goes_on_by_a_packet s bytes text packets packet whole spells)
 
 -- A reader that stands between two packets takes the bytes of a packet.
-pub takes_packet : (s : Sizes) (start taken after : ℕ) (text : List ℕ) (packet : Packet) → after ≡ taken + length text → All (λ b. b < 256) text
+pub takes_packet : (s : Sizes) (start offset after : ℕ) (text : List ℕ) (packet : Packet) → after ≡ offset + length text → All (λ b. b < 256) text
     → Spells s (Ok packet) text
-    → TakesPacket (record { settings = s; phase = Between; start = start; taken = taken })
-    (record { settings = s; phase = Between; start = after; taken = after }) text start packet
-takes_packet s start taken after text packet more small spells =
+    → TakesPacket (record { settings = s; phase = Between; start = start; offset = offset })
+    (record { settings = s; phase = Between; start = after; offset = after }) text start packet
+takes_packet s start offset after text packet more small spells =
     record {
       settings = refl;
-      taken = more;
+      offset = more;
       stands = λ bytes stands.
           let long : length (bytes ++ text) ≡ after = omega (arith, length-append bytes text, stands.0, more) in
           (long, (long, (stands.1.1.0 ++ (start, packet) ∷ [], goes_on s start bytes text stands.1.1.0 packet stands.1.0 stands.1.1.1 spells)));

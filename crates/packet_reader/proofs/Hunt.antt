@@ -24,29 +24,29 @@ use Rattle.packet_grammar.proofs.GoesOn.{sync_in, sync_out, strip, sync_earlier,
 use Rattle.packet_reader.proofs.Steps.{Open, state_open, At, StreamAfter, stream_after, phase_after, is_cut}
 
 module _ (s : Sizes) where
-  gains_after : (start x : ℕ) (packets : List (ℕ × Packet)) (bytes : List ℕ) (ending : Ending) (progress : Progress) (taken : ℕ) → Goes ending → IsStream s
+  gains_after : (start x : ℕ) (packets : List (ℕ × Packet)) (bytes : List ℕ) (ending : Ending) (progress : Progress) (offset : ℕ) → Goes ending → IsStream s
       bytes packets ending
-      → StreamAfter s start packets (bytes ++ x ∷ []) progress → Gains s bytes x (settled progress start taken).step
-  gains_after start x packets bytes ending (Next state) taken goes old new = (packets, ending, new.0, goes, old, new.1)
-  gains_after start x packets bytes ending (Done (Ok p)) taken goes old new = (packets, ending, old, new)
-  gains_after start x packets bytes ending (Done (Err f)) taken goes old new = (packets, ending, goes, old, new)
+      → StreamAfter s start packets (bytes ++ x ∷ []) progress → Gains s bytes x (settled progress start offset).step
+  gains_after start x packets bytes ending (Next state) offset goes old new = (packets, ending, new.0, goes, old, new.1)
+  gains_after start x packets bytes ending (Done (Ok p)) offset goes old new = (packets, ending, old, new)
+  gains_after start x packets bytes ending (Done (Err f)) offset goes old new = (packets, ending, goes, old, new)
 
-  one_more : (bytes : List ℕ) (x taken : ℕ) → length bytes + 1 ≡ taken → length (bytes ++ x ∷ []) ≡ taken
-  one_more bytes x taken all = omega (arith, all, length-append bytes (x ∷ []))
+  one_more : (bytes : List ℕ) (x offset : ℕ) → length bytes + 1 ≡ offset → length (bytes ++ x ∷ []) ≡ offset
+  one_more bytes x offset all = omega (arith, all, length-append bytes (x ∷ []))
 
-  settles : (start x : ℕ) (packets : List (ℕ × Packet)) (bytes : List ℕ) (ending : Ending) (progress : Progress) (taken : ℕ) → length bytes + 1 ≡ taken
+  settles : (start x : ℕ) (packets : List (ℕ × Packet)) (bytes : List ℕ) (ending : Ending) (progress : Progress) (offset : ℕ) → length bytes + 1 ≡ offset
       → FitsAfter progress
       → Goes ending → IsStream s bytes packets ending → At s (tree_after s progress) start packets (bytes ++ x ∷ [])
-      → InPhase s (settled progress start taken).phase (settled progress start taken).start (bytes ++ x ∷ [])
-      × Gains s bytes x (settled progress start taken).step
-  settles start x packets bytes ending progress taken all fits goes old a = (
-    phase_after s start packets (bytes ++ x ∷ []) progress taken (one_more bytes x taken all) fits a,
-    gains_after start x packets bytes ending progress taken goes old (stream_after s start packets (bytes ++ x ∷ []) progress fits a),
+      → InPhase s (settled progress start offset).phase (settled progress start offset).start (bytes ++ x ∷ [])
+      × Gains s bytes x (settled progress start offset).step
+  settles start x packets bytes ending progress offset all fits goes old a = (
+    phase_after s start packets (bytes ++ x ∷ []) progress offset (one_more bytes x offset all) fits a,
+    gains_after start x packets bytes ending progress offset goes old (stream_after s start packets (bytes ++ x ∷ []) progress fits a),
   )
 
-  pub between_moves : (start taken x : ℕ) (progress : Progress) (m : Moved) → FitsAfter progress → HeadsBy x progress → m ≡ settled progress start taken
-      → Moves s Between start taken x m
-  between_moves start taken x progress m fits heads is bytes all (place, (packets, whole)) =
+  pub between_moves : (start offset x : ℕ) (progress : Progress) (m : Moved) → FitsAfter progress → HeadsBy x progress → m ≡ settled progress start offset
+      → Moves s Between start offset x m
+  between_moves start offset x progress m fits heads is bytes all (place, (packets, whole)) =
       let agrees = headed s x progress heads in
       let a : At s (tree_after s progress) start packets (bytes ++ x ∷ []) = record {
         front = bytes;
@@ -58,17 +58,17 @@ module _ (s : Sizes) where
         follows = λ outcome more. (agrees.to outcome more, agrees.back outcome more);
       } in
       subst (λ (k : Moved). InPhase s k.phase k.start (bytes ++ x ∷ []) × Gains s bytes x k.step) (sym is)
-      (settles start x packets bytes clean progress taken all fits tt whole a)
+      (settles start x packets bytes clean progress offset all fits tt whole a)
 
   leads_after : (tree : Tree) (x : ℕ) → Open tree → (outcome : Outcome Packet) (more : List ℕ) → Leads tree outcome (x ∷ more) ↔ Leads (after tree x) outcome
       more
   leads_after tree x (next, e) outcome more =
       subst (λ (t : Tree). Leads t outcome (x ∷ more) ↔ Leads (after t x) outcome more) (sym e) ((λ l. l), (λ l. l))
 
-  pub within_moves : (state : State) (start taken x : ℕ) (progress : Progress) (m : Moved) → Fits state → FitsAfter progress → tree_after s progress ≡ after
+  pub within_moves : (state : State) (start offset x : ℕ) (progress : Progress) (m : Moved) → Fits state → FitsAfter progress → tree_after s progress ≡ after
       (tree_of s state) x
-      → m ≡ settled progress start taken → Moves s (Within state) start taken x m
-  within_moves state start taken x progress m was fits tree is bytes all b =
+      → m ≡ settled progress start offset → Moves s (Within state) start offset x m
+  within_moves state start offset x progress m was fits tree is bytes all b =
       let o = state_open s state was in
       let old : At s (tree_of s state) start b.packets bytes =
       record { front = b.front; text = b.text; parts = b.parts; starts = b.starts; some = b.some; whole = b.whole; follows = b.follows } in
@@ -88,10 +88,10 @@ module _ (s : Sizes) where
         );
       } in
       subst (λ (k : Moved). InPhase s k.phase k.start (bytes ++ x ∷ []) × Gains s bytes x k.step) (sym is)
-      (settles start x b.packets bytes (cut (length b.text)) progress taken all fits tt (is_cut s start b.packets bytes (tree_of s state) o old) a)
+      (settles start x b.packets bytes (cut (length b.text)) progress offset all fits tt (is_cut s start b.packets bytes (tree_of s state) o old) a)
 
-  pub failed_moves : (start taken x : ℕ) → Moves s Failed start taken x (record { phase = Failed; start = start; step = Stopped })
-  failed_moves start taken x bytes all (packets, at, f, is) =
+  pub failed_moves : (start offset x : ℕ) → Moves s Failed start offset x (record { phase = Failed; start = start; step = Stopped })
+  failed_moves start offset x bytes all (packets, at, f, is) =
       let new = fault_stays s bytes (x ∷ []) packets at f is in
       ((packets, at, f, new), (packets, at, f, is, new))
 
@@ -168,10 +168,10 @@ module _ (z x : ℕ) (bytes : List ℕ) (zeros : Zeros z bytes) where
         all = λ lt other is. both_ways (x == 0) off (eq-eqb x 0 (strip bytes other x 0 is).1);
       }
 
-module _ (s : Sizes) (z x start taken : ℕ) (bytes : List ℕ) (all : length bytes + 1 ≡ taken) (none : (at : ℕ) → SyncAt at bytes → ⊥) (zeros : Zeros z bytes)
+module _ (s : Sizes) (z x start offset : ℕ) (bytes : List ℕ) (all : length bytes + 1 ≡ offset) (none : (at : ℕ) → SyncAt at bytes → ⊥) (zeros : Zeros z bytes)
   where
-    found_moves : z ≡ 11 → x ≡ 128 → ((length (bytes ++ x ∷ []) ≡ taken) × ((packets : List (ℕ × Packet)) × IsStream s (bytes ++ x ∷ []) packets clean)) × Gains
-        s bytes x (Whole (taken - 12) Async)
+    found_moves : z ≡ 11 → x ≡ 128 → ((length (bytes ++ x ∷ []) ≡ offset) × ((packets : List (ℕ × Packet)) × IsStream s (bytes ++ x ∷ []) packets clean)) × Gains
+        s bytes x (Whole (offset - 12) Async)
     found_moves eleven last =
         let at : ℕ = length zeros.front in
         let old : bytes ≡ zeros.front ++ replicate 11 0 = zeros.whole ∙ ap (λ n. zeros.front ++ replicate n 0) eleven in
@@ -179,7 +179,7 @@ module _ (s : Sizes) (z x start taken : ℕ) (bytes : List ℕ) (all : length by
         ap (λ t. bytes ++ t ∷ []) last ∙ ap (λ t. t ++ 128 ∷ []) old ∙ append_assoc zeros.front (replicate 11 0) (128 ∷ []) in
         let here : SyncAt (length zeros.front) (bytes ++ x ∷ []) =
         sync_out (length zeros.front) (bytes ++ x ∷ []) (record { front = zeros.front; rest = []; parts = parts; place = refl }) in
-        let place : taken - 12 ≡ length zeros.front =
+        let place : offset - 12 ≡ length zeros.front =
         omega (arith, all, ap length parts, length-append zeros.front (sync ++ []), length-append bytes (x ∷ [])) in
         let first : FirstSync (length zeros.front) (bytes ++ x ∷ []) = record {
           here = here;
@@ -199,19 +199,19 @@ module _ (s : Sizes) (z x start taken : ℕ) (bytes : List ℕ) (all : length by
         } in
         let behind : drop (length zeros.front) (bytes ++ x ∷ []) ≡ sync ++ [] =
         ap (λ t. drop (length zeros.front) t) parts ∙ drop_at zeros.front (sync ++ []) (length zeros.front) refl in
-        let stream : IsStream s (bytes ++ x ∷ []) ((taken - 12, Async) ∷ []) clean =
+        let stream : IsStream s (bytes ++ x ∷ []) ((offset - 12, Async) ∷ []) clean =
         inl (length zeros.front, first, (sync, [], place, behind, sync_spells s, refl)) in
-        ((one_more s bytes x taken all, ((taken - 12, Async) ∷ [], stream)), ([], no_sync, inr (none, refl, refl), stream))
+        ((one_more s bytes x offset all, ((offset - 12, Async) ∷ [], stream)), ([], no_sync, inr (none, refl, refl), stream))
 
-pub hunting_finds : (s : Sizes) (z x start taken : ℕ) → ((z == zeros_of_sync) && (x == 0x80)) ≡ true
-    → Moves s (Hunting z) start taken x (record { phase = Between; start = taken; step = Whole (taken - length sync) Async })
-hunting_finds s z x start taken on bytes all (none, zeros) =
+pub hunting_finds : (s : Sizes) (z x start offset : ℕ) → ((z == zeros_of_sync) && (x == 0x80)) ≡ true
+    → Moves s (Hunting z) start offset x (record { phase = Between; start = offset; step = Whole (offset - length sync) Async })
+hunting_finds s z x start offset on bytes all (none, zeros) =
     let parts = and_parts (z == 11) (x == 128) on in
-    found_moves s z x start taken bytes all none zeros (eqb-true z 11 parts.0) (eqb-true x 128 parts.1)
+    found_moves s z x start offset bytes all none zeros (eqb-true z 11 parts.0) (eqb-true x 128 parts.1)
 
-pub hunting_skips : (s : Sizes) (z x start taken z' : ℕ) → ((z == zeros_of_sync) && (x == 0x80)) ≡ false → z' ≡ zeros_after z x
-    → Moves s (Hunting z) start taken x (record { phase = Hunting z'; start = 0; step = Skipped })
-hunting_skips s z x start taken z' off e bytes all (none, zeros) =
+pub hunting_skips : (s : Sizes) (z x start offset z' : ℕ) → ((z == zeros_of_sync) && (x == 0x80)) ≡ false → z' ≡ zeros_after z x
+    → Moves s (Hunting z) start offset x (record { phase = Hunting z'; start = 0; step = Skipped })
+hunting_skips s z x start offset z' off e bytes all (none, zeros) =
     let later = still_none z x bytes zeros off none in
     let counted = more_zeros z x bytes zeros (x == 0) (nat_lt z 11) refl refl in
     ((later, subst (λ n. Zeros n (bytes ++ x ∷ [])) (sym e) counted), (inr (none, refl, refl), inr (later, refl, refl)))

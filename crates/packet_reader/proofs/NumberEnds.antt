@@ -15,20 +15,20 @@ use Rattle.packet_reader.specs.declared.step.Step.TheVariants.{Whole}
 use Rattle.packet_reader.proofs.Fronts.{last_below}
 use Rattle.packet_reader.proofs.Hunt.{within_moves}
 
-module _ (s : Sizes) (state : State) (start taken n : ℕ) (packet : Packet) (fits : Fits state) (values : IsPacket s packet)
+module _ (s : Sizes) (state : State) (start offset n : ℕ) (packet : Packet) (fits : Fits state) (values : IsPacket s packet)
     (known : tree_after s (Done (Ok packet)) ≡ after (tree_of s state) n) where
   abbrev ended : Moved
-  ended = record { phase = Between; start = taken + 1; step = Whole start packet }
+  ended = record { phase = Between; start = offset + 1; step = Whole start packet }
 
-  moves : Moves s (Within state) start (taken + 1) n ended
-  moves = within_moves s state start (taken + 1) n (Done (Ok packet)) ended fits tt known refl
+  moves : Moves s (Within state) start (offset + 1) n ended
+  moves = within_moves s state start (offset + 1) n (Done (Ok packet)) ended fits tt known refl
 
-  takes_end : TakesPacket (record { settings = s; phase = Within state; start = start; taken = taken })
-      (record { settings = s; phase = Between; start = taken + 1; taken = taken + 1 }) (n ∷ []) start packet
+  takes_end : TakesPacket (record { settings = s; phase = Within state; start = start; offset = offset })
+      (record { settings = s; phase = Between; start = offset + 1; offset = offset + 1 }) (n ∷ []) start packet
   takes_end =
       record {
         settings = refl;
-        taken = refl;
+        offset = refl;
         stands = λ bytes stands. (
           omega (arith, length-append bytes (n ∷ []), stands.0),
           (moves bytes (omega (arith, stands.0)) stands.1).0,
@@ -41,8 +41,8 @@ commit_known : (s : Sizes) (n : ℕ) → is_last n ≡ true → tree_after s (Do
 unfolding number_tree
 commit_known s n last = let value : 0 + n * 128 ^ 0 ≡ n = omega arith in rw (last, value) refl
 
-module _ (s : Sizes) (start taken n : ℕ) (few : n < 0x80) where
-  pub takes_commit_end : TakesPacket (record { settings = s; phase = Within behind_commit; start = start; taken = taken })
-      (record { settings = s; phase = Between; start = taken + 1; taken = taken + 1 }) (n ∷ []) start (Commit n)
+module _ (s : Sizes) (start offset n : ℕ) (few : n < 0x80) where
+  pub takes_commit_end : TakesPacket (record { settings = s; phase = Within behind_commit; start = start; offset = offset })
+      (record { settings = s; phase = Between; start = offset + 1; offset = offset + 1 }) (n ∷ []) start (Commit n)
   takes_commit_end =
-      takes_end s behind_commit start taken n (Commit n) (refl, omega arith) (omega (arith, few)) (commit_known s n (last_below n few))
+      takes_end s behind_commit start offset n (Commit n) (refl, omega arith) (omega (arith, few)) (commit_known s n (last_below n few))

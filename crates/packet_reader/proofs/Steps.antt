@@ -116,9 +116,9 @@ module _ (s : Sizes) (start : ℕ) (packets : List (ℕ × Packet)) (bytes : Lis
       (subst (λ p. IsStream s (a.front ++ a.text) p (fault start f)) (append-nil packets)
       (stream_on s a.front a.text packets [] (fault start f) a.whole (a.text, [], sym a.starts, sym (append-nil a.text), all_spelled (Err f) a)))
 
-  pub phase_after : (progress : Progress) (taken : ℕ) → length bytes ≡ taken → FitsAfter progress → At s (tree_after s progress) start packets bytes
-      → InPhase s (settled progress start taken).phase (settled progress start taken).start bytes
-  phase_after (Next state) taken all fits a = record
+  pub phase_after : (progress : Progress) (offset : ℕ) → length bytes ≡ offset → FitsAfter progress → At s (tree_after s progress) start packets bytes
+      → InPhase s (settled progress start offset).phase (settled progress start offset).start bytes
+  phase_after (Next state) offset all fits a = record
       { front = a.front; text = a.text; parts = a.parts; starts = a.starts; some = a.some; packets = packets; whole = a.whole; follows = a.follows }
-  phase_after (Done (Ok p)) taken all fits a = (all, (packets ++ (start, p) ∷ [], stream_after (Done (Ok p)) fits a))
-  phase_after (Done (Err f)) taken all fits a = (packets, start, f, stream_after (Done (Err f)) fits a)
+  phase_after (Done (Ok p)) offset all fits a = (all, (packets ++ (start, p) ∷ [], stream_after (Done (Ok p)) fits a))
+  phase_after (Done (Err f)) offset all fits a = (packets, start, f, stream_after (Done (Err f)) fits a)

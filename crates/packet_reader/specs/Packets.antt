@@ -3,7 +3,7 @@ use Rattle.std.specs.Prelude.{ℕ, ◌<◌, All, List, [], ◌∷◌, ◌++◌, 
 use Rattle.etm_types.specs.Settings.{Sizes}
 use Rattle.packet_grammar.specs.Parsed.{Spells}
 use Rattle.packet_grammar.specs.declared.packet.Packet.{Packet}
-use Rattle.packet_reader.specs.Stands.{Standing, TakesPacket}
+use Rattle.packet_reader.specs.Stands.{PacketReading, TakesPacket}
 
 -- each of these texts, of at least one byte, spells the packet beside it
 abbrev pub ArePackets : Sizes → List (List ℕ × Packet) → Type 0
@@ -18,6 +18,6 @@ abbrev pub length_of : List (List ℕ × Packet) → ℕ
 length_of ps = length (bytes_of ps)
 
 -- a reader takes packets, and then one more, at this offset
-abbrev pub TakesPackets : Standing → List (List ℕ × Packet) → List ℕ × Packet → ℕ → Standing → Type 0
+abbrev pub TakesPackets : PacketReading → List (List ℕ × Packet) → List ℕ × Packet → ℕ → PacketReading → Type 0
 TakesPackets r [] end at r' = TakesPacket r r' end.0 at end.1
-TakesPackets r (p ∷ ps) end at r' = (first : ℕ) × (next : Standing) × TakesPacket r next p.0 first p.1 × TakesPackets next ps end at r'
+TakesPackets r (p ∷ ps) end at r' = (first : ℕ) × (next : PacketReading) × TakesPacket r next p.0 first p.1 × TakesPackets next ps end at r'

@@ -19,11 +19,11 @@ use Rattle.packet_reader.specs.Trees.{Leads}
 use Rattle.packet_reader.specs.States.{tree_of, Fits}
 
 -- what contracts see of a reader
-pub record Standing : Type 0 where
+pub record PacketReading : Type 0 where
   pub settings : Sizes
   pub phase : Phase
   pub start : ℕ
-  pub taken : ℕ
+  pub offset : ℕ
 
 -- how many 00 an A-sync has
 abbrev pub zeros_of_sync : ℕ
@@ -64,8 +64,8 @@ InPhase s (Within state) start bytes = PartOfPacket s state start bytes
 InPhase s Failed start bytes = (packets : List (ℕ × Packet)) × (at : ℕ) × (f : PacketFault) × IsStream s bytes packets (fault at f)
 
 -- the reader took these bytes
-abbrev pub StandsAt : Standing → List ℕ → Type 0
-StandsAt r bytes = (length bytes ≡ r.taken) × InPhase r.settings r.phase r.start bytes
+abbrev pub StandsAt : PacketReading → List ℕ → Type 0
+StandsAt r bytes = (length bytes ≡ r.offset) × InPhase r.settings r.phase r.start bytes
 
 -- an ending from which a stream may go on
 abbrev pub Goes : Ending → Type 0
@@ -94,9 +94,9 @@ GainsPacket s bytes text at packet =
     (packets : List (ℕ × Packet)) × (ending : Ending) × IsStream s bytes packets ending × IsStream s (bytes ++ text) (packets ++ (at, packet) ∷ []) clean
 
 -- a reader took the bytes of a whole packet
-pub record TakesPacket (old new : Standing) (text : List ℕ) (at : ℕ) (packet : Packet) : Type 0 where
+pub record TakesPacket (old new : PacketReading) (text : List ℕ) (at : ℕ) (packet : Packet) : Type 0 where
   pub settings : new.settings ≡ old.settings
-  pub taken : new.taken ≡ old.taken + length text
+  pub offset : new.offset ≡ old.offset + length text
   pub stands : (bytes : List ℕ) → StandsAt old bytes → StandsAt new (bytes ++ text)
   pub gains : (bytes : List ℕ) → StandsAt old bytes → GainsPacket old.settings bytes text at packet
   pub values : IsPacket old.settings packet
@@ -109,9 +109,9 @@ pub record Moved : Type 0 where
 
 -- what progress on a packet that began at an offset makes of a reader that has taken so many bytes
 abbrev pub settled : Progress → ℕ → ℕ → Moved
-settled (Next state) at taken = record { phase = Within state; start = at; step = More }
-settled (Done (Ok packet)) at taken = record { phase = Between; start = taken; step = Whole at packet }
-settled (Done (Err f)) at taken = record { phase = Failed; start = taken; step = Bad at f }
+settled (Next state) at offset = record { phase = Within state; start = at; step = More }
+settled (Done (Ok packet)) at offset = record { phase = Between; start = offset; step = Whole at packet }
+settled (Done (Err f)) at offset = record { phase = Failed; start = offset; step = Bad at f }
 
 -- in how many 00 bytes end, with one more
 abbrev pub zeros_after : ℕ → ℕ → ℕ
@@ -119,8 +119,8 @@ zeros_after zeros byte = if byte == 0x00 then (if nat_lt zeros zeros_of_sync the
 
 -- from a list to the list with a byte more
 abbrev pub Moves : Sizes → Phase → ℕ → ℕ → ℕ → Moved → Type 0
-Moves s phase start taken byte m =
-    (bytes : List ℕ) → length bytes + 1 ≡ taken → InPhase s phase start bytes → InPhase s m.phase m.start (bytes ++ byte ∷ []) × Gains s bytes byte m.step
+Moves s phase start offset byte m =
+    (bytes : List ℕ) → length bytes + 1 ≡ offset → InPhase s phase start bytes → InPhase s m.phase m.start (bytes ++ byte ∷ []) × Gains s bytes byte m.step
 
 abbrev pub is_synced : Phase → Bool
 is_synced (Hunting zeros) = false
@@ -128,8 +128,8 @@ is_synced _ = true
 
 -- how many bytes of a begun packet a reader has taken
 abbrev pub rest_in : Phase → ℕ → ℕ → ℕ
-rest_in (Within state) start taken = taken - start
-rest_in _ start taken = 0
+rest_in (Within state) start offset = offset - start
+rest_in _ start offset = 0
 
 -- how many bytes a stream has after its last packet
 abbrev pub rest_of : Ending → ℕ

@@ -1,7 +1,7 @@
 //! Address packets and short commit packets that stand whole at the front of some bytes (Arm IHI 0064, "Exact Match
 //! Address packet", "Short Address packet", "Long Address packets", "Address with Context packet", "Commit packet").
 //!
-//! Where the bytes of a packet are all there, they are read at once, without a state between one byte and the next.
+//! Where the bytes of a packet are all there, they are read as one, without a state between one byte and the next.
 ghost use Rattle.std.specs.Prelude.{◌≡◌, ◌∷◌, ◌++◌, ◌+◌, ◌<◌, ◌≤◌, IfSome, IsTrue, IsSome, None, List, ℕ, length, drop};
 ghost use Rattle.etm_types.specs.Settings.{Sizes};
 ghost use Rattle.packet_grammar.specs.Contexts.{Context, Field, address_of};

@@ -30,19 +30,19 @@ pub struct PacketReader {
     settings: Settings,
     phase: Phase,
     start: u64,
-    taken: u64,
+    offset: u64,
 }
 
 impl Model for PacketReader {
     ghost use Rattle.std.specs.Prelude.{◌≤◌};
     ghost use Rattle.etm_types.specs.Settings.{AreSettings};
-    ghost use Rattle.packet_reader.specs.Stands.{Standing, FitsPhase, zeros_in};
+    ghost use Rattle.packet_reader.specs.Stands.{PacketReading, FitsPhase, zeros_in};
 
-    ghost Value = { Standing };
+    ghost Value = { PacketReading };
 
-    ghost view = { λ r. record { settings = r.settings; phase = r.phase; start = r.start; taken = r.taken } };
+    ghost view = { λ r. record { settings = r.settings; phase = r.phase; start = r.start; offset = r.offset } };
 
-    ghost invariant = { λ r. FitsPhase r.phase × (r.start ≤ r.taken) × (zeros_in r.phase ≤ r.taken) × AreSettings r.settings };
+    ghost invariant = { λ r. FitsPhase r.phase × (r.start ≤ r.offset) × (zeros_in r.phase ≤ r.offset) × AreSettings r.settings };
 }
 
 impl PacketReader {
@@ -64,27 +64,27 @@ impl PacketReader {
             settings: *settings,
             phase: Phase::Hunting { zeros: 0 },
             start: 0,
-            taken: 0,
+            offset: 0,
         }
     }
 
     /// Takes the next byte.
     #[inline(always)]
     pub fn take(&mut self, byte: u8) -> Step
-        requires { self.old.taken < 2 ^ 62 }
+        requires { self.old.offset < 2 ^ 62 }
         ensures settings { self.new.settings ≡ self.old.settings }
-        ensures taken { self.new.taken ≡ self.old.taken + 1 }
+        ensures offset { self.new.offset ≡ self.old.offset + 1 }
         ensures stands { (bytes : List ℕ) → StandsAt self.old bytes → StandsAt self.new (bytes ++ byte ∷ []) }
         ensures gains { (bytes : List ℕ) → StandsAt self.old bytes → Gains self.old.settings bytes byte result }
         ensures values { (bytes : List ℕ) → StandsAt self.old bytes → All (λ b. b < 256) bytes
             → (at : ℕ) (packet : Packet) → result ≡ Step.Whole at packet → IsPacket self.old.settings packet }
     {
-        self.taken += 1;
+        self.offset += 1;
         step(
             &self.settings,
             &mut self.phase,
             &mut self.start,
-            self.taken,
+            self.offset,
             byte,
         )
     }
@@ -95,7 +95,7 @@ impl PacketReader {
     /// Most packets are such. A [`Step`] has room for every packet, and to fill and move it costs more than all else.
     #[inline(always)]
     pub fn take_atoms(&mut self, byte: u8) -> Option<(u64, AtomRun)>
-        requires { self.old.taken < 2 ^ 62 }
+        requires { self.old.offset < 2 ^ 62 }
         ensures some { IsSome result ↔ ((self.old.phase ≡ Phase.Between) × (0xc0 ≤ byte)) }
         ensures none { result ≡ None → self.new ≡ self.old }
         ensures takes { IfSome result (λ atoms. TakesPacket self.old self.new (byte ∷ []) atoms.0 (Packet.Atoms atoms.1)) }
@@ -104,8 +104,8 @@ impl PacketReader {
     {
         match &self.phase {
             Phase::Between if byte >= ATOMS => {
-                let (at, after) = (self.start, self.taken + 1);
-                (self.start, self.taken) = (after, after);
+                let (at, after) = (self.start, self.offset + 1);
+                (self.start, self.offset) = (after, after);
                 Some((at, run_of(byte)))
             }
             _ => None,
@@ -120,7 +120,7 @@ impl PacketReader {
     /// kind may have, it is taken.
     #[inline(always)]
     pub fn take_address<'a>(&mut self, bytes: &'a [u8]) -> Option<(u64, Address, &'a [u8])>
-        requires { self.old.taken + length bytes.now ≤ 2 ^ 62 }
+        requires { self.old.offset + length bytes.now ≤ 2 ^ 62 }
         ensures none { result ≡ None → self.new ≡ self.old }
         ensures matched { (h : ℕ) (rest : List ℕ) → self.old.phase ≡ Phase.Between → bytes.now ≡ h ∷ rest → 0x90 ≤ h → h ≤ 0x92 → IsSome result }
         ensures short { (rest : List ℕ) → self.old.phase ≡ Phase.Between → bytes.now ≡ 0x95 ∷ rest → 2 ≤ length rest → IsSome result }
@@ -136,8 +136,11 @@ impl PacketReader {
         match &self.phase {
             Phase::Between => {
                 let (address, behind) = address_at(&self.settings, bytes)?;
-                let (at, after) = (self.start, self.taken + (bytes.len() - behind.len()) as u64);
-                (self.start, self.taken) = (after, after);
+                let (at, after) = (
+                    self.start,
+                    self.offset + (bytes.len() - behind.len()) as u64,
+                );
+                (self.start, self.offset) = (after, after);
                 Some((at, address, behind))
             }
             _ => None,
@@ -150,7 +153,7 @@ impl PacketReader {
     /// It is for speed, as [`take_address`](PacketReader::take_address) is.
     #[inline(always)]
     pub fn take_commit<'a>(&mut self, bytes: &'a [u8]) -> Option<(u64, u32, &'a [u8])>
-        requires { self.old.taken + length bytes.now ≤ 2 ^ 62 }
+        requires { self.old.offset + length bytes.now ≤ 2 ^ 62 }
         ensures none { result ≡ None → self.new ≡ self.old }
         ensures some { (n : ℕ) (rest : List ℕ) → self.old.phase ≡ Phase.Between → bytes.now ≡ 0x2d ∷ n ∷ rest → n < 0x80 → IsSome result }
         ensures only { IfSome result (λ c. (self.old.phase ≡ Phase.Between) × (bytes.now ≡ 0x2d ∷ c.1 ∷ c.2.now) × (c.1 < 0x80)) }
@@ -159,8 +162,8 @@ impl PacketReader {
         match &self.phase {
             Phase::Between => {
                 let (n, behind) = commit_at(bytes)?;
-                let (at, after) = (self.start, self.taken + LENGTH_OF_COMMIT);
-                (self.start, self.taken) = (after, after);
+                let (at, after) = (self.start, self.offset + LENGTH_OF_COMMIT);
+                (self.start, self.offset) = (after, after);
                 Some((at, n, behind))
             }
             _ => None,
@@ -172,7 +175,7 @@ impl PacketReader {
     /// nothing changes.
     #[inline(always)]
     pub fn take_commit_end(&mut self, byte: u8) -> Option<(u64, u32)>
-        requires { self.old.taken < 2 ^ 62 }
+        requires { self.old.offset < 2 ^ 62 }
         ensures some { IsSome result ↔ ((self.old.phase ≡ Phase.Within behind_commit) × (byte < 0x80)) }
         ensures none { result ≡ None → self.new ≡ self.old }
         ensures takes { IfSome result (λ c. TakesPacket self.old self.new (byte ∷ []) c.0 (Packet.Commit c.1)) }
@@ -180,8 +183,8 @@ impl PacketReader {
         if byte >= CONTINUES || !is_behind_commit(&self.phase) {
             return None;
         }
-        let (at, after) = (self.start, self.taken + 1);
-        (self.phase, self.start, self.taken) = (Phase::Between, after, after);
+        let (at, after) = (self.start, self.offset + 1);
+        (self.phase, self.start, self.offset) = (Phase::Between, after, after);
         Some((at, u32::from(byte)))
     }
 
@@ -192,20 +195,20 @@ impl PacketReader {
     #[inline(always)]
     pub fn skip(&mut self, count: u64, last: u64) -> u64
         requires between { self.old.phase ≡ Phase.Between }
-        requires small { self.old.taken + count ≤ 2 ^ 62 }
+        requires small { self.old.offset + count ≤ 2 ^ 62 }
         requires packets { (first : List (List ℕ × Packet)) × (end : List ℕ × Packet) × ArePackets self.old.settings (first ++ end ∷ [])
             × (length_of (first ++ end ∷ []) ≡ count) × (length end.0 ≡ last) }
         ensures takes { (first : List (List ℕ × Packet)) (end : List ℕ × Packet) → ArePackets self.old.settings (first ++ end ∷ [])
             → length_of (first ++ end ∷ []) ≡ count → length end.0 ≡ last → TakesPackets self.old first end result self.new }
         ensures between { self.new.phase ≡ Phase.Between }
     {
-        let after = self.taken + count;
+        let after = self.offset + count;
         let at = if count == last {
             self.start
         } else {
             after - last
         };
-        (self.start, self.taken) = (after, after);
+        (self.start, self.offset) = (after, after);
         at
     }
 
@@ -218,11 +221,11 @@ impl PacketReader {
     }
 
     /// How many bytes were taken.
-    pub fn taken(&self) -> u64
-        ensures value { result ≡ self.now.taken }
+    pub fn offset(&self) -> u64
+        ensures value { result ≡ self.now.offset }
         ensures all { (bytes : List ℕ) → StandsAt self.now bytes → result ≡ length bytes }
     {
-        self.taken
+        self.offset
     }
 
     /// Whether an A-sync was found.
@@ -235,11 +238,11 @@ impl PacketReader {
 
     /// How many bytes of a begun packet were taken: 0 before an A-sync, and after a fault.
     pub fn rest(&self) -> u64
-        ensures value { result ≡ rest_in self.now.phase self.now.start self.now.taken }
+        ensures value { result ≡ rest_in self.now.phase self.now.start self.now.offset }
         ensures stream { (bytes : List ℕ) → StandsAt self.now bytes
             → (packets : List (ℕ × Packet)) × (ending : Ending) × IsStream self.now.settings bytes packets ending × (result ≡ rest_of ending) }
     {
-        rest_in(self.phase, self.start, self.taken)
+        rest_in(self.phase, self.start, self.offset)
     }
 
     /// How the stream ends if no byte more comes, where its bytes showed no fault.
@@ -247,6 +250,7 @@ impl PacketReader {
         ensures { (bytes : List ℕ) (packets : List (ℕ × Packet)) (ending : Ending) → StandsAt self.now bytes
             → IsStream self.now.settings bytes packets ending → fault_of ending ≡ None → result ≡ end_of ending }
     {
+        // For the proof: what holds of settings is known where they are looked at.
         let _ = &self.settings;
         let count = self.rest();
         if !self.synced() {
@@ -280,30 +284,30 @@ fn is_behind_commit(phase: &Phase) -> bool
 /// What a byte makes of a reader, which with it has taken so many. Most bytes are atom packets, which leave
 /// the phase as it is: these go the short way, and the answer stays where it is used.
 #[inline(always)]
-fn step(settings: &Settings, phase: &mut Phase, start: &mut u64, taken: u64, byte: u8) -> Step
-    requires { FitsPhase phase.old × (start.old ≤ taken) × (zeros_in phase.old < taken) }
-    ensures moves { Moves settings.now phase.old start.old taken byte (record { phase = phase.new; start = start.new; step = result }) }
-    ensures fits { FitsPhase phase.new × (start.new ≤ taken) × (zeros_in phase.new ≤ taken) }
+fn step(settings: &Settings, phase: &mut Phase, start: &mut u64, offset: u64, byte: u8) -> Step
+    requires { FitsPhase phase.old × (start.old ≤ offset) × (zeros_in phase.old < offset) }
+    ensures moves { Moves settings.now phase.old start.old offset byte (record { phase = phase.new; start = start.new; step = result }) }
+    ensures fits { FitsPhase phase.new × (start.new ≤ offset) × (zeros_in phase.new ≤ offset) }
 {
     match phase {
         Phase::Between if byte >= ATOMS => {
             let at = *start;
-            *start = taken;
+            *start = offset;
             Step::Whole {
                 at,
                 packet: Packet::Atoms(run_of(byte)),
             }
         }
-        _ => any_step(settings, phase, start, taken, byte),
+        _ => any_step(settings, phase, start, offset, byte),
     }
 }
 
 /// The same, of any byte.
 #[inline(never)]
-fn any_step(settings: &Settings, phase: &mut Phase, start: &mut u64, taken: u64, byte: u8) -> Step
-    requires { FitsPhase phase.old × (start.old ≤ taken) × (zeros_in phase.old < taken) }
-    ensures moves { Moves settings.now phase.old start.old taken byte (record { phase = phase.new; start = start.new; step = result }) }
-    ensures fits { FitsPhase phase.new × (start.new ≤ taken) × (zeros_in phase.new ≤ taken) }
+fn any_step(settings: &Settings, phase: &mut Phase, start: &mut u64, offset: u64, byte: u8) -> Step
+    requires { FitsPhase phase.old × (start.old ≤ offset) × (zeros_in phase.old < offset) }
+    ensures moves { Moves settings.now phase.old start.old offset byte (record { phase = phase.new; start = start.new; step = result }) }
+    ensures fits { FitsPhase phase.new × (start.new ≤ offset) × (zeros_in phase.new ≤ offset) }
 {
     match phase {
         Phase::Hunting { zeros } => {
@@ -312,16 +316,16 @@ fn any_step(settings: &Settings, phase: &mut Phase, start: &mut u64, taken: u64,
                 return Step::Skipped;
             }
             *phase = Phase::Between;
-            *start = taken;
+            *start = offset;
             Step::Whole {
-                at: taken - LENGTH_OF_SYNC,
+                at: offset - LENGTH_OF_SYNC,
                 packet: Packet::Async,
             }
         }
-        Phase::Between => begin(phase, start, taken, byte),
+        Phase::Between => begin(phase, start, offset, byte),
         Phase::Within { state } => match advance(settings, state, byte) {
             None => Step::More,
-            Some(outcome) => end(phase, start, taken, outcome),
+            Some(outcome) => end(phase, start, offset, outcome),
         },
         Phase::Failed => Step::Stopped,
     }
@@ -329,12 +333,12 @@ fn any_step(settings: &Settings, phase: &mut Phase, start: &mut u64, taken: u64,
 
 /// What a header makes of a reader that stands between two packets. After a packet of one byte it stands
 /// there again, so its phase is left as it is.
-fn begin(phase: &mut Phase, start: &mut u64, taken: u64, h: u8) -> Step
+fn begin(phase: &mut Phase, start: &mut u64, offset: u64, h: u8) -> Step
     requires between { phase.old ≡ Phase.Between }
-    requires start { start.old ≤ taken }
+    requires start { start.old ≤ offset }
     ensures value { (progress : Progress) × HeadsBy h progress × FitsAfter progress
-        × (record { phase = phase.new; start = start.new; step = result } ≡ settled progress start.old taken) }
-    ensures fits { FitsPhase phase.new × (start.new ≤ taken) × (zeros_in phase.new ≡ 0) }
+        × (record { phase = phase.new; start = start.new; step = result } ≡ settled progress start.old offset) }
+    ensures fits { FitsPhase phase.new × (start.new ≤ offset) × (zeros_in phase.new ≡ 0) }
 {
     match header(h) {
         Progress::Next(state) => {
@@ -343,21 +347,26 @@ fn begin(phase: &mut Phase, start: &mut u64, taken: u64, h: u8) -> Step
         }
         Progress::Done(Ok(packet)) => {
             let at = *start;
-            *start = taken;
+            *start = offset;
             Step::Whole { at, packet }
         }
-        Progress::Done(Err(fault)) => end(phase, start, taken, Err(fault)),
+        Progress::Done(Err(fault)) => end(phase, start, offset, Err(fault)),
     }
 }
 
 /// What the end of a packet, or a fault, makes of a reader.
-fn end(phase: &mut Phase, start: &mut u64, taken: u64, outcome: Result<Packet, PacketFault>) -> Step
-    requires { start.old ≤ taken }
-    ensures value { record { phase = phase.new; start = start.new; step = result } ≡ settled (Progress.Done outcome) start.old taken }
-    ensures fits { FitsPhase phase.new × (start.new ≤ taken) × (zeros_in phase.new ≡ 0) }
+fn end(
+    phase: &mut Phase,
+    start: &mut u64,
+    offset: u64,
+    outcome: Result<Packet, PacketFault>,
+) -> Step
+    requires { start.old ≤ offset }
+    ensures value { record { phase = phase.new; start = start.new; step = result } ≡ settled (Progress.Done outcome) start.old offset }
+    ensures fits { FitsPhase phase.new × (start.new ≤ offset) × (zeros_in phase.new ≡ 0) }
 {
     let at = *start;
-    *start = taken;
+    *start = offset;
     match outcome {
         Ok(packet) => {
             *phase = Phase::Between;
@@ -385,12 +394,12 @@ fn is_synced(phase: Phase) -> bool
 }
 
 /// How many bytes of a begun packet were taken.
-fn rest_in(phase: Phase, start: u64, taken: u64) -> u64
-    requires { start ≤ taken }
-    ensures { result ≡ rest_in phase start taken }
+fn rest_in(phase: Phase, start: u64, offset: u64) -> u64
+    requires { start ≤ offset }
+    ensures { result ≡ rest_in phase start offset }
 {
     match phase {
-        Phase::Within { .. } => taken - start,
+        Phase::Within { .. } => offset - start,
         Phase::Hunting { .. } => 0,
         Phase::Between => 0,
         Phase::Failed => 0,

@@ -20,7 +20,7 @@ fn main(rt: HostRuntime) -> Result<(), anyhow::Error> {
     let mut source = StdSource::new(rt.stdin());
     let mut piece = [0; PIECE];
     let mut packets = 0;
-    while reader.taken() < LIMIT {
+    while reader.offset() < LIMIT {
         let count = source.read(&mut piece)?;
         if count == 0 {
             break;
@@ -33,8 +33,8 @@ fn main(rt: HostRuntime) -> Result<(), anyhow::Error> {
 
 /// How many packets end in the bytes, which come next.
 fn packets_in(bytes: &[u8], reader: &mut PacketReader) -> u64
-    requires { reader.old.taken + length bytes.now ≤ 2 ^ 62 }
-    ensures taken { reader.new.taken ≡ reader.old.taken + length bytes.now }
+    requires { reader.old.offset + length bytes.now ≤ 2 ^ 62 }
+    ensures offset { reader.new.offset ≡ reader.old.offset + length bytes.now }
     ensures most { result ≤ length bytes.now }
 {
     let mut packets = 0;

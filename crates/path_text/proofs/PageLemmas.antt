@@ -1,10 +1,10 @@
 -- Lines that are put together from a head, a digit and an end.
 use Rattle.std.proofs.Common.{◌≡◌, inl, inr, ℕ, zero, suc, ◌+◌, ◌-◌, ◌*◌, ◌/◌, ◌%◌, ◌^◌, ◌<◌, ◌≤◌}
-use Rattle.std.proofs.Common.{List, [], ◌∷◌, ◌++◌, length, take, drop, sym, ap, ◌∙◌, arith, append_assoc, append-nil}
+use Rattle.std.proofs.Common.{List, [], ◌∷◌, ◌++◌, length, take, drop, slice_index_or, sym, ap, ◌∙◌, arith, append_assoc, append-nil}
 use Rattle.std.specs.Prelude.{map}
 use Rattle.std.specs.Int.Digits.{digits_of}
 use Rattle.std.proofs.Math.Nat.{eq-or-lt_of_le, mod-eq_of_lt}
-use Rattle.std.proofs.Math.Seq.{take-append-add}
+use Rattle.std.proofs.Math.Seq.{drop-cons, drop-length, take-append-add}
 use Rattle.std.proofs.lemmas.List.{length-append, length-take-le, length-drop, take_at, drop_at, take-take, drop-take, take-append-le, drop-append-le}
 use Rattle.path_text.specs.Lines.{digit, hex, last_four_hex, line_start, address_line}
 use Rattle.path_text.specs.PageLines.{HoldsEnds, line_end, line_head, upper_digits}
@@ -44,14 +44,41 @@ holds_more ends k within held =
 
 -- ---- bytes that are put
 
--- what counts of a head that was copied
-pub front_of_copy : (at len : ℕ) (block head rest : List ℕ) → at ≤ length block → len ≤ length head
-    → take (at + len) (take at block ++ (head ++ rest)) ≡ take at block ++ take len head
-front_of_copy at len block head rest within few =
-    let front = take at block in
-    let place : at + len ≡ length front + len = omega (arith, length-take-le at block within) in
-    ap (λ n. take n (front ++ (head ++ rest))) place ∙ take-append-add front (head ++ rest) len
-    ∙ ap (λ t. front ++ t) (take-append-le len head rest few)
+-- what counts of a head that was put
+pub front_of_head : (at len : ℕ) (old new head : List ℕ) → at ≤ length old → len ≤ length head → len ≤ 16 → take (at + 16) new ≡ take at old ++ head
+    → take (at + len) new ≡ take at old ++ take len head
+front_of_head at len old new head within few short put =
+    let front = take at old in
+    let place : at + len ≡ length front + len = omega (arith, length-take-le at old within) in
+    sym (take-take (at + len) (at + 16) new (omega (arith, short))) ∙ ap (take (at + len)) put
+    ∙ ap (λ n. take n (front ++ head)) place ∙ take-append-add front head len
+
+-- so many elements from a place on, one by one
+abbrev pub elements_from : ℕ → ℕ → List ℕ → List ℕ
+elements_from at zero xs = []
+elements_from at (suc n) xs = slice_index_or xs at 0 ∷ elements_from (at + 1) n xs
+
+are_all : (at n : ℕ) (xs : List ℕ) → length xs ≡ at + n → elements_from at n xs ≡ drop at xs
+are_all at zero xs long = let all : at ≡ length xs = omega (arith, long) in sym (ap (λ k. drop k xs) all ∙ drop-length xs)
+are_all at (suc n) xs long =
+    let next : at + 1 ≡ suc at = omega arith in
+    ap (λ t. slice_index_or xs at 0 ∷ t) (are_all (at + 1) n xs (omega (arith, long)) ∙ ap (λ k. drop k xs) next)
+    ∙ sym (drop-cons xs at 0 (omega (arith, long)))
+
+pub sixteen_elements : (xs : List ℕ) → length xs ≡ 16 → elements_from 0 16 xs ≡ xs
+sixteen_elements xs long = are_all 0 16 xs long
+
+-- a head that was put by fours
+pub put_by_fours : (at : ℕ) (old one two three four a b c d : List ℕ) → take (at + 4) one ≡ take at old ++ a
+    → take (at + 4 + 4) two ≡ take (at + 4) one ++ b → take (at + 8 + 4) three ≡ take (at + 8) two ++ c
+    → take (at + 12 + 4) four ≡ take (at + 12) three ++ d → take (at + 16) four ≡ take at old ++ (a ++ (b ++ (c ++ d)))
+put_by_fours at old one two three four a b c d first second third fourth =
+    let eight : at + 4 + 4 ≡ at + 8 = omega arith in
+    let twelve : at + 8 + 4 ≡ at + 12 = omega arith in
+    let sixteen : at + 16 ≡ at + 12 + 4 = omega arith in
+    ap (λ n. take n four) sixteen ∙ fourth
+    ∙ ap (λ t. t ++ d) (ap (λ n. take n three) (sym twelve) ∙ third ∙ ap (λ t. t ++ c) (ap (λ n. take n two) (sym eight) ∙ second ∙ ap (λ t. t ++ b) first))
+    ∙ append_assoc ((take at old ++ a) ++ b) c d ∙ append_assoc (take at old ++ a) b (c ++ d) ∙ append_assoc (take at old) a (b ++ (c ++ d))
 
 -- ---- the digits of a line
 

@@ -1,4 +1,4 @@
--- Lines of instructions that are put together in memory and written many at once.
+-- Lines of instructions that are put into memory and written many together.
 use Rattle.std.specs.Prelude.{◌≡◌, ℕ, ◌%◌, ◌<◌, ◌≤◌, Bool, List, ◌++◌, take, Option, Result, IsOk}
 use Rattle.etm_types.specs.declared.context.Ctx.{Ctx}
 use Rattle.path_text.specs.Lines.{line_start}

@@ -1,7 +1,17 @@
-//! The lines of a path, put together in a block that is written by one call.
+//! The lines of a path, put into a block that is written by one call.
 //!
-//! The instructions of most stretches are of the page of those before, and their lines are put by stores alone. A block is written where it is full,
-//! and where another line comes.
+//! Here is a fast way, [`put_near`](LineBlock::put_near).
+//!
+//! *Together* are put: the lines of a stretch of at most 64 instructions, by stores alone.
+//!
+//! *Condition:* the stretch is in the page of 64 KiB of the line before and within 4 KiB of it, from address 4096 on and at a multiple of 4; its
+//! context was printed last; and no more than 2,816 of the 4,096 bytes of the block are used.
+//!
+//! *Left to [`put_far`](LineBlock::put_far):* all else. `put_near` answers `false` then, and nothing changes. `put_far` writes the block where more than
+//! 2,816 bytes of it are used, before the line of a context, and before lines of addresses below 4096 or not at a multiple of 4, which are written
+//! one by one; then it moves to the page of the next line.
+//!
+//! *Cost:* some tests a stretch and eight machine instructions a line.
 ghost use Rattle.std.specs.Prelude.{◌≡◌, ◌+◌, ◌*◌, ◌%◌, ◌<◌, ◌≤◌, ◌++◌, ℕ, [], length, take, IfOk, IsOk, IsTrue, Bool, Ok, Some, None, codes, false, true};
 ghost use Rattle.etm_types.specs.Walked.{instructions, items_of};
 ghost use Rattle.path_text.specs.Blocks.{Puts};
@@ -21,10 +31,10 @@ use trace_io::{Failed, Sink};
 /// How many bytes of lines a block has.
 const BLOCK: usize = 4096;
 
-/// The most lines that are put at once.
+/// The most lines that one call puts.
 const MOST: u64 = 64;
 
-/// Where no more bytes are put, there is room for them, of 20 bytes each.
+/// Up to so many bytes of the block are used there is room for the lines of one call, of at most 20 bytes each.
 const ROOMY: usize = 2816;
 
 /// No page begins there.
@@ -38,7 +48,7 @@ pub struct LineBlock {
     /// The ID, a space, and all digits of an address of the page but the last four.
     head: [u8; 16],
     head_len: usize,
-    /// The first address of the page. There is none where lines of its addresses may not follow.
+    /// The first address of the page of 64 KiB. There is none where lines of its addresses may not follow.
     page: u64,
     block: [u8; BLOCK],
     at: usize,
@@ -243,7 +253,7 @@ impl LineBlock {
         }
     }
 
-    /// Puts the lines of the first of so many instructions, as many as are near each other and put at once, and says how many.
+    /// Puts the lines of the first of so many instructions, as many as one call puts, and says how many.
     fn put_some(&mut self, start: u64, left: u64) -> u64
         requires some { 0 < left }
         requires start { (4096 ≤ start) × (start % 4 ≡ 0) }

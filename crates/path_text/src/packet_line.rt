@@ -21,19 +21,6 @@ const BEFORE_OFFSET: usize = 3;
 /// How many bytes are put anew where only the last two digits of the offset change: these and a space.
 const LAST_OF_OFFSET: usize = 3;
 
-/// Writes the line of one packet that begins at an offset of the stream.
-pub fn write_packet_line<K: Sink>(
-    id: Id,
-    at: u64,
-    packet: &Packet,
-    sink: &mut K,
-) -> Result<(), Failed>
-    requires { HasText packet.now }
-    ensures { Writes (K.state sink.old) (K.state sink.new) result (packet_line id at packet.now) }
-{
-    PacketLine::new(id).write(at, packet, sink)
-}
-
 /// The line of a packet. Contracts see the ID of its stream.
 #[derive(Drop)]
 pub struct PacketLine {

@@ -1,8 +1,8 @@
 //! The lines of the instructions of a page of 64 KiB, put by stores alone.
 //!
-//! Their addresses differ in no digit but the last four. All that stands before these, the head, is copied as it is, by one copy of 16 bytes; the
-//! fourth digit from behind is the same within 4 KiB; and the last three come with LF from a table. So a line costs two or three stores,
-//! whatever its length.
+//! Their addresses differ in no digit but the last four. All that stands before these, the head, is put as it is, by one store of 16 bytes; the
+//! fourth digit from behind is the same within 4 KiB; and the last three come with LF from a table. So a line costs three stores, whatever its
+//! length.
 ghost use Rattle.std.specs.Prelude.{◌≡◌, ◌∷◌, ◌++◌, ◌+◌, ◌*◌, ◌/◌, ◌%◌, ◌<◌, ◌≤◌, ℕ, length, take, drop};
 ghost use Rattle.path_text.specs.Lines.{line_start};
 ghost use Rattle.path_text.specs.PageLines.{HoldsEnds, line_end, line_head, upper_digits};
@@ -92,13 +92,32 @@ fn end_of(ends: &[u8; 4096], place: usize) -> [u8; 4]
     [ends[at], ends[at + 1], ends[at + 2], ends[at + 3]]
 }
 
-/// Copies a head to a place.
+/// Puts four bytes at a place.
 #[inline(always)]
-fn copy_head(block: &mut [u8], at: usize, head: &[u8; 16])
-    requires { at + 16 ≤ length block.old }
-    ensures { block.new ≡ take at block.old ++ (head.now ++ drop (at + 16) block.old) }
+fn put_four(block: &mut [u8], at: usize, bytes: [u8; 4])
+    requires { at + 4 ≤ length block.old }
+    ensures { take (at + 4) block.new ≡ take at block.old ++ bytes }
 {
-    block[at..at + 16].copy_from_slice(head);
+    let [a, b, c, d] = bytes;
+    block[at] = a;
+    block[at + 1] = b;
+    block[at + 2] = c;
+    block[at + 3] = d;
+}
+
+/// Puts a head at a place.
+///
+/// The compiler makes one store of the sixteen bytes. Of `copy_from_slice` it makes a test first, whether they are bytes of the block.
+#[inline(always)]
+fn put_head(block: &mut [u8], at: usize, head: &[u8; 16])
+    requires { at + 16 ≤ length block.old }
+    ensures { take (at + 16) block.new ≡ take at block.old ++ head.now }
+{
+    let [a, b, c, d, e, f, g, h, i, j, k, l, m, n, o, p] = *head;
+    put_four(block, at, [a, b, c, d]);
+    put_four(block, at + 4, [e, f, g, h]);
+    put_four(block, at + 8, [i, j, k, l]);
+    put_four(block, at + 12, [m, n, o, p]);
 }
 
 /// Puts the last four digits of a line and LF.
@@ -107,12 +126,8 @@ fn put_last(block: &mut [u8], at: usize, fourth: u8, end: [u8; 4])
     requires { at + 5 ≤ length block.old }
     ensures { take (at + 5) block.new ≡ take at block.old ++ (fourth ∷ end) }
 {
-    let [a, b, c, d] = end;
     block[at] = fourth;
-    block[at + 1] = a;
-    block[at + 2] = b;
-    block[at + 3] = c;
-    block[at + 4] = d;
+    put_four(block, at + 1, end);
 }
 
 /// Puts a line at a place. So many bytes of its head count.
@@ -122,7 +137,7 @@ fn put_line(block: &mut [u8], at: usize, head: &[u8; 16], len: usize, fourth: u8
     requires within { at + 20 ≤ length block.old }
     ensures { take (at + len + 5) block.new ≡ take at block.old ++ (take len head.now ++ (fourth ∷ end)) }
 {
-    copy_head(block, at, head);
+    put_head(block, at, head);
     put_last(block, at + len, fourth, end);
 }
 
@@ -148,9 +163,10 @@ pub(crate) fn put_lines(
 {
     let first = start / 4 % PLACES;
     let fourth = digit((start / 4096 % 16) as u8);
+    let head = *head;
     let mut end = at;
     for place in first..first + count {
-        put_line(block, end, head, len, fourth, end_of(ends, place as usize));
+        put_line(block, end, &head, len, fourth, end_of(ends, place as usize));
         end += len + 5;
     }
     end

@@ -63,7 +63,7 @@ fn write_context_once<K: Sink>(
     }
 }
 
-/// Writes the lines of so many instructions, one after the other: as many at once as differ in no digit but the last four.
+/// Writes the lines of so many instructions, one after the other: together as many as differ in no digit but the last four.
 #[inline(always)]
 pub(crate) fn write_instructions<K: Sink>(
     line: &mut AddressLine,

@@ -11,7 +11,7 @@ use Rattle.line_words.specs.Line.{words_in}
 use Rattle.program_image.specs.ImageText.{add_bytes, add_line, add_lines, add_words, bytes_of, begin_part, by_address, growth_fault, has_between, image_of}
 use Rattle.program_image.specs.Blocks.{behind, class_at}
 use Rattle.program_image.specs.Runs.{IsRun, IsRunLength, runs_of}
-use Rattle.program_image.specs.declared.run.Run.{Run}
+use Rattle.program_image.specs.declared.run.PlainRun.{PlainRun}
 use Rattle.program_image.specs.declared.fault.ImageWhy.TheVariants.{Syntax, Unaligned, Overlap, Wraps, TooLarge}
 
 abbrev nop : List ℕ → List ℕ
@@ -204,7 +204,7 @@ not_to_the_last_address : IsRunLength code (2 ^ 64 - 8) 2 → ⊥
 unfolding class_of
 not_to_the_last_address run = run.1 refl
 
-abbrev run : ℕ → Option Class → Run
+abbrev run : ℕ → Option Class → PlainRun
 run plain class = record { plain = plain; class = class }
 
 -- the run from each of four words on: the branch ends those before it, and the last word is one more of the run behind it

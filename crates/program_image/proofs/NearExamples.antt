@@ -4,13 +4,13 @@ use Rattle.program_image.specs.Blocks.{IsPlainRun}
 use Rattle.program_image.specs.Near.{Fits, HasNoRunAt, HasRunAt, IsNear, IsOfPart, Near}
 use Rattle.program_image.specs.Runs.{IsRun}
 use Rattle.program_image.specs.declared.run.PlacedRun.{PlacedRun}
-use Rattle.program_image.specs.declared.run.Run.{Run}
+use Rattle.program_image.specs.declared.run.PlainRun.{PlainRun}
 use Rattle.program_image.specs.declared.run.WordBehind.TheVariants as word_behind
 use Rattle.a64_branches.specs.Classes.{class_of}
 use Rattle.program_image.proofs.PlaceExamples.{three}
 
 -- the second part of three words: one plain word, and none behind it
-abbrev last_word : Run
+abbrev last_word : PlainRun
 last_word = record { plain = 1; class = None }
 
 abbrev second : ℕ → Near

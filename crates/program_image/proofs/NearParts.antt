@@ -6,7 +6,7 @@ use Rattle.program_image.specs.Near.{Fits, HasRunAt, IsNear, Near}
 use Rattle.program_image.specs.Part.{IsImage, IsPart, Part}
 use Rattle.program_image.specs.Places.{word_addresses, words_before}
 use Rattle.program_image.specs.Runs.{IsRun, IsTable, no_word, run_of}
-use Rattle.program_image.specs.declared.run.Run.{Run}
+use Rattle.program_image.specs.declared.run.PlainRun.{PlainRun}
 use Rattle.program_image.specs.declared.run.WordRun.{WordRun}
 use Rattle.program_image.proofs.Tables.{RunsOf, run_of_word, runs_of_part}
 use Rattle.program_image.proofs.WordPlaces.{address_in_part, few_before, first_before}
@@ -40,12 +40,12 @@ next_before n (part ∷ parts) zero d within = first_before (n + length part.byt
 next_before n (part ∷ parts) (suc k) d within = next_before (n + length part.bytes / 4) parts k d (omega (arith, within))
 
 -- the run of a word and its place, by the table and the places of the image
-pub words_of_part : (image : List Part) (table : List (List Run)) (place : ℕ) (part : Part) (runs : List Run) → IsImage image → IsTable image image table
+pub words_of_part : (image : List Part) (table : List (List PlainRun)) (place : ℕ) (part : Part) (runs : List PlainRun) → IsImage image → IsTable image image table
     → place < length image → part ≡ get_or image place part → runs ≡ get_or table place runs
     → IsNear image (record { start = part.start; runs = runs; first = get_or (words_before 0 image) place 0; part = place })
 words_of_part image table place part runs is is_table within there these k run at =
     let of =
-    subst (λ (rs : List Run). RunsOf image part rs) (sym these)
+    subst (λ (rs : List PlainRun). RunsOf image part rs) (sym these)
     (subst (λ (p : Part). RunsOf image p (get_or table place runs)) (sym there) (runs_of_part image image table place part runs is_table within)) in
     let short = slice_get_within runs k run at in
     let same = get_or_from_slice_get runs k run no_word at in
@@ -57,18 +57,18 @@ words_of_part image table place part runs is is_table within there these k run a
     let address = address_in_part image 0 place (first + k) part within (omega arith) (omega (arith, next, short, of.size)) in
     let word : first + k - 0 ≡ first + k = omega arith in
     let offset : (get_or image place part).start + 4 * (first + k - first) ≡ part.start + 4 * k = omega (arith, ap (λ (p : Part). p.start) there) in (
-      subst (λ (r : Run). IsRun image (part.start + 4 * k) r) same (run_of_word image part.start k runs of.all short),
+      subst (λ (r : PlainRun). IsRun image (part.start + 4 * k) r) same (run_of_word image part.start k runs of.all short),
       subst (λ (n : ℕ). slice_get (word_addresses image) n ≡ Some (part.start + 4 * k)) word (address ∙ ap Some offset),
     )
 
 -- and it fits
-pub part_fits : (image : List Part) (table : List (List Run)) (place : ℕ) (part : Part) (runs : List Run) → IsImage image → IsTable image image table
+pub part_fits : (image : List Part) (table : List (List PlainRun)) (place : ℕ) (part : Part) (runs : List PlainRun) → IsImage image → IsTable image image table
     → place < length image → part ≡ get_or image place part → runs ≡ get_or table place runs
     → Fits (record { start = part.start; runs = runs; first = get_or (words_before 0 image) place 0; part = place })
     × (4 * length runs ≡ length part.bytes)
 part_fits image table place part runs is is_table within there these =
     let of =
-    subst (λ (rs : List Run). RunsOf image part rs) (sym these)
+    subst (λ (rs : List PlainRun). RunsOf image part rs) (sym these)
     (subst (λ (p : Part). RunsOf image p (get_or table place runs)) (sym there) (runs_of_part image image table place part runs is_table within)) in
     let is_part = subst IsPart (sym there) (is.parts place part within) in
     let few = few_before image place is within in (

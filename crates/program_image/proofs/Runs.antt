@@ -9,7 +9,7 @@ use Rattle.a64_branches.specs.declared.class.Class.TheVariants.{Plain, Jump, Con
 use Rattle.program_image.specs.Part.{IsImage, Part, total}
 use Rattle.program_image.specs.Blocks.{class_at, behind, IsPlainRun, HasGap}
 use Rattle.program_image.specs.Runs.{IsRun, IsRunLength, run_from}
-use Rattle.program_image.specs.declared.run.Run.{Run}
+use Rattle.program_image.specs.declared.run.PlainRun.{PlainRun}
 use Rattle.program_image.proofs.Gaps.{near_gap}
 
 pub one_more : (image : List Part) (address n : ℕ) → IsPlainRun image address n → class_at image (behind address n) ≡ Some Plain
@@ -41,7 +41,7 @@ longer image a n fits plain next =
 
 -- ---- the same with the class of what stands behind
 
-pub moved : (image : List Part) (a b : ℕ) (run : Run) → a % 2 ^ 64 ≡ b % 2 ^ 64 → IsRun image a run → IsRun image b run
+pub moved : (image : List Part) (a b : ℕ) (run : PlainRun) → a % 2 ^ 64 ≡ b % 2 ^ 64 → IsRun image a run → IsRun image b run
 moved image a b run same is =
     let at : behind b run.plain ≡ behind a run.plain = omega (arith, same) in (run_moved image a b run.plain same is.0, ap (class_at image) at ∙ is.1)
 
@@ -49,14 +49,14 @@ pub ended : (image : List Part) (a : ℕ) (class : Option Class) → a < 2 ^ 64 
     → IsRun image a (record { plain = 0; class = class })
 ended image a class fits is not = let here : behind a 0 ≡ a = omega (arith, fits) in (no_run image a class fits is not, ap (class_at image) here ∙ is)
 
-longer_run : (image : List Part) (a : ℕ) (next : Run) → a < 2 ^ 64 → class_at image a ≡ Some Plain → IsRun image (a + 4) next
+longer_run : (image : List Part) (a : ℕ) (next : PlainRun) → a < 2 ^ 64 → class_at image a ≡ Some Plain → IsRun image (a + 4) next
     → IsRun image a (run_from Plain next)
 longer_run image a next fits plain is =
     let at : behind a (next.plain + 1) ≡ behind (a + 4) next.plain = omega arith in
     (longer image a next.plain fits plain is.0, ap (class_at image) at ∙ is.1)
 
 -- the run from a word on
-pub run_steps : (image : List Part) (a : ℕ) (next : Run) (class : Class) → a < 2 ^ 64 → class_at image a ≡ Some class → IsRun image (a + 4) next
+pub run_steps : (image : List Part) (a : ℕ) (next : PlainRun) (class : Class) → a < 2 ^ 64 → class_at image a ≡ Some class → IsRun image (a + 4) next
     → IsRun image a (run_from class next)
 run_steps image a next Plain fits is after = longer_run image a next fits is after
 run_steps image a next (Jump off link) fits is after = ended image a _ fits is (λ e. cc)

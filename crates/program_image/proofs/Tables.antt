@@ -14,7 +14,7 @@ use Rattle.a64_branches.specs.Classes.{class_of}
 use Rattle.program_image.specs.Part.{InOrder, IsImage, IsPart, Part, end_of, most_bytes, total, word_in, word_of}
 use Rattle.program_image.specs.Blocks.{class_at}
 use Rattle.program_image.specs.Runs.{AreRuns, IsFollowedBy, IsRun, IsTable, first_run, no_word, run_from, runs_of}
-use Rattle.program_image.specs.declared.run.Run.{Run}
+use Rattle.program_image.specs.declared.run.PlainRun.{PlainRun}
 use Rattle.program_image.proofs.Gaps.{Behind, none_before}
 use Rattle.program_image.proofs.Lists.{reversed_push}
 use Rattle.program_image.proofs.Runs.{ended, moved, run_steps}
@@ -25,7 +25,7 @@ use Rattle.program_image.proofs.WordsBelow.{inside}
 -- ---- the runs of bytes, counted from the last word on
 
 -- the bytes behind `rest` have been counted
-pub record Counted (bytes rest : List ℕ) (counts : List Run) (next run : Run) : Type 0 where
+pub record Counted (bytes rest : List ℕ) (counts : List PlainRun) (next run : PlainRun) : Type 0 where
   pub done : List ℕ
   pub whole : bytes ≡ rest ++ done
   pub aligned : length rest % 4 ≡ 0
@@ -33,7 +33,7 @@ pub record Counted (bytes rest : List ℕ) (counts : List Run) (next run : Run) 
   pub first : run ≡ first_run (runs_of done next) next
   pub small : run.plain + length rest ≤ next.plain + length bytes
 
-pub none_counted : (bytes : List ℕ) (next : Run) → length bytes % 4 ≡ 0 → Counted bytes bytes [] next next
+pub none_counted : (bytes : List ℕ) (next : PlainRun) → length bytes % 4 ≡ 0 → Counted bytes bytes [] next next
 none_counted bytes next aligned = record {
   done = [];
   whole = sym (append-nil bytes);
@@ -43,7 +43,7 @@ none_counted bytes next aligned = record {
   small = omega arith;
 }
 
-word_first : (word done : List ℕ) (next : Run) → length word ≡ 4
+word_first : (word done : List ℕ) (next : PlainRun) → length word ≡ 4
     → runs_of (word ++ done) next ≡ run_from (class_of (little_number 4 word)) (first_run (runs_of done next) next) ∷ runs_of done next
 word_first [] done next len = absurd (omega (arith, len))
 word_first (a ∷ []) done next len = absurd (omega (arith, len))
@@ -52,7 +52,7 @@ word_first (a ∷ b ∷ c ∷ []) done next len = absurd (omega (arith, len))
 word_first (a ∷ b ∷ c ∷ d ∷ []) done next len = refl
 word_first (a ∷ b ∷ c ∷ d ∷ e ∷ more) done next len = absurd (omega (arith, len))
 
-pub word_counted : (bytes rest before word : List ℕ) (counts counts' : List Run) (next run run' : Run)
+pub word_counted : (bytes rest before word : List ℕ) (counts counts' : List PlainRun) (next run run' : PlainRun)
     → (before ≡ take (length rest - 4) rest) × (word ≡ drop (length rest - 4) rest) × (length before + 4 ≡ length rest)
     → run' ≡ run_from (class_of (little_number 4 word)) run → run'.plain ≤ run.plain + 1 → counts' ≡ counts ++ run' ∷ []
     → Counted bytes rest counts next run → Counted bytes before counts' next run'
@@ -64,13 +64,13 @@ word_counted bytes rest before word counts counts' next run run' cut is more pus
     let first : run' ≡ run_from (class_of (little_number 4 word)) (first_run (runs_of counted.done next) next) =
     is ∙ ap (run_from (class_of (little_number 4 word))) counted.first in
     let runs : runs_of (word ++ counted.done) next ≡ run' ∷ runs_of counted.done next =
-    word_first word counted.done next len ∙ ap (λ (n : Run). n ∷ runs_of counted.done next) (sym first) in
+    word_first word counted.done next len ∙ ap (λ (n : PlainRun). n ∷ runs_of counted.done next) (sym first) in
     record {
       done = word ++ counted.done;
       whole = counted.whole ∙ ap (λ (xs : List ℕ). xs ++ counted.done) whole ∙ append_assoc before word counted.done;
       aligned = omega (arith, cut.2, counted.aligned);
-      runs = ap reverse pushed ∙ reversed_push counts run' ∙ ap (λ (xs : List Run). run' ∷ xs) counted.runs ∙ sym runs;
-      first = ap (λ (xs : List Run). first_run xs next) (sym runs);
+      runs = ap reverse pushed ∙ reversed_push counts run' ∙ ap (λ (xs : List PlainRun). run' ∷ xs) counted.runs ∙ sym runs;
+      first = ap (λ (xs : List PlainRun). first_run xs next) (sym runs);
       small = omega (arith, cut.2, more, counted.small);
     }
 
@@ -78,17 +78,17 @@ no_bytes : (xs : List ℕ) → length xs ≡ 0 → xs ≡ []
 no_bytes [] none = refl
 no_bytes (x ∷ xs) none = absurd (omega (arith, none))
 
-pub all_counted : (bytes rest : List ℕ) (counts : List Run) (next run : Run) → length rest < 4 → Counted bytes rest counts next run → reverse counts ≡ runs_of bytes next
+pub all_counted : (bytes rest : List ℕ) (counts : List PlainRun) (next run : PlainRun) → length rest < 4 → Counted bytes rest counts next run → reverse counts ≡ runs_of bytes next
 all_counted bytes rest counts next run short counted =
     let none = no_bytes rest (omega (arith, short, counted.aligned)) in
     let same : bytes ≡ counted.done = counted.whole ∙ ap (λ (xs : List ℕ). xs ++ counted.done) none in
     counted.runs ∙ ap (λ (xs : List ℕ). runs_of xs next) (sym same)
 
-pub first_counted : (bytes rest : List ℕ) (counts : List Run) (next run : Run) → length rest < 4 → Counted bytes rest counts next run
+pub first_counted : (bytes rest : List ℕ) (counts : List PlainRun) (next run : PlainRun) → length rest < 4 → Counted bytes rest counts next run
     → (first_run (reverse counts) next).plain ≤ next.plain + length bytes
 first_counted bytes rest counts next run short counted =
-    let same = ap (λ (runs : List Run). (first_run runs next).plain) counted.runs in
-    omega (arith, same, ap (λ (r : Run). r.plain) counted.first, counted.small)
+    let same = ap (λ (runs : List PlainRun). (first_run runs next).plain) counted.runs in
+    omega (arith, same, ap (λ (r : PlainRun). r.plain) counted.first, counted.small)
 
 -- ---- what the runs of a part are
 
@@ -119,11 +119,11 @@ word_here part address n a b c d more is aligned at fits cut =
     ∙ ap (λ (xs : List ℕ). take 4 xs) cut in
     rw (test, low, high) (ap (λ (xs : List ℕ). Some (little_number 4 xs)) bytes)
 
-record Holds (image : List Part) (address : ℕ) (next : Run) (runs : List Run) : Type 0 where
+record Holds (image : List Part) (address : ℕ) (next : PlainRun) (runs : List PlainRun) : Type 0 where
   first : IsRun image address (first_run runs next)
   all : AreRuns image address runs
 
-runs_hold : (image : List Part) (part : Part) (address n : ℕ) (next : Run) (rest : List ℕ) → IsImage image → Contains image part → IsPart part → n % 4 ≡ 0
+runs_hold : (image : List Part) (part : Part) (address n : ℕ) (next : PlainRun) (rest : List ℕ) → IsImage image → Contains image part → IsPart part → n % 4 ≡ 0
     → address ≡ part.start + n → n + length rest ≡ length part.bytes → drop n part.bytes ≡ rest → IsRun image (end_of part % 2 ^ 64) next
     → Holds image address next (runs_of rest next)
 runs_hold image part address n next [] is in_image is_part aligned at fits cut after = record {
@@ -145,12 +145,12 @@ runs_hold image part address n next (a ∷ b ∷ c ∷ d ∷ more) is in_image i
     record { first = run; all = (run, later.all) }
 
 -- the runs of a part, by that from its end on
-part_runs : (image : List Part) (part : Part) (next : Run) → IsImage image → Contains image part → IsPart part → IsRun image (end_of part % 2 ^ 64) next
+part_runs : (image : List Part) (part : Part) (next : PlainRun) → IsImage image → Contains image part → IsPart part → IsRun image (end_of part % 2 ^ 64) next
     → Holds image part.start next (runs_of part.bytes next)
 part_runs image part next is in_image is_part after = runs_hold image part part.start 0 next part.bytes is in_image is_part refl (omega arith) (omega arith)
     refl after
 
-length_runs : (bytes : List ℕ) (next : Run) → length bytes % 4 ≡ 0 → 4 * length (runs_of bytes next) ≡ length bytes
+length_runs : (bytes : List ℕ) (next : PlainRun) → length bytes % 4 ≡ 0 → 4 * length (runs_of bytes next) ≡ length bytes
 length_runs [] next whole = refl
 length_runs (a ∷ []) next whole = absurd (omega (arith, whole))
 length_runs (a ∷ b ∷ []) next whole = absurd (omega (arith, whole))
@@ -202,7 +202,7 @@ none_at_end (first ∷ before) part parts order each apart =
 -- ---- the table of an image, counted from the last part on
 
 -- the parts behind `rest` have been counted; the next of them begins at `start`, and `run` plain words follow from there on
-pub record Tabled (parts rest : List Part) (table : List (List Run)) (start : ℕ) (run : Run) : Type 0 where
+pub record Tabled (parts rest : List Part) (table : List (List PlainRun)) (start : ℕ) (run : PlainRun) : Type 0 where
   pub done : List Part
   pub whole : parts ≡ rest ++ done
   pub runs : IsTable parts done (reverse table)
@@ -210,7 +210,7 @@ pub record Tabled (parts rest : List Part) (table : List (List Run)) (start : �
   pub followed : IsFollowedBy parts rest start run
   pub small : run.plain + total rest ≤ 2 * most_bytes
 
-pub none_tabled : (parts : List Part) (run : Run) → IsImage parts → IsFollowedBy parts parts 0 run → run.plain ≤ total parts → Tabled parts parts [] 0 run
+pub none_tabled : (parts : List Part) (run : PlainRun) → IsImage parts → IsFollowedBy parts parts 0 run → run.plain ≤ total parts → Tabled parts parts [] 0 run
 none_tabled parts run is followed short = record {
   done = [];
   whole = sym (append-nil parts);
@@ -228,7 +228,7 @@ whole_with : (parts rest before done : List Part) (part : Part) → parts ≡ re
 whole_with parts rest before done part whole cut = whole ∙ ap (λ (ps : List Part). ps ++ done) cut ∙ append_assoc before (part ∷ []) done
 
 -- the run that follows the last part of the rest
-pub next_run : (parts rest before : List Part) (part : Part) (table : List (List Run)) (start : ℕ) (run : Run) (joins : Bool) → IsImage parts
+pub next_run : (parts rest before : List Part) (part : Part) (table : List (List PlainRun)) (start : ℕ) (run : PlainRun) (joins : Bool) → IsImage parts
     → Tabled parts rest table start run
     → rest ≡ before ++ part ∷ [] → (end_of part % 2 ^ 64 == start) ≡ joins → IsRun parts (end_of part % 2 ^ 64) (cond joins run no_word)
 next_run parts rest before part table start run true is tabled cut joins =
@@ -243,18 +243,18 @@ next_run parts rest before part table start run false is tabled cut joins =
     ∙ ap (λ (ps : List Part). word_of ps (end_of part)) whole ∙ none.1 in
     ended parts (end_of part % 2 ^ 64) None (omega arith) (ap (option_map class_of) here) (λ e. cc)
 
-choice_below : (joins : Bool) (run : Run) → (cond joins run no_word).plain ≤ run.plain
+choice_below : (joins : Bool) (run : PlainRun) → (cond joins run no_word).plain ≤ run.plain
 choice_below true run = omega arith
 choice_below false run = omega arith
 
 -- a run after a part and the part's bytes fit in 32 bits
-pub next_fits : (parts rest before : List Part) (part : Part) (table : List (List Run)) (start : ℕ) (run next : Run) (joins : Bool)
+pub next_fits : (parts rest before : List Part) (part : Part) (table : List (List PlainRun)) (start : ℕ) (run next : PlainRun) (joins : Bool)
     → Tabled parts rest table start run → rest ≡ before ++ part ∷ []
     → next ≡ cond joins run no_word → next.plain + length part.bytes < 2 ^ 32
 next_fits parts rest before part table start run next joins tabled cut is_next =
-    let sum = total-append before (part ∷ []) in omega (arith, tabled.small, ap total cut, sum, ap (λ (r : Run). r.plain) is_next, choice_below joins run)
+    let sum = total-append before (part ∷ []) in omega (arith, tabled.small, ap total cut, sum, ap (λ (r : PlainRun). r.plain) is_next, choice_below joins run)
 
-pub part_tabled : (parts rest before : List Part) (part : Part) (table table' : List (List Run)) (runs : List Run) (start : ℕ) (run next : Run) (start' : ℕ) (run' : Run)
+pub part_tabled : (parts rest before : List Part) (part : Part) (table table' : List (List PlainRun)) (runs : List PlainRun) (start : ℕ) (run next : PlainRun) (start' : ℕ) (run' : PlainRun)
     → IsImage parts → Tabled parts rest table start run
     → rest ≡ before ++ part ∷ [] → next ≡ cond (end_of part % 2 ^ 64 == start) run no_word → runs ≡ runs_of part.bytes next → run' ≡ first_run runs next
     → (first_run runs next).plain ≤ next.plain + length part.bytes
@@ -263,7 +263,7 @@ part_tabled parts rest before part table table' runs start run next start' run' 
     let after =
     subst (IsRun parts (end_of part % 2 ^ 64)) (sym is_next)
     (next_run parts rest before part table start run (end_of part % 2 ^ 64 == start) is tabled cut refl) in
-    let fewer : next.plain ≤ run.plain = omega (arith, ap (λ (r : Run). r.plain) is_next, choice_below (end_of part % 2 ^ 64 == start) run) in
+    let fewer : next.plain ≤ run.plain = omega (arith, ap (λ (r : PlainRun). r.plain) is_next, choice_below (end_of part % 2 ^ 64 == start) run) in
     let whole = whole_with parts rest before tabled.done part tabled.whole cut in
     let len = length-append before (part ∷ tabled.done) in
     let seam : get_or parts (length before) part ≡ part =
@@ -276,15 +276,15 @@ part_tabled parts rest before part table table' runs start run next start' run' 
       done = part ∷ tabled.done;
       whole = whole;
       runs =
-          subst (λ (t : List (List Run)). IsTable parts (part ∷ tabled.done) t) (sym (ap reverse pushed ∙ reversed_push table runs))
-          (holds.all, ap (λ (rs : List Run). 4 * length rs) are ∙ length_runs part.bytes next is_part.whole, tabled.runs);
+          subst (λ (t : List (List PlainRun)). IsTable parts (part ∷ tabled.done) t) (sym (ap reverse pushed ∙ reversed_push table runs))
+          (holds.all, ap (λ (rs : List PlainRun). 4 * length rs) are ∙ length_runs part.bytes next is_part.whole, tabled.runs);
       begins = is_start;
       followed = λ _ _ _ _. subst (IsRun parts start') (sym is_run)
           (subst (λ (a : ℕ). IsRun parts a (first_run runs next)) (sym is_start) holds.first);
-      small = omega (arith, tabled.small, ap total cut, sum, fewer, more, ap (λ (r : Run). r.plain) is_run);
+      small = omega (arith, tabled.small, ap total cut, sum, fewer, more, ap (λ (r : PlainRun). r.plain) is_run);
     }
 
-pub all_tabled : (parts rest : List Part) (table : List (List Run)) (start : ℕ) (run : Run) → rest ≡ [] → Tabled parts rest table start run
+pub all_tabled : (parts rest : List Part) (table : List (List PlainRun)) (start : ℕ) (run : PlainRun) → rest ≡ [] → Tabled parts rest table start run
     → IsTable parts parts (reverse table)
 all_tabled parts rest table start run none tabled =
     let same : parts ≡ tabled.done = tabled.whole ∙ ap (λ (ps : List Part). ps ++ tabled.done) none in
@@ -292,24 +292,24 @@ all_tabled parts rest table start run none tabled =
 
 -- ---- what a table tells
 
-pub record RunsOf (image : List Part) (part : Part) (runs : List Run) : Type 0 where
+pub record RunsOf (image : List Part) (part : Part) (runs : List PlainRun) : Type 0 where
   pub all : AreRuns image part.start runs
   pub size : 4 * length runs ≡ length part.bytes
 
-pub runs_of_part : (image parts : List Part) (table : List (List Run)) (k : ℕ) (d : Part) (e : List Run) → IsTable image parts table → k < length parts
+pub runs_of_part : (image parts : List Part) (table : List (List PlainRun)) (k : ℕ) (d : Part) (e : List PlainRun) → IsTable image parts table → k < length parts
     → RunsOf image (get_or parts k d) (get_or table k e)
 runs_of_part image [] table k d e is within = absurd (omega (arith, within))
 runs_of_part image (part ∷ parts) [] k d e is within = absurd is
 runs_of_part image (part ∷ parts) (runs ∷ table) zero d e is within = record { all = is.0; size = is.1 }
 runs_of_part image (part ∷ parts) (runs ∷ table) (suc k) d e is within = runs_of_part image parts table k d e is.2 (omega (arith, within))
 
-pub same_length : (image parts : List Part) (table : List (List Run)) → IsTable image parts table → length table ≡ length parts
+pub same_length : (image parts : List Part) (table : List (List PlainRun)) → IsTable image parts table → length table ≡ length parts
 same_length image [] [] is = refl
 same_length image [] (runs ∷ table) is = absurd is
 same_length image (part ∷ parts) [] is = absurd is
 same_length image (part ∷ parts) (runs ∷ table) is = ap suc (same_length image parts table is.2)
 
-pub run_of_word : (image : List Part) (address k : ℕ) (runs : List Run) → AreRuns image address runs → k < length runs
+pub run_of_word : (image : List Part) (address k : ℕ) (runs : List PlainRun) → AreRuns image address runs → k < length runs
     → IsRun image (address + 4 * k) (get_or runs k no_word)
 run_of_word image address k [] are within = absurd (omega (arith, within))
 run_of_word image address zero (run ∷ runs) are within =
@@ -319,11 +319,11 @@ run_of_word image address (suc k) (run ∷ runs) are within =
     subst (λ (a : ℕ). IsRun image a (get_or runs k no_word)) at (run_of_word image (address + 4) k runs are.1 (omega (arith, within)))
 
 -- a word stands at an address, and this is the run from it on
-abbrev pub HasRun : List Part → ℕ → Run → Type 0
+abbrev pub HasRun : List Part → ℕ → PlainRun → Type 0
 HasRun image address run = IsSome (word_of image address) × IsRun image address run
 
 -- the run at an address, by the part that begins last before it
-pub run_found : (image : List Part) (table : List (List Run)) (address place : ℕ) (part : Part) (runs : List Run) → IsImage image → IsTable image image table
+pub run_found : (image : List Part) (table : List (List PlainRun)) (address place : ℕ) (part : Part) (runs : List PlainRun) → IsImage image → IsTable image image table
     → address % 4 ≡ 0
     → place < length image → part ≡ get_or image place part → runs ≡ get_or table place runs
     → word_of image address ≡ word_in (get_or image place part) address
@@ -332,7 +332,7 @@ pub run_found : (image : List Part) (table : List (List Run)) (address place : �
 run_found image table address place part runs is is_table aligned within there these word begun =
     let k : ℕ = (address - part.start) / 4 in
     let of =
-    subst (λ (rs : List Run). RunsOf image part rs) (sym these)
+    subst (λ (rs : List PlainRun). RunsOf image part rs) (sym these)
     (subst (λ (p : Part). RunsOf image p (get_or table place runs)) (sym there) (runs_of_part image image table place part runs is_table within)) in
     let is_part = subst IsPart (sym there) (is.parts place part within) in
     let from : part.start ≤ address = omega (arith, begun, ap (λ (p : Part). p.start) there) in

@@ -4,13 +4,13 @@ use Rattle.program_image.specs.Part.{Part}
 use Rattle.program_image.specs.Places.{word_addresses}
 use Rattle.program_image.specs.Runs.{IsRun, run_of}
 use Rattle.program_image.specs.declared.run.PlacedRun.{PlacedRun}
-use Rattle.program_image.specs.declared.run.Run.{Run}
+use Rattle.program_image.specs.declared.run.PlainRun.{PlainRun}
 
 -- the address of its first word, the run from each of its words on, the place of the first among all words of the image, and its own
 -- place among the parts
 pub record Near : Type 0 where
   pub start : ℕ
-  pub runs : List Run
+  pub runs : List PlainRun
   pub first : ℕ
   pub part : ℕ
 
@@ -23,7 +23,7 @@ pub record Fits (near : Near) : Type 0 where
 -- each of its words is one of the image, of this run and at this place
 abbrev pub IsNear : List Part → Near → Type 0
 IsNear image near =
-    (k : ℕ) (run : Run) → slice_get near.runs k ≡ Some run
+    (k : ℕ) (run : PlainRun) → slice_get near.runs k ≡ Some run
     → IsRun image (near.start + 4 * k) run × (slice_get (word_addresses image) (near.first + k) ≡ Some (near.start + 4 * k))
 
 -- it has each word of the part at a place

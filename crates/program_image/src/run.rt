@@ -12,17 +12,17 @@ const _: () = prove!(size_of::<TableEntry>() <= MOST_ENTRY);
 
 /// How many plain words there are from a word on, and the class of the word behind them: none where no word begins there.
 #[derive(Clone, Copy, Debug, PartialEq, Eq)]
-pub struct Run {
+pub struct PlainRun {
     pub plain: u32,
     pub class: Option<Class>,
 }
 
-impl Run {
+impl PlainRun {
     /// The run where no word begins.
-    pub fn no_word() -> Run
+    pub fn no_word() -> PlainRun
         ensures { result ≡ no_word }
     {
-        Run {
+        PlainRun {
             plain: 0,
             class: None,
         }
@@ -108,17 +108,17 @@ pub struct TableEntry {
 }
 
 impl Model for TableEntry {
-    ghost use Rattle.program_image.specs.declared.run.Run.{Run};
+    ghost use Rattle.program_image.specs.declared.run.PlainRun.{PlainRun};
     ghost use Rattle.program_image.specs.Runs.{class_behind};
 
-    ghost Value = { Run };
+    ghost Value = { PlainRun };
 
     ghost view = { λ entry. record { plain = entry.plain; class = class_behind entry.behind } };
 }
 
 impl TableEntry {
     /// The entry of a run.
-    pub fn new(run: Run) -> TableEntry
+    pub fn new(run: PlainRun) -> TableEntry
         ensures { result ≡ run }
     {
         TableEntry {
@@ -139,10 +139,10 @@ impl TableEntry {
     }
 
     /// Its run.
-    pub fn run(&self) -> Run
+    pub fn run(&self) -> PlainRun
         ensures { result ≡ self.now }
     {
-        Run {
+        PlainRun {
             plain: self.plain,
             class: self.behind.class(),
         }

@@ -13,7 +13,7 @@ ghost use Rattle.program_image.specs.Runs.{IsFollowedBy, IsRun, IsRunLength, IsT
 
 use crate::lookup::class_at;
 use crate::part::{ADDRESSES, Part};
-use crate::run::{Run, TableEntry, WordRun};
+use crate::run::{PlainRun, TableEntry, WordRun};
 use a64_branches::{Class, INSTRUCTION_BYTES, class_of};
 use byteorder::{ByteOrder, LittleEndian};
 use std::alloc::{AllocError, Global};
@@ -27,9 +27,9 @@ pub struct Runs {
 
 impl Model for Runs {
     ghost use Rattle.std.specs.Prelude.{List};
-    ghost use Rattle.program_image.specs.declared.run.Run.{Run};
+    ghost use Rattle.program_image.specs.declared.run.PlainRun.{PlainRun};
 
-    ghost Value = { List Run };
+    ghost Value = { List PlainRun };
 
     ghost view = { λ runs. runs.of_words.items };
 }
@@ -52,7 +52,7 @@ impl Runs {
     }
 
     /// The run from a word on; words count from 0.
-    fn at(&self, word: usize) -> Option<Run>
+    fn at(&self, word: usize) -> Option<PlainRun>
         ensures { result ≡ slice_get self.now word }
     {
         match self.of_words.get(word) {
@@ -62,14 +62,14 @@ impl Runs {
     }
 
     /// The run from the first word on; that from the next word on where there is none.
-    fn first(&self, next: Run) -> Run
+    fn first(&self, next: PlainRun) -> PlainRun
         ensures { result ≡ first_run self.now next }
     {
         self.at(0).unwrap_or(next)
     }
 
     /// The runs from each word of the bytes on, by that from the next word on.
-    fn of_bytes(alloc: Global, bytes: &[u8], next: Run) -> Result<Runs, AllocError>
+    fn of_bytes(alloc: Global, bytes: &[u8], next: PlainRun) -> Result<Runs, AllocError>
         requires whole { length bytes.now % 4 ≡ 0 }
         requires fits { next.plain + length bytes.now < 2 ^ 32 }
         ensures value { IfOk result (λ runs. runs ≡ runs_of bytes.now next) }
@@ -100,17 +100,17 @@ pub fn kept_at(entries: &[TableEntry], word: usize) -> Option<WordRun>
 }
 
 /// The run from a word on, by that from the next word on.
-fn run_from(word: u32, next: Run) -> Run
+fn run_from(word: u32, next: PlainRun) -> PlainRun
     requires { next.plain + 1 < 2 ^ 32 }
     ensures value { result ≡ run_from (class_of word) next }
     ensures small { result.plain ≤ next.plain + 1 }
 {
     match class_of(word) {
-        Class::Plain => Run {
+        Class::Plain => PlainRun {
             plain: next.plain + 1,
             class: next.class,
         },
-        class => Run {
+        class => PlainRun {
             plain: 0,
             class: Some(class),
         },
@@ -139,37 +139,37 @@ pub fn table(alloc: Global, parts: &[Part]) -> Result<Vec<Runs>, AllocError>
 }
 
 /// The run after a part: that from an address on, where the part ends there.
-fn run_after(part: &Part, start: u64, run: Run) -> Run
+fn run_after(part: &Part, start: u64, run: PlainRun) -> PlainRun
     ensures { result ≡ (if end_of part.now % 2 ^ 64 == start then run else no_word) }
 {
     if part.end() % ADDRESSES == u128::from(start) {
         run
     } else {
-        Run::no_word()
+        PlainRun::no_word()
     }
 }
 
 /// The run that follows the last part from address 0 on, where the part has the last address.
-fn run_past_last(parts: &[Part]) -> Run
+fn run_past_last(parts: &[Part]) -> PlainRun
     requires { IsImage parts.now }
     ensures run { IsFollowedBy parts.now parts.now 0 result }
     ensures small { result.plain ≤ total parts.now }
 {
     match parts.last() {
         Some(part) if part.end() == ADDRESSES => run_from_zero(parts),
-        _ => Run::no_word(),
+        _ => PlainRun::no_word(),
     }
 }
 
 /// The run from address 0 on, a word after another.
-fn run_from_zero(parts: &[Part]) -> Run
+fn run_from_zero(parts: &[Part]) -> PlainRun
     requires { IsImage parts.now }
     ensures run { IsRun parts.now 0 result }
     ensures small { result.plain ≤ total parts.now }
 {
     let plain = plain_from_zero(parts);
     let class = class_at(parts, u64::from(plain) * INSTRUCTION_BYTES);
-    Run { plain, class }
+    PlainRun { plain, class }
 }
 
 /// How many plain words there are from address 0 on.

@@ -65,7 +65,7 @@ fn write_packets(sink: &mut MemSink) -> Result<(), Failed> {
     PacketLine::new(id).write(10_000, &time, sink)?;
     PacketLine::new(id).write(123_456_789, &Packet::Atoms(atoms), sink)?;
     PacketLine::new(id).write(u64::MAX, &address, sink)?;
-    write_packet_line(id, 7, &Packet::On, sink)
+    PacketLine::new(id).write(7, &Packet::On, sink)
 }
 
 #[test]

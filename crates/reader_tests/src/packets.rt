@@ -9,13 +9,13 @@ fn last_answer(bytes: &[u8]) -> Option<Step> {
     let settings = Settings::new(16, 1, 4).ok()?;
     let mut reader = PacketReader::new(&settings);
     for byte in [0, 0, 0, 0, 0, 0, 0, 0, 0, 0, 0, 0x80] {
-        if reader.taken() < 100 {
+        if reader.offset() < 100 {
             reader.take(byte);
         }
     }
     let mut last = None;
     for byte in bytes {
-        if reader.taken() < 1000 {
+        if reader.offset() < 1000 {
             last = Some(reader.take(*byte));
         }
     }
@@ -28,10 +28,10 @@ fn more_zeros_than_an_a_sync_has_are_skipped(rt: HostRuntime) {
     let mut reader = PacketReader::new(&settings);
     assert_eq!(rt; reader.end_without_fault(), End::NoSync);
     for _ in 0..12 {
-        assert!(rt; reader.taken() < 100);
+        assert!(rt; reader.offset() < 100);
         assert_eq!(rt; reader.take(0), Step::Skipped);
     }
-    assert!(rt; reader.taken() < 100);
+    assert!(rt; reader.offset() < 100);
     let packet = Packet::Async;
     assert_eq!(rt; reader.take(0x80), Step::Whole { at: 1, packet });
     assert!(rt; reader.synced());
@@ -82,16 +82,16 @@ fn faults_come_with_the_byte_that_shows_them(rt: HostRuntime) {
     assert_eq!(rt; last_answer(&[0x08, 0x04]), Some(Step::Stopped));
 }
 
-/// The address that is taken at once behind an A-sync, with its offset and how many bytes are left.
+/// The address that is taken as a whole behind an A-sync, with its offset and how many bytes are left.
 fn address_taken(bytes: &[u8]) -> Option<(u64, Address, usize)> {
     let settings = Settings::new(16, 1, 4).ok()?;
     let mut reader = PacketReader::new(&settings);
     for byte in [0, 0, 0, 0, 0, 0, 0, 0, 0, 0, 0, 0x80] {
-        if reader.taken() < 100 {
+        if reader.offset() < 100 {
             reader.take(byte);
         }
     }
-    if reader.taken() > 100 || bytes.len() > 100 {
+    if reader.offset() > 100 || bytes.len() > 100 {
         return None;
     }
     let (at, address, behind) = reader.take_address(bytes)?;
@@ -99,7 +99,7 @@ fn address_taken(bytes: &[u8]) -> Option<(u64, Address, usize)> {
 }
 
 #[test]
-fn addresses_that_are_all_there_are_taken_at_once(rt: HostRuntime) {
+fn addresses_that_are_all_there_are_taken_together(rt: HostRuntime) {
     for (bytes, form, left) in [
         (&[0x95, 0x7f][..], AddrForm::Short1(0x1fc), 0),
         (&[0x95, 0x81, 0x02, 0xf7][..], AddrForm::Short2(0x404), 1),
@@ -124,7 +124,7 @@ fn addresses_that_are_all_there_are_taken_at_once(rt: HostRuntime) {
 }
 
 #[test]
-fn an_address_is_taken_at_once_with_its_context(rt: HostRuntime) {
+fn an_address_is_taken_together_with_its_context(rt: HostRuntime) {
     let bytes = &[
         0x85, 0, 0, 0, 0, 0, 0, 0, 0, 0xf1, 7, 1, 2, 3, 4, 0xf7, 0xf7,
     ];
@@ -139,42 +139,42 @@ fn an_address_is_taken_at_once_with_its_context(rt: HostRuntime) {
 }
 
 #[test]
-fn what_is_no_whole_address_is_not_taken_at_once(rt: HostRuntime) {
+fn what_is_no_whole_address_is_not_taken_together(rt: HostRuntime) {
     assert_eq!(rt; address_taken(&[0x95, 0x81]), None);
     assert_eq!(rt; address_taken(&[0x93]), None);
 }
 
 #[test]
-fn atoms_are_taken_at_once_between_packets(rt: HostRuntime) {
+fn atoms_are_taken_together_between_packets(rt: HostRuntime) {
     let settings = Settings::new(16, 1, 4).expect(&rt, "settings");
     let mut reader = PacketReader::new(&settings);
     for byte in [0, 0, 0, 0, 0, 0, 0, 0, 0, 0, 0, 0x80] {
-        assert!(rt; reader.taken() < 100);
+        assert!(rt; reader.offset() < 100);
         assert_eq!(rt; reader.take_atoms(0xf7), None);
         reader.take(byte);
     }
-    assert!(rt; reader.taken() < 100);
+    assert!(rt; reader.offset() < 100);
     let run = AtomRun { count: 1, bits: 1 };
     assert_eq!(rt; reader.take_atoms(0xf7), Some((12, run)));
     assert_eq!(rt; reader.take_atoms(0x04), None);
-    assert_eq!(rt; reader.taken(), 13);
+    assert_eq!(rt; reader.offset(), 13);
 }
 
 #[test]
-fn a_commit_is_taken_at_once_or_by_its_last_byte(rt: HostRuntime) {
+fn a_commit_is_taken_together_or_by_its_last_byte(rt: HostRuntime) {
     let settings = Settings::new(16, 1, 4).expect(&rt, "settings");
     let mut reader = PacketReader::new(&settings);
     for byte in [0, 0, 0, 0, 0, 0, 0, 0, 0, 0, 0, 0x80] {
-        assert!(rt; reader.taken() < 100);
+        assert!(rt; reader.offset() < 100);
         reader.take(byte);
     }
-    assert!(rt; reader.taken() < 100);
+    assert!(rt; reader.offset() < 100);
     match reader.take_commit(&[0x2d, 0x05, 0xf7]) {
         Some((at, count, behind)) => assert_eq!(rt; (at, count, behind.len()), (12, 5, 1)),
         None => assert!(rt; false),
     }
-    assert!(rt; reader.taken() < 100);
+    assert!(rt; reader.offset() < 100);
     assert_eq!(rt; reader.take(0x2d), Step::More);
-    assert!(rt; reader.taken() < 100);
+    assert!(rt; reader.offset() < 100);
     assert_eq!(rt; reader.take_commit_end(0x07), Some((14, 7)));
 }

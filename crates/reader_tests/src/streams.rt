@@ -42,7 +42,7 @@ fn take(
     run: &[u8],
     sink: &mut MemSink,
 ) {
-    assert!(rt; !decoder.broken() && decoder.taken() < MOST_BYTES && run.len() < 100);
+    assert!(rt; !decoder.broken() && decoder.offset() < MOST_BYTES && run.len() < 100);
     assert_eq!(rt; decoder.take_run(image, lines, id, run, sink), Ok(()));
 }
 
@@ -81,7 +81,7 @@ fn a_walk_fault_within_a_commit(rt: HostRuntime) -> Result<(), Fail> {
         &[0xf7, 0xf6, 0xf7, 0x2d, 0x03],
         &mut sink,
     )?;
-    assert_eq!(rt; decoder.taken(), 31);
+    assert_eq!(rt; decoder.offset(), 31);
     assert_eq!(rt; sink.written(), LINES);
     let (before, after) = counts_of(decoder);
     assert_eq!(rt; before.made, 3);
@@ -163,7 +163,7 @@ fn a_write_that_fails(rt: HostRuntime) -> Result<(), Fail> {
     let image = code(rt.alloc())?;
     let id = Id::new(1).ok_or("it is an ID")?;
     let mut decoder = decoder_at(&rt, rt.alloc(), 0, &[], &mut sink)?;
-    assert!(rt; !decoder.broken() && decoder.taken() < MOST_BYTES);
+    assert!(rt; !decoder.broken() && decoder.offset() < MOST_BYTES);
     let mut lines = LineBlock::new();
     assert_eq!(rt;
         decoder.take_run(&image, &mut lines, id, &[0xf7], &mut sink),
@@ -188,7 +188,7 @@ fn a_run_that_is_cut_anywhere(rt: HostRuntime) -> Result<(), Fail> {
         for run in [first, second] {
             take(&rt, &mut decoder, &image, &mut lines, id, run, &mut sink);
         }
-        assert_eq!(rt; decoder.taken(), 34);
+        assert_eq!(rt; decoder.offset(), 34);
         let (counts, _) = counts_of(decoder);
         assert_eq!(rt; (counts.made, counts.committed), (2, 2));
         assert_eq!(rt;

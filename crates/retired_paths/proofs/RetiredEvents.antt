@@ -20,7 +20,7 @@ use Rattle.spec_run.proofs.PathFollows.{few, follows}
 use Rattle.spec_run.proofs.PathGrows.{event_adds, items_joined}
 use Rattle.spec_run.proofs.StepLists.{steps_front}
 use Rattle.spec_run.specs.Blocks.{fresh}
-use Rattle.spec_run.specs.Checks.{Place, check, effect_of, exception_at, held_at, place_of, ran_by}
+use Rattle.spec_run.specs.Checks.{Situation, check, effect_of, exception_at, held_at, place_of, ran_by}
 use Rattle.spec_run.specs.Effects.{applied_on, done_of}
 use Rattle.spec_run.specs.Executed.{AreSteps, IsRunningBy}
 use Rattle.spec_run.specs.RetiredItems.{added_by, items_behind, retired_of}
@@ -149,13 +149,13 @@ answer_by image current e = done_of (held_at (option_map place_of current)) (eff
 -- the same, by what a run keeps
 pub taken_is : (n : ℕ) (was : Kept) (current : Option Running) (e : Event) → n ≡ asked e → was.place ≡ option_map place_of current
     → take n (held_at was.place) ≡ taken_by current e
-taken_is n was current e is place = ap (λ k. take k (held_at was.place)) is ∙ ap (λ (p : Option Place). take (asked e) (held_at p)) place
+taken_is n was current e is place = ap (λ k. take k (held_at was.place)) is ∙ ap (λ (p : Option Situation). take (asked e) (held_at p)) place
 
 pub answer_is : (image : Image) (was now : Kept) (current : Option Running) (e : Event) (answer : Done) → now ≡ was
     → was.place ≡ option_map place_of current → answer ≡ done_of (held_at now.place) (effect_of image now.place e) → answer ≡ answer_by image current e
 answer_is image was now current e answer same place is =
     is ∙ ap (λ (r : Kept). done_of (held_at r.place) (effect_of image r.place e)) same
-    ∙ ap (λ (p : Option Place). done_of (held_at p) (effect_of image p e)) place
+    ∙ ap (λ (p : Option Situation). done_of (held_at p) (effect_of image p e)) place
 
 pub record Parts (image : Image) (depth : ℕ) (closed : List (List RunStep × Closing)) (current : Option Running) (e : Event) (steps : List RunStep)
     : Type 0 where
@@ -331,7 +331,7 @@ fails_to_print image s id t t' events e can steps taken answer a b f d p same is
 
 -- ---- events one behind the other
 
--- what is added twice is added at once
+-- what is added by two is added by both
 added_on : {X : Type 0} (all front first one more : List X) → all ≡ front ++ more → front ≡ first ++ one → all ≡ first ++ (one ++ more)
 added_on all front first one more e f = e ∙ ap (λ l. l ++ more) f ∙ append_assoc first one more
 

@@ -1,4 +1,4 @@
--- Plain steps that are taken at once print nothing.
+-- Plain steps that are taken together print nothing.
 use Rattle.std.proofs.Common.{◌≡◌, ℕ, zero, suc, ◌+◌, ◌^◌, ◌<◌, List, [], ◌∷◌, ◌++◌, length, replicate, Option, Some, None, Ok}
 use Rattle.std.proofs.Common.{refl, sym, ap, subst, ◌∙◌, append_assoc, append-nil, arith}
 use Rattle.std.specs.Option.{option_map}
@@ -14,7 +14,7 @@ use Rattle.spec_run.proofs.ManySteps.{ArePlain, begun_plain, counted_plain, path
 use Rattle.spec_run.proofs.OneEvent.{place_behind}
 use Rattle.spec_run.proofs.PathFollows.{few, follows}
 use Rattle.spec_run.specs.Blocks.{fresh}
-use Rattle.spec_run.specs.Checks.{Place, check, effect_of, place_of}
+use Rattle.spec_run.specs.Checks.{Situation, check, effect_of, place_of}
 use Rattle.spec_run.specs.Effects.{applied_on}
 use Rattle.spec_run.specs.Executed.{AreSteps, IsPlace, IsRunning, IsRunningBy}
 use Rattle.spec_run.specs.ManySteps.{AllPass, IsStepCount, begun_behind_all, plain_step, plain_steps}
@@ -82,10 +82,10 @@ passed_so image depth closed r k (suc n) y are ran =
     let s = plain_step r.pc r.ctx in
     let at : are.1.at ≡ place_of r = let same = are.1.there in cc in
     let does : effect_of image (Some (place_of r)) event.Step ≡ effect.Ran s r.ctx =
-    subst (λ (q : Place). effect_of image (Some (place_of r)) event.Step ≡ effect.Ran (plain_step q.pc q.ctx) q.ctx) at are.1.does in
+    subst (λ (q : Situation). effect_of image (Some (place_of r)) event.Step ≡ effect.Ran (plain_step q.pc q.ctx) q.ctx) at are.1.does in
     let on = (passed (check image depth (place_in x) event.Step) k
     (run_from image depth (after_event image depth x event.Step) (k + 1) (replicate n event.Step)) y ran).1 in
-    let are_next = subst (λ (p : Option Place). ArePlain image depth p n) (sym (place_behind image depth x event.Step are.0)) are.2 in
+    let are_next = subst (λ (p : Option Situation). ArePlain image depth p n) (sym (place_behind image depth x event.Step are.0)) are.2 in
     one_passed depth closed r n y (passed_so image depth closed (runs depth r s r.ctx) (k + 1) n y
     (subst (λ (e : Effect). ArePlain image depth (place_in (applied_on image depth x (Some r) e)) n) does are_next)
     (subst (λ (e : Effect). run_from image depth (applied_on image depth x (Some r) e) (k + 1) (replicate n event.Step) ≡ Ok y) does on))
@@ -101,8 +101,8 @@ record Ahead (depth : ℕ) (closed : List (List RunStep × Closing)) (current : 
 ahead : (image : Image) (depth : ℕ) (events : List Event) (closed : List (List RunStep × Closing)) (current : Option Running) (n pc : ℕ) (ctx : Ctx)
     (y : Execution) → run_after image depth events ≡ Ok (record { closed = closed; current = current })
     → run_after image depth (events ++ replicate n event.Step) ≡ Ok y → ArePlain image depth (option_map place_of current) n
-    → Some pc ≡ option_map (λ (p : Place). p.pc) (option_map place_of current)
-    → Some ctx ≡ option_map (λ (p : Place). p.ctx) (option_map place_of current) → Ahead depth closed current n pc ctx y
+    → Some pc ≡ option_map (λ (p : Situation). p.pc) (option_map place_of current)
+    → Some ctx ≡ option_map (λ (p : Situation). p.ctx) (option_map place_of current) → Ahead depth closed current n pc ctx y
 ahead image depth events closed None n pc ctx y before after are there same = absurd cc
 ahead image depth events closed (Some r) n pc ctx y before after are there same = record {
   run = r;
@@ -182,8 +182,8 @@ quiet_at : (image : Image) (s : Sizes) (t : Retiring) (events : List Event) (clo
     (n pc : ℕ) (ctx : Ctx) (y : Execution) → HasGap image → AreEvents s (events ++ replicate n event.Step)
     → run_after image s.depth events ≡ Ok (record { closed = closed; current = current })
     → run_after image s.depth (events ++ replicate n event.Step) ≡ Ok y → ArePlain image s.depth (option_map place_of current) n
-    → Some pc ≡ option_map (λ (p : Place). p.pc) (option_map place_of current)
-    → Some ctx ≡ option_map (λ (p : Place). p.ctx) (option_map place_of current) → StandsBehind t.path current
+    → Some pc ≡ option_map (λ (p : Situation). p.pc) (option_map place_of current)
+    → Some ctx ≡ option_map (λ (p : Situation). p.ctx) (option_map place_of current) → StandsBehind t.path current
     → Quiet image s t (record { closed = closed; current = current }) y n pc ctx
 quiet_at image s t events closed current n pc ctx y gap are before after plain there same behind =
     let a = ahead image s.depth events closed current n pc ctx y before after plain there same in
@@ -210,7 +210,7 @@ more_are s (e ∷ events) n are = (are.0, more_are s events n are.1)
 pub quiet_so : (image : Image) (s : Sizes) (t : Retiring) (events : List Event) (asked n pc : ℕ) (ctx : Ctx) (now : Kept)
     (can : CanGoOn image s t events (events_with events asked event.Step)) (st : StandsAt image s now (events ++ replicate n event.Step))
     → IsStepCount image t.run.depth t.run.place asked n → AllPass image t.run.depth t.run.place (replicate n event.Step)
-    → Some pc ≡ option_map (λ (p : Place). p.pc) t.run.place → Some ctx ≡ option_map (λ (p : Place). p.ctx) t.run.place
+    → Some pc ≡ option_map (λ (p : Situation). p.pc) t.run.place → Some ctx ≡ option_map (λ (p : Situation). p.ctx) t.run.place
     → Quiet image s t can.stands.run.execution st.execution n pc ctx
 quiet_so image s t events asked n pc ctx now can st count pass there same =
     let x = can.stands.run.execution in
@@ -218,9 +218,9 @@ quiet_so image s t events asked n pc ctx now can st count pass there same =
     let are = more_are s events n (front_are s events (replicate asked event.Step) can.are) in
     let plain =
     subst (λ d. ArePlain image d (place_in x) n) can.stands.run.depth
-    (subst (λ (p : Option Place). ArePlain image t.run.depth p n) place (counted_plain image t.run.depth asked n t.run.place count pass)) in
+    (subst (λ (p : Option Situation). ArePlain image t.run.depth p n) place (counted_plain image t.run.depth asked n t.run.place count pass)) in
     quiet_at image s t events x.closed x.current n pc ctx st.execution can.gap are can.stands.run.after st.after plain
-    (there ∙ ap (option_map (λ (p : Place). p.pc)) place) (same ∙ ap (option_map (λ (p : Place). p.ctx)) place) can.stands.path
+    (there ∙ ap (option_map (λ (p : Situation). p.pc)) place) (same ∙ ap (option_map (λ (p : Situation). p.ctx)) place) can.stands.path
 
 -- ---- what is printed
 

@@ -36,7 +36,7 @@ fn run_line(run: &mut Run, image: &Image, line: &BenchLine) -> Result<(), RunFau
     Ok(())
 }
 
-/// Runs the plain steps at the front of a line's events at once, and says how many there are.
+/// Runs the plain steps at the front of a line's events together, and says how many there are.
 fn run_plain(run: &mut Run, image: &Image, line: &BenchLine) -> u32
     ensures stands { (s : Sizes) (events : List Event) → StandsAt image.now s run.old events
         → StandsAt image.now s run.new (events_with events result line.now.event) }

@@ -75,7 +75,7 @@ impl Retiring {
         Ok(())
     }
 
-    /// Runs the plain steps at the front of a line's events at once, and says how many there are. They print nothing.
+    /// Runs the plain steps at the front of a line's events together, and says how many there are. They print nothing.
     fn pass_plain(&mut self, image: &Image, line: &BenchLine) -> u32
         requires { (s : Sizes) × (events : List Event)
             × CanGoOn image.now s self.old events (events_with events line.now.times line.now.event) }
@@ -90,7 +90,7 @@ impl Retiring {
         }
     }
 
-    /// Runs so many events `Step`, which are accepted, as far as they can be taken at once, and says how many.
+    /// Runs so many events `Step`, which are accepted, as far as they can be taken together, and says how many.
     fn step_many(&mut self, image: &Image, n: u32) -> u32
         requires { (s : Sizes) × (events : List Event)
             × CanGoOn image.now s self.old events (events_with events n Event.Step) }

@@ -80,19 +80,6 @@ impl ReturnStack {
         self.addresses.clear();
     }
 
-    /// Takes the addresses of a stack of the same depth in place of its own.
-    pub fn copy_from(&mut self, other: &ReturnStack)
-        requires { self.old.depth ≡ other.now.depth }
-        ensures addresses { self.new.addresses ≡ other.now.addresses }
-        ensures depth { self.new.depth ≡ self.old.depth }
-        ensures within { IsStack self.new }
-    {
-        let (newer, older) = other.addresses.as_slices();
-        self.clear();
-        self.addresses.extend_from_slice(newer);
-        self.addresses.extend_from_slice(older);
-    }
-
     /// The addresses as they are now.
     pub fn save(&self) -> SavedStack
         ensures addresses { result ≡ self.now.addresses }

@@ -31,5 +31,5 @@ pub record HaveTaken {X Y : Type 0} (stands : X → List ℕ → Type 0) (sizes 
   pub demux : demuxed.StandsAt stands sizes sums g t d (later_frames u.frames bytes)
 
 -- how many bytes were taken
-abbrev pub taken_of : {X Y : Type 0} → Unwrapping → Demuxed X Y → ℕ
-taken_of u d = count_of u + d.taken
+abbrev pub offset_of : {X Y : Type 0} → Unwrapping → Demuxed X Y → ℕ
+offset_of u d = count_of u + d.offset

@@ -7,7 +7,7 @@ ghost use Rattle.etm_types.specs.SettingsTable.{sizes_at};
 ghost use Rattle.formatter_frames.specs.Unframed.{begun_frame, unframed};
 ghost use Rattle.ring_capture.specs.Laid.{later_pairs};
 ghost use Rattle.ring_capture.specs.Rotated.{first_frames, later_frames, rotated};
-ghost use Rattle.ring_capture.specs.Wrapped.{HaveTaken, taken_of};
+ghost use Rattle.ring_capture.specs.Wrapped.{HaveTaken, offset_of};
 ghost use Rattle.trace_io.specs.Calls.{Serves};
 
 use crate::unwrap::Unwrap;
@@ -67,7 +67,7 @@ fn take_byte<S: Stream, K: Sink>(
     sink: &mut K,
 ) -> Result<(), Failed>
     requires whole { demux.old.broken ≡ false }
-    requires few { taken_of unwrap.old demux.old + 1 ≤ 2 ^ 30 }
+    requires few { offset_of unwrap.old demux.old + 1 ≤ 2 ^ 30 }
     ensures stands { (t : ℕ → Sizes) (bytes : List ℕ)
         → HaveTaken (S.stands shared.now) S.sizes (S.sums shared.now) (S.listing shared.now) t unwrap.old demux.old bytes → IsOk result
         → HaveTaken (S.stands shared.now) S.sizes (S.sums shared.now) (S.listing shared.now) t unwrap.new demux.new (bytes ++ byte ∷ []) }
@@ -78,7 +78,7 @@ fn take_byte<S: Stream, K: Sink>(
     ensures broken { IsTrue demux.new.broken ↔ IsErr result }
     ensures good { IsOk result → demux.new.broken ≡ false }
     ensures frames { unwrap.new.frames ≡ unwrap.old.frames }
-    ensures taken { IsOk result → taken_of unwrap.new demux.new ≡ taken_of unwrap.old demux.old + 1 }
+    ensures offset { IsOk result → offset_of unwrap.new demux.new ≡ offset_of unwrap.old demux.old + 1 }
 {
     match unwrap.take(byte) {
         Some(frame) => demux.take_piece(shared, &frame, sink),
@@ -95,7 +95,7 @@ fn take_bytes<S: Stream, K: Sink>(
     sink: &mut K,
 ) -> Result<(), Failed>
     requires whole { demux.old.broken ≡ false }
-    requires few { taken_of unwrap.old demux.old + length piece.now ≤ 2 ^ 30 }
+    requires few { offset_of unwrap.old demux.old + length piece.now ≤ 2 ^ 30 }
     ensures stands { (t : ℕ → Sizes) (bytes : List ℕ)
         → HaveTaken (S.stands shared.now) S.sizes (S.sums shared.now) (S.listing shared.now) t unwrap.old demux.old bytes → IsOk result
         → HaveTaken (S.stands shared.now) S.sizes (S.sums shared.now) (S.listing shared.now) t unwrap.new demux.new (bytes ++ piece.now) }
@@ -105,7 +105,7 @@ fn take_bytes<S: Stream, K: Sink>(
     ensures serves { Serves (K.state sink.old) (K.state sink.new) result }
     ensures broken { IsTrue demux.new.broken ↔ IsErr result }
     ensures frames { unwrap.new.frames ≡ unwrap.old.frames }
-    ensures taken { IsOk result → taken_of unwrap.new demux.new ≡ taken_of unwrap.old demux.old + length piece.now }
+    ensures offset { IsOk result → offset_of unwrap.new demux.new ≡ offset_of unwrap.old demux.old + length piece.now }
 {
     let mut at = 0;
     while at < piece.len() {
@@ -125,7 +125,7 @@ fn take_kept<S: Stream, K: Sink>(
     sink: &mut K,
 ) -> Result<(), Failed>
     requires whole { demux.old.broken ≡ false }
-    requires few { taken_of unwrap.now demux.old ≤ 2 ^ 30 }
+    requires few { offset_of unwrap.now demux.old ≤ 2 ^ 30 }
     ensures stands { (t : ℕ → Sizes) (bytes : List ℕ)
         → HaveTaken (S.stands shared.now) S.sizes (S.sums shared.now) (S.listing shared.now) t unwrap.now demux.old bytes → IsOk result
         → StandsAt (S.stands shared.now) S.sizes (S.sums shared.now) (S.listing shared.now) t demux.new (rotated unwrap.now.frames bytes) }
@@ -151,13 +151,13 @@ impl<S: Stream> Printer for WrappedDemux<S> {
     ghost use Rattle.capture_streams.specs.Texts.{by_sizes};
     ghost use Rattle.ring_capture.specs.Laid.{wrapped_laid, wrapped_laid_is};
     ghost use Rattle.ring_capture.specs.Rotated.{rotated};
-    ghost use Rattle.ring_capture.specs.Wrapped.{HaveTaken, taken_of};
+    ghost use Rattle.ring_capture.specs.Wrapped.{HaveTaken, offset_of};
 
     type Shared = S::Shared;
 
     ghost broken = { λ w. w.demux.broken };
 
-    ghost taken = { λ w. taken_of w.unwrap w.demux };
+    ghost offset = { λ w. offset_of w.unwrap w.demux };
 
     ghost stands = { λ shared t w bytes. HaveTaken (S.stands shared) S.sizes (S.sums shared) (S.listing shared) t w.unwrap w.demux bytes };
 

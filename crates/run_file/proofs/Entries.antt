@@ -18,7 +18,7 @@ use Rattle.run_file.specs.KeptStreams.{AreKept, IsKept, in_entry, streams_in}
 use Rattle.run_file.specs.Places.{IsRead, line_of}
 use Rattle.run_file.specs.Parts.{BenchStream, IsBenchStream, has_stream}
 use Rattle.run_file.specs.declared.line.BenchLine.{BenchLine}
-use Rattle.run_file.specs.declared.place.Place.{Place}
+use Rattle.run_file.specs.declared.place.LineStart.{LineStart}
 use Rattle.run_file.specs.declared.streams.Stream.{Stream}
 
 either_way : (m n : ℕ) → nat_eq m n ≡ nat_eq n m
@@ -56,12 +56,12 @@ declared_streams text id v es none = ap (streams_in text) (declared text id v es
 pub declared_kept : (text : List ℕ) (id : ℕ) (v : Stream) (es : List (ℕ × Stream)) → IsId id → has_stream id (streams_in text es) ≡ false
     → v.places.items ≡ [] → AreKept text es → AreKept text (insert_entry nat_eq es id v)
 declared_kept text id v es source none empty h =
-    let lines = subst (λ (ps : List Place). All (IsRead text v.settings) ps) (sym empty) (All-nil (IsRead text v.settings)) in
+    let lines = subst (λ (ps : List LineStart). All (IsRead text v.settings) ps) (sym empty) (All-nil (IsRead text v.settings)) in
     let own : IsKept text (id, v) = record { id = source; lines = lines } in
     subst (AreKept text) (sym (declared text id v es none))
     (All-append (IsKept text) es ((id, v) ∷ []) h (All-cons (IsKept text) (id, v) [] own (All-nil (IsKept text))))
 
-pub pushed : (text : List ℕ) (es : List (ℕ × Stream)) (i : ℕ) (v : Stream) (w : Vec Place Global) (p : Place) → i + 1 ≡ length es
+pub pushed : (text : List ℕ) (es : List (ℕ × Stream)) (i : ℕ) (v : Stream) (w : Vec LineStart Global) (p : LineStart) → i + 1 ≡ length es
     → slice_get (values_of es) i ≡ Some v → w.items ≡ v.places.items ++ p ∷ []
     → streams_in text (set_value_at es i (record v { places = w })) ≡ with_line (line_of text v.settings p) (streams_in text es)
 pushed text [] i v w p last at h = absurd (omega arith)
@@ -114,15 +114,15 @@ source_of text id (e ∷ es) h has =
     by true same has own more = subst IsId (eqb-true e.0 id same) own
     by false same has own more = more has
 
-pub read_place : (text : List ℕ) (s : Sizes) (ps : List Place) (k : ℕ) (p : Place) → Some p ≡ slice_get ps k → All (IsRead text s) ps → IsRead text s p
+pub read_place : (text : List ℕ) (s : Sizes) (ps : List LineStart) (k : ℕ) (p : LineStart) → Some p ≡ slice_get ps k → All (IsRead text s) ps → IsRead text s p
 read_place text s [] k p at h = absurd cc
 read_place text s (q ∷ ps) zero p at h = let same : q ≡ p = cc in subst (IsRead text s) same (All-head (IsRead text s) q ps h)
 read_place text s (q ∷ ps) (suc k) p at h = read_place text s ps k p at (All-tail (IsRead text s) q ps h)
 
-pub place_at : (items view : List Place) (k : ℕ) (p : Place) → view ≡ items → true ≡ nat_lt k (length view) → p ≡ get_or view k p
+pub place_at : (items view : List LineStart) (k : ℕ) (p : LineStart) → view ≡ items → true ≡ nat_lt k (length view) → p ≡ get_or view k p
     → Some p ≡ slice_get items k
 place_at items view k p same within is =
-    sym (slice_get_read view (length view) k p refl (ltb-true k (length view) (sym within)) is) ∙ ap (λ (l : List Place). slice_get l k) same
+    sym (slice_get_read view (length view) k p refl (ltb-true k (length view) (sym within)) is) ∙ ap (λ (l : List LineStart). slice_get l k) same
 
 last_entry : (text : List ℕ) (e : ℕ × Stream) (es : List (ℕ × Stream))
     → option_map (in_entry text) (slice_get (e ∷ es) (length es)) ≡ newest (streams_in text (e ∷ es))
@@ -158,7 +158,7 @@ stack_within streams i None at h = tt
 stack_within streams i (Some n) at h = stack_of_stream streams i n at h
 
 -- the line whose place is kept is that of its stream
-pub kept_line : (text : List ℕ) (es : List (ℕ × Stream)) (s k : ℕ) (e : ℕ × Stream) (p : Place) → Some e ≡ slice_get es s
+pub kept_line : (text : List ℕ) (es : List (ℕ × Stream)) (s k : ℕ) (e : ℕ × Stream) (p : LineStart) → Some e ≡ slice_get es s
     → Some p ≡ slice_get e.1.places.items k
     → Some (line_of text e.1.settings p) ≡ option_and_then (λ (stream : BenchStream). slice_get stream.lines k) (slice_get (streams_in text es) s)
 kept_line text [] s k e p at place = absurd cc
@@ -170,7 +170,7 @@ kept_line text (f ∷ es) zero k e p at place =
 kept_line text (f ∷ es) (suc s) k e p at place = kept_line text es s k e p at place
 
 -- a stream is pushed a line that is read by its own settings
-module _ (text : List ℕ) (es : List (ℕ × Stream)) (i : ℕ) (v : Stream) (w : Vec Place Global) (p : Place) (s : Sizes)
+module _ (text : List ℕ) (es : List (ℕ × Stream)) (i : ℕ) (v : Stream) (w : Vec LineStart Global) (p : LineStart) (s : Sizes)
     (last : i + 1 ≡ length es) (at : slice_get (values_of es) i ≡ Some v) (items : w.items ≡ v.places.items ++ p ∷ [])
     (sizes : option_map (λ s. s.settings) (newest (streams_in text es)) ≡ Some s) where
   own_sizes : v.settings ≡ s

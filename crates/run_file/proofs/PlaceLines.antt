@@ -4,9 +4,9 @@ use Rattle.etm_types.specs.Settings.{Sizes}
 use Rattle.run_file.specs.EventLines.{event_of}
 use Rattle.run_file.specs.Places.{IsRead, bench_line, line_of, words_at}
 use Rattle.run_file.specs.declared.line.Repeated.{Repeated}
-use Rattle.run_file.specs.declared.place.Place.{Place}
+use Rattle.run_file.specs.declared.place.LineStart.{LineStart}
 
-module _ (text : List ℕ) (s : Sizes) (p : Place) (word : List ℕ) (words : List (List ℕ)) (e : Repeated)
+module _ (text : List ℕ) (s : Sizes) (p : LineStart) (word : List ℕ) (words : List (List ℕ)) (e : Repeated)
     (line : words_at text p ≡ word ∷ words) (read : event_of s word words ≡ Ok e) where
   pub is_read : IsRead text s p
   is_read = rw line (rw read refl)

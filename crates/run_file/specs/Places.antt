@@ -10,13 +10,13 @@ use Rattle.run_file.specs.declared.fault.BenchWhy.{BenchWhy}
 use Rattle.run_file.specs.declared.fault.BenchWhy.TheVariants.{Syntax}
 use Rattle.run_file.specs.declared.line.BenchLine.{BenchLine}
 use Rattle.run_file.specs.declared.line.Repeated.{Repeated}
-use Rattle.run_file.specs.declared.place.Place.{Place}
+use Rattle.run_file.specs.declared.place.LineStart.{LineStart}
 use Rattle.run_file.specs.declared.place.PlacedLines.TheInside.{Inside as LinesFields}
 
 -- a text, and the place of the first line that is left of it
 pub record PlacesLeft : Type 0 where
   pub text : List ℕ
-  pub next : Place
+  pub next : LineStart
 
 abbrev pub places_in : LinesFields → PlacesLeft
 places_in l = record { text = l.text.now; next = l.next }
@@ -32,7 +32,7 @@ first_words [] = []
 first_words (line ∷ lines) = words_in line
 
 -- the words of the line that begins at a place
-abbrev pub words_at : List ℕ → Place → List (List ℕ)
+abbrev pub words_at : List ℕ → LineStart → List (List ℕ)
 words_at text p = first_words (lines (drop p.start text))
 
 abbrev pub event_in : Sizes → List (List ℕ) → Result Repeated BenchWhy
@@ -40,7 +40,7 @@ event_in s [] = Err Syntax
 event_in s (word ∷ words) = event_of s word words
 
 -- it is an event line
-abbrev pub IsRead : List ℕ → Sizes → Place → Type 0
+abbrev pub IsRead : List ℕ → Sizes → LineStart → Type 0
 IsRead text s p = is_ok (event_in s (words_at text p)) ≡ true
 
 abbrev pub bench_line : ℕ → Repeated → BenchLine
@@ -51,5 +51,5 @@ abbrev pub line_by : ℕ → Result Repeated BenchWhy → BenchLine
 line_by number (Ok e) = bench_line number e
 line_by number (Err why) = record { line = number; event = event.Step; times = 0 }
 
-abbrev pub line_of : List ℕ → Sizes → Place → BenchLine
+abbrev pub line_of : List ℕ → Sizes → LineStart → BenchLine
 line_of text s p = line_by p.number (event_in s (words_at text p))

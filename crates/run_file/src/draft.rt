@@ -13,7 +13,7 @@ use crate::bench::Bench;
 use crate::fault::{BenchWhy, LineFault};
 use crate::given::Given;
 use crate::line::{Declaration, LineKind, Weave};
-use crate::place::Place;
+use crate::place::LineStart;
 use crate::setting::Setting;
 use crate::streams::Streams;
 use crate::version::Version;
@@ -59,7 +59,7 @@ pub fn take_line<'a>(
     alloc: Global,
     text: &'a [u8],
     draft: &mut Option<Draft<'a>>,
-    place: Place,
+    place: LineStart,
     line: &[u8],
 ) -> Result<(), LineFault>
     requires place { words_at text.now place ≡ words_in line.now }
@@ -84,7 +84,7 @@ fn take_behind<'a>(
     alloc: Global,
     text: &'a [u8],
     draft: &mut Option<Draft<'a>>,
-    place: Place,
+    place: LineStart,
     word: &[u8],
     rest: &[u8],
 ) -> Result<(), LineFault>
@@ -170,7 +170,7 @@ impl<'a> Draft<'a> {
     fn take_words(
         &mut self,
         alloc: Global,
-        place: Place,
+        place: LineStart,
         word: &[u8],
         rest: &[u8],
     ) -> Result<(), LineFault>
@@ -235,7 +235,7 @@ impl<'a> Draft<'a> {
     }
 
     /// Takes an event line of the newest stream: behind a weave there are none.
-    fn take_event(&mut self, place: Place, word: &[u8], rest: &[u8]) -> Result<(), LineFault>
+    fn take_event(&mut self, place: LineStart, word: &[u8], rest: &[u8]) -> Result<(), LineFault>
         requires { words_at self.old.text place ≡ word.now ∷ words_in rest.now }
         ensures line { Answers (λ _. self.new.draft) result (add_event place.number self.old.draft word.now (words_in rest.now)) }
         ensures text { self.new.text ≡ self.old.text }

@@ -15,7 +15,7 @@ use spec_run::Event;
 /// How many kinds of exception there are.
 const KINDS: u64 = 32;
 
-/// The most times that an event comes, and the most steps that are retired or cancelled at once.
+/// The most times that an event comes, and the most steps that one event retires or cancels.
 const MOST_STEPS: u64 = 65_535;
 
 /// The event of a line, and how often it comes.

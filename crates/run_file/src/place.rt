@@ -6,7 +6,7 @@ use std::marker::Model;
 
 /// Where a line begins in its text, and its number.
 #[derive(Clone, Copy)]
-pub struct Place {
+pub struct LineStart {
     pub start: u32,
     /// From 1 on.
     pub number: u32,
@@ -16,7 +16,7 @@ pub struct Place {
 #[derive(Drop)]
 pub struct PlacedLines<'a> {
     text: &'a [u8],
-    next: Place,
+    next: LineStart,
 }
 
 impl<'a> Model for PlacedLines<'a> {
@@ -39,7 +39,7 @@ impl<'a> PlacedLines<'a> {
         if text.len() >= u32::MAX as usize {
             return None;
         }
-        let next = Place {
+        let next = LineStart {
             start: 0,
             number: 1,
         };
@@ -47,7 +47,7 @@ impl<'a> PlacedLines<'a> {
     }
 
     /// The next line, with its place.
-    pub fn next(&mut self) -> Option<(Place, &'a [u8])>
+    pub fn next(&mut self) -> Option<(LineStart, &'a [u8])>
         ensures line { MatchOption result (lines (drop self.old.next.start self.old.text) ≡ []) (λ found.
             (lines (drop self.old.next.start self.old.text) ≡ found.1.now ∷ lines (drop self.new.next.start self.old.text))
             × (found.0 ≡ self.old.next) × (self.new.next.number ≡ self.old.next.number + 1)) }
@@ -58,7 +58,7 @@ impl<'a> PlacedLines<'a> {
             return None;
         }
         let (line, end) = line_from(self.text, place.start as usize);
-        self.next = Place {
+        self.next = LineStart {
             start: end as u32,
             number: place.number + 1,
         };

@@ -14,7 +14,7 @@ ghost use Rattle.run_file.specs.Places.{IsRead, bench_line, line_of, words_at};
 use crate::event_line::event_of;
 use crate::fault::{BenchWhy, LineFault};
 use crate::line::BenchLine;
-use crate::place::{Place, line_from};
+use crate::place::{LineStart, line_from};
 use etm_types::Settings;
 use indexmap::IndexMap;
 use line_words::next_word;
@@ -28,7 +28,7 @@ pub struct Stream {
     /// The depth of the return stack.
     stack: usize,
     /// Where the event lines begin, in their order.
-    places: Vec<Place>,
+    places: Vec<LineStart>,
 }
 
 /// The streams of a text.
@@ -150,7 +150,12 @@ impl<'a> Streams<'a> {
     }
 
     /// Puts the event line of these words, which begins at the place, at the end of the newest stream.
-    pub fn push_event(&mut self, place: Place, word: &[u8], rest: &[u8]) -> Result<(), LineFault>
+    pub fn push_event(
+        &mut self,
+        place: LineStart,
+        word: &[u8],
+        rest: &[u8],
+    ) -> Result<(), LineFault>
         requires { words_at self.old.text place ≡ word.now ∷ words_in rest.now }
         ensures streams { Answers (λ _. self.new.streams) result
             (need (option_map (λ stream. stream.settings) (newest self.old.streams)) (λ s. then_ok (event_of s word.now (words_in rest.now))
@@ -166,7 +171,7 @@ impl<'a> Streams<'a> {
     }
 
     /// Puts a line at the end of the newest stream, for whose settings it has an event.
-    fn push_place(&mut self, place: Place) -> Result<(), AllocError>
+    fn push_place(&mut self, place: LineStart) -> Result<(), AllocError>
         requires { (s : Sizes) × (option_map (λ stream. stream.settings) (newest self.old.streams) ≡ Some s) × IsRead self.old.text s place }
         ensures streams { (s : Sizes) → option_map (λ stream. stream.settings) (newest self.old.streams) ≡ Some s
             → OnOk result (self.new.streams ≡ with_line (line_of self.old.text s place) self.old.streams) }
@@ -181,7 +186,7 @@ impl<'a> Streams<'a> {
 }
 
 /// The event line at a place where one was read before.
-fn line_of(text: &[u8], settings: &Settings, place: Place) -> BenchLine
+fn line_of(text: &[u8], settings: &Settings, place: LineStart) -> BenchLine
     requires { IsRead text.now settings.now place }
     ensures { result ≡ line_of text.now settings.now place }
 {

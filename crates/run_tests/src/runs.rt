@@ -64,7 +64,7 @@ fn run_of(alloc: Global, depth: u32) -> Result<Run, Fail> {
 /// Gives a run the events of a table. Each one is allowed exactly where it is then applied.
 fn follow(rt: &impl Abort, run: &mut Run, image: &Image, rows: &[Row]) {
     for row in rows {
-        assert_eq!(rt; run.check(image, &row.event).err(), row.answer.err());
+        assert_eq!(rt; run.plan(image, &row.event).err(), row.answer.err());
         assert_eq!(rt; run.apply(image, &row.event), row.answer);
         assert_eq!(rt;
             (run.pc(), run.ctx(), run.unretired()),
@@ -594,7 +594,7 @@ fn begun_anew(
     }
     run.apply(image, &ON_AT_THE_BRANCH.event)?;
     run.apply(image, &Event::NotTaken)?;
-    Ok((run.unretired(), run.check(image, &Event::Taken).err()))
+    Ok((run.unretired(), run.plan(image, &Event::Taken).err()))
 }
 
 #[test]

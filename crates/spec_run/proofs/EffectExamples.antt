@@ -6,7 +6,7 @@ use Rattle.a64_branches.specs.declared.class.Class.TheVariants as class
 use Rattle.etm_types.specs.declared.context.Ctx.{Ctx}
 use Rattle.etm_types.specs.declared.item.Item.TheVariants as item
 use Rattle.program_image.specs.Part.{Part}
-use Rattle.spec_run.specs.Checks.{Place, effect_of, executed}
+use Rattle.spec_run.specs.Checks.{Situation, effect_of, executed}
 use Rattle.spec_run.specs.Effects.{applied, done_of}
 use Rattle.spec_run.specs.FaultNumbers.{fault_number}
 use Rattle.spec_run.specs.Kinds.{is_cond, is_isb, is_p0_kind, took_of}
@@ -56,7 +56,7 @@ numbers_of_refusals = refl
 
 -- ---- what is executed at a word of each class
 
-abbrev place : Place
+abbrev place : Situation
 place = record { held = []; after_isb = false; pc = 0x2000; ctx = program }
 
 abbrev step : StepKind → ℕ → Bool → RunStep

@@ -6,7 +6,7 @@ use Rattle.a64_branches.specs.declared.class.Class.TheVariants as class
 use Rattle.etm_types.specs.Settings.{FitsSettings, Sizes}
 use Rattle.etm_types.specs.declared.context.Ctx.{Ctx}
 use Rattle.program_image.specs.Part.{Part}
-use Rattle.spec_run.specs.Checks.{Place}
+use Rattle.spec_run.specs.Checks.{Situation}
 use Rattle.spec_run.specs.Effects.{place_after}
 use Rattle.spec_run.specs.Executed.{Executes, IsPlace}
 use Rattle.spec_run.specs.ManySteps.{plain_steps, room_for_steps}
@@ -105,7 +105,7 @@ pub room_for_plain_steps : room_for_steps 0 (replicate 65535 jump) 7 ∷ room_fo
     ≡ 7 ∷ 7 ∷ 65533 ∷ []
 room_for_plain_steps = refl
 
-abbrev place : Place
+abbrev place : Situation
 place = record { held = jump ∷ []; after_isb = true; pc = 2 ^ 64 - 4; ctx = program }
 
 -- past the last address, and none
@@ -222,7 +222,7 @@ branch = record (step (kind.Cond true) 0x1010 0x1018 false) { ctx = handler }
 abbrev turned_branch : RunStep
 turned_branch = record { addr = 0x1010; ctx = handler; kind = kind.Cond false; next = 0x1014; link = false }
 
-abbrev before : Place
+abbrev before : Situation
 before = record { held = nop 0x1000 ∷ branch ∷ []; after_isb = true; pc = 0x1018; ctx = program }
 
 pub place_behind_each :

@@ -4,7 +4,7 @@ use Rattle.std.specs.Prelude.{nat_lt}
 use Rattle.a64_branches.specs.Classes.{class_of}
 use Rattle.etm_types.specs.declared.context.Ctx.{Ctx}
 use Rattle.program_image.specs.Part.{Part}
-use Rattle.spec_run.specs.Checks.{Place, check, effect_of, room_fault, unless, window}
+use Rattle.spec_run.specs.Checks.{Situation, check, effect_of, room_fault, unless, window}
 use Rattle.spec_run.specs.FaultNumbers.{fault_number}
 use Rattle.spec_run.specs.RunAfter.{run_after}
 use Rattle.spec_run.specs.Runs.{ByOff, ByOverflow, Execution, Running}
@@ -58,7 +58,7 @@ abbrev call : RunStep
 call = record { addr = 0x100c; ctx = program; kind = kind.Jump; next = 0x1000; link = true }
 
 -- at a pc with these steps held, none retired
-abbrev at : ℕ → List RunStep → Option Place
+abbrev at : ℕ → List RunStep → Option Situation
 at pc held = Some (record { held = held; after_isb = false; pc = pc; ctx = program })
 
 abbrev running : ℕ → List RunStep → List RunStep → ℕ → Ctx → Result Execution (ℕ × RunFault)

@@ -11,7 +11,7 @@ use Rattle.etm_types.specs.Settings.{Sizes}
 use Rattle.etm_types.specs.declared.context.Ctx.{Ctx}
 use Rattle.program_image.specs.Blocks.{IsPlainRun, behind, class_at}
 use Rattle.program_image.specs.declared.image.Image.{Image}
-use Rattle.spec_run.specs.Checks.{Place, check, effect_of, executed, held_at, ran_by, room_fault, step_at, step_fault, unless, window}
+use Rattle.spec_run.specs.Checks.{Situation, check, effect_of, executed, held_at, ran_by, room_fault, step_at, step_fault, unless, window}
 use Rattle.spec_run.specs.Effects.{place_after}
 use Rattle.spec_run.specs.ManySteps.{AllPass, IsStepCount, begun_behind_all, place_after_all, plain_step, plain_steps, room_for_steps}
 use Rattle.spec_run.specs.RetiredItems.{stretch_items}
@@ -36,27 +36,27 @@ use Rattle.spec_run.proofs.PathTaken.{plain_grows, stands_behind as path_behind}
 has_room : (n m : ℕ) (fault : RunFault) → n < m → unless (nat_lt n m) fault ≡ None
 has_room n m fault lt = let test : nat_lt n m ≡ true = grind (arith, nat_tests, lt) in ap (λ b. unless b fault) test
 
-plain_room : (depth : ℕ) (p : Place) → length p.held < window → room_fault depth p.held (plain_step p.pc p.ctx) ≡ None
+plain_room : (depth : ℕ) (p : Situation) → length p.held < window → room_fault depth p.held (plain_step p.pc p.ctx) ≡ None
 plain_room zero p lt = has_room (length p.held) window fault.WindowFull lt
 plain_room (suc depth) p lt = has_room (length p.held) window fault.WindowFull lt
 
 -- at a plain word, a step with room passes its checks
-pub step_passes : (image : Image) (depth : ℕ) (p : Place) → class_at image p.pc ≡ Some class.Plain → length p.held < window
+pub step_passes : (image : Image) (depth : ℕ) (p : Situation) → class_at image p.pc ≡ Some class.Plain → length p.held < window
     → check image depth (Some p) event.Step ≡ None
 step_passes image depth p at lt = ap (λ c. step_fault depth c p event.Step) at ∙ plain_room depth p lt
 
-pub step_does : (image : Image) (p : Place) → class_at image p.pc ≡ Some class.Plain
+pub step_does : (image : Image) (p : Situation) → class_at image p.pc ≡ Some class.Plain
     → effect_of image (Some p) event.Step ≡ effect.Ran (plain_step p.pc p.ctx) p.ctx
 step_does image p at = ap (λ c. ran_by (executed c p event.Step)) at
 
 -- ---- so many
 
 -- each of them stands at a plain word, and there is room for it
-abbrev pub CanStep : Image → ℕ → Place → ℕ → Type 0
+abbrev pub CanStep : Image → ℕ → Situation → ℕ → Type 0
 CanStep image depth p zero = ⊤
 CanStep image depth p (suc n) = (class_at image p.pc ≡ Some class.Plain) × (length p.held < window) × CanStep image depth (place_stepped depth p) n
 
--- so many steps more are held at once; at depth 0 none is
+-- so many steps more are held together; at depth 0 none is
 abbrev pub HasSpace : ℕ → List RunStep → ℕ → Type 0
 HasSpace zero held n = length held < window
 HasSpace (suc depth) held n = length held + n ≤ window
@@ -77,7 +77,7 @@ rest_plain : (image : Image) (a n : ℕ) → IsPlainRun image a (suc n) → IsPl
 rest_plain image a n run k lt =
     subst (λ b. class_at image b ≡ Some class.Plain) (sym (behind_more a 1 k)) (run (1 + k) (omega (arith, lt)))
 
-pub can_step : (image : Image) (depth : ℕ) (p : Place) (n : ℕ) → p.pc < 2 ^ 64 → IsPlainRun image p.pc n → HasSpace depth p.held n → CanStep image depth p n
+pub can_step : (image : Image) (depth : ℕ) (p : Situation) (n : ℕ) → p.pc < 2 ^ 64 → IsPlainRun image p.pc n → HasSpace depth p.held n → CanStep image depth p n
 can_step image depth p zero lt run room = tt
 can_step image zero p (suc n) lt run room = (
   first_plain image p.pc n lt run,
@@ -91,7 +91,7 @@ can_step image (suc depth) p (suc n) lt run room =
       can_step image (suc depth) (place_stepped (suc depth) p) n (behind_within p.pc 1) (rest_plain image p.pc n run) (omega (arith, room, size)),
     )
 
-pub can_pass : (image : Image) (depth : ℕ) (p : Place) (n : ℕ) → CanStep image depth p n → AllPass image depth (Some p) (replicate n event.Step)
+pub can_pass : (image : Image) (depth : ℕ) (p : Situation) (n : ℕ) → CanStep image depth p n → AllPass image depth (Some p) (replicate n event.Step)
 can_pass image depth p zero can = tt
 can_pass image depth p (suc n) can = (
   step_passes image depth p can.0 can.1,
@@ -99,16 +99,16 @@ can_pass image depth p (suc n) can = (
       (can_pass image depth (place_stepped depth p) n can.2),
 )
 
-step_first : (depth : ℕ) (p : Place) (n : ℕ) → place_stepped_all depth (place_stepped depth p) n ≡ place_stepped_all depth p (suc n)
+step_first : (depth : ℕ) (p : Situation) (n : ℕ) → place_stepped_all depth (place_stepped depth p) n ≡ place_stepped_all depth p (suc n)
 step_first depth p zero = refl
 step_first depth p (suc n) = ap (place_stepped depth) (step_first depth p n)
 
-pub steps_there : (image : Image) (depth : ℕ) (p : Place) (n : ℕ) → CanStep image depth p n
+pub steps_there : (image : Image) (depth : ℕ) (p : Situation) (n : ℕ) → CanStep image depth p n
     → place_after_all image depth (Some p) (replicate n event.Step) ≡ Some (place_stepped_all depth p n)
 steps_there image depth p zero can = refl
 steps_there image depth p (suc n) can =
     ap (λ does. place_after_all image depth (place_after image depth (Some p) does) (replicate n event.Step)) (step_does image p can.0)
-    ∙ steps_there image depth (place_stepped depth p) n can.2 ∙ ap (λ (q : Place). Some q) (step_first depth p n)
+    ∙ steps_there image depth (place_stepped depth p) n can.2 ∙ ap (λ (q : Situation). Some q) (step_first depth p n)
 
 -- ---- events behind others
 
@@ -128,44 +128,44 @@ stands_behind_all image s kept now events (e ∷ more) st pass same place =
 
 -- ---- at depth 0
 
-pub passed_there : (p : Place) (n : ℕ) → place_stepped_all 0 p (suc n) ≡ record p { after_isb = false; pc = behind p.pc (suc n) }
+pub passed_there : (p : Situation) (n : ℕ) → place_stepped_all 0 p (suc n) ≡ record p { after_isb = false; pc = behind p.pc (suc n) }
 passed_there p zero = refl
 passed_there p (suc n) =
     let led : behind (behind p.pc (suc n)) 1 ≡ behind p.pc (suc (suc n)) = omega arith in
     ap (place_stepped 0) (passed_there p n) ∙ ap (λ a. record p { after_isb = false; pc = a }) led
 
-pub passed_many : (depth : ℕ) (place : Option Place) (p : Place) (n count : ℕ) → depth ≡ 0 → place ≡ Some p → count ≡ n → 0 < n
-    → Some (record p { after_isb = false; pc = (p.pc + count * 4) % 2 ^ 64 }) ≡ option_map (λ (p : Place). place_stepped_all depth p n) place
+pub passed_many : (depth : ℕ) (place : Option Situation) (p : Situation) (n count : ℕ) → depth ≡ 0 → place ≡ Some p → count ≡ n → 0 < n
+    → Some (record p { after_isb = false; pc = (p.pc + count * 4) % 2 ^ 64 }) ≡ option_map (λ (p : Situation). place_stepped_all depth p n) place
 passed_many depth place p zero count flat is same some = absurd (omega (arith, some))
 passed_many depth place p (suc n) count flat is same some =
     let led : (p.pc + count * 4) % 2 ^ 64 ≡ behind p.pc (suc n) = omega (arith, same) in
     let there = ap (λ (a : ℕ). record p { after_isb = false; pc = a }) led ∙ sym (passed_there p n) in
-    ap (λ (q : Place). Some q) there ∙ ap (λ (d : ℕ). Some (place_stepped_all d p (suc n))) (sym flat)
-    ∙ ap (option_map (λ (p : Place). place_stepped_all depth p (suc n))) (sym is)
+    ap (λ (q : Situation). Some q) there ∙ ap (λ (d : ℕ). Some (place_stepped_all d p (suc n))) (sym flat)
+    ∙ ap (option_map (λ (p : Situation). place_stepped_all depth p (suc n))) (sym is)
 
 -- ---- at another depth
 
 -- one step more is held
-pub held_more : (depth next : ℕ) (q : Place) (st : Standing) (held after : List RunStep) (s : RunStep) → 0 < depth → place_of_standing st held ≡ q
+pub held_more : (depth next : ℕ) (q : Situation) (st : Standing) (held after : List RunStep) (s : RunStep) → 0 < depth → place_of_standing st held ≡ q
     → s ≡ step_at (place_of_standing st held) Plain next false → next ≡ behind st.pc 1 → after ≡ held ++ s ∷ []
     → place_of_standing (record st { pc = next }) after ≡ place_stepped depth q
 held_more zero next q st held after s deep at same led more = absurd (omega (arith, deep))
 held_more (suc depth) next q st held after s deep at same led more = rw (← at, more, same, led) refl
 
-pub stepped_more : (depth : ℕ) (p : Place) (n m : ℕ) → m ≡ suc n → place_stepped depth (place_stepped_all depth p n) ≡ place_stepped_all depth p m
+pub stepped_more : (depth : ℕ) (p : Situation) (n m : ℕ) → m ≡ suc n → place_stepped depth (place_stepped_all depth p n) ≡ place_stepped_all depth p m
 stepped_more depth p n m e = ap (place_stepped_all depth p) (sym e)
 
 pub held_size : {X : Type 0} (held after : List X) (s : X) → after ≡ held ++ s ∷ [] → length after ≡ length held + 1
 held_size held after s same = ap length same ∙ length-append held (s ∷ [])
 
-pub plain_counts : (p : Place) (steps : List RunStep) (s : RunStep) (next : ℕ) → s ≡ step_at p Plain next false → p0s (steps ++ s ∷ []) ≡ p0s steps
+pub plain_counts : (p : Situation) (steps : List RunStep) (s : RunStep) (next : ℕ) → s ≡ step_at p Plain next false → p0s (steps ++ s ∷ []) ≡ p0s steps
 plain_counts p steps s next same =
     let none : bool_byte (is_p0 s) ≡ 0 = ap (λ (t : RunStep). bool_byte (is_p0 t)) same in
     p0s_pushed steps s ∙ omega (arith, none)
 
 -- ---- as many as are counted
 
-pub count_room : (image : Image) (depth asked count : ℕ) (place : Option Place) → IsStepCount image depth place asked count → 0 < depth
+pub count_room : (image : Image) (depth asked count : ℕ) (place : Option Situation) → IsStepCount image depth place asked count → 0 < depth
     → length (held_at place) ≤ window → length (held_at place) + count ≤ window
 count_room image depth asked count None is deep few = omega (arith, is, few)
 count_room image zero asked count (Some p) is deep few = absurd (omega (arith, deep))
@@ -180,7 +180,7 @@ room_within : (depth : ℕ) (held : List RunStep) (n : ℕ) → room_for_steps d
 room_within zero held n = omega arith
 room_within (suc depth) held n = min-le_left n (window - length held)
 
-pub count_within : (image : Image) (depth asked count : ℕ) (place : Option Place) → IsStepCount image depth place asked count → count ≤ asked
+pub count_within : (image : Image) (depth asked count : ℕ) (place : Option Situation) → IsStepCount image depth place asked count → count ≤ asked
 count_within image depth asked count None is = omega (arith, is)
 count_within image depth asked count (Some p) (inl is) =
     let least = is.least in
@@ -196,7 +196,7 @@ space (suc depth) count held flat deep = deep (omega arith)
 plain_front : (image : Image) (a n m : ℕ) → m ≤ n → IsPlainRun image a n → IsPlainRun image a m
 plain_front image a n m le run k lt = run k (omega (arith, le, lt))
 
-pub count_steps : (image : Image) (depth asked count : ℕ) (p : Place) → IsStepCount image depth (Some p) asked count
+pub count_steps : (image : Image) (depth asked count : ℕ) (p : Situation) → IsStepCount image depth (Some p) asked count
     → (depth ≡ 0 → length p.held < window) → length p.held ≤ window → CanStep image depth p count
 count_steps image depth asked count p (inl is) flat few =
     let least = is.least in
@@ -210,11 +210,11 @@ pub flat_room : (depth : ℕ) (held : List RunStep) → (depth ≡ 0 → held �
 flat_room depth held flat e = let none = ap length (flat e) in omega (arith, none)
 
 -- and so are the events accepted, and the run is behind them
-pub record Steps (image : Image) (depth : ℕ) (place : Option Place) (count : ℕ) : Type 0 where
+pub record Steps (image : Image) (depth : ℕ) (place : Option Situation) (count : ℕ) : Type 0 where
   pub pass : AllPass image depth place (replicate count event.Step)
-  pub there : place_after_all image depth place (replicate count event.Step) ≡ option_map (λ (p : Place). place_stepped_all depth p count) place
+  pub there : place_after_all image depth place (replicate count event.Step) ≡ option_map (λ (p : Situation). place_stepped_all depth p count) place
 
-pub counted : (image : Image) (depth asked count : ℕ) (place : Option Place) → IsStepCount image depth place asked count
+pub counted : (image : Image) (depth asked count : ℕ) (place : Option Situation) → IsStepCount image depth place asked count
     → (depth ≡ 0 → length (held_at place) < window) → length (held_at place) ≤ window → Steps image depth place count
 counted image depth asked count None is flat few =
     subst (Steps image depth None) (sym is) (record { pass = tt; there = refl })
@@ -230,7 +230,7 @@ pub record Moved (image : Image) (kept now : Kept) (count : ℕ) : Type 0 where
 
 pub moved : (image : Image) (kept now : Kept) (asked count : ℕ) → IsStepCount image kept.depth kept.place asked count
     → (kept.depth ≡ 0 → held_at kept.place ≡ []) → length (held_at kept.place) ≤ window → now.depth ≡ kept.depth
-    → now.place ≡ option_map (λ (p : Place). place_stepped_all kept.depth p count) kept.place → Moved image kept now count
+    → now.place ≡ option_map (λ (p : Situation). place_stepped_all kept.depth p count) kept.place → Moved image kept now count
 moved image kept now asked count is flat few same place =
     let steps = counted image kept.depth asked count kept.place is (flat_room kept.depth (held_at kept.place) flat) few in
     let there = place ∙ sym steps.there in record {
@@ -242,23 +242,23 @@ moved image kept now asked count is flat few same place =
 -- ---- of steps that pass their checks, each is plain
 
 -- a step of a plain word is done
-pub record IsPlainStep (image : Image) (place : Option Place) : Type 0 where
-  pub at : Place
+pub record IsPlainStep (image : Image) (place : Option Situation) : Type 0 where
+  pub at : Situation
   pub there : place ≡ Some at
   pub does : effect_of image place event.Step ≡ effect.Ran (plain_step at.pc at.ctx) at.ctx
 
-abbrev pub ArePlain : Image → ℕ → Option Place → ℕ → Type 0
+abbrev pub ArePlain : Image → ℕ → Option Situation → ℕ → Type 0
 ArePlain image depth place zero = ⊤
 ArePlain image depth place (suc n) =
     (check image depth place event.Step ≡ None)
     × IsPlainStep image place
     × ArePlain image depth (place_after image depth place (effect_of image place event.Step)) n
 
-pub led_on : (depth : ℕ) (p : Place) → behind p.pc 1 ≡ (place_stepped depth p).pc
+pub led_on : (depth : ℕ) (p : Situation) → behind p.pc 1 ≡ (place_stepped depth p).pc
 led_on zero p = refl
 led_on (suc depth) p = refl
 
-plain_all : (image : Image) (depth : ℕ) (p : Place) (n : ℕ) → p.pc < 2 ^ 64 → IsPlainRun image p.pc n
+plain_all : (image : Image) (depth : ℕ) (p : Situation) (n : ℕ) → p.pc < 2 ^ 64 → IsPlainRun image p.pc n
     → AllPass image depth (Some p) (replicate n event.Step) → ArePlain image depth (Some p) n
 plain_all image depth p zero lt run pass = tt
 plain_all image depth p (suc n) lt run pass =
@@ -273,7 +273,7 @@ plain_all image depth p (suc n) lt run pass =
       subst (λ e. ArePlain image depth (place_after image depth (Some p) e) n) (sym does) rest,
     )
 
-pub counted_plain : (image : Image) (depth asked count : ℕ) (place : Option Place) → IsStepCount image depth place asked count
+pub counted_plain : (image : Image) (depth asked count : ℕ) (place : Option Situation) → IsStepCount image depth place asked count
     → AllPass image depth place (replicate count event.Step) → ArePlain image depth place count
 counted_plain image depth asked count None is pass = subst (ArePlain image depth None) (sym is) tt
 counted_plain image depth asked count (Some p) (inl is) pass =

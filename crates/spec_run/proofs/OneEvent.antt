@@ -8,7 +8,7 @@ use Rattle.etm_types.specs.declared.context.Ctx.{Ctx}
 use Rattle.a64_branches.specs.declared.class.Class.{Class}
 use Rattle.program_image.specs.Blocks.{class_at}
 use Rattle.program_image.specs.declared.image.Image.{Image}
-use Rattle.spec_run.specs.Checks.{Place, aligned_fault, aim_fault, check, depth_fault, effect_of, exception_at, executed, executed_fault, or_else}
+use Rattle.spec_run.specs.Checks.{Situation, aligned_fault, aim_fault, check, depth_fault, effect_of, exception_at, executed, executed_fault, or_else}
 use Rattle.spec_run.specs.Checks.{held_at, place_of, ran_by, room_fault, step_fault, unless, window, word_fault}
 use Rattle.spec_run.specs.Effects.{applied_on, place_after}
 use Rattle.spec_run.specs.RunAfter.{after_event, go_on, place_in, run_after, run_from}
@@ -41,14 +41,14 @@ below n m fault h = by_test n m (nat_lt n m) fault refl h
 has_room : (depth : ℕ) (held : List RunStep) (s : RunStep) → room_fault depth held s ≡ None → length held < window
 has_room depth held s h = below (length held) window fault.WindowFull (second (depth_fault depth (is_p0 s) (p0s held)) _ h)
 
-ran_has_room : (depth : ℕ) (p : Place) (e : Event) (step : Option (RunStep × Ctx)) → executed_fault depth p e step ≡ None → RoomInWindow (ran_by step) p.held
+ran_has_room : (depth : ℕ) (p : Situation) (e : Event) (step : Option (RunStep × Ctx)) → executed_fault depth p e step ≡ None → RoomInWindow (ran_by step) p.held
 ran_has_room depth p e None h = tt
 ran_has_room depth p e (Some step) h = has_room depth p.held step.0 (second (aim_fault e) _ h)
 
-step_has_room : (depth : ℕ) (class : Option Class) (p : Place) (e : Event) → step_fault depth class p e ≡ None → RoomInWindow (ran_by (executed class p e)) p.held
+step_has_room : (depth : ℕ) (class : Option Class) (p : Situation) (e : Event) → step_fault depth class p e ≡ None → RoomInWindow (ran_by (executed class p e)) p.held
 step_has_room depth class p e h = ran_has_room depth p e (executed class p e) (second (word_fault class p.pc) _ h)
 
-pub room_for : (image : Image) (depth : ℕ) (place : Option Place) (e : Event) → check image depth place e ≡ None
+pub room_for : (image : Image) (depth : ℕ) (place : Option Situation) (e : Event) → check image depth place e ≡ None
     → RoomInWindow (effect_of image place e) (held_at place)
 room_for image depth None (event.On addr ctx) h = tt
 room_for image depth None event.Step h = tt
@@ -85,7 +85,7 @@ step_begins_nothing : (step : Option (RunStep × Ctx)) (addr : ℕ) (ctx : Ctx) 
 step_begins_nothing None addr ctx h = cc
 step_begins_nothing (Some step) addr ctx h = cc
 
-begins_nothing : (image : Image) (p : Place) (e : Event) (addr : ℕ) (ctx : Ctx) → effect_of image (Some p) e ≡ effect.Began addr ctx → ⊥
+begins_nothing : (image : Image) (p : Situation) (e : Event) (addr : ℕ) (ctx : Ctx) → effect_of image (Some p) e ≡ effect.Began addr ctx → ⊥
 begins_nothing image p (event.On a c) addr ctx h = cc
 begins_nothing image p event.Step addr ctx h = step_begins_nothing _ addr ctx h
 begins_nothing image p event.Taken addr ctx h = step_begins_nothing _ addr ctx h
@@ -105,11 +105,11 @@ place_on : (image : Image) (depth : ℕ) (x : Execution) (r : Running) (does : E
     → place_in (applied_on image depth (record x { current = Some r }) (Some r) does) ≡ place_after image depth (Some (place_of r)) does
 place_on image depth x r (effect.Began addr ctx) h = absurd (h addr ctx refl)
 place_on image zero x r (effect.Ran s ctx) h =
-    ap (λ (p : Place). Some p) (λ k. record { held = r.held; after_isb = isb_at false r.retired s k; pc = s.next; ctx = ctx })
+    ap (λ (p : Situation). Some p) (λ k. record { held = r.held; after_isb = isb_at false r.retired s k; pc = s.next; ctx = ctx })
 place_on image (suc depth) x r (effect.Ran s ctx) h = refl
 place_on image depth x r (effect.Contexted ctx) h = refl
 place_on image depth x r (effect.Retired n) h =
-    ap (λ (p : Place). Some p) (λ k. record { held = drop n r.held; after_isb = isb_joined false r.retired (take n r.held) k; pc = r.pc; ctx = r.ctx })
+    ap (λ (p : Situation). Some p) (λ k. record { held = drop n r.held; after_isb = isb_joined false r.retired (take n r.held) k; pc = r.pc; ctx = r.ctx })
 place_on image depth x r (effect.Cancelled n) h = refl
 place_on image depth x r effect.Flipped h = refl
 place_on image depth x r effect.Synced h = refl
@@ -206,7 +206,7 @@ pub planned_not : (refusal : Option RunFault) (does : Effect) (fault : RunFault)
 planned_not None does fault h = absurd cc
 planned_not (Some other) does fault h = cc
 
-pub planned_exception : (image : Image) (depth : ℕ) (p : Place) (e : Event) (kind addr : ℕ) (ctx : Ctx) (s : RunStep) → e ≡ event.Exc kind addr ctx
+pub planned_exception : (image : Image) (depth : ℕ) (p : Situation) (e : Event) (kind addr : ℕ) (ctx : Ctx) (s : RunStep) → e ≡ event.Exc kind addr ctx
     → None ≡ aligned_fault addr → s ≡ exception_at p kind addr
     → planned_by (room_fault depth p.held s) (effect.Ran s ctx) ≡ planned image depth (Some p) e
 planned_exception image depth p e kind addr ctx s is aligned same = rw (is, same, ← aligned) refl

@@ -8,7 +8,7 @@ use Rattle.std.proofs.lemmas.Option.{slice_get_within}
 use Rattle.circular_buffer.specs.Buffer.{Buffer, buffer, keep_last, last_item}
 use Rattle.etm_types.specs.declared.context.Ctx.{Ctx}
 use Rattle.program_image.specs.declared.image.Image.{Image}
-use Rattle.spec_run.specs.Checks.{Place, held_at, step_at, window}
+use Rattle.spec_run.specs.Checks.{Situation, held_at, step_at, window}
 use Rattle.spec_run.specs.Effects.{place_flipped}
 use Rattle.spec_run.specs.Runs.{turn_newest, turned}
 use Rattle.spec_run.specs.Steps.{is_p0, next_behind, p0s}
@@ -32,7 +32,7 @@ pushed held capacity s after e h =
 abbrev pub Parts : Type 0
 Parts = StepKind × ℕ × Bool
 
-pub made_of : (p : Place) (parts : Parts) (kind : StepKind) (next there : ℕ) (link : Bool) (s : RunStep) (ctx behind : Ctx)
+pub made_of : (p : Situation) (parts : Parts) (kind : StepKind) (next there : ℕ) (link : Bool) (s : RunStep) (ctx behind : Ctx)
     → s ≡ step_at p parts.0 parts.1 parts.2 → ctx ≡ behind → ◌≡◌ {A = Parts} parts (kind, next, link) → next ≡ there
     → ◌≡◌ {A = Option (RunStep × Ctx)} (Some (s, ctx)) (Some (step_at p kind there link, behind))
 made_of p parts kind next there link s ctx behind same context e led = rw (same, e, led, context) refl
@@ -76,7 +76,7 @@ flipped_place image was s held after newest step e last turn same =
     let turns : after ≡ turn_newest image held = same ∙ ap (λ x. front ++ x ∷ []) turn ∙ sym (turn_newest_at image held newest last) in
     let leads : step.next ≡ next_behind s.pc (turn_newest image held) =
     sym (next_at s.pc front step) ∙ ap (next_behind s.pc) (sym same ∙ turns) in
-    rw e (ap (λ (p : Place). Some p) (λ k. record { held = turns k; after_isb = s.after_isb; pc = leads k; ctx = s.ctx }))
+    rw e (ap (λ (p : Situation). Some p) (λ k. record { held = turns k; after_isb = s.after_isb; pc = leads k; ctx = s.ctx }))
 
 pub window_flipped : (image : Image) (depth p0 : ℕ) (held after : Buffer RunStep) (newest step : RunStep) (was : Option Standing) (now : Standing)
     → IsWindow depth held p0 was → last_item held.items ≡ Some newest → step ≡ turned image newest

@@ -19,16 +19,16 @@ use Rattle.spec_run.specs.declared.step.StepKind.{StepKind}
 use Rattle.spec_run.specs.declared.step.StepKind.TheVariants.{Plain, Isb, Jump, Cond, Ind, Eret, Exc}
 
 -- what an event looks at: the steps that are held, whether the newest retired step is an ISB, the pc and the context
-pub record Place : Type 0 where
+pub record Situation : Type 0 where
   pub held : List RunStep
   pub after_isb : Bool
   pub pc : ℕ
   pub ctx : Ctx
 
-abbrev pub place_of : Running → Place
+abbrev pub place_of : Running → Situation
 place_of r = record { held = r.held; after_isb = ends_in_isb r.retired; pc = r.pc; ctx = r.ctx }
 
-abbrev pub held_at : Option Place → List RunStep
+abbrev pub held_at : Option Situation → List RunStep
 held_at None = []
 held_at (Some p) = p.held
 
@@ -62,11 +62,11 @@ room_fault depth held s = or_else (depth_fault depth (is_p0 s) (p0s held)) (unle
 
 -- ---- steps
 
-abbrev pub step_at : Place → StepKind → ℕ → Bool → RunStep
+abbrev pub step_at : Situation → StepKind → ℕ → Bool → RunStep
 step_at p kind next link = record { addr = p.pc; ctx = p.ctx; kind = kind; next = next; link = link }
 
 -- the step that an event executes, by the class of the word at the pc, and the context behind it; none where the event is of another kind
-abbrev pub executed : Option Class → Place → Event → Option (RunStep × Ctx)
+abbrev pub executed : Option Class → Situation → Event → Option (RunStep × Ctx)
 executed (Some class.Plain) p event.Step = Some (step_at p Plain (behind p.pc 1) false, p.ctx)
 executed (Some class.Isb) p event.Step = Some (step_at p Isb (behind p.pc 1) false, p.ctx)
 executed (Some (class.Jump offset link)) p event.Taken = Some (step_at p Jump (target p.pc offset) link, p.ctx)
@@ -77,7 +77,7 @@ executed (Some class.Eret) p (event.Eret addr ctx) = Some (step_at p Eret addr f
 executed class p e = None
 
 -- an exception looks at no word
-abbrev pub exception_at : Place → ℕ → ℕ → RunStep
+abbrev pub exception_at : Situation → ℕ → ℕ → RunStep
 exception_at p kind addr = step_at p (Exc kind) addr false
 
 abbrev pub word_fault : Option Class → ℕ → Option RunFault
@@ -91,11 +91,11 @@ aim_fault (event.To addr) = aligned_fault addr
 aim_fault (event.Eret addr ctx) = aligned_fault addr
 aim_fault e = None
 
-abbrev pub executed_fault : ℕ → Place → Event → Option (RunStep × Ctx) → Option RunFault
+abbrev pub executed_fault : ℕ → Situation → Event → Option (RunStep × Ctx) → Option RunFault
 executed_fault depth p e None = Some (fault.WrongKind p.pc)
 executed_fault depth p e (Some step) = or_else (aim_fault e) (room_fault depth p.held step.0)
 
-abbrev pub step_fault : ℕ → Option Class → Place → Event → Option RunFault
+abbrev pub step_fault : ℕ → Option Class → Situation → Event → Option RunFault
 step_fault depth class p e = or_else (word_fault class p.pc) (executed_fault depth p e (executed class p e))
 
 -- ---- the table of events
@@ -116,11 +116,11 @@ abbrev pub ran_by : Option (RunStep × Ctx) → Effect
 ran_by (Some step) = effect.Ran step.0 step.1
 ran_by None = effect.Synced
 
-abbrev pub step_row : Option Class → Place → Event → Row
+abbrev pub step_row : Option Class → Situation → Event → Row
 step_row class p e = record { fault = λ depth. step_fault depth class p e; effect = ran_by (executed class p e) }
 
 -- a step that looks at no word
-abbrev pub exception_row : Place → ℕ → ℕ → Ctx → Row
+abbrev pub exception_row : Situation → ℕ → ℕ → Ctx → Row
 exception_row p kind addr ctx =
     record {
       fault = λ depth. or_else (aligned_fault addr) (room_fault depth p.held (exception_at p kind addr));
@@ -128,7 +128,7 @@ exception_row p kind addr ctx =
     }
 
 -- each event, where tracing is off and where it is on
-abbrev pub row_of : Image → Option Place → Event → Row
+abbrev pub row_of : Image → Option Situation → Event → Row
 row_of image None (event.On addr ctx) = row (aligned_fault addr) (effect.Began addr ctx)
 row_of image None e = refused fault.NotOn
 row_of image (Some p) (event.On addr ctx) = refused fault.AlreadyOn
@@ -143,9 +143,9 @@ row_of image (Some p) event.Off = row None effect.Stopped
 row_of image (Some p) e = step_row (class_at image p.pc) p e
 
 -- the first check of an event that fails
-abbrev pub check : Image → ℕ → Option Place → Event → Option RunFault
+abbrev pub check : Image → ℕ → Option Situation → Event → Option RunFault
 check image depth p e = (row_of image p e).fault depth
 
 -- what an event does that passes its checks
-abbrev pub effect_of : Image → Option Place → Event → Effect
+abbrev pub effect_of : Image → Option Situation → Event → Effect
 effect_of image p e = (row_of image p e).effect

@@ -4,7 +4,7 @@ use Rattle.std.specs.Prelude.{ℕ, zero, suc, false, List, ◌∷◌, [], ◌++�
 use Rattle.std.specs.Option.{option_map}
 use Rattle.etm_types.specs.declared.context.Ctx.{Ctx}
 use Rattle.program_image.specs.declared.image.Image.{Image}
-use Rattle.spec_run.specs.Checks.{Place, held_at}
+use Rattle.spec_run.specs.Checks.{Situation, held_at}
 use Rattle.spec_run.specs.Kinds.{is_isb}
 use Rattle.spec_run.specs.Runs.{ByOff, ByOverflow, Execution, Running, begins, cancels, closes, flips, retires, runs, turn_newest}
 use Rattle.spec_run.specs.Steps.{ctx_at, isb_behind, kept, newest, next_behind, p0s, pc_at}
@@ -31,24 +31,24 @@ now_running x r = record x { current = Some r }
 
 -- ---- the place
 
-abbrev pub place_begun : List RunStep → ℕ → Ctx → Place
+abbrev pub place_begun : List RunStep → ℕ → Ctx → Situation
 place_begun held addr ctx = record { held = held; after_isb = false; pc = addr; ctx = ctx }
 
 -- at depth 0 the step is the newest retired one
-abbrev pub place_ran : ℕ → Place → RunStep → Ctx → Place
+abbrev pub place_ran : ℕ → Situation → RunStep → Ctx → Situation
 place_ran zero p s ctx = record p { after_isb = is_isb s.kind; pc = s.next; ctx = ctx }
 place_ran (suc depth) p s ctx = record p { held = p.held ++ s ∷ []; pc = s.next; ctx = ctx }
 
-abbrev pub place_contexted : Place → Ctx → Place
+abbrev pub place_contexted : Situation → Ctx → Situation
 place_contexted p ctx = record p { ctx = ctx }
 
-abbrev pub place_retired : Place → ℕ → Place
+abbrev pub place_retired : Situation → ℕ → Situation
 place_retired p n = record p { held = drop n p.held; after_isb = isb_behind p.after_isb (take n p.held) }
 
-abbrev pub place_cancelled : Place → ℕ → Place
+abbrev pub place_cancelled : Situation → ℕ → Situation
 place_cancelled p n = record p { held = kept n p.held; pc = pc_at p.pc (newest n p.held); ctx = ctx_at p.ctx (newest n p.held) }
 
-abbrev pub place_flipped : Image → Place → Place
+abbrev pub place_flipped : Image → Situation → Situation
 place_flipped image p = record p { held = turn_newest image p.held; pc = next_behind p.pc (turn_newest image p.held) }
 
 -- ---- the table
@@ -56,7 +56,7 @@ place_flipped image p = record p { held = turn_newest image p.held; pc = next_be
 -- what an effect changes of an execution and of the place, and what is answered of it over the steps that are held
 pub record Deed : Type 0 where
   pub changes : Image → ℕ → Execution → Option Running → Execution
-  pub place : Image → ℕ → Option Place → Option Place
+  pub place : Image → ℕ → Option Situation → Option Situation
   pub answer : List RunStep → Done
 
 -- each effect
@@ -117,7 +117,7 @@ abbrev pub applied : Image → ℕ → Execution → Effect → Execution
 applied image depth x e = applied_on image depth x x.current e
 
 -- the place behind it
-abbrev pub place_after : Image → ℕ → Option Place → Effect → Option Place
+abbrev pub place_after : Image → ℕ → Option Situation → Effect → Option Situation
 place_after image depth place e = (deed e).place image depth place
 
 -- what is answered of it, over the steps that are held

@@ -1,10 +1,10 @@
--- Plain steps that are executed one after the other, and taken at once.
+-- Plain steps that are executed one after the other, and taken together.
 use Rattle.std.specs.Prelude.{◌≡◌, ◌⊎◌, ℕ, zero, suc, ◌-◌, min, false, List, [], ◌∷◌, length, Option, Some, None, ⊤}
 use Rattle.etm_types.specs.declared.context.Ctx.{Ctx}
 use Rattle.program_image.specs.Blocks.{IsBlock, behind}
 use Rattle.program_image.specs.declared.block.Block.{Block}
 use Rattle.program_image.specs.declared.image.Image.{Image}
-use Rattle.spec_run.specs.Checks.{Place, check, effect_of, window}
+use Rattle.spec_run.specs.Checks.{Situation, check, effect_of, window}
 use Rattle.spec_run.specs.Effects.{place_after}
 use Rattle.spec_run.specs.Executed.{IsPlace}
 use Rattle.spec_run.specs.Stands.{OpenBlock, begun_behind}
@@ -15,17 +15,17 @@ use Rattle.spec_run.specs.declared.step.StepKind.TheVariants.{Plain}
 -- ---- events one after the other
 
 -- the place behind them
-abbrev pub place_after_all : Image → ℕ → Option Place → List Event → Option Place
+abbrev pub place_after_all : Image → ℕ → Option Situation → List Event → Option Situation
 place_after_all image depth place [] = place
 place_after_all image depth place (e ∷ events) = place_after_all image depth (place_after image depth place (effect_of image place e)) events
 
 -- none of them is refused
-abbrev pub AllPass : Image → ℕ → Option Place → List Event → Type 0
+abbrev pub AllPass : Image → ℕ → Option Situation → List Event → Type 0
 AllPass image depth place [] = ⊤
 AllPass image depth place (e ∷ events) =
     (check image depth place e ≡ None) × AllPass image depth (place_after image depth place (effect_of image place e)) events
 
--- ---- how many steps are taken at once
+-- ---- how many steps are taken together
 
 -- so many, as far as there is room for them among the held steps; at depth 0 none is held
 abbrev pub room_for_steps : ℕ → List RunStep → ℕ → ℕ
@@ -33,14 +33,14 @@ room_for_steps zero held n = n
 room_for_steps (suc depth) held n = min n (window - length held)
 
 -- the least of what is asked for, of the plain words from the pc on, and of the room
-pub record IsLeast (image : Image) (depth : ℕ) (p : Place) (asked count : ℕ) : Type 0 where
+pub record IsLeast (image : Image) (depth : ℕ) (p : Situation) (asked count : ℕ) : Type 0 where
   pub place : IsPlace p.pc
   pub block : Block
   pub is : IsBlock image p.pc block
   pub least : count ≡ min block.plain (room_for_steps depth p.held asked)
 
 -- none while tracing is off, or where no instruction may stand at the pc
-abbrev pub IsStepCount : Image → ℕ → Option Place → ℕ → ℕ → Type 0
+abbrev pub IsStepCount : Image → ℕ → Option Situation → ℕ → ℕ → Type 0
 IsStepCount image depth None asked count = count ≡ 0
 IsStepCount image depth (Some p) asked count = IsLeast image depth p asked count ⊎ ((IsPlace p.pc → ⊥) × (count ≡ 0))
 

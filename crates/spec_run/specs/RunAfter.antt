@@ -3,14 +3,14 @@ use Rattle.std.specs.Prelude.{ℕ, ◌+◌, ◌^◌, ◌<◌, List, [], ◌∷�
 use Rattle.std.specs.Option.{option_map}
 use Rattle.etm_types.specs.Settings.{FitsSettings, Sizes}
 use Rattle.program_image.specs.declared.image.Image.{Image}
-use Rattle.spec_run.specs.Checks.{Place, check, effect_of, place_of}
+use Rattle.spec_run.specs.Checks.{Situation, check, effect_of, place_of}
 use Rattle.spec_run.specs.Effects.{applied}
 use Rattle.spec_run.specs.Runs.{Execution, at_first}
 use Rattle.spec_run.specs.declared.event.Event.{Event}
 use Rattle.spec_run.specs.declared.event.Event.TheVariants as event
 use Rattle.spec_run.specs.declared.run_fault.RunFault.{RunFault}
 
-abbrev pub place_in : Execution → Option Place
+abbrev pub place_in : Execution → Option Situation
 place_in x = option_map place_of x.current
 
 -- the execution behind an event that is not refused

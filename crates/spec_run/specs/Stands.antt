@@ -7,7 +7,7 @@ use Rattle.etm_types.specs.declared.item.Item.{Item}
 use Rattle.etm_types.specs.declared.walked.Walked.{Walked}
 use Rattle.program_image.specs.Blocks.{behind}
 use Rattle.program_image.specs.declared.image.Image.{Image}
-use Rattle.spec_run.specs.Checks.{Place}
+use Rattle.spec_run.specs.Checks.{Situation}
 use Rattle.spec_run.specs.Kinds.{took_of}
 use Rattle.spec_run.specs.RetiredItems.{has_p0, item_of}
 use Rattle.spec_run.specs.RunAfter.{place_in, run_after}
@@ -24,7 +24,7 @@ use Rattle.spec_run.specs.declared.step.StepKind.TheVariants.{Exc}
 -- the maximum speculation depth, and where the run is, where tracing is on
 pub record Kept : Type 0 where
   pub depth : ℕ
-  pub place : Option Place
+  pub place : Option Situation
 
 -- the run stands behind these events, which are all accepted
 pub record StandsAt (image : Image) (s : Sizes) (kept : Kept) (events : List Event) : Type 0 where

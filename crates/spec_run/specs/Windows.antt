@@ -4,7 +4,7 @@ use Rattle.circular_buffer.specs.Buffer.{Buffer}
 use Rattle.etm_types.specs.declared.context.Ctx.{Ctx}
 use Rattle.program_image.specs.Blocks.{behind}
 use Rattle.program_image.specs.declared.image.Image.{Image}
-use Rattle.spec_run.specs.Checks.{Place, check, effect_of, step_at, window}
+use Rattle.spec_run.specs.Checks.{Situation, check, effect_of, step_at, window}
 use Rattle.spec_run.specs.Effects.{place_ran}
 use Rattle.spec_run.specs.Steps.{p0s}
 use Rattle.spec_run.specs.declared.effect.Effect.{Effect}
@@ -16,10 +16,10 @@ use Rattle.spec_run.specs.declared.standing.Standing.{Standing}
 use Rattle.spec_run.specs.declared.step.RunStep.{RunStep}
 use Rattle.spec_run.specs.declared.step.StepKind.TheVariants.{Plain}
 
-abbrev pub place_of_standing : Standing → List RunStep → Place
+abbrev pub place_of_standing : Standing → List RunStep → Situation
 place_of_standing s held = record { held = held; after_isb = s.after_isb; pc = s.pc; ctx = s.ctx }
 
-abbrev pub place_by : Option Standing → List RunStep → Option Place
+abbrev pub place_by : Option Standing → List RunStep → Option Situation
 place_by None held = None
 place_by (Some s) held = Some (place_of_standing s held)
 
@@ -41,16 +41,16 @@ abbrev pub planned_by : Option RunFault → Effect → Result Effect RunFault
 planned_by None effect = Ok effect
 planned_by (Some fault) effect = Err fault
 
-abbrev pub planned : Image → ℕ → Option Place → Event → Result Effect RunFault
+abbrev pub planned : Image → ℕ → Option Situation → Event → Result Effect RunFault
 planned image depth place e = planned_by (check image depth place e) (effect_of image place e)
 
 -- ---- plain steps
 
 -- one, and so many one after the other
-abbrev pub place_stepped : ℕ → Place → Place
+abbrev pub place_stepped : ℕ → Situation → Situation
 place_stepped depth p = place_ran depth p (step_at p Plain (behind p.pc 1) false) p.ctx
 
-abbrev pub place_stepped_all : ℕ → Place → ℕ → Place
+abbrev pub place_stepped_all : ℕ → Situation → ℕ → Situation
 place_stepped_all depth p zero = p
 place_stepped_all depth p (suc n) = place_stepped depth (place_stepped_all depth p n)
 

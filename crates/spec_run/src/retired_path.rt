@@ -95,7 +95,7 @@ impl RetiredPath {
         Some(walked)
     }
 
-    /// Takes so many retired plain steps at once, from an address on, as so many calls of `retire` do. They end no block.
+    /// Takes so many retired plain steps together, from an address on, as so many calls of `retire` do. They end no block.
     pub fn retire_plain(&mut self, addr: u64, n: u32, ctx: Ctx)
         requires follows { 0 < n → Follows self.old (plain_step addr ctx) }
         requires few { self.old.plain + n ≤ 2 ^ 62 }

@@ -102,7 +102,7 @@ impl Run {
         Ok(self.take(image, &effect))
     }
 
-    /// Takes so many events `Step` at once, as far as plain words stand from the pc on and there is room for their steps, and
+    /// Takes so many events `Step` together, as far as plain words stand from the pc on and there is room for their steps, and
     /// says how many. While tracing is off it takes none. An ISB is left to `apply`.
     ///
     /// It costs the search of a block, and above depth 0 a write for each step.
@@ -125,16 +125,6 @@ impl Run {
             self.hold_plain(count);
         }
         count
-    }
-
-    /// Whether an event would be taken, and if not, why. Nothing changes.
-    pub fn check(&self, image: &Image, event: &Event) -> Result<(), RunFault>
-        ensures checked { refused_by result ≡ check image.now self.now.depth self.now.place event.now }
-        ensures refused { (s : Sizes) (events : List Event) → StandsAt image.now s self.now events → (fault : RunFault) → result ≡ Err fault
-            → run_after image.now s.depth (events ++ event.now ∷ []) ≡ Err (length events, fault) }
-    {
-        self.plan(image, event)?;
-        Ok(())
     }
 
     /// How many steps are not retired.
@@ -384,7 +374,7 @@ impl Run {
         self.held.push_back(step);
     }
 
-    /// How many of so many events `Step` can be taken at once from the pc on.
+    /// How many of so many events `Step` can be taken together from the pc on.
     fn plain_steps(&self, image: &Image, pc: u64, n: u32) -> u32
         requires { option_map (λ p. p.pc) self.now.place ≡ Some pc }
         ensures { IsStepCount image.now self.now.depth self.now.place n result }

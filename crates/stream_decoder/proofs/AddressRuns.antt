@@ -22,7 +22,7 @@ use Rattle.packet_grammar.specs.declared.packet.Packet.TheVariants.{Addr}
 use Rattle.packet_grammar.specs.declared.stream_fault.Fault.{Fault}
 use Rattle.packet_reader.specs.Fronts.{IsFront}
 use Rattle.packet_reader.specs.Packets.{ArePackets, length_of}
-use Rattle.packet_reader.specs.Stands.{Standing, TakesPacket}
+use Rattle.packet_reader.specs.Stands.{PacketReading, TakesPacket}
 use Rattle.packet_reader.specs.declared.phase.Phase.TheVariants.{Between}
 use Rattle.path_elements.proofs.Taken.{in_range}
 use Rattle.path_elements.specs.Elements.{Told, after_address, atoms, elements_of, is_misplaced, told_after, with_address}
@@ -120,7 +120,7 @@ one_address addr aligned = record { most = omega arith; each = All-cons IsElem (
 -- ---- the packets
 
 -- The reader took the packet of an address, and that was taken as its one element.
-module _ (r r1 : Standing) (t t1 : Told) (l : Left) (w w1 : Waiting) (s : State) (f : Option (ℕ × Fault)) (text : List ℕ) (at : ℕ) (form : AddrForm)
+module _ (r r1 : PacketReading) (t t1 : Told) (l : Left) (w w1 : Waiting) (s : State) (f : Option (ℕ × Fault)) (text : List ℕ) (at : ℕ) (form : AddrForm)
     (addr : ℕ) (is : (w.depth ≡ (r.settings).depth) × IsDecoding (decoding_of r t l w s f)) (done : AtRest (decoding_of r t l w s f)) (whole : f ≡ None)
     (counts : AtomsCount t) (small : Small text) (takes : TakesPacket r r1 text at (Addr form None)) (addr_is : addr ≡ address_told t.history form)
     (aligned : addr % 4 ≡ 0) (told_is : t1 ≡ told_after t (Addr form None)) (commits : Commits w (elem.Addr addr) w1 []) (waits : IsWaiting w1) where
@@ -162,7 +162,7 @@ module _ (r r1 : Standing) (t t1 : Told) (l : Left) (w w1 : Waiting) (s : State)
 
 -- One packet that shows nothing is a run of packets by itself, of which a taker takes nothing.
 pub one_shows_nothing : {V : Type 0} (Takes : V → List Stretch → V → Type 0) (image : Image) (d d' : Decoding) (bytes behind text : List ℕ) (old : V)
-    → bytes ≡ text ++ behind → 0 < length text → (d'.reader).taken ≡ (d.reader).taken + length text → (d'.reader).settings ≡ (d.reader).settings
+    → bytes ≡ text ++ behind → 0 < length text → (d'.reader).offset ≡ (d.reader).offset + length text → (d'.reader).settings ≡ (d.reader).settings
     → RunsPacket image d text [] d' → Takes old [] old → RunsFront Takes image d old bytes behind d' old
 one_shows_nothing Takes image d d' bytes behind text old parts some taken settings packet none =
     record {
@@ -174,11 +174,11 @@ one_shows_nothing Takes image d d' bytes behind text old parts some taken settin
       takes = none;
       packets = packet;
       settings = settings;
-      taken = omega (arith, taken);
+      offset = omega (arith, taken);
     }
 
 -- The atoms behind an address were walked, the first of them from there, and the reader took the packets in which they stand.
-pub addressed_runs : {V : Type 0} (Takes : V → List Stretch → V → Type 0) (image : Image) (r r1 r' : Standing) (t t1 : Told) (l l' : Left) (w w' : Waiting)
+pub addressed_runs : {V : Type 0} (Takes : V → List Stretch → V → Type 0) (image : Image) (r r1 r' : PacketReading) (t t1 : Told) (l l' : Left) (w w' : Waiting)
     (s s' : State) (f : Option (ℕ × Fault)) (bytes rest behind text : List ℕ) (at : ℕ) (form : AddrForm) (addr : ℕ) (before : Option ℕ)
     (told : List Bool) (n : ℕ) (old new : V)
     → (w.depth ≡ (r.settings).depth) × IsDecoding (decoding_of r t l w s f) → AtRest (decoding_of r t l w s f) → f ≡ None → AtomsCount t → Small bytes
@@ -203,12 +203,12 @@ addressed_runs Takes image r r1 r' t t1 l l' w w' s s' f bytes rest behind text 
     let (runs, stays) = front_runs Takes image r1 r' t1 l2 l' w1 w' s s' f rest behind told n old new holds at_rest whole counts1
     (small_back bytes text rest parts small) begins taken reached in (
       runs_behind Takes image (decoding_of r t l w s f) mid (decoding_of r' t1 l' w' s' f) text bytes rest behind old new address at_rest holds.1 refl
-          takes.settings takes.taken parts runs,
+          takes.settings takes.offset parts runs,
       stays,
     )
 
 -- behind it atoms are still committed as they are made
-pub passes_behind : (r r' : Standing) (t t1 : Told) (l l' : Left) (w w' : Waiting) (s s' : State) (f : Option (ℕ × Fault)) (form : AddrForm) (n : ℕ)
+pub passes_behind : (r r' : PacketReading) (t t1 : Told) (l l' : Left) (w w' : Waiting) (s s' : State) (f : Option (ℕ × Fault)) (form : AddrForm) (n : ℕ)
     → PassesAtoms (decoding_of r t l w s f) → t1 ≡ told_after t (Addr form None) → w' ≡ passed n w → r'.settings ≡ r.settings → r'.phase ≡ Between
     → PassesAtoms (decoding_of r' t1 l' w' s' f)
 passes_behind r r' t t1 l l' w w' s s' f form n passes told_is after settings between =

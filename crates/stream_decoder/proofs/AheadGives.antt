@@ -1,4 +1,4 @@
--- Packets of atoms, commits, cancels and mispredicts that are taken one after the other lead to what settling does at once.
+-- Packets of atoms, commits, cancels and mispredicts that are taken one after the other lead to what settling does.
 use Rattle.std.proofs.Common.{◌≡◌, ℕ, zero, suc, ◌+◌, ◌-◌, ◌%◌, ◌^◌, ◌≤◌, ◌<◌, Bool, false, List, [], ◌∷◌, ◌++◌, length, map, take, drop, Ok}
 use Rattle.std.proofs.Common.{refl, sym, ap, subst, ◌∙◌, inl, inr, arith, append-nil, append_assoc, length-append, length-drop}
 use Rattle.std.proofs.Math.Nat.{mod-lt}

@@ -14,7 +14,7 @@ use Rattle.packet_grammar.specs.declared.packet.Packet.{Packet}
 use Rattle.packet_grammar.specs.declared.packet.Packet.TheVariants.{Atoms, Commit, Cancel, Mispredict}
 use Rattle.packet_grammar.specs.declared.stream_fault.Fault.{Fault}
 use Rattle.packet_reader.specs.Packets.{TakesPackets, bytes_of}
-use Rattle.packet_reader.specs.Stands.{Standing, TakesPacket}
+use Rattle.packet_reader.specs.Stands.{PacketReading, TakesPacket}
 use Rattle.path_elements.specs.Elements.{Told, elements_of, is_misplaced, told_after}
 use Rattle.path_elements.specs.Held.{AreElems, IsElem}
 use Rattle.path_walker.specs.State.{State}
@@ -99,7 +99,7 @@ counted_cancel t n counts = rw counts.informed (rw counts.awaiting refl)
 counted_flip : (t : Told) → AtomsCount t → is_misplaced t (Mispredict no_atoms) ≡ false
 counted_flip t counts = rw counts.informed (rw counts.awaiting refl)
 
-ready : (r r' : Standing) (t : Told) (text : List ℕ) (at : ℕ) (packet : Packet) (es : List Elem) → AtomsCount t → TakesPacket r r' text at packet
+ready : (r r' : PacketReading) (t : Told) (text : List ℕ) (at : ℕ) (packet : Packet) (es : List Elem) → AtomsCount t → TakesPacket r r' text at packet
     → HasElements packet es → Ready t packet es
 ready r r' t text at packet es counts takes (inl (run, is, has)) =
     let takes' = subst (λ (p : Packet). TakesPacket r r' text at p) is takes in
@@ -133,7 +133,7 @@ ready r r' t text at packet es counts takes (inr (inr (inr (is, has)))) =
 
 module _ (image : Image) (t : Told) (counts : AtomsCount t) (f : Option (ℕ × Fault)) (whole : f ≡ None) where
   -- its elements are taken, and show nothing
-  each_goes : (r : Standing) (l : Left) (w w' : Waiting) (s : State) (es : List Elem) → (w.depth ≡ (r.settings).depth) × IsDecoding (decoding_of r t l w s f)
+  each_goes : (r : PacketReading) (l : Left) (w w' : Waiting) (s : State) (es : List Elem) → (w.depth ≡ (r.settings).depth) × IsDecoding (decoding_of r t l w s f)
       → l.elements ≡ es → TakesEach w es w'
       → Goes image (decoding_of r t l w s f) [] (decoding_of r t (nothing_left l.at) w' s f)
       × ((w'.depth ≡ (r.settings).depth) × IsDecoding (decoding_of r t (nothing_left l.at) w' s f))
@@ -153,7 +153,7 @@ module _ (image : Image) (t : Told) (counts : AtomsCount t) (f : Option (ℕ × 
       )
 
   -- what it commits is given out, and was walked
-  drops_go : (r : Standing) (l : Left) (w w' : Waiting) (s s' : State) (gone : List Bool) (others : List Thing) (added : List Stretch)
+  drops_go : (r : PacketReading) (l : Left) (w w' : Waiting) (s s' : State) (gone : List Bool) (others : List Thing) (added : List Stretch)
       → (w.depth ≡ (r.settings).depth) × IsDecoding (decoding_of r t l w s f) → w.due ≡ map plain_atom gone ++ others → DropsDue w (length gone) w'
       → length added ≡ length gone → WalksAtoms image s None gone added s'
       → Goes image (decoding_of r t l w s f) (items_in s.ctx added) (decoding_of r t l w' s' f)
@@ -170,7 +170,7 @@ module _ (image : Image) (t : Told) (counts : AtomsCount t) (f : Option (ℕ × 
       let ran = ran_by_dropping image r t f s s' added (suc (length gone)) l w w' all (λ e. absurd (omega (arith, e))) is walks' drops in
       (ran.0, ran.2)
 
-  packet_given : (r r' : Standing) (l : Left) (w w' : Waiting) (s s' : State) (text : List ℕ) (at : ℕ) (packet : Packet) (gone : List Bool)
+  packet_given : (r r' : PacketReading) (l : Left) (w w' : Waiting) (s s' : State) (text : List ℕ) (at : ℕ) (packet : Packet) (gone : List Bool)
       (added : List Stretch) → Stays r t f l w s → l.elements ≡ [] → Small text → TakesPacket r r' text at packet → GivesOut w packet gone w'
       → length added ≡ length gone → WalksAtoms image s None gone added s'
       → RunsPacket image (decoding_of r t l w s f) text (items_in s.ctx added) (decoding_of r' t (nothing_left at) w' s' f)
@@ -200,16 +200,16 @@ module _ (image : Image) (t : Told) (counts : AtomsCount t) (f : Option (ℕ × 
 
   -- ---- packets
 
-  packets_given : (r r' : Standing) (l : Left) (w w' : Waiting) (s s' : State) (first : List (List ℕ × Packet)) (last : List ℕ × Packet) (at : ℕ)
+  packets_given : (r r' : PacketReading) (l : Left) (w w' : Waiting) (s s' : State) (first : List (List ℕ × Packet)) (last : List ℕ × Packet) (at : ℕ)
       (gone : List Bool) (added : List Stretch) → Stays r t f l w s → l.elements ≡ [] → Small (bytes_of first ++ last.0) → TakesPackets r first last at r'
       → GiveOut w first last gone w' → length added ≡ length gone → WalksAtoms image s None gone added s'
       → RunsPackets image (decoding_of r t l w s f) (map (λ (p : List ℕ × Packet). p.0) first) last.0 (items_in s.ctx added)
       (decoding_of r' t (nothing_left at) w' s' f)
       × ((w'.depth ≡ (r'.settings).depth) × IsDecoding (decoding_of r' t (nothing_left at) w' s' f)) × (r'.settings ≡ r.settings)
-      × (r'.taken ≡ r.taken + length (bytes_of first) + length last.0)
+      × (r'.offset ≡ r.offset + length (bytes_of first) + length last.0)
   packets_given r r' l w w' s s' [] last at gone added is rest small takes gives all walks =
       let (runs, stays) = packet_given r r' l w w' s s' last.0 at last.1 gone added is rest small takes gives all walks in
-      (runs, stays, takes.settings, omega (arith, takes.taken))
+      (runs, stays, takes.settings, omega (arith, takes.offset))
   packets_given r r' l w w' s s' (p ∷ first) last at gone added is rest small (at1, r1, takes1, takes) (w1, gone1, more, gives1, due1, gives, gone_is)
       all walks =
       let both : length added ≡ length (gone1 ++ more) = all ∙ ap length gone_is in
@@ -238,7 +238,7 @@ module _ (image : Image) (t : Told) (counts : AtomsCount t) (f : Option (ℕ × 
         ),
         stays,
         settings ∙ takes1.settings,
-        omega (arith, taken, takes1.taken, length-append p.0 (bytes_of first)),
+        omega (arith, taken, takes1.offset, length-append p.0 (bytes_of first)),
       )
 
 texts_of : (ps : List (List ℕ × Packet)) → bytes_in (map (λ (p : List ℕ × Packet). p.0) ps) ≡ bytes_of ps
@@ -246,7 +246,7 @@ texts_of [] = refl
 texts_of (p ∷ ps) = ap (λ (l : List ℕ). p.0 ++ l) (texts_of ps)
 
 -- The first of some atoms were walked, and then the packets that commit them are taken.
-pub ahead_runs : {V : Type 0} (Takes : V → List Stretch → V → Type 0) (image : Image) (r r' : Standing) (t : Told) (l : Left) (w w' : Waiting) (s s' : State)
+pub ahead_runs : {V : Type 0} (Takes : V → List Stretch → V → Type 0) (image : Image) (r r' : PacketReading) (t : Told) (l : Left) (w w' : Waiting) (s s' : State)
     (f : Option (ℕ × Fault)) (bytes behind : List ℕ) (first : List (List ℕ × Packet)) (last : List ℕ × Packet) (at : ℕ) (told gone : List Bool) (n : ℕ) (old new : V)
     → (w.depth ≡ (r.settings).depth) × IsDecoding (decoding_of r t l w s f) → AtRest (decoding_of r t l w s f) → f ≡ None → AtomsCount t → Small bytes
     → bytes ≡ bytes_of first ++ (last.0 ++ behind) → 0 < length last.0 → TakesPackets r first last at r' → GiveOut w first last gone w'
@@ -271,7 +271,7 @@ ahead_runs Takes image r r' t l w w' s s' f bytes behind first last at told gone
         takes = walked.takes;
         packets = runs;
         settings = settings;
-        taken = omega (arith, taken, ap length (texts_of first));
+        offset = omega (arith, taken, ap length (texts_of first));
       },
       stays,
     )

@@ -1,4 +1,4 @@
--- Bytes that are taken one after the other, or whole packets at once.
+-- Bytes that are taken one after the other, or whole packets together.
 use Rattle.std.proofs.Common.{◌≡◌, ◌≢◌, ℕ, ◌+◌, ◌<◌, List, [], ◌∷◌, ◌++◌, length, Option, Result, Some, None, Ok, Err, false, refl, sym, ap, subst, ◌∙◌, inl, arith}
 use Rattle.std.proofs.Common.{append_assoc, append-nil, length-append}
 use Rattle.std.specs.Prelude.{IsOk}
@@ -11,7 +11,7 @@ use Rattle.etm_types.specs.declared.item.Item.{Item}
 use Rattle.packet_grammar.proofs.Fitting.{small_back, small_front}
 use Rattle.packet_grammar.specs.declared.end.End.{End}
 use Rattle.packet_grammar.specs.declared.stream_fault.Fault.{Fault}
-use Rattle.packet_reader.specs.Stands.{Standing}
+use Rattle.packet_reader.specs.Stands.{PacketReading}
 use Rattle.path_elements.proofs.BytePaths.{front_path, one_path, path_grows}
 use Rattle.path_elements.specs.Path.{IsPath, IsPathTaking}
 use Rattle.path_text.proofs.LineLemmas.{lines_of-append, shown_after_all-append}

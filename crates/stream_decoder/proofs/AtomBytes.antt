@@ -10,7 +10,7 @@ use Rattle.element_queue.proofs.LowBits.{joined_fits, low_bits-append, low_bits-
 use Rattle.etm_types.specs.Atoms.{atoms_in, low_bits}
 use Rattle.etm_types.specs.declared.atoms.AtomRun.{AtomRun}
 use Rattle.packet_grammar.specs.declared.packet.Packet.TheVariants.{Atoms}
-use Rattle.packet_reader.specs.Stands.{Standing, TakesPacket}
+use Rattle.packet_reader.specs.Stands.{PacketReading, TakesPacket}
 use Rattle.packet_reader.specs.declared.phase.Phase.TheVariants.{Between}
 use Rattle.stream_decoder.specs.AtomPackets.{BeginWithAtoms, ReadsAtoms, ReadsUntil, TellAtoms}
 
@@ -22,14 +22,14 @@ tell_more [] told byte atoms none spells = (atoms, [], spells, refl, ap (λ (l :
 tell_more (b ∷ text) told byte atoms (first, rest, spells_first, tell, parts) spells =
     (first, rest ++ atoms, spells_first, tell_more text rest byte atoms tell spells, ap (λ (l : List Bool). l ++ atoms) parts ∙ append_assoc first rest atoms)
 
-pub read_more : (r r' r'' : Standing) (text : List ℕ) (told : List Bool) (byte at : ℕ) (run : AtomRun) → ReadsAtoms r text told r'
+pub read_more : (r r' r'' : PacketReading) (text : List ℕ) (told : List Bool) (byte at : ℕ) (run : AtomRun) → ReadsAtoms r text told r'
     → TakesPacket r' r'' (byte ∷ []) at (Atoms run) → ReadsAtoms r (text ++ byte ∷ []) (told ++ atoms_in run) r''
 read_more r r' r'' [] told byte at run (same, none) takes = (
   at,
   run,
   r'',
   [],
-  subst (λ (s : Standing). TakesPacket s r'' (byte ∷ []) at (Atoms run)) same takes,
+  subst (λ (s : PacketReading). TakesPacket s r'' (byte ∷ []) at (Atoms run)) same takes,
   (refl, refl),
   ap (λ (l : List Bool). l ++ atoms_in run) none ∙ sym (append-nil (atoms_in run)),
 )
@@ -108,7 +108,7 @@ first_n first behind last n within told atoms all begin tell spells count enough
 -- ---- a reader on its way to an atom
 
 -- of n atoms so many are left, and the bytes that are left begin with them
-pub record IsOnTheWay (r : Standing) (bytes : List ℕ) (n left : ℕ) (rest : List ℕ) (here : Standing) : Type 0 where
+pub record IsOnTheWay (r : PacketReading) (bytes : List ℕ) (n left : ℕ) (rest : List ℕ) (here : PacketReading) : Type 0 where
   pub first : List ℕ
   pub told : List Bool
   pub parts : bytes ≡ first ++ rest
@@ -117,21 +117,21 @@ pub record IsOnTheWay (r : Standing) (bytes : List ℕ) (n left : ℕ) (rest : L
   pub count : length told + left ≡ n
   pub some : 0 < left
   pub between : here.phase ≡ Between
-  pub small : here.taken + length rest ≤ 2 ^ 62
+  pub small : here.offset + length rest ≤ 2 ^ 62
   pub more : (all : List Bool) × BeginWithAtoms rest all × (left ≤ length all)
 
-at_byte : (r here : Standing) (bytes rest behind : List ℕ) (n left byte : ℕ) → rest ≡ byte ∷ behind → IsOnTheWay r bytes n left rest here
+at_byte : (r here : PacketReading) (bytes rest behind : List ℕ) (n left byte : ℕ) → rest ≡ byte ∷ behind → IsOnTheWay r bytes n left rest here
     → IsOnTheWay r bytes n left (byte ∷ behind) here
 at_byte r here bytes rest behind n left byte parts way = subst (λ (l : List ℕ). IsOnTheWay r bytes n left l here) parts way
 
 -- the next byte is a packet of atoms
-pub next_least : (r here : Standing) (bytes rest behind : List ℕ) (n left byte : ℕ) → rest ≡ byte ∷ behind → IsOnTheWay r bytes n left rest here
+pub next_least : (r here : PacketReading) (bytes rest behind : List ℕ) (n left byte : ℕ) → rest ≡ byte ∷ behind → IsOnTheWay r bytes n left rest here
     → (here.phase ≡ Between) × (0xc0 ≤ byte)
 next_least r here bytes rest behind n left byte parts on_the_way =
     let way = at_byte r here bytes rest behind n left byte parts on_the_way in
     let m = way.more in (way.between, first_least byte behind m.0 m.1 (omega (arith, m.2, way.some)))
 
-module _ (r here next : Standing) (bytes rest behind : List ℕ) (n left byte at : ℕ) (run : AtomRun) (parts : rest ≡ byte ∷ behind)
+module _ (r here next : PacketReading) (bytes rest behind : List ℕ) (n left byte at : ℕ) (run : AtomRun) (parts : rest ≡ byte ∷ behind)
     (on_the_way : IsOnTheWay r bytes n left rest here) (takes : TakesPacket here next (byte ∷ []) at (Atoms run))
     (spells : Spells byte (atoms_in run)) where
   way : IsOnTheWay r bytes n left (byte ∷ behind) here
@@ -156,7 +156,7 @@ module _ (r here next : Standing) (bytes rest behind : List ℕ) (n left byte at
         count = omega (arith, told, counted, way.count, fewer);
         some = omega (arith, fewer);
         between = between;
-        small = omega (arith, takes.taken, way.small);
+        small = omega (arith, takes.offset, way.small);
         more = (f.0, f.2, omega (arith, long, counted, m.2, fewer));
       }
 

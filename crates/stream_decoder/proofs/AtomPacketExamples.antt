@@ -24,7 +24,7 @@ use Rattle.etm_types.specs.declared.element.Thing.TheVariants.{Seen}
 use Rattle.etm_types.specs.declared.item.Item.{Item}
 use Rattle.etm_types.specs.declared.item.Item.TheVariants as item
 use Rattle.etm_types.specs.declared.walked.Walked.{Walked}
-use Rattle.packet_reader.specs.Stands.{Standing}
+use Rattle.packet_reader.specs.Stands.{PacketReading}
 use Rattle.path_walker.specs.State.{IsAligned, State}
 use Rattle.path_walker.specs.Things.{Walks}
 use Rattle.path_walker.specs.Walk.{Shows, items_in}
@@ -120,14 +120,14 @@ none_behind_others other =
 
 -- ---- how far a reader goes for some atoms
 
-told_some : (r r' : Standing) (first : List ℕ) (told : List Bool) → ReadsAtoms r first told r' → 0 < length first → 0 < length told
+told_some : (r r' : PacketReading) (first : List ℕ) (told : List Bool) → ReadsAtoms r first told r' → 0 < length first → 0 < length told
 told_some r r' [] told reads some = absurd (omega (arith, some))
 told_some r r' (byte ∷ first) told (at, run, next, rest, takes, reads, parts) some =
     let long = ap (λ (l : List Bool). length l) parts ∙ length-append (atoms_in run) rest in
     omega (arith, long, low_bits-length run.count run.bits, takes.values.some)
 
 -- for one atom no second packet is taken
-pub no_packet_too_many : (r r' : Standing) (at within : ℕ) (run : AtomRun) → ReadsUntil r three 1 at run within (0xfd ∷ []) r' → ⊥
+pub no_packet_too_many : (r r' : PacketReading) (at within : ℕ) (run : AtomRun) → ReadsUntil r three 1 at run within (0xfd ∷ []) r' → ⊥
 no_packet_too_many r r' at within run until =
     let long = ap (λ (l : List ℕ). length l) until.parts ∙ length-append until.first (until.last ∷ 0xfd ∷ []) in
     absurd (omega (arith, until.count, until.some, told_some r until.before until.first until.told until.reads (omega (arith, long))))

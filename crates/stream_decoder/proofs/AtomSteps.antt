@@ -1,4 +1,4 @@
--- Some atoms at the front are taken at once: that is the same as one after the other.
+-- Some atoms at the front are taken together: that is the same as one after the other.
 use Rattle.std.proofs.Common.{◌≡◌, ℕ, zero, suc, ◌+◌, ◌≤◌, ◌<◌, Bool, List, [], ◌∷◌, ◌++◌, length, take, drop, Option, Some, None}
 use Rattle.std.proofs.Common.{refl, sym, ap, subst, ◌∙◌, arith, inl, append_assoc, length-drop}
 use Rattle.std.proofs.Math.Seq.{take-add}

@@ -13,7 +13,7 @@ use Rattle.etm_types.specs.declared.element.Thing.{Thing}
 use Rattle.etm_types.specs.declared.element.Thing.TheVariants.{Seen}
 use Rattle.etm_types.specs.declared.walked.Walked.{Walked}
 use Rattle.packet_grammar.specs.declared.stream_fault.Fault.{Fault}
-use Rattle.packet_reader.specs.Stands.{Standing}
+use Rattle.packet_reader.specs.Stands.{PacketReading}
 use Rattle.path_elements.specs.Elements.{Told}
 use Rattle.path_walker.specs.State.{State, IsState}
 use Rattle.path_walker.specs.Things.{Walks}
@@ -45,7 +45,7 @@ pub whole_by : (f : Option (ℕ × Fault)) → (f ≢ None → ⊥) → f ≡ No
 whole_by None still = refl
 whole_by (Some stop) still = absurd (still (λ e. cc))
 
-module _ (r : Standing) (t : Told) (l l' : Left) (w w' : Waiting) (s s' : State) (f : Option (ℕ × Fault)) (taken : Bool) (entry : Entry) (others : List Elem)
+module _ (r : PacketReading) (t : Told) (l l' : Left) (w w' : Waiting) (s s' : State) (f : Option (ℕ × Fault)) (taken : Bool) (entry : Entry) (others : List Elem)
     (first : l.elements ≡ elem.P0 (Atom taken) ∷ others) (left_is : l' ≡ record l { elements = others }) (none : w.due ≡ [])
     (gives : committed_by w (Atom taken) ≡ Seen entry ∷ [])
     (is : (w.depth ≡ (r.settings).depth) × IsDecoding (decoding_of r t l w s f))

@@ -4,7 +4,7 @@ use Rattle.std.specs.Prelude.{is_some}
 use Rattle.std.proofs.lemmas.List.Elements.{All-append, All-cons, All-nil}
 use Rattle.etm_types.specs.Settings.{AreSettings, Sizes}
 use Rattle.packet_grammar.specs.declared.stream_fault.Fault.{Fault}
-use Rattle.packet_reader.specs.Stands.{Standing}
+use Rattle.packet_reader.specs.Stands.{PacketReading}
 use Rattle.packet_reader.specs.Stands as reader
 use Rattle.packet_reader.specs.declared.step.Step.{Step}
 use Rattle.path_elements.specs.Elements.{Told}
@@ -22,7 +22,7 @@ pub unmet : (f : Option (ℕ × Fault)) → is_some f ≡ false → f ≡ None
 unmet None e = refl
 unmet (Some stop) e = absurd cc
 
-module _ (r r' : Standing) (byte : ℕ) (small : byte < 256) (step : Step) (sizes : r'.settings ≡ r.settings)
+module _ (r r' : PacketReading) (byte : ℕ) (small : byte < 256) (step : Step) (sizes : r'.settings ≡ r.settings)
     (stands : (bytes : List ℕ) → reader.StandsAt r bytes → reader.StandsAt r' (bytes ++ byte ∷ []))
     (gains : (bytes : List ℕ) → reader.StandsAt r bytes → reader.Gains r.settings bytes byte step) where
   -- the reader goes on
@@ -58,7 +58,7 @@ module _ (r r' : Standing) (byte : ℕ) (small : byte < 256) (step : Step) (size
       begun_by : OpensBehind f here step d' → BegunByte now byte d'
       begun_by opens =
           subst (λ (n : Decoding). BegunByte n byte d') same
-          (step, subst (λ (x : Standing). Reads r x byte step) (sym reader_same) reads, opens)
+          (step, subst (λ (x : PacketReading). Reads r x byte step) (sym reader_same) reads, opens)
 
       behind_fault : (met : Option (ℕ × Fault)) → true ≡ is_some met → d' ≡ record here { reader = d'.reader } → OpensBehind met here step d'
       behind_fault (Some stop) e opens = opens

@@ -422,21 +422,21 @@ module _ (image : Image) (bytes text : List ℕ) (items : List Item) (d m : Deco
           → Yields image m others (outcome_at met d'.pending d'.walk) took' → ComesTo met image d' more (items ++ others) (took ++ took')
       comes_by others d' (Some stop) took' reads told_same yields =
           subst (λ (z : Sizes). IsPathTaking image z more (items ++ others) (end.Fault stop.0 stop.1) (took ++ took'))
-          (sym (ap (λ (r : reader.Standing). r.settings) reads ∙ settings)) (path_with others (Err stop) took' yields)
+          (sym (ap (λ (r : reader.PacketReading). r.settings) reads ∙ settings)) (path_with others (Err stop) took' yields)
       comes_by others d' None took' reads told_same yields =
           let runs = runs_on others (Ok (d'.pending, d'.walk)) took' yields in
           let all : took' ≡ with_offset m.at m.todo =
           runs_all image (depth_of m) m.pending m.walk (with_offset m.at m.todo) others (d'.pending, d'.walk) took'
           (yields_runs image m others (Ok (d'.pending, d'.walk)) took' opened.due yields) in
           let same : took ++ with_offset m.at m.todo ≡ took ++ took' = ap (λ (l : List (ℕ × Elem)). took ++ l) (sym all) in
-          let sizes : (d'.reader).settings ≡ (d.reader).settings = ap (λ (r : reader.Standing). r.settings) reads ∙ settings in (
+          let sizes : (d'.reader).settings ≡ (d.reader).settings = ap (λ (r : reader.PacketReading). r.settings) reads ∙ settings in (
             opened.packets,
             (opened.so).ending,
             subst (λ (z : Sizes). IsStream z more opened.packets (opened.so).ending) (sym sizes) (opened.so).stream,
             (opened.so).fault,
             opened.gained ∙ ap (λ (l : List (ℕ × Elem)). gains l None m.told) same ∙ ap (gains (took ++ took') None) (sym told_same),
             subst (λ (n : ℕ). Runs image n at_first first_state (took ++ took') (items ++ others) (Ok (d'.pending, d'.walk)) (took ++ took'))
-                (ap (λ (r : reader.Standing). (r.settings).depth) (sym reads))
+                (ap (λ (r : reader.PacketReading). (r.settings).depth) (sym reads))
                 (subst (λ (l : List (ℕ × Elem)). Runs image (depth_of m) at_first first_state l (items ++ others)
                 (Ok (d'.pending, d'.walk)) (took ++ took')) same runs),
           )
@@ -445,12 +445,12 @@ module _ (image : Image) (bytes text : List ℕ) (items : List Item) (d m : Deco
       pub came_by : (others : List Item) (d' : Decoding) → Ends image m others d' → Came image d' more (items ++ others)
       came_by others d' ends =
           let reads_same : d'.reader ≡ m.reader = ap (λ (x : Decoding). x.reader) ends.rest in
-          let depth : depth_of m ≡ depth_of d' = ap (λ (r : reader.Standing). (r.settings).depth) (sym reads_same) in
+          let depth : depth_of m ≡ depth_of d' = ap (λ (r : reader.PacketReading). (r.settings).depth) (sym reads_same) in
           let tally_depth : (es : List Elem) → tally (depth_of m) at_first no_counts es ≡ tally (depth_of d') at_first no_counts es
           = λ es. ap (λ (n : ℕ). tally n at_first no_counts es) depth in
           record {
             small = small;
-            reads = subst (λ (r : reader.Standing). reader.StandsAt r more) (sym reads_same) reads;
+            reads = subst (λ (r : reader.PacketReading). reader.StandsAt r more) (sym reads_same) reads;
             done = ends.done;
             took = took ++ ends.took;
             comes = comes_by others d' d'.fault ends.took reads_same (ap (λ (x : Decoding). x.told) ends.rest) ends.leads;

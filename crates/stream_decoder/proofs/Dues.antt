@@ -8,7 +8,7 @@ use Rattle.etm_types.specs.declared.element.Thing.{Thing}
 use Rattle.etm_types.specs.declared.element.Thing.TheVariants.{Seen}
 use Rattle.etm_types.specs.declared.walked.Walked.{Walked}
 use Rattle.packet_grammar.specs.declared.stream_fault.Fault.{Fault}
-use Rattle.packet_reader.specs.Stands.{Standing}
+use Rattle.packet_reader.specs.Stands.{PacketReading}
 use Rattle.path_elements.specs.Elements.{Told}
 use Rattle.path_walker.specs.State.{State, IsState}
 use Rattle.path_walker.specs.Things.{Walks}
@@ -21,7 +21,7 @@ use Rattle.stream_decoder.specs.Left.{Left}
 use Rattle.stream_decoder.specs.Waiting.{IsWaiting, Waiting}
 use Rattle.stream_decoder.specs.Yields.{Goes, left}
 
-module _ (r : Standing) (t : Told) (l : Left) (w w' : Waiting) (s s' : State) (f : Option (ℕ × Fault)) (entry : Entry) (others : List Thing)
+module _ (r : PacketReading) (t : Told) (l : Left) (w w' : Waiting) (s s' : State) (f : Option (ℕ × Fault)) (entry : Entry) (others : List Thing)
     (first : w.due ≡ Seen entry ∷ others)
     (given : w' ≡ record w { due = others; counts = counts_after w.counts 0 (committing (Seen entry ∷ [])) })
     (is : (w.depth ≡ (r.settings).depth) × IsDecoding (decoding_of r t l w s f)) (waits : IsWaiting w') where

@@ -1,11 +1,11 @@
--- What a follower was given of packets that were taken at once.
+-- What a follower was given of packets that were taken together.
 use Rattle.std.proofs.Common.{◌≡◌, ℕ, ◌+◌, List, [], ◌∷◌, ◌++◌, length, None, sym, ap, subst, ◌∙◌, inl, inr, arith}
 use Rattle.std.proofs.Common.{append_assoc, append-nil, length-append}
 use Rattle.etm_types.specs.Settings.{AreSettings}
 use Rattle.etm_types.specs.declared.item.Item.{Item}
 use Rattle.packet_grammar.proofs.Fitting.{small_back, small_front}
 use Rattle.packet_grammar.specs.declared.stream_fault.Fault.TheVariants.{AddressAwaited}
-use Rattle.packet_reader.specs.Stands.{Standing}
+use Rattle.packet_reader.specs.Stands.{PacketReading}
 use Rattle.path_walker.specs.Walk.{items_in}
 use Rattle.path_walker.specs.declared.stretch.Stretch.{Stretch}
 use Rattle.program_image.specs.declared.image.Image.{Image}
@@ -94,7 +94,7 @@ module _ {F : Type 0} (Takes : F → List Item → F → Type 0) (none : (f : F)
           more = shown ++ f.0;
           came = packets_come image d n d2 runs.first runs.last shown f.0 (small_front bytes text behind parts fits) are runs.packets f.1;
           takes = joins old mid new shown f.0 (shows runs.added runs.takes) f.2;
-          settings = ap (λ (r : Standing). r.settings) unread ∙ runs.settings;
-          taken = ap (λ (r : Standing). r.taken) unread ∙ omega (arith, runs.taken, long);
+          settings = ap (λ (r : PacketReading). r.settings) unread ∙ runs.settings;
+          offset = ap (λ (r : PacketReading). r.offset) unread ∙ omega (arith, runs.offset, long);
         };
       }

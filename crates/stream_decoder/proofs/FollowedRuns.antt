@@ -1,4 +1,4 @@
--- What a follower was given of bytes that were taken one after the other, or whole packets at once.
+-- What a follower was given of bytes that were taken one after the other, or whole packets together.
 use Rattle.std.proofs.Common.{◌≡◌, ◌≢◌, ℕ, ◌+◌, ◌<◌, List, [], ◌∷◌, ◌++◌, length, Option, None, Some, refl, sym, ap, subst, ◌∙◌, inl, arith}
 use Rattle.std.proofs.Common.{append_assoc, append-nil, length-append}
 use Rattle.etm_types.specs.Settings.{AreSettings, Sizes}
@@ -6,7 +6,7 @@ use Rattle.etm_types.specs.declared.context.Ctx.{Ctx}
 use Rattle.etm_types.specs.declared.item.Item.{Item}
 use Rattle.packet_grammar.proofs.Fitting.{small_front}
 use Rattle.packet_grammar.specs.declared.stream_fault.Fault.{Fault}
-use Rattle.packet_reader.specs.Stands.{Standing}
+use Rattle.packet_reader.specs.Stands.{PacketReading}
 use Rattle.path_text.specs.PathLines.{shown_after_all}
 use Rattle.program_image.specs.declared.image.Image.{Image}
 use Rattle.stream_decoder.proofs.Along.{run_grows_by}
@@ -43,7 +43,7 @@ module _ {F : Type 0} (Takes : F → List Item → F → Type 0) (none : (f : F)
             (subst (Came image d bytes) (sym (append-nil items)) is);
         takes = none f;
         settings = refl;
-        taken = omega arith;
+        offset = omega arith;
       }
 
   -- a run is taken, and another behind it
@@ -58,7 +58,7 @@ module _ {F : Type 0} (Takes : F → List Item → F → Type 0) (none : (f : F)
             (b.came (bytes ++ run) (items ++ a.more) (a.came bytes items is)));
         takes = joins old mid new a.more b.more a.takes b.takes;
         settings = b.settings ∙ a.settings;
-        taken = omega (arith, a.taken, b.taken, length-append run others);
+        offset = omega (arith, a.offset, b.offset, length-append run others);
       }
 
   -- a run is taken, and then nothing more
@@ -71,7 +71,7 @@ module _ {F : Type 0} (Takes : F → List Item → F → Type 0) (none : (f : F)
         takes = subst (λ (l : List Item). Takes old l newer) (append-nil a.more)
             (joins old new newer a.more [] a.takes takes);
         settings = a.settings;
-        taken = a.taken;
+        offset = a.offset;
       }
 
   module _ (d d' : Decoding) (run : List ℕ) (old new : F) (follows : FollowsRun Takes image d run d' old new) (bytes : List ℕ)
@@ -99,8 +99,8 @@ module _ {F : Type 0} (Takes : F → List Item → F → Type 0) (none : (f : F)
   front_first d run f = ([], refl, run_first d f)
 
   module _ (d d' : Decoding) (run rest : List ℕ) (old new : F) (was : FollowedFront d run rest d' old new) where
-    pub front_taken : (d'.reader).taken + length rest ≡ (d.reader).taken + length run
-    front_taken = omega (arith, (was.2).taken, ap length was.1, length-append was.0 rest)
+    pub front_taken : (d'.reader).offset + length rest ≡ (d.reader).offset + length run
+    front_taken = omega (arith, (was.2).offset, ap length was.1, length-append was.0 rest)
 
     -- and bytes at the front of those that were left
     pub front_on : (d2 : Decoding) (behind : List ℕ) (newer : F) → FollowsFront Takes image d' rest behind d2 new newer
@@ -137,10 +137,10 @@ module _ {F : Type 0} (Takes : F → List Item → F → Type 0) (none : (f : F)
     small = small_front bytes text behind begun.parts fits
 
     settings : (d2.reader).settings ≡ (d.reader).settings
-    settings = ap (λ (r : Standing). r.settings) unread ∙ begun.settings
+    settings = ap (λ (r : PacketReading). r.settings) unread ∙ begun.settings
 
-    taken : (d2.reader).taken ≡ (d.reader).taken + length text
-    taken = ap (λ (r : Standing). r.taken) unread ∙ begun.taken
+    taken : (d2.reader).offset ≡ (d.reader).offset + length text
+    taken = ap (λ (r : PacketReading). r.offset) unread ∙ begun.offset
 
     next_on : n.fault ≡ None → FollowsAll Takes none joins image n d2 mid new → FollowsRun Takes image d text d2 old new
     next_on whole (others, ends, takes) =
@@ -149,7 +149,7 @@ module _ {F : Type 0} (Takes : F → List Item → F → Type 0) (none : (f : F)
           came = λ bytes items is. stands_on image bytes text small items d n are begun.settings begins is whole others d2 ends;
           takes = joins old mid new [] others first takes;
           settings = settings;
-          taken = taken;
+          offset = taken;
         }
 
     next_stopped : (stop : ℕ × Fault) → n.fault ≡ Some stop → (d2 ≡ n) × (new ≡ mid) → FollowsRun Takes image d text d2 old new
@@ -162,7 +162,7 @@ module _ {F : Type 0} (Takes : F → List Item → F → Type 0) (none : (f : F)
               (subst (Came image n (bytes ++ text)) (sym (append-nil items)) now);
           takes = subst (λ (f : F). Takes old [] f) (sym idle) first;
           settings = settings;
-          taken = taken;
+          offset = taken;
         }
 
     pub next_front : (n.fault ≡ None → FollowsAll Takes none joins image n d2 mid new) → (n.fault ≢ None → (d2 ≡ n) × (new ≡ mid))

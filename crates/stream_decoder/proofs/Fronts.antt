@@ -4,7 +4,7 @@ use Rattle.std.proofs.lemmas.List.Elements.{All-append, All-from_get_or}
 use Rattle.etm_types.specs.Settings.{AreSettings, Sizes}
 use Rattle.packet_grammar.specs.declared.packet.Packet.{Packet}
 use Rattle.packet_grammar.specs.declared.stream_fault.Fault.{Fault}
-use Rattle.packet_reader.specs.Stands.{Standing, TakesPacket}
+use Rattle.packet_reader.specs.Stands.{PacketReading, TakesPacket}
 use Rattle.path_elements.specs.Elements.{Told}
 use Rattle.path_walker.specs.State.{State}
 use Rattle.stream_decoder.proofs.Growing.{Small}
@@ -17,7 +17,7 @@ use Rattle.stream_decoder.specs.Waiting.{Waiting}
 pub small_bytes : (bytes : List ℕ) → ((i : ℕ) → get_or bytes i 0 < 256) → Small bytes
 small_bytes bytes each = All-from_get_or (λ (b : ℕ). b < 256) bytes 0 (λ i lt. each i)
 
-module _ (r r' : Standing) (text : List ℕ) (small : Small text) (at : ℕ) (packet : Packet) (takes : TakesPacket r r' text at packet) where
+module _ (r r' : PacketReading) (text : List ℕ) (small : Small text) (at : ℕ) (packet : Packet) (takes : TakesPacket r r' text at packet) where
   -- the reader goes on
   packet_read : IsReading r → IsReading r'
   packet_read is =

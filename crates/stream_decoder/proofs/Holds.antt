@@ -7,7 +7,7 @@ use Rattle.etm_types.specs.declared.element.Elem.TheVariants as elem
 use Rattle.packet_grammar.specs.declared.packet.Packet.{Packet}
 use Rattle.packet_grammar.specs.declared.packet.Packet.TheVariants as packet
 use Rattle.packet_grammar.specs.declared.stream_fault.Fault.{Fault}
-use Rattle.packet_reader.specs.Stands.{Standing}
+use Rattle.packet_reader.specs.Stands.{PacketReading}
 use Rattle.path_elements.specs.Elements.{Told, elements_in, elements_of, tells, told_after, told_by}
 use Rattle.path_elements.specs.Held.{AreElems}
 use Rattle.path_walker.specs.State.{State}
@@ -55,7 +55,7 @@ untold_yet d begins none whole =
 
 -- ---- what a byte begins
 
-module _ (r r' : Standing) (t : Told) (l : Left) (w : Waiting) (s : State) (f : Option (ℕ × Fault))
+module _ (r r' : PacketReading) (t : Told) (l : Left) (w : Waiting) (s : State) (f : Option (ℕ × Fault))
     (is : IsDecoding (decoding_of r t l w s f)) (reads : IsReading r') (sizes : r'.settings ≡ r.settings) where
   abbrev few : length (w.due ++ (w.pending).held) ≤ (r'.settings).depth
   few = subst (λ n. length (w.due ++ (w.pending).held) ≤ n) (ap (λ z. z.depth) (sym sizes)) is.few

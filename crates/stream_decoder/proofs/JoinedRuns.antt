@@ -59,9 +59,9 @@ module _ {V : Type 0} (Takes : V → List Stretch → V → Type 0)
             (packets_joined image d m d' one.first two.first one.last two.last (items_in (d.walk).ctx one.added) (items_in (d.walk).ctx two.added)
             one.packets done holds more);
         settings = two.settings ∙ one.settings;
-        taken = let long = ap length joined in
+        offset = let long = ap length joined in
             let all = length-append (bytes_in one.first) (one.last ++ bytes_in two.first) in
-            let few = length-append one.last (bytes_in two.first) in omega (arith, one.taken, two.taken, long, all, few);
+            let few = length-append one.last (bytes_in two.first) in omega (arith, one.offset, two.offset, long, all, few);
       }
 
   -- the bytes behind them are fewer
@@ -83,7 +83,7 @@ module _ {V : Type 0} (Takes : V → List Stretch → V → Type 0)
         takes = subst (λ (l : List Stretch). Takes old l new) (append-nil runs.added) (joins old between new runs.added [] runs.takes none);
         packets = runs.packets;
         settings = runs.settings;
-        taken = runs.taken;
+        offset = runs.offset;
       }
 
   -- some more were taken
@@ -102,7 +102,7 @@ module _ {V : Type 0} (Takes : V → List Stretch → V → Type 0)
         takes = joins old between new [] here.added none here.takes;
         packets = here.packets;
         settings = here.settings;
-        taken = here.taken;
+        offset = here.offset;
       })
   ran_on m d' between new rest behind (inr one) done holds context runs =
       inr (runs_joined m d' between new rest behind one done holds context runs)

@@ -16,7 +16,7 @@ use Rattle.etm_types.specs.declared.element.Thing.{Thing}
 use Rattle.etm_types.specs.declared.element.Thing.TheVariants.{Seen}
 use Rattle.etm_types.specs.declared.item.Item.{Item}
 use Rattle.packet_grammar.specs.declared.stream_fault.Fault.{Fault}
-use Rattle.packet_reader.specs.Stands.{Standing}
+use Rattle.packet_reader.specs.Stands.{PacketReading}
 use Rattle.path_elements.specs.Elements.{Told}
 use Rattle.path_walker.specs.State.{State, IsState}
 use Rattle.path_walker.specs.Things.{IsAlignedThing}
@@ -181,7 +181,7 @@ same_first x y xs ys e = cc
 
 -- ---- what was walked, and is let go
 
-module _ (image : Image) (r : Standing) (t : Told) (f : Option (ℕ × Fault)) where
+module _ (image : Image) (r : PacketReading) (t : Told) (f : Option (ℕ × Fault)) where
   -- one is, and then others
   ran_on : (s m s' : State) (stretch : Stretch) (run : List Stretch) (l l1 l' : Left) (w w1 w' : Waiting)
       → Ran image r t f s m (stretch ∷ []) l l1 w w1 → m.ctx ≡ s.ctx → Ran image r t f m s' run l1 l' w1 w'
@@ -288,7 +288,7 @@ module _ (image : Image) (r : Standing) (t : Told) (f : Option (ℕ × Fault)) w
       ran_due s s' stretch run l w w' is walks (subst (λ (k : ℕ). DropsDue w k w') (sym count) drops)
 
 -- what a decoding keeps of what waits
-pub waits_in : (r : Standing) (t : Told) (l : Left) (w : Waiting) (s : State) (f : Option (ℕ × Fault)) → w.depth ≡ (r.settings).depth
+pub waits_in : (r : PacketReading) (t : Told) (l : Left) (w : Waiting) (s : State) (f : Option (ℕ × Fault)) → w.depth ≡ (r.settings).depth
     → IsDecoding (decoding_of r t l w s f) → IsWaiting w
 waits_in r t l w s f depth is = record { few = omega (arith, is.few, depth); balanced = is.balanced; range = is.range }
 

@@ -14,7 +14,7 @@ use Rattle.etm_types.specs.declared.item.Item.{Item}
 use Rattle.packet_grammar.proofs.Fitting.{small_front}
 use Rattle.packet_grammar.specs.declared.packet.Packet.TheVariants.{Atoms}
 use Rattle.packet_grammar.specs.declared.stream_fault.Fault.{Fault}
-use Rattle.packet_reader.specs.Stands.{Standing, TakesPacket}
+use Rattle.packet_reader.specs.Stands.{PacketReading, TakesPacket}
 use Rattle.path_elements.proofs.Taken.{in_range}
 use Rattle.path_elements.specs.Elements.{Told, atoms, elements_of, is_misplaced, told_after}
 use Rattle.path_elements.specs.Held.{AreElems, IsElem}
@@ -55,11 +55,11 @@ steps_split image w w' s s' (x ∷ xs) ys added (next, m, f, others, one, more, 
     )
 
 -- what holds of a decoding, and that nothing is due in it
-pub record Stays (r : Standing) (t : Told) (f : Option (ℕ × Fault)) (l : Left) (w : Waiting) (s : State) : Type 0 where
+pub record Stays (r : PacketReading) (t : Told) (f : Option (ℕ × Fault)) (l : Left) (w : Waiting) (s : State) : Type 0 where
   pub inside : (w.depth ≡ (r.settings).depth) × IsDecoding (decoding_of r t l w s f)
   pub due : w.due ≡ []
 
-module _ (image : Image) (r : Standing) (t : Told) (f : Option (ℕ × Fault)) (whole : f ≡ None) where
+module _ (image : Image) (r : PacketReading) (t : Told) (f : Option (ℕ × Fault)) (whole : f ≡ None) where
   abbrev here : Left → Waiting → State → Decoding
   here l w s = decoding_of r t l w s f
 
@@ -127,7 +127,7 @@ are_atoms : (told : List Bool) → All IsElem (atoms told)
 are_atoms [] = All-nil IsElem
 are_atoms (taken ∷ told) = All-cons IsElem (elem.P0 (Atom taken)) (atoms told) tt (are_atoms told)
 
-pub are_elements : (r r' : Standing) (text : List ℕ) (at : ℕ) (run : AtomRun) → TakesPacket r r' text at (Atoms run) → AreElems (atoms (atoms_in run))
+pub are_elements : (r r' : PacketReading) (text : List ℕ) (at : ℕ) (run : AtomRun) → TakesPacket r r' text at (Atoms run) → AreElems (atoms (atoms_in run))
 are_elements r r' text at run takes =
     record {
       most = let few = in_range r.settings (Atoms run) takes.values in
@@ -152,7 +152,7 @@ told_as_before t run false = refl
 
 module _ (image : Image) (t : Told) (counts : AtomsCount t) (f : Option (ℕ × Fault)) (whole : f ≡ None) where
   -- some of its atoms are taken
-  packet_runs : (r r' : Standing) (l : Left) (w w' : Waiting) (s s' : State) (byte at : ℕ) (run : AtomRun) (xs ys : List Bool) (added : List Stretch)
+  packet_runs : (r r' : PacketReading) (l : Left) (w w' : Waiting) (s s' : State) (byte at : ℕ) (run : AtomRun) (xs ys : List Bool) (added : List Stretch)
       → Stays r t f l w s → l.elements ≡ [] → byte < 256 → TakesPacket r r' (byte ∷ []) at (Atoms run) → atoms_in run ≡ xs ++ ys
       → StepsByAtoms image w s xs added w' s'
       → RunsPacket image (decoding_of r t l w s f) (byte ∷ []) (items_in s.ctx added) (decoding_of r' t (record { at = at; elements = atoms ys }) w' s' f)
@@ -185,20 +185,20 @@ module _ (image : Image) (t : Told) (counts : AtomsCount t) (f : Option (ℕ × 
       )
 
   -- packets of atoms are, one after the other, and then the first atoms of another one
-  pub packets_run : (r before r' : Standing) (l : Left) (w w' : Waiting) (s s' : State) (first : List ℕ) (last at : ℕ) (told xs ys : List Bool)
+  pub packets_run : (r before r' : PacketReading) (l : Left) (w w' : Waiting) (s s' : State) (first : List ℕ) (last at : ℕ) (told xs ys : List Bool)
       (run : AtomRun) (added : List Stretch)
       → Stays r t f l w s → l.elements ≡ [] → Small (first ++ last ∷ []) → ReadsAtoms r first told before
       → TakesPacket before r' (last ∷ []) at (Atoms run) → atoms_in run ≡ xs ++ ys → StepsByAtoms image w s (told ++ xs) added w' s'
       → RunsPackets image (decoding_of r t l w s f) (alone first) (last ∷ []) (items_in s.ctx added)
       (decoding_of r' t (record { at = at; elements = atoms ys }) w' s' f)
       × Stays r' t f (record { at = at; elements = atoms ys }) w' s' × (s'.ctx ≡ s.ctx) × (r'.settings ≡ r.settings)
-      × (r'.taken ≡ r.taken + length first + 1)
+      × (r'.offset ≡ r.offset + length first + 1)
   packets_run r before r' l w w' s s' [] last at told xs ys run added is rest small (same, none) takes parts steps =
-      let takes' : TakesPacket r r' (last ∷ []) at (Atoms run) = subst (λ (x : Standing). TakesPacket x r' (last ∷ []) at (Atoms run)) same takes in
+      let takes' : TakesPacket r r' (last ∷ []) at (Atoms run) = subst (λ (x : PacketReading). TakesPacket x r' (last ∷ []) at (Atoms run)) same takes in
       let steps' : StepsByAtoms image w s xs added w' s' = subst (λ (x : List Bool). StepsByAtoms image w s (x ++ xs) added w' s') none steps in
       let (runs, stays, context) = packet_runs r r' l w w' s s' last at run xs ys added is rest (All-head (λ (b : ℕ). b < 256) last [] small) takes'
       parts steps' in
-      (runs, stays, context, takes'.settings, omega (arith, takes'.taken))
+      (runs, stays, context, takes'.settings, omega (arith, takes'.offset))
   packets_run r before r' l w w' s s' (byte ∷ first) last at told xs ys run added is rest small (at1, run1, r1, told1, takes1, reads, told_is) takes
       parts steps =
       let all1 = atoms_in run1 in
@@ -228,7 +228,7 @@ module _ (image : Image) (t : Told) (counts : AtomsCount t) (f : Option (ℕ × 
         stays,
         context ∙ context1,
         settings ∙ takes1.settings,
-        omega (arith, taken, takes1.taken),
+        omega (arith, taken, takes1.offset),
       )
 
 -- ---- those at the front of some bytes
@@ -240,7 +240,7 @@ atoms_behind (suc n) (taken ∷ told) = atoms_behind n told
 
 -- The first of the atoms at the front were taken, and the reader took the packets in which they stand: what is left of the last packet is left
 -- to do.
-pub front_runs : {V : Type 0} (Takes : V → List Stretch → V → Type 0) (image : Image) (r r' : Standing) (t : Told) (l l' : Left) (w w' : Waiting) (s s' : State)
+pub front_runs : {V : Type 0} (Takes : V → List Stretch → V → Type 0) (image : Image) (r r' : PacketReading) (t : Told) (l l' : Left) (w w' : Waiting) (s s' : State)
     (f : Option (ℕ × Fault)) (bytes behind : List ℕ) (told : List Bool) (n : ℕ) (old new : V)
     → (w.depth ≡ (r.settings).depth) × IsDecoding (decoding_of r t l w s f) → AtRest (decoding_of r t l w s f) → f ≡ None → AtomsCount t → Small bytes
     → BeginWithAtoms bytes told → TakesSome Takes image w s told old n w' s' new → ReachesAtom r bytes n l' behind r'
@@ -269,7 +269,7 @@ front_runs Takes image r r' t l l' w w' s s' f bytes behind told n old new is re
         takes = some.takes;
         packets = runs;
         settings = settings;
-        taken = omega (arith, taken, ap length (bytes_alone first));
+        offset = omega (arith, taken, ap length (bytes_alone first));
       }),
       subst (λ (x : Left). (w'.depth ≡ (r'.settings).depth) × IsDecoding (decoding_of r' t x w' s' f)) left_is stays.inside,
     )
@@ -277,7 +277,7 @@ front_runs Takes image r r' t l l' w w' s s' f bytes behind told n old new is re
 -- a packet that shows nothing stands before those
 pub runs_behind : {V : Type 0} (Takes : V → List Stretch → V → Type 0) (image : Image) (d m d' : Decoding) (text bytes rest behind : List ℕ) (old new : V)
     → RunsPacket image d text [] m → AtRest m → IsDecoding m → (m.walk).ctx ≡ (d.walk).ctx → (m.reader).settings ≡ (d.reader).settings
-    → (m.reader).taken ≡ (d.reader).taken + length text → bytes ≡ text ++ rest → RunsFront Takes image m old rest behind d' new
+    → (m.reader).offset ≡ (d.reader).offset + length text → bytes ≡ text ++ rest → RunsFront Takes image m old rest behind d' new
     → RunsFront Takes image d old bytes behind d' new
 runs_behind Takes image d m d' text bytes rest behind old new packet done holds context settings taken parts runs =
     record {
@@ -298,5 +298,5 @@ runs_behind Takes image d m d' text bytes rest behind old new packet done holds 
         refl,
       );
       settings = runs.settings ∙ settings;
-      taken = omega (arith, runs.taken, taken, length-append text (bytes_in runs.first));
+      offset = omega (arith, runs.offset, taken, length-append text (bytes_in runs.first));
     }

@@ -2,7 +2,7 @@
 use Rattle.std.proofs.Common.{◌≡◌, ℕ, List, [], ◌∷◌, Option, None, refl, sym, ◌∙◌}
 use Rattle.etm_types.specs.declared.element.Elem.{Elem}
 use Rattle.packet_grammar.specs.declared.stream_fault.Fault.{Fault}
-use Rattle.packet_reader.specs.Stands.{Standing}
+use Rattle.packet_reader.specs.Stands.{PacketReading}
 use Rattle.path_elements.specs.Elements.{Told}
 use Rattle.path_walker.specs.State.{State}
 use Rattle.program_image.specs.declared.image.Image.{Image}
@@ -14,7 +14,7 @@ use Rattle.stream_decoder.specs.Left.{Left}
 use Rattle.stream_decoder.specs.Waiting.{Commits, IsWaiting, Waiting}
 use Rattle.stream_decoder.specs.Yields.{Goes}
 
-module _ (r : Standing) (t : Told) (l l' : Left) (w w' : Waiting) (s : State) (f : Option (ℕ × Fault)) (e : Elem) (others : List Elem)
+module _ (r : PacketReading) (t : Told) (l l' : Left) (w w' : Waiting) (s : State) (f : Option (ℕ × Fault)) (e : Elem) (others : List Elem)
     (first : l.elements ≡ e ∷ others) (left_is : l' ≡ record l { elements = others }) (none : w.due ≡ [])
     (is : (w.depth ≡ (r.settings).depth) × IsDecoding (decoding_of r t l w s f)) (c : Commits w e w' []) (waits : IsWaiting w') where
   abbrev before : Decoding

@@ -1,4 +1,4 @@
--- Many atoms at once: a full queue takes those of a run one by one, and those that are due are given out one by one.
+-- Many atoms together: a full queue takes those of a run one by one, and those that are due are given out one by one.
 use Rattle.std.proofs.Common.{◌≡◌, ℕ, zero, suc, ◌+◌, ◌-◌, ◌/◌, ◌%◌, ◌^◌, ◌==◌, ◌≤◌, ◌<◌, Bool, List, [], ◌∷◌, ◌++◌, length, map, take, drop, Option, refl, sym, ap, subst, ◌∙◌, arith}
 use Rattle.std.proofs.Common.{append-nil, append_assoc, length-append, length-take}
 use Rattle.std.proofs.Math.Nat.{mod-lt}

@@ -9,7 +9,7 @@ use Rattle.etm_types.specs.declared.element.Elem.{Elem}
 use Rattle.etm_types.specs.declared.element.Elem.TheVariants as elem
 use Rattle.etm_types.specs.declared.element.P0.TheVariants.{Atom}
 use Rattle.packet_grammar.specs.declared.stream_fault.Fault.{Fault}
-use Rattle.packet_reader.specs.Stands.{Standing}
+use Rattle.packet_reader.specs.Stands.{PacketReading}
 use Rattle.path_elements.specs.Elements.{Told}
 use Rattle.path_walker.specs.State.{State, IsState}
 use Rattle.path_walker.specs.Walk.{Shows, atom_at, items_in, walked_in}
@@ -120,7 +120,7 @@ waits_one informed c range balanced =
 
 -- ---- a run
 
-module _ (image : Image) (r : Standing) (t : Told) (f : Option (ℕ × Fault)) (informed : Bool) where
+module _ (image : Image) (r : PacketReading) (t : Told) (f : Option (ℕ × Fault)) (informed : Bool) where
   abbrev here : Left → Option ℕ → Counts → State → Decoding
   here l addr c s = decoding_of r t l (at_zero informed addr c) s f
 
@@ -190,13 +190,13 @@ none_walked image s s' addr elements [] walks none = refl
 none_walked image s s' addr elements (x ∷ run) (t, others, next, is, first, state, more) none = absurd (
     let e : [] ≡ elem.P0 (Atom t) ∷ others = sym none ∙ is in cc)
 
-abbrev pub Ran : Image → Standing → Told → Option (ℕ × Fault) → State → State → List Stretch → Left → Left → Waiting → Waiting → Type 0
+abbrev pub Ran : Image → PacketReading → Told → Option (ℕ × Fault) → State → State → List Stretch → Left → Left → Waiting → Waiting → Type 0
 Ran image r t f s s' run l l' w w' =
     Goes image (decoding_of r t l w s f) (items_in s.ctx run) (decoding_of r t l' w' s' f)
     × (left (decoding_of r t l' w' s' f) < left (decoding_of r t l w s f))
     × ((w'.depth ≡ (r.settings).depth) × IsDecoding (decoding_of r t l' w' s' f))
 
-pub ran : (image : Image) (r : Standing) (t : Told) (f : Option (ℕ × Fault)) (s s' : State) (addr : Option ℕ) (run : List Stretch) (l l' : Left)
+pub ran : (image : Image) (r : PacketReading) (t : Told) (f : Option (ℕ × Fault)) (s s' : State) (addr : Option ℕ) (run : List Stretch) (l l' : Left)
     (w w' : Waiting)
     → w.due ≡ [] → w.depth ≡ 0 → (w.pending).pre ≡ record nothing_told { addr = addr }
     → (w.depth ≡ (r.settings).depth) × IsDecoding (decoding_of r t l w s f) → 0 < length run → WalksNext image s addr l.elements run s'

@@ -17,7 +17,7 @@ use Rattle.packet_grammar.specs.declared.packet.Packet.{Packet}
 use Rattle.packet_grammar.specs.declared.packet.Packet.TheVariants.{Atoms}
 use Rattle.packet_reader.proofs.Fronts.{atoms_spelled}
 use Rattle.packet_reader.specs.Packets.{ArePackets, TakesPackets, bytes_of, length_of}
-use Rattle.packet_reader.specs.Stands.{Standing, TakesPacket}
+use Rattle.packet_reader.specs.Stands.{PacketReading, TakesPacket}
 use Rattle.path_elements.specs.Elements.{atoms}
 use Rattle.stream_decoder.proofs.AtomBytes.{first_n}
 use Rattle.stream_decoder.proofs.Growing.{Small}
@@ -143,8 +143,8 @@ first_tell : (ps : List (ℕ × AtomRun)) → HaveRuns ps → TellAtoms (bytes_i
 first_tell [] have = refl
 first_tell (p ∷ ps) have = (atoms_in p.1, all_in ps, (have.0).0, first_tell ps have.1, refl)
 
-first_read : (r r' : Standing) (ps : List (ℕ × AtomRun)) (p : ℕ × AtomRun) (at : ℕ) → TakesPackets r (packets_in ps) (packet_in p) at r'
-    → (before : Standing) × ReadsAtoms r (bytes_in ps) (all_in ps) before × TakesPacket before r' (p.0 ∷ []) at (Atoms p.1)
+first_read : (r r' : PacketReading) (ps : List (ℕ × AtomRun)) (p : ℕ × AtomRun) (at : ℕ) → TakesPackets r (packets_in ps) (packet_in p) at r'
+    → (before : PacketReading) × ReadsAtoms r (bytes_in ps) (all_in ps) before × TakesPacket before r' (p.0 ∷ []) at (Atoms p.1)
 first_read r r' [] p at takes = (r, (refl, refl), takes)
 first_read r r' (q ∷ ps) p at (at_q, next, takes, later) =
     let (before, reads, ends) = first_read next r' ps p at later in
@@ -157,7 +157,7 @@ none_left run =
     sym (drop_all run.count (atoms (atoms_in run)) (omega (arith, long, count)))
 
 -- it reached the last of their atoms, and none is left
-pub reaches_last : (r r' : Standing) (bytes text behind : List ℕ) (told : List Bool) (n at : ℕ) (l : Left) (a : AreRuns text told)
+pub reaches_last : (r r' : PacketReading) (bytes text behind : List ℕ) (told : List Bool) (n at : ℕ) (l : Left) (a : AreRuns text told)
     → bytes ≡ text ++ behind → n ≡ length told → TakesPackets r (packets_in a.first) (packet_in a.last) at r' → l ≡ nothing_left at
     → ReachesAtom r bytes n l behind r'
 reaches_last r r' bytes text behind told n at l a parts many takes left =

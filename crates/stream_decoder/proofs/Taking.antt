@@ -13,7 +13,7 @@ use Rattle.etm_types.specs.declared.element.Elem.TheVariants as elem
 use Rattle.etm_types.specs.declared.element.Thing.{Thing}
 use Rattle.etm_types.specs.declared.element.Thing.TheVariants.{Seen, Unseen, Gap, Stop}
 use Rattle.packet_grammar.specs.declared.stream_fault.Fault.{Fault}
-use Rattle.packet_reader.specs.Stands.{Standing}
+use Rattle.packet_reader.specs.Stands.{PacketReading}
 use Rattle.path_elements.proofs.Places.{IsAlignedTaken, taken_aligned}
 use Rattle.path_elements.specs.Elements.{Told}
 use Rattle.path_elements.specs.Held.{IsElem}
@@ -77,7 +77,7 @@ entries_so Stop things = omega arith
 
 -- ---- what is due
 
-module _ (r : Standing) (t : Told) (l : Left) (w w' : Waiting) (s : State) (f : Option (ℕ × Fault)) (thing : Thing)
+module _ (r : PacketReading) (t : Told) (l : Left) (w w' : Waiting) (s : State) (f : Option (ℕ × Fault)) (thing : Thing)
     (order : w.due ≡ thing ∷ w'.due)
     (others : w' ≡ record w { due = w'.due; counts = counts_after w.counts 0 (committing (thing ∷ [])) }) where
   abbrev here : Decoding
@@ -161,7 +161,7 @@ more_by m n = let e : m + 1 ≡ suc m = omega arith in ap (λ (k : ℕ). k * (n 
 more_than : (m n k : ℕ) → k ≤ n → m * (n + 1) + k < (m + 1) * (n + 1) + 0
 more_than m n k few = omega (arith, few, more_by m n)
 
-module _ (r : Standing) (t : Told) (l l' : Left) (w w' : Waiting) (s : State) (f : Option (ℕ × Fault)) (e : Elem) (others : List Elem) (thing : Option Thing)
+module _ (r : PacketReading) (t : Told) (l l' : Left) (w w' : Waiting) (s : State) (f : Option (ℕ × Fault)) (e : Elem) (others : List Elem) (thing : Option Thing)
     (first : l.elements ≡ e ∷ others) (left_is : l' ≡ record l { elements = others }) (none : w.due ≡ [])
     (is : (w.depth ≡ (r.settings).depth) × IsDecoding (decoding_of r t l w s f)) (whole : f ≡ None)
     (c : Commits w e w' (option_to_list thing)) (waits : IsWaiting w') where

@@ -1,5 +1,5 @@
 -- Packets of atoms that stand one behind the other (Arm IHI 0064, "Atom Format 1 packet" to "Atom Format 6 packet"), and what is taken of
--- them at once.
+-- them together.
 use Rattle.std.specs.Prelude.{◌≡◌, ℕ, ◌+◌, ◌<◌, ◌≤◌, Bool, true, List, [], ◌∷◌, ◌++◌, length, take, drop, Option, None, Ok, option_to_list}
 use Rattle.atom_formats.specs.Formats.{Spells}
 use Rattle.etm_types.specs.Atoms.{atoms_in}
@@ -10,7 +10,7 @@ use Rattle.etm_types.specs.declared.element.P0.TheVariants.{Atom}
 use Rattle.etm_types.specs.declared.element.Thing.{Thing}
 use Rattle.etm_types.specs.declared.item.Item.{Item}
 use Rattle.packet_grammar.specs.declared.packet.Packet.TheVariants.{Atoms}
-use Rattle.packet_reader.specs.Stands.{Standing, TakesPacket}
+use Rattle.packet_reader.specs.Stands.{PacketReading, TakesPacket}
 use Rattle.packet_reader.specs.declared.phase.Phase.TheVariants.{Between}
 use Rattle.path_elements.specs.Elements.{atoms}
 use Rattle.path_walker.specs.State.{State, IsState}
@@ -36,19 +36,19 @@ abbrev pub BeginWithAtoms : List ℕ → List Bool → Type 0
 BeginWithAtoms bytes told = (text : List ℕ) × (behind : List ℕ) × (bytes ≡ text ++ behind) × TellAtoms text told
 
 -- a reader takes packets of atoms, one after the other, and these are the atoms of all of them
-abbrev pub ReadsAtoms : Standing → List ℕ → List Bool → Standing → Type 0
+abbrev pub ReadsAtoms : PacketReading → List ℕ → List Bool → PacketReading → Type 0
 ReadsAtoms r [] told r' = (r' ≡ r) × (told ≡ [])
 ReadsAtoms r (byte ∷ bytes) told r' =
-    (at : ℕ) × (run : AtomRun) × (next : Standing) × (rest : List Bool) × TakesPacket r next (byte ∷ []) at (Atoms run)
+    (at : ℕ) × (run : AtomRun) × (next : PacketReading) × (rest : List Bool) × TakesPacket r next (byte ∷ []) at (Atoms run)
     × ReadsAtoms next bytes rest r' × (told ≡ atoms_in run ++ rest)
 
 -- A reader takes packets of atoms up to the one in which the last of n atoms stands. That packet has this offset and these atoms; so many of
 -- them are within the n, and these bytes are behind it.
-pub record ReadsUntil (r : Standing) (bytes : List ℕ) (n at : ℕ) (run : AtomRun) (within : ℕ) (behind : List ℕ) (r' : Standing) : Type 0 where
+pub record ReadsUntil (r : PacketReading) (bytes : List ℕ) (n at : ℕ) (run : AtomRun) (within : ℕ) (behind : List ℕ) (r' : PacketReading) : Type 0 where
   pub first : List ℕ
   pub last : ℕ
   pub told : List Bool
-  pub before : Standing
+  pub before : PacketReading
   pub parts : bytes ≡ first ++ last ∷ behind
   pub reads : ReadsAtoms r first told before
   pub takes : TakesPacket before r' (last ∷ []) at (Atoms run)
@@ -58,7 +58,7 @@ pub record ReadsUntil (r : Standing) (bytes : List ℕ) (n at : ℕ) (run : Atom
   pub same : (all : List Bool) → BeginWithAtoms bytes all → n ≤ length all → take n all ≡ told ++ take within (atoms_in run)
 
 -- It does so, and the atoms of that packet that are behind the n are left to do.
-abbrev pub ReachesAtom : Standing → List ℕ → ℕ → Left → List ℕ → Standing → Type 0
+abbrev pub ReachesAtom : PacketReading → List ℕ → ℕ → Left → List ℕ → PacketReading → Type 0
 ReachesAtom r bytes n l behind r' =
     (run : AtomRun) × (within : ℕ) × ReadsUntil r bytes n l.at run within behind r' × (l.elements ≡ drop within (atoms (atoms_in run)))
 
@@ -120,7 +120,7 @@ pub record RunsFront {V : Type 0} (Takes : V → List Stretch → V → Type 0) 
   pub takes : Takes old added new
   pub packets : RunsPackets image d first last (items_in (d.walk).ctx added) d'
   pub settings : (d'.reader).settings ≡ (d.reader).settings
-  pub taken : (d'.reader).taken ≡ (d.reader).taken + length (bytes_in first) + length last
+  pub offset : (d'.reader).offset ≡ (d.reader).offset + length (bytes_in first) + length last
 
 -- ---- where each atom is committed as it is made
 

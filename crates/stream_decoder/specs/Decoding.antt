@@ -11,7 +11,7 @@ use Rattle.etm_types.specs.declared.element.Elem.{Elem}
 use Rattle.etm_types.specs.declared.element.Elem.TheVariants as elem
 use Rattle.etm_types.specs.declared.element.Thing.{Thing}
 use Rattle.packet_grammar.specs.declared.stream_fault.Fault.{Fault}
-use Rattle.packet_reader.specs.Stands.{Standing}
+use Rattle.packet_reader.specs.Stands.{PacketReading}
 use Rattle.packet_reader.specs.Stands as reader
 use Rattle.path_elements.specs.Elements.{Told, untold}
 use Rattle.path_elements.specs.Held.{IsElem}
@@ -24,7 +24,7 @@ use Rattle.stream_decoder.specs.Waiting.{Waiting, counted_with}
 -- what is kept of a stream
 pub record Decoding : Type 0 where
   -- the reader of its packets, which has the settings
-  pub reader : Standing
+  pub reader : PacketReading
   -- what its packets so far gave
   pub told : Told
   -- what its elements so far leave pending
@@ -44,7 +44,7 @@ pub record Decoding : Type 0 where
 abbrev pub depth_of : Decoding → ℕ
 depth_of d = ((d.reader).settings).depth
 
-abbrev pub decoding_of : Standing → Told → Left → Waiting → State → Option (ℕ × Fault) → Decoding
+abbrev pub decoding_of : PacketReading → Told → Left → Waiting → State → Option (ℕ × Fault) → Decoding
 decoding_of reads told left waiting walk fault =
     record {
       reader = reads;
@@ -78,7 +78,7 @@ BeginsWithInfo d =
     × (((spec : ℕ) × (d.todo ≡ elem.Info spec ∷ [])) ⊎ ((d.todo ≡ []) × (((d.told).informed ≡ false) ⊎ (d.fault ≢ None))))
 
 -- a reader stands at some bytes, under settings
-pub record IsReading (r : Standing) : Type 0 where
+pub record IsReading (r : PacketReading) : Type 0 where
   pub bytes : List ℕ
   pub small : All (λ b. b < 256) bytes
   pub stands : reader.StandsAt r bytes

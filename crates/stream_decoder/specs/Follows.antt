@@ -58,7 +58,7 @@ pub record FollowsRun {F : Type 0} (Takes : F → List Item → F → Type 0) (i
   pub came : (bytes : List ℕ) (items : List Item) → Came image d bytes items → Came image d' (bytes ++ run) (items ++ more)
   pub takes : Takes old more new
   pub settings : (d'.reader).settings ≡ (d.reader).settings
-  pub taken : (d'.reader).taken ≡ (d.reader).taken + length run
+  pub offset : (d'.reader).offset ≡ (d.reader).offset + length run
 
 -- bytes at the front of others were, at least one, and the others stand behind them
 pub record FollowsFront {F : Type 0} (Takes : F → List Item → F → Type 0) (image : Image) (d : Decoding) (bytes behind : List ℕ) (d' : Decoding)

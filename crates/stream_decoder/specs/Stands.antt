@@ -93,4 +93,4 @@ pub record RunsAlong (image : Image) (id : ℕ) (d : Decoding) (shown : Option C
   pub writes : Writes old new result (lines_of id shown more)
   pub context : IsOk result → shown' ≡ shown_after_all shown more
   pub settings : (d'.reader).settings ≡ (d.reader).settings
-  pub taken : (d'.reader).taken ≡ (d.reader).taken + length run
+  pub offset : (d'.reader).offset ≡ (d.reader).offset + length run

@@ -17,7 +17,7 @@ use Rattle.etm_types.specs.declared.walk_fault.WalkFault.{WalkFault}
 use Rattle.packet_grammar.specs.declared.packet.Packet.{Packet}
 use Rattle.packet_grammar.specs.declared.stream_fault.Fault.{Fault}
 use Rattle.packet_grammar.specs.declared.stream_fault.Fault.TheVariants as fault
-use Rattle.packet_reader.specs.Stands.{Standing}
+use Rattle.packet_reader.specs.Stands.{PacketReading}
 use Rattle.packet_reader.specs.Stands as reader
 use Rattle.packet_reader.specs.declared.step.Step.{Step}
 use Rattle.packet_reader.specs.declared.step.Step.TheVariants.{Whole, Bad}
@@ -46,7 +46,7 @@ items_found (Some f) = items_of_found f
 -- ---- what a byte begins
 
 -- the reader takes the byte, and this is its answer
-abbrev pub Reads : Standing → Standing → ℕ → Step → Type 0
+abbrev pub Reads : PacketReading → PacketReading → ℕ → Step → Type 0
 Reads r r' byte step =
     (bytes : List ℕ) → reader.StandsAt r bytes → reader.StandsAt r' (bytes ++ byte ∷ []) × reader.Gains r.settings bytes byte step
 
@@ -198,4 +198,4 @@ pub record BegunFront (d d' : Decoding) (bytes behind : List ℕ) : Type 0 where
   pub parts : bytes ≡ byte ∷ behind
   pub begins : BegunByte d byte d'
   pub settings : (d'.reader).settings ≡ (d.reader).settings
-  pub taken : (d'.reader).taken ≡ (d.reader).taken + 1
+  pub offset : (d'.reader).offset ≡ (d.reader).offset + 1

@@ -70,7 +70,7 @@ impl StreamDecoder {
     /// block, of which nothing is kept from call to call. Behind a fault of the stream no line comes any more. The error means that a write
     /// failed; then a front of the lines is written, and the decoder is broken.
     ///
-    /// It is for speed: a packet that stands whole in the run, as most addresses and commits do, is read at once.
+    /// It is for speed: a packet that stands whole in the run, as most addresses and commits do, is read as one.
     pub fn take_run<K: Sink>(
         &mut self,
         image: &Image,
@@ -80,7 +80,7 @@ impl StreamDecoder {
         sink: &mut K,
     ) -> Result<(), Failed>
         requires whole { self.old.broken ≡ false }
-        requires few { self.old.decoding.reader.taken + length run.now ≤ 2 ^ 62 }
+        requires few { self.old.decoding.reader.offset + length run.now ≤ 2 ^ 62 }
         ensures stands { IsOk result → (bytes : List ℕ) → StandsAt image.now self.old bytes → StandsAt image.now self.new (bytes ++ run.now) }
         ensures grows { (bytes : List ℕ) → StandsAt image.now self.old bytes
             → GrowsAlong image.now self.old.decoding.reader.settings id bytes run.now self.old.shown (K.state sink.old) (K.state sink.new) result }
@@ -89,7 +89,7 @@ impl StreamDecoder {
             × (self.new ≡ record (self.old) { decoding = record (self.old.decoding) { reader = self.new.decoding.reader } }) }
         ensures serves { Serves (K.state sink.old) (K.state sink.new) result }
         ensures broken { IsTrue self.new.broken ↔ IsErr result }
-        ensures taken { self.new.decoding.reader.taken ≡ self.old.decoding.reader.taken + length run.now }
+        ensures offset { self.new.decoding.reader.offset ≡ self.old.decoding.reader.offset + length run.now }
         ensures settings { self.new.decoding.reader.settings ≡ self.old.decoding.reader.settings }
         ensures balanced { Balances self.new.decoding.counts (entries (self.new.decoding.due ++ self.new.decoding.pending.held)) }
         ensures most { length (self.new.decoding.due ++ self.new.decoding.pending.held) ≤ self.new.decoding.reader.settings.depth }
@@ -109,11 +109,11 @@ impl StreamDecoder {
     }
 
     /// How many bytes were taken.
-    pub fn taken(&self) -> u64
-        ensures value { result ≡ self.now.decoding.reader.taken }
+    pub fn offset(&self) -> u64
+        ensures value { result ≡ self.now.decoding.reader.offset }
         ensures all { (image : Image) (bytes : List ℕ) → StandsAt image self.now bytes → result ≡ length bytes }
     {
-        self.decoding.taken()
+        self.decoding.offset()
     }
 
     /// What became of the P0 elements. All that the path took were made. As long as it met no fault of the walk,
@@ -141,7 +141,7 @@ impl StreamDecoder {
             → IsPath image self.decoding.reader.settings bytes items last
             → Writes (K.state sink.old) (K.state sink.new) result (if length bytes == 0 then [] else end_line id last)
             × IfOk result (λ whole. whole ≡ not (is_fault last)) }
-        ensures nothing { self.decoding.reader.taken ≡ 0 → IfOk result (λ whole. whole ≡ true) }
+        ensures nothing { self.decoding.reader.offset ≡ 0 → IfOk result (λ whole. whole ≡ true) }
         ensures serves { Serves (K.state sink.old) (K.state sink.new) result }
     {
         let StreamDecoder {
@@ -177,7 +177,7 @@ fn write_run<K: Sink>(
 ) -> Result<(), Failed>
     requires holds { IsDecoding decoding.old }
     requires rest { AtRest decoding.old }
-    requires few { decoding.old.reader.taken + length run.now ≤ 2 ^ 62 }
+    requires few { decoding.old.reader.offset + length run.now ≤ 2 ^ 62 }
     requires none { lines.old.put ≡ [] }
     ensures runs { RunsAlong image.now lines.old.id decoding.old lines.old.shown run.now decoding.new lines.new.shown (K.state sink.old) (K.state sink.new) result }
     ensures stopped { decoding.old.fault ≢ None
@@ -209,7 +209,7 @@ fn follow_to_end<K: Sink>(
 )
     requires holds { IsDecoding decoding.old }
     requires rest { AtRest decoding.old }
-    requires few { decoding.old.reader.taken + length run.now ≤ 2 ^ 62 }
+    requires few { decoding.old.reader.offset + length run.now ≤ 2 ^ 62 }
     requires none { follower.old.lines.now.put ≡ [] }
     requires whole { follower.old.result ≡ Ok tt }
     ensures same { (follower.new.lines.ghost_name ≡ follower.old.lines.ghost_name) × (follower.new.sink.ghost_name ≡ follower.old.sink.ghost_name) }

@@ -25,10 +25,10 @@ pub fn finish<K: Sink>(decoding: Decoding, id: Id, sink: &mut K) -> Result<bool,
         → IsPath image decoding.reader.settings bytes items last
         → Writes (K.state sink.old) (K.state sink.new) result (if length bytes == 0 then [] else end_line id last)
         × IfOk result (λ whole. whole ≡ not (is_fault last)) }
-    ensures nothing { decoding.reader.taken ≡ 0 → IfOk result (λ whole. whole ≡ true) }
+    ensures nothing { decoding.reader.offset ≡ 0 → IfOk result (λ whole. whole ≡ true) }
     ensures serves { Serves (K.state sink.old) (K.state sink.new) result }
 {
-    let taken = decoding.taken();
+    let taken = decoding.offset();
     let end = decoding.end();
     decoding.close();
     if taken == 0 {

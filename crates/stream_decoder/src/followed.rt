@@ -62,16 +62,16 @@ impl FollowedStream {
     /// Takes the next bytes, and gives a follower the items by which the path grows, as those of the stream of an ID. Behind a fault of the
     /// stream none comes any more.
     ///
-    /// It is for speed: a packet that stands whole in the run, as most addresses and commits do, is read at once.
+    /// It is for speed: a packet that stands whole in the run, as most addresses and commits do, is read as one.
     pub fn take_run<F: Follower>(&mut self, image: &Image, id: Id, run: &[u8], follower: &mut F)
-        requires few { self.old.reader.taken + length run.now ≤ 2 ^ 62 }
+        requires few { self.old.reader.offset + length run.now ≤ 2 ^ 62 }
         ensures stands { (bytes : List ℕ) → CameTo image.now self.old bytes → CameTo image.now self.new (bytes ++ run.now) }
         ensures grows { (bytes : List ℕ) → CameTo image.now self.old bytes
             → (more : List Item) × GrowsByEach image.now self.old.reader.settings bytes run.now more
             × F.takes image.now id follower.old more follower.new }
         ensures stopped { self.old.fault ≢ None
             → (follower.new ≡ follower.old) × (self.new ≡ record (self.old) { reader = self.new.reader }) }
-        ensures taken { self.new.reader.taken ≡ self.old.reader.taken + length run.now }
+        ensures offset { self.new.reader.offset ≡ self.old.reader.offset + length run.now }
         ensures settings { self.new.reader.settings ≡ self.old.reader.settings }
         ensures balanced { Balances self.new.counts (entries (self.new.due ++ self.new.pending.held)) }
         ensures most { length (self.new.due ++ self.new.pending.held) ≤ self.new.reader.settings.depth }
@@ -80,11 +80,11 @@ impl FollowedStream {
     }
 
     /// How many bytes were taken.
-    pub fn taken(&self) -> u64
-        ensures value { result ≡ self.now.reader.taken }
+    pub fn offset(&self) -> u64
+        ensures value { result ≡ self.now.reader.offset }
         ensures all { (image : Image) (bytes : List ℕ) → CameTo image self.now bytes → result ≡ length bytes }
     {
-        self.decoding.taken()
+        self.decoding.offset()
     }
 
     /// What became of the P0 elements. All that the path took were made. As long as it met no fault of the walk,
@@ -111,7 +111,7 @@ impl FollowedStream {
             → IsPath image self.reader.settings bytes items last
             → Writes (K.state sink.old) (K.state sink.new) result (if length bytes == 0 then [] else end_line id last)
             × IfOk result (λ whole. whole ≡ not (is_fault last)) }
-        ensures nothing { self.reader.taken ≡ 0 → IfOk result (λ whole. whole ≡ true) }
+        ensures nothing { self.reader.offset ≡ 0 → IfOk result (λ whole. whole ≡ true) }
         ensures serves { Serves (K.state sink.old) (K.state sink.new) result }
     {
         let FollowedStream { decoding } = self;
@@ -138,7 +138,7 @@ pub fn follow_bytes<F: Follower>(
 )
     requires holds { IsDecoding decoding.old }
     requires rest { AtRest decoding.old }
-    requires few { decoding.old.reader.taken + length run.now ≤ 2 ^ 62 }
+    requires few { decoding.old.reader.offset + length run.now ≤ 2 ^ 62 }
     ensures follows { FollowsRun (F.takes image.now id) image.now decoding.old run.now decoding.new follower.old follower.new }
     ensures stopped { decoding.old.fault ≢ None
         → (decoding.new ≡ record (decoding.old) { reader = decoding.new.reader }) × (follower.new ≡ follower.old) }
@@ -151,7 +151,7 @@ pub fn follow_bytes<F: Follower>(
     }
 }
 
-/// Takes what stands at the front of the bytes that come next, and gives a follower what it shows: several packets at once, where that can be;
+/// Takes what stands at the front of the bytes that come next, and gives a follower what it shows: several packets together, where that can be;
 /// else a packet, or a byte. It gives the bytes behind it. Nothing means that there is no byte.
 #[inline(always)]
 fn follow_front<'a, F: Follower>(
@@ -163,7 +163,7 @@ fn follow_front<'a, F: Follower>(
 ) -> Option<&'a [u8]>
     requires holds { IsDecoding decoding.old }
     requires rest { AtRest decoding.old }
-    requires few { decoding.old.reader.taken + length bytes.now ≤ 2 ^ 62 }
+    requires few { decoding.old.reader.offset + length bytes.now ≤ 2 ^ 62 }
     ensures follows { IfSome result (λ behind. FollowsFront (F.takes image.now id) image.now decoding.old bytes.now behind.now decoding.new follower.old
         follower.new) }
     ensures none { result ≡ None → (bytes.now ≡ []) × (decoding.new ≡ decoding.old) × F.takes image.now id follower.old [] follower.new }

@@ -66,7 +66,7 @@ pub fn follow_rest<F: Follower>(decoding: &mut Decoding, image: &Image, id: Id, 
     follow_some(decoding, image, id, follower);
 }
 
-/// The same, where something is left to do: as much as goes the short way; where that ends, one thing that is found the long way;
+/// The same, where something is left to do: as much as goes the fast way; where that ends, one thing that is found the long way;
 /// and so on.
 #[inline(always)]
 fn follow_some<F: Follower>(decoding: &mut Decoding, image: &Image, id: Id, follower: &mut F)
@@ -89,8 +89,8 @@ fn follow_some<F: Follower>(decoding: &mut Decoding, image: &Image, id: Id, foll
     }
 }
 
-/// Gives a follower what goes the short way: what is due, and what the next elements show, as long as these are atoms before which
-/// nothing but an address was given, and at most 24.
+/// Gives a follower what goes the fast way: what is due, and what the next elements show, as long as these are atoms before which
+/// nothing but an address was given.
 #[inline(always)]
 fn follow_atoms<F: Follower>(decoding: &mut Decoding, image: &Image, id: Id, follower: &mut F)
     requires holds { IsDecoding decoding.old }

@@ -4,8 +4,8 @@
 //! thing that an element commits is walked by itself ([`next`](Decoding::next)). It is enough, whatever comes.
 //!
 //! Most of what comes is atoms. Two fast ways take many of them together, each in a room of its own: [`oldest`] walks what an element commits, and
-//! [`packets_at_once`] takes whole packets. Either may do nothing at any time, and either can be deleted: what it would have done goes the long way
-//! then, and shows the same.
+//! [`packets_together`] takes whole packets, and stands on `oldest`. Either may do nothing at any time; what it would have done goes the long way
+//! then, and shows the same. So `packets_together` can be deleted, and behind it `oldest`.
 ghost use Rattle.std.specs.Prelude.{◌≡◌, ◌<◌, ◌≤◌, ◌+◌, ◌^◌, ◌++◌, ◌∷◌, [], List, ℕ, Ok};
 ghost use Rattle.std.specs.Prelude.{length, Err, Some, None, IfOk, IfSome, IsErr, IsTrue, false, All, ◌↔◌, option_to_list};
 ghost use Rattle.element_queue.specs.Counting.{Balances, counts_after};
@@ -26,7 +26,7 @@ ghost use Rattle.stream_decoder.specs.Yields.{BegunByte, BegunFront, Ends, Goes,
 ghost use Rattle.stream_decoder.specs.Yields.{items_of_found, items_found, left};
 
 mod oldest;
-mod packets_at_once;
+mod packets_together;
 
 use crate::found::Found;
 use crate::todo::Todo;
@@ -85,13 +85,13 @@ impl Decoding {
     /// Takes the next byte. The elements of the packet that it ends are left to do. Behind a fault nothing is
     /// taken but the byte.
     ///
-    /// Most packets are atoms: these go a short way.
+    /// Most packets are atoms: these make their elements without a look at what else a packet may be.
     #[inline(always)]
     pub fn begin(&mut self, byte: u8)
-        requires few { self.old.reader.taken < 2 ^ 62 }
+        requires few { self.old.reader.offset < 2 ^ 62 }
         requires rest { AtRest self.old }
         ensures begun { BegunByte self.old byte self.new }
-        ensures taken { self.new.reader.taken ≡ self.old.reader.taken + 1 }
+        ensures offset { self.new.reader.offset ≡ self.old.reader.offset + 1 }
         ensures settings { self.new.reader.settings ≡ self.old.reader.settings }
         ensures holds { IsDecoding self.new }
     {
@@ -107,7 +107,7 @@ impl Decoding {
     /// Takes the first of the bytes that come next, and gives those behind it. Nothing means that there is no byte.
     #[inline(always)]
     pub fn begin_front<'a>(&mut self, bytes: &'a [u8]) -> Option<&'a [u8]>
-        requires few { self.old.reader.taken + length bytes.now ≤ 2 ^ 62 }
+        requires few { self.old.reader.offset + length bytes.now ≤ 2 ^ 62 }
         requires rest { AtRest self.old }
         requires holds { IsDecoding self.old }
         ensures begun { IfSome result (λ behind. BegunFront self.old self.new bytes.now behind.now) }
@@ -122,10 +122,10 @@ impl Decoding {
     /// Takes the next byte, whatever it is.
     #[inline(never)]
     fn begin_any(&mut self, byte: u8)
-        requires few { self.old.reader.taken < 2 ^ 62 }
+        requires few { self.old.reader.offset < 2 ^ 62 }
         requires rest { AtRest self.old }
         ensures begun { BegunByte self.old byte self.new }
-        ensures taken { self.new.reader.taken ≡ self.old.reader.taken + 1 }
+        ensures offset { self.new.reader.offset ≡ self.old.reader.offset + 1 }
         ensures settings { self.new.reader.settings ≡ self.old.reader.settings }
         ensures holds { IsDecoding self.new }
     {
@@ -341,10 +341,10 @@ impl Decoding {
     }
 
     /// How many bytes were taken.
-    pub fn taken(&self) -> u64
-        ensures { result ≡ self.now.reader.taken }
+    pub fn offset(&self) -> u64
+        ensures { result ≡ self.now.reader.offset }
     {
-        self.reader.taken()
+        self.reader.offset()
     }
 
     /// What became of the P0 elements.

@@ -279,19 +279,14 @@ impl Waiting {
         self.queue.pass_many(n);
     }
 
-    /// Takes an address where nothing is due. Else nothing changes.
+    /// Takes an address.
     #[inline(always)]
-    pub fn take_address(&mut self, addr: u64) -> bool
-        ensures due { IsTrue result → self.old.due ≡ [] }
-        ensures commits { IsTrue result → Commits self.old (elem.Addr addr) self.new [] }
-        ensures unchanged { result ≡ false → self.new ≡ self.old }
+    pub fn take_address(&mut self, addr: u64)
+        requires due { self.old.due ≡ [] }
+        ensures commits { Commits self.old (elem.Addr addr) self.new [] }
         ensures holds { IsWaiting self.new }
     {
-        if self.due > 0 {
-            return false;
-        }
         self.queue.note(PreElem::Addr(addr));
-        true
     }
 
     /// A trace info. The first one announces P0 elements from before it that are not committed.

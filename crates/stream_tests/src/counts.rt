@@ -154,7 +154,7 @@ fn count_two(
 ) -> Result<Result<bool, Failed>, Fail> {
     let image = Image::of_text(alloc, IMAGE)?;
     let mut demux: Demux<CountStream> = Demux::new(alloc, &image, &table()?)?;
-    assert!(rt; !demux.broken() && demux.taken() < MOST_BYTES);
+    assert!(rt; !demux.broken() && demux.offset() < MOST_BYTES);
     assert_eq!(rt; demux.take_piece(&image, TWO, sink), Ok(()));
     assert_eq!(rt; sink.written().len(), 0);
     assert!(rt; !demux.broken());

@@ -93,7 +93,7 @@ fn the_path_of_a_port(rt: HostRuntime) -> Result<(), Fail> {
     let image = Image::of_text(rt.alloc(), IMAGE)?;
     let mut sink = MemSink::new(rt.alloc(), Vec::new(rt.alloc()));
     let mut synced = printer(rt.alloc(), &image)?;
-    assert!(rt; !synced.broken() && synced.taken() == 0);
+    assert!(rt; !synced.broken() && synced.offset() == 0);
     assert_eq!(rt; synced.take_piece(&image, FIRST_SENT, &mut sink), Ok(()));
     assert_eq!(rt; synced.take_piece(&image, SECOND_SENT, &mut sink), Ok(()));
     assert_eq!(rt; synced.take_rest(&image, &mut sink), Ok(()));
@@ -107,7 +107,7 @@ fn a_port_that_is_given_up(rt: HostRuntime) -> Result<(), Fail> {
     let image = Image::of_text(rt.alloc(), IMAGE)?;
     let mut sink = MemSink::new(rt.alloc(), Vec::new(rt.alloc()));
     let mut synced = printer(rt.alloc(), &image)?;
-    assert!(rt; !synced.broken() && synced.taken() == 0);
+    assert!(rt; !synced.broken() && synced.offset() == 0);
     assert_eq!(rt; synced.take_piece(&image, FIRST_SENT, &mut sink), Ok(()));
     synced.abandon();
     assert_eq!(rt; sink.written().len(), 0);

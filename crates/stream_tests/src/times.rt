@@ -31,7 +31,7 @@ fn decoder_at(
     let id = Id::new(1).ok_or("it is an ID")?;
     let mut decoder = TimedDecoder::new(alloc, &settings)?;
     for byte in HEAD.iter().chain(bytes) {
-        assert!(rt; !decoder.broken() && decoder.taken() < MOST_BYTES);
+        assert!(rt; !decoder.broken() && decoder.offset() < MOST_BYTES);
         assert_eq!(rt; decoder.take(id, *byte, sink), Ok(()));
     }
     Ok(decoder)
@@ -49,7 +49,7 @@ fn the_time_of_a_cancelled_element_stays(rt: HostRuntime) -> Result<(), Fail> {
         cancelled: 1,
         lost: 0,
     };
-    assert_eq!(rt; (decoder.taken(), decoder.ledger()), (26, counts));
+    assert_eq!(rt; (decoder.offset(), decoder.ledger()), (26, counts));
     assert!(rt; !decoder.broken());
     assert_eq!(rt; decoder.finish(id, &mut sink), Ok(true));
     assert_eq!(rt;
@@ -82,7 +82,7 @@ fn refused(
     byte: u8,
     sink: &mut MemSink,
 ) -> (u64, u64) {
-    assert!(rt; !decoder.broken() && decoder.taken() < MOST_BYTES);
+    assert!(rt; !decoder.broken() && decoder.offset() < MOST_BYTES);
     assert_eq!(rt; decoder.take(id, byte, sink), Err(Failed));
     assert!(rt; decoder.broken());
     let counts = decoder.abandon().counts();
@@ -112,7 +112,7 @@ fn a_line_is_one_write(rt: HostRuntime) -> Result<(), Fail> {
 fn print_two(rt: &impl Abort, alloc: Global, sink: &mut MemSink) -> Result<bool, Fail> {
     let table = SettingsTable::new(Settings::new(4, 1, 4)?);
     let mut demux = TimesDemux::new(alloc, &(), &table)?;
-    assert!(rt; !demux.broken() && demux.taken() < MOST_BYTES);
+    assert!(rt; !demux.broken() && demux.offset() < MOST_BYTES);
     assert_eq!(rt; demux.take_piece(&(), TWO, sink), Ok(()));
     assert!(rt; !demux.broken());
     Ok(demux.finish(&(), sink)?)

@@ -7,9 +7,9 @@ use Rattle.std.proofs.lemmas.List.{length-replicate, length-take-le}
 use Rattle.formatter_frames.specs.Unframed.{unframed}
 use Rattle.sync_frames.specs.Laid.{cut_pairs, kept_few}
 use Rattle.sync_frames.specs.Syncs.{begins_full_sync, kept_from, unsynced}
-use Rattle.sync_frames.specs.Unsyncing.{IsPlace, StandsAt, Unsyncing, kept_at, place_of, plain_length, rest_of, state_of}
-use Rattle.sync_frames.specs.declared.unsync.Place.{Place}
-use Rattle.sync_frames.specs.declared.unsync.Place.TheVariants as place
+use Rattle.sync_frames.specs.Unsyncing.{IsPhase, StandsAt, Unsyncing, kept_at, place_of, plain_length, rest_of, state_of}
+use Rattle.sync_frames.specs.declared.unsync.Phase.{Phase}
+use Rattle.sync_frames.specs.declared.unsync.Phase.TheVariants as place
 use Rattle.sync_frames.proofs.Plain.{plain_kept, plain_within}
 
 -- what a call takes and gives comes behind what was taken and given
@@ -31,7 +31,7 @@ pub none_taken : (u : Unsyncing) (bytes given more : List ℕ) → StandsAt u (b
 none_taken u bytes given more s =
     subst (λ l. StandsAt u l given) (append-nil bytes) (subst (StandsAt u (bytes ++ [])) (append-nil given) s)
 
-pub cut_at : (here : Place) → IsPlace here → place_of (state_of here).place + length (state_of here).held < 16
+pub cut_at : (here : Phase) → IsPhase here → place_of (state_of here).place + length (state_of here).held < 16
 cut_at (place.Hunting ones) is = omega (arith, is, length-replicate {A = ℕ} ones 255)
 cut_at (place.Between at) is = omega (arith, is.1)
 cut_at (place.Within at first) is = omega (arith, is.0, is.1)

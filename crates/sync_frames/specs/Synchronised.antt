@@ -17,12 +17,12 @@ unsyncing_code =
 pub record Synchronised (X Y : Type 0) : Type 0 where
   pub unsync : Unsyncing
   pub demux : Demuxed X Y
-  pub taken : ℕ
+  pub offset : ℕ
 
 abbrev pub synchronised_code : {X Y : Type 0} → Coded X → Coded Y → Coded (Synchronised X Y)
 synchronised_code {X} {Y} stream sum =
-    code_by (Unsyncing × (Demuxed X Y × ℕ)) (coded× unsyncing_code (coded× (demuxed_code stream sum) coded_ℕ)) (λ s. (s.unsync, (s.demux, s.taken)))
-    (λ p. record { unsync = p.0; demux = p.1.0; taken = p.1.1 }) (λ _. refl)
+    code_by (Unsyncing × (Demuxed X Y × ℕ)) (coded× unsyncing_code (coded× (demuxed_code stream sum) coded_ℕ)) (λ s. (s.unsync, (s.demux, s.offset)))
+    (λ p. record { unsync = p.0; demux = p.1.0; offset = p.1.1 }) (λ _. refl)
 
 -- these bytes were taken, and no write failed: the streams stand at the bytes of frames among them that were given
 pub record HaveTaken {X Y : Type 0} (stands : X → List ℕ → Type 0) (sizes : X → Sizes) (sums : Y → List (ℕ × Item) → Type 0) (g : Sizes → Listing)
@@ -34,4 +34,4 @@ pub record HaveTaken {X Y : Type 0} (stands : X → List ℕ → Type 0) (sizes 
 -- and they are counted
 abbrev pub IsAfter : {X Y : Type 0} → (X → List ℕ → Type 0) → (X → Sizes) → (Y → List (ℕ × Item) → Type 0) → (Sizes → Listing) → (ℕ → Sizes)
     → Synchronised X Y → List ℕ → Type 0
-IsAfter stands sizes sums g t s bytes = HaveTaken stands sizes sums g t s.unsync s.demux bytes × (s.taken ≡ length bytes)
+IsAfter stands sizes sums g t s bytes = HaveTaken stands sizes sums g t s.unsync s.demux bytes × (s.offset ≡ length bytes)

@@ -2,8 +2,8 @@
 use Rattle.std.specs.Prelude.{◌≡◌, ℕ, suc, ◌+◌, ◌%◌, ◌<◌, ◌≤◌, ◌==◌, if◌then◌else◌, List, [], ◌∷◌, ◌++◌, length, replicate, Option, Some, None, ⊤}
 use Rattle.formatter_frames.specs.Sizes.{frame_bytes}
 use Rattle.sync_frames.specs.Syncs.{kept_from, unsynced}
-use Rattle.sync_frames.specs.declared.unsync.Place.{Place}
-use Rattle.sync_frames.specs.declared.unsync.Place.TheVariants as place
+use Rattle.sync_frames.specs.declared.unsync.Phase.{Phase}
+use Rattle.sync_frames.specs.declared.unsync.Phase.TheVariants as place
 
 -- The place of a frame at which the next byte stands that is not given yet, or none where no full sync was found; and the bytes that are held
 -- back, since they may be of a sync.
@@ -52,7 +52,7 @@ run_at u bytes = run_behind u.place u.held bytes
 
 -- ---- as it is kept
 
-abbrev pub state_of : Place → Unsyncing
+abbrev pub state_of : Phase → Unsyncing
 state_of (place.Hunting ones) = record { place = None; held = replicate ones 255 }
 state_of (place.Between at) = record { place = Some at; held = [] }
 state_of (place.Within at first) = record { place = Some at; held = first ∷ [] }
@@ -60,9 +60,9 @@ state_of place.TwoOnes = record { place = Some 0; held = 255 ∷ 255 ∷ [] }
 state_of place.ThreeOnes = record { place = Some 0; held = 255 ∷ 255 ∷ 255 ∷ [] }
 
 -- a place is even and one of a frame, and no more than three bytes FF are held back
-abbrev pub IsPlace : Place → Type 0
-IsPlace (place.Hunting ones) = ones ≤ 3
-IsPlace (place.Between at) = (at % 2 ≡ 0) × (at < 16)
-IsPlace (place.Within at first) = (at % 2 ≡ 0) × (at < 16)
-IsPlace place.TwoOnes = ⊤
-IsPlace place.ThreeOnes = ⊤
+abbrev pub IsPhase : Phase → Type 0
+IsPhase (place.Hunting ones) = ones ≤ 3
+IsPhase (place.Between at) = (at % 2 ≡ 0) × (at < 16)
+IsPhase (place.Within at first) = (at % 2 ≡ 0) × (at < 16)
+IsPhase place.TwoOnes = ⊤
+IsPhase place.ThreeOnes = ⊤

@@ -7,7 +7,7 @@
 //!
 //! The layers above use these contracts:
 //! - [`SyncedDemux`]: a printer, as a `Demux` is, of a capture of a trace port. It has the text of the frames in it.
-//! - [`Unsync`], on which it stands: the bytes of frames, a byte a call, or a run of them that holds no sync at once. At most three bytes are
+//! - [`Unsync`], on which it stands: the bytes of frames, a byte a call, or together a run of them that holds no sync. At most three bytes are
 //!   held back.
 //! - [`write_synced`]: whole frames with full syncs among them.
 //! - the laws: frames with syncs among them come back, wherever these stand ([`synced_frames_come_back`]), so what is written is read

@@ -22,7 +22,7 @@ pub struct SyncedDemux<S: Stream> {
     unsync: Unsync,
     demux: Demux<S>,
     /// How many bytes were taken, syncs among them; the demultiplexer took no more.
-    taken: u64,
+    offset: u64,
 }
 
 impl<S: Stream> Model for SyncedDemux<S> {
@@ -33,9 +33,9 @@ impl<S: Stream> Model for SyncedDemux<S> {
 
     ghost coded = { synchronised_code S.code S.Sum.code };
 
-    ghost view = { λ s. record { unsync = s.unsync; demux = s.demux; taken = s.taken } };
+    ghost view = { λ s. record { unsync = s.unsync; demux = s.demux; offset = s.offset } };
 
-    ghost invariant = { λ s. s.demux.taken + length s.unsync.held ≤ s.taken };
+    ghost invariant = { λ s. s.demux.offset + length s.unsync.held ≤ s.offset };
 }
 
 impl<S: Stream> SyncedDemux<S> {
@@ -52,7 +52,7 @@ impl<S: Stream> SyncedDemux<S> {
         let demux = Demux::new(alloc, shared, table)?;
         Ok(SyncedDemux {
             unsync: Unsync::new(),
-            taken: demux.taken(),
+            offset: demux.offset(),
             demux,
         })
     }
@@ -65,12 +65,12 @@ impl<S: Stream> SyncedDemux<S> {
     }
 
     /// How many bytes were taken, syncs among them.
-    pub fn taken(&self) -> u64
-        ensures value { result ≡ self.now.taken }
+    pub fn offset(&self) -> u64
+        ensures value { result ≡ self.now.offset }
         ensures all { (shared : S.Shared) (t : ℕ → Sizes) (bytes : List ℕ)
             → IsAfter (S.stands shared) S.sizes (S.sums shared) (S.listing shared) t self.now bytes → result ≡ length bytes }
     {
-        self.taken
+        self.offset
     }
 }
 
@@ -84,7 +84,7 @@ fn take_front<S: Stream, K: Sink>(
 ) -> (usize, Result<(), Failed>)
     requires whole { demux.old.broken ≡ false }
     requires some { 0 < length piece.now }
-    requires few { demux.old.taken + length unsync.old.held + length piece.now ≤ 2 ^ 30 }
+    requires few { demux.old.offset + length unsync.old.held + length piece.now ≤ 2 ^ 30 }
     ensures stands { (t : ℕ → Sizes) (bytes : List ℕ)
         → HaveTaken (S.stands shared.now) S.sizes (S.sums shared.now) (S.listing shared.now) t unsync.old demux.old bytes → IsOk result.1
         → HaveTaken (S.stands shared.now) S.sizes (S.sums shared.now) (S.listing shared.now) t unsync.new demux.new (bytes ++ take result.0 piece.now) }
@@ -95,7 +95,7 @@ fn take_front<S: Stream, K: Sink>(
     ensures broken { IsTrue demux.new.broken ↔ IsErr result.1 }
     ensures good { IsOk result.1 → demux.new.broken ≡ false }
     ensures count { (0 < result.0) × (result.0 ≤ length piece.now) }
-    ensures room { demux.new.taken + length unsync.new.held ≤ demux.old.taken + length unsync.old.held + result.0 }
+    ensures room { demux.new.offset + length unsync.new.held ≤ demux.old.offset + length unsync.old.held + result.0 }
 {
     let run = unsync.take_run(piece);
     if run > 0 {
@@ -114,7 +114,7 @@ fn take_bytes<S: Stream, K: Sink>(
     sink: &mut K,
 ) -> Result<(), Failed>
     requires whole { demux.old.broken ≡ false }
-    requires few { demux.old.taken + length unsync.old.held + length piece.now ≤ 2 ^ 30 }
+    requires few { demux.old.offset + length unsync.old.held + length piece.now ≤ 2 ^ 30 }
     ensures stands { (t : ℕ → Sizes) (bytes : List ℕ)
         → HaveTaken (S.stands shared.now) S.sizes (S.sums shared.now) (S.listing shared.now) t unsync.old demux.old bytes → IsOk result
         → HaveTaken (S.stands shared.now) S.sizes (S.sums shared.now) (S.listing shared.now) t unsync.new demux.new (bytes ++ piece.now) }
@@ -123,7 +123,7 @@ fn take_bytes<S: Stream, K: Sink>(
         → Gains synced_pairs (by_sizes (S.listing shared.now) t) bytes piece.now (K.state sink.old) (K.state sink.new) result }
     ensures serves { Serves (K.state sink.old) (K.state sink.new) result }
     ensures broken { IsTrue demux.new.broken ↔ IsErr result }
-    ensures room { demux.new.taken + length unsync.new.held ≤ demux.old.taken + length unsync.old.held + length piece.now }
+    ensures room { demux.new.offset + length unsync.new.held ≤ demux.old.offset + length unsync.old.held + length piece.now }
 {
     let mut at = 0;
     while at < piece.len() {
@@ -147,7 +147,7 @@ impl<S: Stream> Printer for SyncedDemux<S> {
 
     ghost broken = { λ s. s.demux.broken };
 
-    ghost taken = { λ s. s.taken };
+    ghost offset = { λ s. s.offset };
 
     ghost stands = { λ shared t s bytes. IsAfter (S.stands shared) S.sizes (S.sums shared) (S.listing shared) t s bytes };
 
@@ -165,7 +165,7 @@ impl<S: Stream> Printer for SyncedDemux<S> {
         piece: &[u8],
         sink: &mut K,
     ) -> Result<(), Failed> {
-        self.taken += piece.len() as u64;
+        self.offset += piece.len() as u64;
         take_bytes(&mut self.unsync, &mut self.demux, shared, piece, sink)
     }
 
@@ -178,7 +178,7 @@ impl<S: Stream> Printer for SyncedDemux<S> {
         let SyncedDemux {
             unsync: _,
             demux,
-            taken: _,
+            offset: _,
         } = self;
         demux.finish(shared, sink)
     }
@@ -187,7 +187,7 @@ impl<S: Stream> Printer for SyncedDemux<S> {
         let SyncedDemux {
             unsync: _,
             demux,
-            taken: _,
+            offset: _,
         } = self;
         demux.close(shared, sink)
     }
@@ -196,7 +196,7 @@ impl<S: Stream> Printer for SyncedDemux<S> {
         let SyncedDemux {
             unsync: _,
             demux,
-            taken: _,
+            offset: _,
         } = self;
         demux.abandon();
     }

@@ -2,7 +2,7 @@
 ghost use Rattle.std.specs.Prelude.{◌≡◌, ◌<◌, ◌≤◌, ◌+◌, ◌%◌, ℕ, List, [], ◌∷◌, ◌++◌, length, replicate, take, None};
 ghost use Rattle.formatter_frames.specs.Sizes.{frame_bytes};
 ghost use Rattle.sync_frames.specs.Syncs.{unsynced};
-ghost use Rattle.sync_frames.specs.Unsyncing.{IsPlace, StandsAt, place_of, plain_length, rest_of, run_at, state_of};
+ghost use Rattle.sync_frames.specs.Unsyncing.{IsPhase, StandsAt, place_of, plain_length, rest_of, run_at, state_of};
 
 use crate::few::Few;
 use formatter_frames::FRAME_BYTES;
@@ -16,7 +16,7 @@ const LAST: u8 = 0x7f;
 
 /// Where a reader stands, and what it holds back.
 #[derive(Clone, Copy)]
-enum Place {
+enum Phase {
     /// Before the first full sync, behind so many bytes FF, of which no more than three count.
     Hunting(u8),
     /// At this even place of a frame.
@@ -33,17 +33,17 @@ enum Place {
 /// see what it holds back and at which place of a frame it stands. Memory is not taken, and it may be dropped at any time.
 #[derive(Drop)]
 pub struct Unsync {
-    place: Place,
+    place: Phase,
 }
 
 impl Model for Unsync {
-    ghost use Rattle.sync_frames.specs.Unsyncing.{IsPlace, Unsyncing, state_of};
+    ghost use Rattle.sync_frames.specs.Unsyncing.{IsPhase, Unsyncing, state_of};
 
     ghost Value = { Unsyncing };
 
     ghost view = { λ u. state_of u.place };
 
-    ghost invariant = { λ u. IsPlace u.place };
+    ghost invariant = { λ u. IsPhase u.place };
 }
 
 impl Unsync {
@@ -53,7 +53,7 @@ impl Unsync {
         ensures none { result ≡ record { place = None; held = [] } }
     {
         Unsync {
-            place: Place::Hunting(0),
+            place: Phase::Hunting(0),
         }
     }
 
@@ -67,40 +67,40 @@ impl Unsync {
         ensures few { length result + length self.new.held ≤ length self.old.held + 1 }
     {
         match self.place {
-            Place::Hunting(ones) => {
+            Phase::Hunting(ones) => {
                 self.place = hunted(ones, byte);
                 Few::of(&[])
             }
-            Place::Between(at) => {
-                self.place = Place::Within(at, byte);
+            Phase::Between(at) => {
+                self.place = Phase::Within(at, byte);
                 Few::of(&[])
             }
-            Place::Within(at, ONES) if byte == LAST => {
-                self.place = Place::Between(at);
+            Phase::Within(at, ONES) if byte == LAST => {
+                self.place = Phase::Between(at);
                 Few::of(&[])
             }
-            Place::Within(0, ONES) if byte == ONES => {
-                self.place = Place::TwoOnes;
+            Phase::Within(0, ONES) if byte == ONES => {
+                self.place = Phase::TwoOnes;
                 Few::of(&[])
             }
-            Place::Within(at, first) => {
-                self.place = Place::Between((at + 2) % FRAME_BYTES);
+            Phase::Within(at, first) => {
+                self.place = Phase::Between((at + 2) % FRAME_BYTES);
                 Few::of(&[first, byte])
             }
-            Place::TwoOnes if byte == ONES => {
-                self.place = Place::ThreeOnes;
+            Phase::TwoOnes if byte == ONES => {
+                self.place = Phase::ThreeOnes;
                 Few::of(&[])
             }
-            Place::TwoOnes => {
-                self.place = Place::Within(2, byte);
+            Phase::TwoOnes => {
+                self.place = Phase::Within(2, byte);
                 Few::of(&[ONES, ONES])
             }
-            Place::ThreeOnes if byte == LAST => {
-                self.place = Place::Between(0);
+            Phase::ThreeOnes if byte == LAST => {
+                self.place = Phase::Between(0);
                 Few::of(&[])
             }
-            Place::ThreeOnes => {
-                self.place = Place::Between(4);
+            Phase::ThreeOnes => {
+                self.place = Phase::Between(4);
                 Few::of(&[ONES, ONES, ONES, byte])
             }
         }
@@ -116,11 +116,11 @@ impl Unsync {
         ensures place { place_of self.new.place ≡ (place_of self.old.place + result) % frame_bytes }
         ensures held { self.new.held ≡ self.old.held }
     {
-        let Place::Between(at) = self.place else {
+        let Phase::Between(at) = self.place else {
             return 0;
         };
         let count = plain_front(bytes);
-        self.place = Place::Between((at + count % FRAME_BYTES) % FRAME_BYTES);
+        self.place = Phase::Between((at + count % FRAME_BYTES) % FRAME_BYTES);
         count
     }
 
@@ -131,28 +131,28 @@ impl Unsync {
         ensures few { length result ≤ length self.held }
     {
         match self.place {
-            Place::Hunting(_) | Place::Between(_) => Few::of(&[]),
-            Place::Within(_, first) => Few::of(&[first]),
-            Place::TwoOnes => Few::of(&[ONES, ONES]),
-            Place::ThreeOnes => Few::of(&[ONES, ONES, ONES]),
+            Phase::Hunting(_) | Phase::Between(_) => Few::of(&[]),
+            Phase::Within(_, first) => Few::of(&[first]),
+            Phase::TwoOnes => Few::of(&[ONES, ONES]),
+            Phase::ThreeOnes => Few::of(&[ONES, ONES, ONES]),
         }
     }
 }
 
 /// Before the first full sync, behind so many bytes FF.
-fn hunted(ones: u8, byte: u8) -> Place
+fn hunted(ones: u8, byte: u8) -> Phase
     requires { ones ≤ 3 }
     ensures goes_on { (more : List ℕ) → unsynced (replicate ones 255 ++ byte ∷ more) ≡ rest_of (state_of result) more }
     ensures place { place_of (state_of result).place ≡ 0 }
-    ensures holds { IsPlace result }
+    ensures holds { IsPhase result }
     ensures few { length (state_of result).held ≤ ones + 1 }
 {
     if byte == ONES {
-        Place::Hunting(if ones < 3 { ones + 1 } else { 3 })
+        Phase::Hunting(if ones < 3 { ones + 1 } else { 3 })
     } else if byte == LAST && ones == 3 {
-        Place::Between(0)
+        Phase::Between(0)
     } else {
-        Place::Hunting(0)
+        Phase::Hunting(0)
     }
 }
 

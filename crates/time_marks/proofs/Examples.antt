@@ -14,7 +14,7 @@ use Rattle.time_marks.specs.Runs.{AreRuns, marks_of}
 use Rattle.time_marks.specs.Stamps.{Stamp, stamp_after, with_low}
 use Rattle.time_marks.specs.TimeLines.{time_line}
 use Rattle.time_marks.specs.Times.{times_of}
-use Rattle.time_marks.specs.declared.marks.Run.{Run}
+use Rattle.time_marks.specs.declared.marks.EqualMarks.{EqualMarks}
 use Rattle.time_marks.specs.declared.time_line.TimeLine.{TimeLine}
 use Rattle.time_marks.specs.declared.time_line.TimeLine.TheVariants.{Event, P0}
 
@@ -268,10 +268,10 @@ events_behind_a_fault = refl
 -- ---- marks that are held
 
 -- so many of each, oldest first; the runs of a mark that comes back stand apart
-abbrev of_5 : ℕ → Run
+abbrev of_5 : ℕ → EqualMarks
 of_5 count = record { stamp = 5; known = true; count = count }
 
-abbrev of_none : ℕ → Run
+abbrev of_none : ℕ → EqualMarks
 of_none count = record { stamp = 5; known = false; count = count }
 
 pub as_often_as_counted : marks_of (of_5 2 ∷ of_none 1 ∷ of_5 1 ∷ []) ≡ Some 5 ∷ Some 5 ∷ None ∷ Some 5 ∷ []
@@ -289,7 +289,7 @@ not_known e = absurd (omega (arith, ap (λ (marks : List Stamp). get_or (map sta
 
 -- one that counts no mark is no run
 pub none_is_no_run : AreRuns (of_5 0 ∷ []) → ⊥
-none_is_no_run are = absurd (omega (arith, All-head (λ (run : Run). 0 < run.count) (of_5 0) [] are))
+none_is_no_run are = absurd (omega (arith, All-head (λ (run : EqualMarks). 0 < run.count) (of_5 0) [] are))
 
 -- ---- texts
 

@@ -17,7 +17,7 @@ use Rattle.packet_grammar.specs.declared.stream_fault.Fault.{Fault}
 use Rattle.packet_grammar.specs.declared.stream_fault.Fault.TheVariants as stream
 use Rattle.packet_reader.proofs.Adds.{Told, gains_more, nothing_is_a_stream}
 use Rattle.packet_reader.specs.Answered.{fault_after, fault_of, told}
-use Rattle.packet_reader.specs.Stands.{Gains, Standing}
+use Rattle.packet_reader.specs.Stands.{Gains, PacketReading}
 use Rattle.packet_reader.specs.Stands as reader
 use Rattle.packet_reader.specs.declared.step.Step.{Step}
 use Rattle.packet_grammar.proofs.Streams.{one_stream}
@@ -106,7 +106,7 @@ module _ (d : Timed) (bytes : List ℕ) (is : StandsAt d bytes) (are : AreSettin
 
   -- ---- a byte more
 
-  module _ (r : Standing) (byte : ℕ) (fits : byte < 256) (step : Step) (same : r.settings ≡ s) (reads : reader.StandsAt r (bytes ++ byte ∷ []))
+  module _ (r : PacketReading) (byte : ℕ) (fits : byte < 256) (step : Step) (same : r.settings ≡ s) (reads : reader.StandsAt r (bytes ++ byte ∷ []))
       (gains : Gains s bytes byte step) where
     abbrev more : List ℕ
     more = bytes ++ byte ∷ []
@@ -122,11 +122,11 @@ module _ (d : Timed) (bytes : List ℕ) (is : StandsAt d bytes) (are : AreSettin
         → HasTimes d'.timing (times_of (depth_of d) packets) → ((d'.timing).line).fault ≡ fault_behind (times_of (depth_of d) packets).fault (fault_of ending)
         → StandsAt d' more
     stands_so d' whole read packets ending stream times met =
-        let settings : s ≡ (d'.reader).settings = sym same ∙ ap (λ (x : Standing). x.settings) (sym read) in
+        let settings : s ≡ (d'.reader).settings = sym same ∙ ap (λ (x : PacketReading). x.settings) (sym read) in
         record {
           whole = whole;
           small = one_more bytes byte is.small fits;
-          reads = subst (λ (x : Standing). reader.StandsAt x more) (sym read) reads;
+          reads = subst (λ (x : PacketReading). reader.StandsAt x more) (sym read) reads;
           packets = packets;
           ending = ending;
           stream = subst (λ (x : Sizes). IsStream x more packets ending) settings stream;
@@ -209,7 +209,7 @@ module _ (d : Timed) (bytes : List ℕ) (is : StandsAt d bytes) (are : AreSettin
 
 -- ---- the reader
 
-pub reads_more : (old new : Standing) (byte : ℕ) → byte < 256 → new.settings ≡ old.settings
+pub reads_more : (old new : PacketReading) (byte : ℕ) → byte < 256 → new.settings ≡ old.settings
     → ((bytes : List ℕ) → reader.StandsAt old bytes → reader.StandsAt new (bytes ++ byte ∷ [])) → IsReading old → IsReading new
 reads_more old new byte fits same stands is =
     record {

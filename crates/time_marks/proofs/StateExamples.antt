@@ -20,7 +20,7 @@ use Rattle.time_marks.specs.Runs.{AreRuns}
 use Rattle.time_marks.specs.Stamps.{Stamp, stamp_after}
 use Rattle.time_marks.specs.TimeLines.{shown_of}
 use Rattle.time_marks.specs.Times.{Times, after_good, no_times, opened, taken_so}
-use Rattle.time_marks.specs.declared.marks.Run.{Run}
+use Rattle.time_marks.specs.declared.marks.EqualMarks.{EqualMarks}
 use Rattle.time_marks.specs.declared.time_line.TimeLine.{TimeLine}
 use Rattle.time_marks.specs.declared.time_line.TimeLine.TheVariants.{Event, P0}
 
@@ -130,10 +130,10 @@ most_shown done many = rw many refl
 pub counted_anew : (done : List Stamp) → length done ≡ 2 ^ 64 → (shown_of done).count ≡ 0
 counted_anew done many = rw many refl
 
-abbrev IsSome : Run → Type 0
+abbrev IsSome : EqualMarks → Type 0
 IsSome run = 0 < run.count
 
-abbrev once : Run
+abbrev once : EqualMarks
 once = record { known = true; stamp = 5; count = 1 }
 
 pub a_run_of_one : AreRuns (once ∷ [])

@@ -8,7 +8,7 @@ use Rattle.packet_grammar.specs.declared.packet.Packet.{Packet}
 use Rattle.packet_grammar.specs.declared.stream_fault.Fault.{Fault}
 use Rattle.packet_grammar.specs.declared.stream_fault.Fault.TheVariants as fault
 use Rattle.packet_reader.specs.Answered.{fault_of}
-use Rattle.packet_reader.specs.Stands.{Standing}
+use Rattle.packet_reader.specs.Stands.{PacketReading}
 use Rattle.packet_reader.specs.Stands as reader
 use Rattle.path_text.specs.Writing.{Writes}
 use Rattle.time_marks.specs.Marked.{IsMarked}
@@ -21,7 +21,7 @@ use Rattle.trace_io.specs.State.{IoState}
 
 -- the reader of packets, what its packets come to, and whether a write failed
 pub record Timed : Type 0 where
-  pub reader : Standing
+  pub reader : PacketReading
   pub timing : Timing
   pub broken : Bool
 
@@ -70,7 +70,7 @@ pub record StandsAt (d : Timed) (bytes : List ℕ) : Type 0 where
   pub fault : ((d.timing).line).fault ≡ fault_behind (times_of (depth_of d) packets).fault (fault_of ending)
 
 -- a reader took some bytes, under settings
-pub record IsReading (r : Standing) : Type 0 where
+pub record IsReading (r : PacketReading) : Type 0 where
   pub settings : AreSettings r.settings
   pub bytes : List ℕ
   pub small : All (λ b. b < 256) bytes

@@ -56,7 +56,7 @@ impl TimedDecoder {
     pub fn new(alloc: Global, settings: &Settings) -> Result<TimedDecoder, AllocError>
         ensures stands { IfOk result (λ d. StandsAt d []) }
         ensures settings { IfOk result (λ d. d.reader.settings ≡ settings.now) }
-        ensures none { IfOk result (λ d. (d.reader.taken ≡ 0) × (d.timing.line.queue.counts ≡ no_counts) × (d.timing.line.queue.pending.held ≡ [])) }
+        ensures none { IfOk result (λ d. (d.reader.offset ≡ 0) × (d.timing.line.queue.counts ≡ no_counts) × (d.timing.line.queue.pending.held ≡ [])) }
     {
         Ok(TimedDecoder {
             reader: PacketReader::new(settings),
@@ -72,7 +72,7 @@ impl TimedDecoder {
     #[inline(always)]
     pub fn take<K: Sink>(&mut self, id: Id, byte: u8, sink: &mut K) -> Result<(), Failed>
         requires whole { self.old.broken ≡ false }
-        requires few { self.old.reader.taken < 2 ^ 62 }
+        requires few { self.old.reader.offset < 2 ^ 62 }
         ensures stands { IsOk result → (bytes : List ℕ) → StandsAt self.old bytes → StandsAt self.new (bytes ++ byte ∷ []) }
         ensures gains { (bytes : List ℕ) → StandsAt self.old bytes
             → (lines : List (List ℕ)) × TimesGains self.old.reader.settings id bytes byte lines
@@ -81,7 +81,7 @@ impl TimedDecoder {
             → (result ≡ Ok tt) × (sink.new ≡ sink.old) × (self.new ≡ record (self.old) { reader = self.new.reader }) }
         ensures serves { Serves (K.state sink.old) (K.state sink.new) result }
         ensures broken { IsTrue self.new.broken ↔ IsErr result }
-        ensures taken { self.new.reader.taken ≡ self.old.reader.taken + 1 }
+        ensures offset { self.new.reader.offset ≡ self.old.reader.offset + 1 }
         ensures settings { self.new.reader.settings ≡ self.old.reader.settings }
         ensures marks { length self.new.timing.line.queue.marks ≡ entries self.new.timing.line.queue.pending.held }
         ensures balanced { Balances self.new.timing.line.queue.counts (entries self.new.timing.line.queue.pending.held) }
@@ -102,7 +102,7 @@ impl TimedDecoder {
     /// The same, of any byte.
     fn take_any<K: Sink>(&mut self, id: Id, byte: u8, sink: &mut K) -> Result<(), Failed>
         requires whole { self.old.broken ≡ false }
-        requires few { self.old.reader.taken < 2 ^ 62 }
+        requires few { self.old.reader.offset < 2 ^ 62 }
         ensures stands { IsOk result → (bytes : List ℕ) → StandsAt self.old bytes → StandsAt self.new (bytes ++ byte ∷ []) }
         ensures gains { (bytes : List ℕ) → StandsAt self.old bytes
             → (lines : List (List ℕ)) × TimesGains self.old.reader.settings id bytes byte lines
@@ -111,7 +111,7 @@ impl TimedDecoder {
             → (result ≡ Ok tt) × (sink.new ≡ sink.old) × (self.new ≡ record (self.old) { reader = self.new.reader }) }
         ensures serves { Serves (K.state sink.old) (K.state sink.new) result }
         ensures broken { IsTrue self.new.broken ↔ IsErr result }
-        ensures taken { self.new.reader.taken ≡ self.old.reader.taken + 1 }
+        ensures offset { self.new.reader.offset ≡ self.old.reader.offset + 1 }
         ensures settings { self.new.reader.settings ≡ self.old.reader.settings }
         ensures marks { length self.new.timing.line.queue.marks ≡ entries self.new.timing.line.queue.pending.held }
         ensures balanced { Balances self.new.timing.line.queue.counts (entries self.new.timing.line.queue.pending.held) }
@@ -138,11 +138,11 @@ impl TimedDecoder {
     }
 
     /// How many bytes were taken.
-    pub fn taken(&self) -> u64
-        ensures value { result ≡ self.now.reader.taken }
+    pub fn offset(&self) -> u64
+        ensures value { result ≡ self.now.reader.offset }
         ensures all { (bytes : List ℕ) → StandsAt self.now bytes → result ≡ length bytes }
     {
-        self.reader.taken()
+        self.reader.offset()
     }
 
     /// What became of the P0 elements: what the elements say, up to the first that has a fault. Never more are held than the maximum
@@ -165,7 +165,7 @@ impl TimedDecoder {
             × IfOk result (λ whole. whole ≡ not (is_fault last)) }
         ensures serves { Serves (K.state sink.old) (K.state sink.new) result }
     {
-        let taken = self.reader.taken();
+        let taken = self.reader.offset();
         let end = self.end();
         self.abandon();
         if taken == 0 {
@@ -202,7 +202,7 @@ impl TimedDecoder {
 /// Takes the next byte where it ends a packet that goes the short way, and gives the packet with its offset. Else nothing changes.
 #[inline(always)]
 fn next_frequent(timing: &Timing, reader: &mut PacketReader, byte: u8) -> Option<(u64, Frequent)>
-    requires { reader.old.taken < 2 ^ 62 }
+    requires { reader.old.offset < 2 ^ 62 }
     ensures none { result ≡ None → reader.new ≡ reader.old }
     ensures ready { IfSome result (λ found. IsReady timing.now) }
     ensures takes { IfSome result (λ found. TakesPacket reader.old reader.new (byte ∷ []) found.0 (packet_of found.1)) }

@@ -18,7 +18,7 @@ pub enum Frequent {
 /// Takes the next byte where it ends such a packet, and gives the packet with its offset. Else nothing changes.
 #[inline(always)]
 pub fn take_frequent(reader: &mut PacketReader, byte: u8) -> Option<(u64, Frequent)>
-    requires { reader.old.taken < 2 ^ 62 }
+    requires { reader.old.offset < 2 ^ 62 }
     ensures none { result ≡ None → reader.new ≡ reader.old }
     ensures takes { IfSome result (λ found. TakesPacket reader.old reader.new (byte ∷ []) found.0 (packet_of found.1)) }
 {

@@ -13,21 +13,21 @@ use std::marker::Model;
 
 /// So many equal marks in a row. A mark is kept as its two parts, so that a run takes the 16 bytes that a mark alone takes.
 #[derive(Clone, Copy, Debug, PartialEq, Eq)]
-pub struct Run {
+pub struct EqualMarks {
     /// The timestamp, where it is known.
     pub stamp: u64,
     pub known: bool,
     pub count: u32,
 }
 
-impl Run {
+impl EqualMarks {
     /// A run of this mark that counts none.
     #[inline(always)]
-    fn begin(mark: Stamp) -> Run
+    fn begin(mark: Stamp) -> EqualMarks
         ensures mark { run_mark result ≡ mark }
         ensures none { result.count ≡ 0 }
     {
-        Run {
+        EqualMarks {
             stamp: mark.unwrap_or(0),
             known: mark.is_some(),
             count: 0,
@@ -48,9 +48,9 @@ impl Run {
 /// The runs at both ends stand apart from the ring, so that it moves only where a run begins or ends. They alone may count no mark.
 #[must_use]
 pub struct Marks {
-    oldest: Run,
-    between: SpendRing<Run>,
-    newest: Run,
+    oldest: EqualMarks,
+    between: SpendRing<EqualMarks>,
+    newest: EqualMarks,
     /// The number of marks.
     len: u32,
     capacity: u32,
@@ -77,9 +77,9 @@ impl Marks {
         ensures capacity { IfOk result (λ m. m.capacity ≡ capacity) }
     {
         Ok(Marks {
-            oldest: Run::begin(None),
+            oldest: EqualMarks::begin(None),
             between: SpendRing::with_capacity(alloc, capacity as usize)?,
-            newest: Run::begin(None),
+            newest: EqualMarks::begin(None),
             len: 0,
             capacity,
         })
@@ -213,7 +213,7 @@ impl Marks {
 
 /// Begins a run of this mark, and puts the one that was the newest behind the others, where it counts a mark.
 #[inline(never)]
-fn begin_run(runs: &mut SpendRing<Run>, newest: &mut Run, mark: Stamp)
+fn begin_run(runs: &mut SpendRing<EqualMarks>, newest: &mut EqualMarks, mark: Stamp)
     requires room { 0 < newest.old.count → length runs.old.items < runs.old.capacity }
     requires runs { AreRuns runs.old.items }
     ensures mark { run_mark newest.new ≡ mark }
@@ -225,12 +225,12 @@ fn begin_run(runs: &mut SpendRing<Run>, newest: &mut Run, mark: Stamp)
     if newest.count > 0 {
         runs.push_back(*newest);
     }
-    *newest = Run::begin(mark);
+    *newest = EqualMarks::begin(mark);
 }
 
 /// Takes out the oldest of the runs, or where there is none the newest, which then counts no mark.
 #[inline(never)]
-fn take_oldest(runs: &mut SpendRing<Run>, newest: &mut Run) -> Run
+fn take_oldest(runs: &mut SpendRing<EqualMarks>, newest: &mut EqualMarks) -> EqualMarks
     requires runs { AreRuns runs.old.items }
     requires some { 0 < length (marks_of (runs.old.items ++ newest.old ∷ [])) }
     ensures some { 0 < result.count }
@@ -246,7 +246,7 @@ fn take_oldest(runs: &mut SpendRing<Run>, newest: &mut Run) -> Run
 
 /// Takes out the newest of the runs, or where there is none the oldest, which then counts no mark.
 #[inline(never)]
-fn take_newest(runs: &mut SpendRing<Run>, oldest: &mut Run) -> Run
+fn take_newest(runs: &mut SpendRing<EqualMarks>, oldest: &mut EqualMarks) -> EqualMarks
     requires runs { AreRuns runs.old.items }
     requires some { 0 < length (marks_of (oldest.old ∷ runs.old.items)) }
     ensures some { 0 < result.count }
@@ -261,7 +261,7 @@ fn take_newest(runs: &mut SpendRing<Run>, oldest: &mut Run) -> Run
 }
 
 /// Takes all marks out of a run, and answers what it was.
-fn empty(run: &mut Run) -> Run
+fn empty(run: &mut EqualMarks) -> EqualMarks
     ensures was { result ≡ run.old }
     ensures now { run.new ≡ record (run.old) { count = 0 } }
 {

@@ -26,7 +26,7 @@ impl Stream for TimedDecoder {
 
     ghost broken = { λ d. d.broken };
 
-    ghost taken = { λ d. d.reader.taken };
+    ghost offset = { λ d. d.reader.offset };
 
     ghost held = { λ d. length d.timing.line.queue.pending.held };
 

@@ -32,7 +32,7 @@ pub struct Timeline {
 
 /// Where the elements of a packet stand, and under which ID their lines are printed.
 #[derive(Clone, Copy, Debug, PartialEq, Eq)]
-pub struct Place {
+pub struct PacketOrigin {
     pub id: Id,
     /// The offset of the packet.
     pub at: u64,
@@ -56,7 +56,7 @@ impl Timeline {
     /// Takes the elements of a packet, up to the first that has a fault, and writes the lines of those that are committed.
     pub fn take_elements<K: Sink>(
         &mut self,
-        place: &Place,
+        place: &PacketOrigin,
         elems: &Elems,
         sink: &mut K,
     ) -> Result<(), Failed>
@@ -88,7 +88,7 @@ impl Timeline {
     #[inline(always)]
     pub fn take_atoms<K: Sink>(
         &mut self,
-        place: &Place,
+        place: &PacketOrigin,
         run: &AtomRun,
         sink: &mut K,
     ) -> Result<(), Failed>
@@ -114,7 +114,7 @@ impl Timeline {
     /// Takes one element.
     fn take_element<K: Sink>(
         &mut self,
-        place: &Place,
+        place: &PacketOrigin,
         elem: &Elem,
         sink: &mut K,
     ) -> Result<(), Failed>
@@ -143,7 +143,7 @@ impl Timeline {
 
     /// Takes a P0 element.
     #[inline(always)]
-    fn push<K: Sink>(&mut self, place: &Place, p0: P0, sink: &mut K) -> Result<(), Failed>
+    fn push<K: Sink>(&mut self, place: &PacketOrigin, p0: P0, sink: &mut K) -> Result<(), Failed>
         requires whole { self.old.fault ≡ None }
         requires informed { self.old.queue.pending.informed ≡ true }
         ensures prints { (t : Times) → IsAt self.old t → t.stamp ≡ place.now.stamp
@@ -162,7 +162,12 @@ impl Timeline {
     }
 
     /// Takes a commit of the `n` oldest.
-    pub fn commit<K: Sink>(&mut self, place: &Place, n: u32, sink: &mut K) -> Result<(), Failed>
+    pub fn commit<K: Sink>(
+        &mut self,
+        place: &PacketOrigin,
+        n: u32,
+        sink: &mut K,
+    ) -> Result<(), Failed>
         requires whole { self.old.fault ≡ None }
         ensures prints { (t : Times) → IsAt self.old t
             → Prints place.now.id t (after_element self.old.queue.depth place.now.at t (elem.Commit n)) (K.state sink.old) (K.state sink.new) result

@@ -18,7 +18,7 @@ ghost use Rattle.trace_io.specs.Calls.{Serves};
 use crate::frequent::Frequent;
 use crate::stamp::stamp_after;
 use crate::time_line::{Stamp, TimeLine, write_time_line};
-use crate::timeline::{Place, Timeline};
+use crate::timeline::{PacketOrigin, Timeline};
 use element_queue::Ledger;
 use etm_types::Id;
 use packet_grammar::{Fault, Packet};
@@ -107,7 +107,7 @@ impl Timing {
         ensures holds { IsMarked self.old.line.queue → IsMarked self.new.line.queue }
         ensures serves { Serves (K.state sink.old) (K.state sink.new) result }
     {
-        let place = Place {
+        let place = PacketOrigin {
             id,
             at,
             stamp: self.stamp,
@@ -146,7 +146,7 @@ impl Timing {
         };
         write_event(id, informed, packet, self.stamp, sink)?;
         self.stamp = stamp_after(informed, self.stamp, packet);
-        let place = Place {
+        let place = PacketOrigin {
             id,
             at,
             stamp: self.stamp,

@@ -10,15 +10,15 @@ use Rattle.etm_types.specs.declared.item.Item.{Item}
 use Rattle.sync_frames.specs.Synchronised.{IsAfter, Synchronised}
 use Rattle.ring_capture.specs.Laid.{later_none}
 use Rattle.ring_capture.specs.Unwrapping.{Unwrapping}
-use Rattle.ring_capture.specs.Wrapped.{HaveTaken, taken_of}
+use Rattle.ring_capture.specs.Wrapped.{HaveTaken, offset_of}
 
 -- where nothing was taken of a buffer that was written round, nothing is kept
 pub fresh_wrapped : {X Y : Type 0} (stands : X → List ℕ → Type 0) (sizes : X → Sizes) (sums : Y → List (ℕ × Item) → Type 0) (g : Sizes → Listing)
-    (t : ℕ → Sizes) (u : Unwrapping) (d : Demuxed X Y) → HaveTaken stands sizes sums g t u d [] → (d.broken ≡ false) × (taken_of u d ≡ 0)
+    (t : ℕ → Sizes) (u : Unwrapping) (d : Demuxed X Y) → HaveTaken stands sizes sums g t u d [] → (d.broken ≡ false) × (offset_of u d ≡ 0)
 fresh_wrapped stands sizes sums g t u d taken =
     let kept = taken.unwrap.kept ∙ take_all (16 * u.frames) [] (omega arith) in
     let begun = taken.unwrap.begun ∙ ap begun_frame (drop_all (16 * u.frames) [] (omega arith)) in
-    let came = taken.demux.taken ∙ ap length (later_none u.frames) in
+    let came = taken.demux.offset ∙ ap length (later_none u.frames) in
     (taken.demux.whole, omega (arith, ap length kept, ap length begun, came))
 
 -- what is so of each value that was made is so of the one that was
@@ -29,7 +29,7 @@ of_made P Q (Err e) is so = tt
 -- a printer of a trace port that took nothing
 pub fresh_synced : {X Y : Type 0} (stands : X → List ℕ → Type 0) (sizes : X → Sizes) (sums : Y → List (ℕ × Item) → Type 0) (g : Sizes → Listing)
     (t : ℕ → Sizes) (s : Synchronised X Y) → IsAfter stands sizes sums g t s []
-    → (s.demux.broken ≡ false) × (s.taken ≡ 0)
+    → (s.demux.broken ≡ false) × (s.offset ≡ 0)
 fresh_synced stands sizes sums g t s is = (is.0.demux.whole, is.1)
 
 -- and what two properties give of it

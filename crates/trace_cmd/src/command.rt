@@ -41,7 +41,7 @@ fn print_by<P: Printer, J: Source, K: Sink>(
     input: &mut J,
     out: &mut K,
 ) -> Result<Status, Failed>
-    requires fresh { IfOk made (λ p. (P.broken p ≡ false) × (P.taken p ≡ 0)) }
+    requires fresh { IfOk made (λ p. (P.broken p ≡ false) × (P.offset p ≡ 0)) }
     ensures listed { (t : ℕ → Sizes) (laid : Laid) → IfOk made (λ p. P.stands shared.now t p [] × (P.laid (P.frames p) ≡ laid))
         → ((result ≡ Ok Status.NoMemory) × (input.new ≡ input.old) × (out.new ≡ out.old))
         ⊎ Listed laid (P.listing shared.now t) (J.state input.old) (J.state input.new) (K.state out.old) (K.state out.new) result }

@@ -10,7 +10,7 @@ use Rattle.etm_types.specs.declared.context.Ctx.{Ctx}
 use Rattle.etm_types.specs.declared.element.P0.{P0}
 use Rattle.program_image.specs.declared.image.Image.{Image}
 use Rattle.spec_run.proofs.StepLists.{bools}
-use Rattle.spec_run.specs.Checks.{Place as At, held_at, place_of}
+use Rattle.spec_run.specs.Checks.{Situation as At, held_at, place_of}
 use Rattle.spec_run.specs.Effects.{done_of, place_after, place_ran}
 use Rattle.spec_run.specs.Runs.{Running}
 use Rattle.spec_run.specs.Steps.{ends_in_cond, is_p0, newest, p0s}

@@ -4,7 +4,7 @@ use Rattle.a64_branches.specs.declared.class.Class.{Class}
 use Rattle.etm_types.specs.declared.context.Ctx.{Ctx}
 use Rattle.program_image.specs.Blocks.{class_at}
 use Rattle.program_image.specs.declared.image.Image.{Image}
-use Rattle.spec_run.specs.Checks.{Place, check, effect_of, executed, executed_fault, or_else, place_of, ran_by, step_fault, unless, word_fault}
+use Rattle.spec_run.specs.Checks.{Situation, check, effect_of, executed, executed_fault, or_else, place_of, ran_by, step_fault, unless, word_fault}
 use Rattle.spec_run.specs.Runs.{Running}
 use Rattle.spec_run.specs.Steps.{ends_in_cond, ends_in_isb}
 use Rattle.spec_run.specs.declared.event.Event.{Event}
@@ -60,9 +60,9 @@ isb_there : (b : Bool) → ends_in_isb (retired_to b) ≡ b
 isb_there true = refl
 isb_there false = refl
 
-at_place : (q : Place) → place_of (running_at q) ≡ q
+at_place : (q : Situation) → place_of (running_at q) ≡ q
 at_place q = ap (λ b. record q { after_isb = b }) (isb_there q.after_isb)
 
-pub is_there : (place : Option Place) → place_by (running_by place) ≡ place
+pub is_there : (place : Option Situation) → place_by (running_by place) ≡ place
 is_there None = refl
-is_there (Some q) = ap (λ (p : Place). Some p) (at_place q)
+is_there (Some q) = ap (λ (p : Situation). Some p) (at_place q)

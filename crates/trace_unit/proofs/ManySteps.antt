@@ -1,11 +1,11 @@
--- Plain steps that are taken at once: a unit stands behind them, and writes nothing of them.
+-- Plain steps that are taken together: a unit stands behind them, and writes nothing of them.
 use Rattle.std.proofs.Common.{◌≡◌, ℕ, zero, suc, List, [], ◌∷◌, ◌++◌, Option, None}
 use Rattle.std.proofs.Common.{refl, sym, ap, subst, ◌∙◌, append_assoc, append-nil}
 use Rattle.std.specs.Prelude.{replicate}
 use Rattle.program_image.specs.declared.image.Image.{Image}
 use Rattle.spec_run.proofs.ManySteps.{ArePlain, IsPlainStep, counted_plain}
 use Rattle.spec_run.proofs.OneEvent.{stands_behind}
-use Rattle.spec_run.specs.Checks.{Place, check, held_at}
+use Rattle.spec_run.specs.Checks.{Situation, check, held_at}
 use Rattle.spec_run.specs.Effects.{done_of}
 use Rattle.spec_run.specs.ManySteps.{AllPass, IsStepCount, place_after_all}
 use Rattle.spec_run.specs.Stands.{Kept as RunKept}
@@ -23,12 +23,12 @@ use Rattle.trace_unit.specs.declared.follower.Follower.{Follower}
 
 -- ---- a step that is no P0 step is not followed
 
-not_followed : (image : Image) (place there : Option Place) (f : Follower) → IsPlainStep image place
+not_followed : (image : Image) (place there : Option Situation) (f : Follower) → IsPlainStep image place
     → followed (done_at image place event.Step) there f ≡ f
 not_followed image place there f is =
     ap (λ (does : Effect). followed (done_of (held_at place) does) there f) is.does
 
-not_told : (image : Image) (place there : Option Place) (f : Follower) → IsPlainStep image place
+not_told : (image : Image) (place there : Option Situation) (f : Follower) → IsPlainStep image place
     → orders_done (done_at image place event.Step) there f ≡ []
 not_told image place there f is =
     ap (λ (does : Effect). orders_done (done_of (held_at place) does) there f) is.does

@@ -4,7 +4,7 @@ use Rattle.std.proofs.Common.{refl, sym, ap, subst, ◌∙◌, arith, length-app
 use Rattle.etm_types.specs.Settings.{Sizes}
 use Rattle.program_image.specs.declared.image.Image.{Image}
 use Rattle.spec_run.proofs.OneEvent.{place_behind}
-use Rattle.spec_run.specs.Checks.{Place, check, effect_of, held_at}
+use Rattle.spec_run.specs.Checks.{Situation, check, effect_of, held_at}
 use Rattle.spec_run.specs.Effects.{done_of, place_after}
 use Rattle.spec_run.specs.RunAfter.{IsEvent, after_event}
 use Rattle.spec_run.specs.Runs.{Execution, Running}
@@ -45,10 +45,10 @@ fits_back s (Some r) fits = record { pc = fits.pc; ctx = fits.ctx; held = fits.h
 
 -- ---- what an event does, and where the run is behind it
 
-abbrev pub done_at : Image → Option Place → Event → Done
+abbrev pub done_at : Image → Option Situation → Event → Done
 done_at image place e = done_of (held_at place) (effect_of image place e)
 
-abbrev pub behind : Image → ℕ → Option Place → Event → Option Place
+abbrev pub behind : Image → ℕ → Option Situation → Event → Option Situation
 behind image depth place e = place_after image depth place (effect_of image place e)
 
 -- an event that is accepted
@@ -58,7 +58,7 @@ pub record Accepts (image : Image) (run : RunKept) (f : Follower) (e : Event) : 
   pub passes : check image run.depth run.place e ≡ None
 
 -- it is told and kept, where this was done and the run is there then
-pub record Follows (depth : ℕ) (f : Follower) (did : Done) (place : Option Place) : Type 0 where
+pub record Follows (depth : ℕ) (f : Follower) (did : Done) (place : Option Situation) : Type 0 where
   pub can : CanFollow did place f
   pub tells : CanTellAll f.teller (orders_done did place f)
   pub few : length (bytes_all f.teller (orders_done did place f)) ≤ 128
@@ -131,13 +131,13 @@ follows_by image current f e acc =
 follows_there : (image : Image) (run : RunKept) (f : Follower) (e : Event) → Accepts image run f e
     → Follows run.depth f (done_at image run.place e) (behind image run.depth run.place e)
 follows_there image run f e acc =
-    let P : ℕ → Option Place → Type 0 = λ depth place.
+    let P : ℕ → Option Situation → Type 0 = λ depth place.
     Accepts image (record { depth = depth; place = place }) f e → Follows depth f (done_at image place e) (behind image depth place e) in
     let by_place : P f.teller.settings.depth run.place =
     subst (P f.teller.settings.depth) (is_there run.place) (follows_by image (running_by run.place) f e) in
     subst (λ depth. P depth run.place) (sym acc.agree.depth) by_place acc
 
-pub follows : (image : Image) (run : RunKept) (f : Follower) (e : Event) (did : Done) (place : Option Place) → Accepts image run f e
+pub follows : (image : Image) (run : RunKept) (f : Follower) (e : Event) (did : Done) (place : Option Situation) → Accepts image run f e
     → did ≡ done_at image run.place e → place ≡ behind image run.depth run.place e → Follows run.depth f did place
 follows image run f e did place acc same there =
     subst (λ did. Follows run.depth f did place) (sym same)
@@ -149,7 +149,7 @@ told_settings : (t : Teller) (orders : List Order) → (told_all t orders).setti
 told_settings t orders = ap (λ (t : Teller). t.settings) (told_all_is t orders)
 
 -- the settings, and how many return addresses are kept at most
-pub followed_keeps : (did : Done) (place : Option Place) (f : Follower) → ((followed did place f).teller.settings ≡ f.teller.settings)
+pub followed_keeps : (did : Done) (place : Option Situation) (f : Follower) → ((followed did place f).teller.settings ≡ f.teller.settings)
     × ((followed did place f).places.stack_depth ≡ f.places.stack_depth)
 followed_keeps done.Began None f = (refl, refl)
 followed_keeps done.Began (Some q) f = (refl, refl)

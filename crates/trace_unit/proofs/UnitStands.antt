@@ -5,7 +5,7 @@ use Rattle.element_queue.specs.declared.ledger.Counts.{Counts}
 use Rattle.etm_types.specs.Settings.{Sizes}
 use Rattle.program_image.specs.declared.image.Image.{Image}
 use Rattle.spec_run.proofs.EventsJoined.{passed, same_execution}
-use Rattle.spec_run.specs.Checks.{Place, check, effect_of, held_at}
+use Rattle.spec_run.specs.Checks.{Situation, check, effect_of, held_at}
 use Rattle.spec_run.specs.RunAfter.{AreEvents, IsEvent, after_event, place_in, run_after, run_from}
 use Rattle.spec_run.specs.Runs.{Execution, Running, at_first}
 use Rattle.spec_run.specs.Stands.{Kept as RunKept, StandsAt as RunStandsAt}
@@ -55,7 +55,7 @@ counts_grow image depth events x e ran = counts_joined image depth at_first no_c
 -- ---- one event more
 
 -- the unit stands behind it, and these bytes are written for it, where this was done and the run is there then
-pub record Grows (image : Image) (f : Follower) (events : List Event) (e : Event) (now : RunKept) (did : Done) (place : Option Place) : Type 0 where
+pub record Grows (image : Image) (f : Follower) (events : List Event) (e : Event) (now : RunKept) (did : Done) (place : Option Situation) : Type 0 where
   pub stands : StandsAt image (kept_of now (followed did place f)) (events ++ e ∷ [])
   pub wrote : written image f.teller.settings f.places.stack_depth (events ++ e ∷ []) ≡ written image f.teller.settings f.places.stack_depth events
       ++ bytes_all f.teller (orders_done did place f)
@@ -121,7 +121,7 @@ grows_there image run f events e now acc st stands =
     let ran : run_after image f.teller.settings.depth events ≡ Ok x = st.run.after in
     subst P (sym same) (λ acc st. grows_by image x f events e now acc ran st stands) acc st
 
-pub grows : (image : Image) (run : RunKept) (f : Follower) (events : List Event) (e : Event) (now : RunKept) (did : Done) (place : Option Place)
+pub grows : (image : Image) (run : RunKept) (f : Follower) (events : List Event) (e : Event) (now : RunKept) (did : Done) (place : Option Situation)
     → Accepts image run f e → did ≡ done_at image run.place e → place ≡ behind image run.depth run.place e → StandsAt image (kept_of run f) events
     → RunStandsAt image f.teller.settings now (events ++ e ∷ []) → Grows image f events e now did place
 grows image run f events e now did place acc same there st stands =

@@ -3,7 +3,7 @@ use Rattle.std.specs.Prelude.{◌≡◌, Bool, true, false, if◌then◌else◌,
 use Rattle.std.specs.Option.{option_map}
 use Rattle.etm_types.specs.Context.{initial_context}
 use Rattle.etm_types.specs.declared.element.P0.{P0}
-use Rattle.spec_run.specs.Checks.{Place, held_at}
+use Rattle.spec_run.specs.Checks.{Situation, held_at}
 use Rattle.spec_run.specs.Runs.{Running}
 use Rattle.spec_run.specs.Stands.{Kept as RunKept}
 use Rattle.spec_run.specs.Steps.{is_p0, p0s}
@@ -26,10 +26,10 @@ retired_to true = some_isb ∷ []
 retired_to false = []
 
 -- a run that is at this place
-abbrev pub running_at : Place → Running
+abbrev pub running_at : Situation → Running
 running_at q = record { start = 0; retired = retired_to q.after_isb; held = q.held; pc = q.pc; ctx = q.ctx }
 
-abbrev pub running_by : Option Place → Option Running
+abbrev pub running_by : Option Situation → Option Running
 running_by place = option_map running_at place
 
 -- ---- P0 steps

@@ -5,7 +5,7 @@ use Rattle.etm_types.specs.Settings.{Sizes}
 use Rattle.etm_types.specs.declared.context.Ctx.{Ctx}
 use Rattle.etm_types.specs.declared.element.P0.{P0}
 use Rattle.etm_types.specs.declared.element.P0.TheVariants as p0
-use Rattle.spec_run.specs.Checks.{Place}
+use Rattle.spec_run.specs.Checks.{Situation}
 use Rattle.spec_run.specs.Runs.{ByOff, ByOverflow, Closing}
 use Rattle.spec_run.specs.Steps.{is_p0}
 use Rattle.spec_run.specs.declared.event.Done.{Done}
@@ -93,7 +93,7 @@ closed f closing = record {
 -- ---- what a run did, and where it is then
 
 -- what comes of a place, where there is one
-abbrev pub at_place : {X : Type 0} → Option Place → X → (Place → X) → X
+abbrev pub at_place : {X : Type 0} → Option Situation → X → (Situation → X) → X
 at_place None x f = x
 at_place (Some q) x f = f q
 
@@ -108,7 +108,7 @@ pub record Following : Type 1 where
   pub fits : Type 0
 
 -- each thing that a run did, and where it is then
-abbrev pub following : Done → Option Place → Follower → Following
+abbrev pub following : Done → Option Situation → Follower → Following
 following done.Began place f =
     record {
       orders = at_place place [] (λ q. begin_orders q.pc q.ctx);
@@ -139,11 +139,11 @@ following done.Synced place f =
 following done.Overflowed place f = record { orders = Close ByOverflow ∷ []; behind = closed f ByOverflow; fits = ⊤ }
 following done.Stopped place f = record { orders = Close ByOff ∷ []; behind = closed f ByOff; fits = ⊤ }
 
-abbrev pub orders_done : Done → Option Place → Follower → List Order
+abbrev pub orders_done : Done → Option Situation → Follower → List Order
 orders_done did place f = (following did place f).orders
 
-abbrev pub followed : Done → Option Place → Follower → Follower
+abbrev pub followed : Done → Option Situation → Follower → Follower
 followed did place f = (following did place f).behind
 
-abbrev pub CanFollow : Done → Option Place → Follower → Type 0
+abbrev pub CanFollow : Done → Option Situation → Follower → Type 0
 CanFollow did place f = (following did place f).fits

@@ -8,7 +8,7 @@ ghost use Rattle.etm_types.specs.Settings.{AreSettings};
 ghost use Rattle.etm_types.specs.declared.element.P0.{P0 as Element};
 ghost use Rattle.etm_types.specs.declared.element.P0.TheVariants.{Atom};
 ghost use Rattle.return_stack.specs.Stack.{most_addresses};
-ghost use Rattle.spec_run.specs.Checks.{Place};
+ghost use Rattle.spec_run.specs.Checks.{Situation};
 ghost use Rattle.spec_run.specs.Runs.{ByOff, ByOverflow};
 ghost use Rattle.trace_unit.specs.Followed.{CanFollow, HasRoomFor, begun, cancelled, closed, element_of, first_follower};
 ghost use Rattle.trace_unit.specs.Followed.{flipped, followed, orders_done, retired, stepped, synced};
@@ -271,7 +271,7 @@ fn element_of(step: &RunStep) -> P0
 /// Where a run goes on, and in which context, while tracing is on.
 fn standing(run: &Run) -> (u64, Ctx)
     requires { IsSome run.now.place }
-    ensures { (p : Place) → run.now.place ≡ Some p → result ≡ (p.pc, p.ctx) }
+    ensures { (p : Situation) → run.now.place ≡ Some p → result ≡ (p.pc, p.ctx) }
 {
     match (run.pc(), run.ctx()) {
         (Some(pc), Some(ctx)) => (pc, ctx),

@@ -109,7 +109,7 @@ impl Unit {
         Ok(())
     }
 
-    /// Takes so many events `Step` at once, as far as plain words stand from the pc on and there is room for their steps, and
+    /// Takes so many events `Step` together, as far as plain words stand from the pc on and there is room for their steps, and
     /// says how many. The trace says nothing of them: the run alone moves.
     pub fn step_many(&mut self, image: &Image, n: u32) -> u32
         ensures count { IsStepCount image.now self.old.run.depth self.old.run.place n result }

@@ -19,7 +19,7 @@ two_feeds = refl
 pub no_other_feeds : line_feeds (9 ∷ 10 ∷ 11 ∷ 10 ∷ 0 ∷ []) ≡ 2
 no_other_feeds = refl
 
--- 1 to 1000 bytes are read at once, and a thousand numbers on as many again
+-- 1 to 1000 bytes are read at a time, and a thousand numbers on as many again
 pub one_at_once : piece_of 0 ≡ 1
 one_at_once = refl
 

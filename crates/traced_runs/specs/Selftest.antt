@@ -42,7 +42,7 @@ HasBadBench n line why text =
 
 -- ---- what is read of their frames
 
--- so many bytes of them are read at once: 1 to 1000
+-- so many bytes of them are read at a time: 1 to 1000
 abbrev pub piece_of : ℕ → ℕ
 piece_of n = 1 + n % 1000
 

@@ -27,7 +27,7 @@ use std::alloc::{AllocError, Global};
 use stream_decoder::StreamDecoder;
 use trace_io::{Failed, MemSink, SafeSource, Sink};
 
-/// The most bytes of a text that are read at once.
+/// The most bytes of a text that are read at a time.
 const PIECE: usize = 4096;
 
 /// Why a number has no summary.
@@ -43,7 +43,7 @@ enum Untested {
     Memory,
 }
 
-/// A source of these bytes, which gives at most `piece` of them at once.
+/// A source of these bytes, which gives at most `piece` of them at a time.
 fn source_of(alloc: Global, bytes: &[u8], piece: usize) -> Result<SafeSource, AllocError>
     requires { 0 < piece }
     ensures { IfOk result (λ s. (s.left ≡ bytes.now) × (s.piece ≡ piece)) }
@@ -53,7 +53,7 @@ fn source_of(alloc: Global, bytes: &[u8], piece: usize) -> Result<SafeSource, Al
     Ok(SafeSource::new(copy, piece))
 }
 
-/// A source of the frames of a number's traces. Numbers differ in how many bytes are read at once.
+/// A source of the frames of a number's traces. Numbers differ in how many bytes are read at a time.
 fn frames_source(alloc: Global, frames: &[u8], number: u32) -> Result<SafeSource, AllocError>
     ensures { IfOk result (λ s. (s.left ≡ frames.now) × (s.piece ≡ piece_of number)) }
 {

@@ -63,7 +63,7 @@ fn trace_line(
     Ok(())
 }
 
-/// Traces the plain steps at the front of a line's events at once, and says how many there are. The trace says nothing of them.
+/// Traces the plain steps at the front of a line's events together, and says how many there are. The trace says nothing of them.
 fn trace_plain(unit: &mut Unit, image: &Image, line: &BenchLine) -> u32
     ensures traces { (bytes : List ℕ) (events : List Event) → IsTracing image.now unit.old bytes events
         → IsTracing image.now unit.new bytes (events_with events result line.now.event) }
@@ -240,7 +240,7 @@ fn write_kept<K: Sink>(
     Ok(Status::Done)
 }
 
-/// Writes the frames of traces, woven as a run file says: all of them at once, or the last ones, or with synchronisation packets
+/// Writes the frames of traces, woven as a run file says: all of them together, or the last ones, or with synchronisation packets
 /// among them.
 fn write_traces<K: Sink>(
     alloc: Global,

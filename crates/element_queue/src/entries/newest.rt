@@ -8,7 +8,7 @@ ghost use Rattle.element_queue.specs.Kept.{AreNewest, entries_in, kept};
 ghost use Rattle.element_queue.specs.Pending.{flip_newest};
 ghost use Rattle.element_queue.specs.Queued.{plain_entry};
 
-use crate::entries::{Entries, Run};
+use crate::entries::{AtomsAndEntry, Entries};
 use crate::plain_atoms::{MOST_PLAIN, PlainAtoms};
 use crate::slot::Slot;
 use etm_types::AtomRun;
@@ -95,7 +95,7 @@ impl Entries {
             self.count -= 1;
             return Some(Slot::from_atom(taken));
         }
-        let Run { plain, last } = self.runs.pop_back()?;
+        let AtomsAndEntry { plain, last } = self.runs.pop_back()?;
         std::mem::replace(&mut self.plain, plain).close();
         self.count -= 1;
         Some(last)
@@ -175,19 +175,19 @@ impl Entries {
 
 /// Appends an entry of any kind, with which a run ends: the bits before it go there.
 #[inline(always)]
-fn put_behind(runs: &mut SpendRing<Run>, plain: &mut PlainAtoms, last: Slot)
+fn put_behind(runs: &mut SpendRing<AtomsAndEntry>, plain: &mut PlainAtoms, last: Slot)
     requires room { length runs.old.items < runs.old.capacity }
     ensures entries { entries_in runs.new.items plain.new ≡ entries_in runs.old.items plain.old ++ last ∷ [] }
     ensures bits { plain.new ≡ [] }
     ensures capacity { runs.new.capacity ≡ runs.old.capacity }
 {
     let plain = std::mem::replace(plain, PlainAtoms::new());
-    put(runs, Run { plain, last });
+    put(runs, AtomsAndEntry { plain, last });
 }
 
 /// Appends a run, where there is room for it.
 #[inline(always)]
-fn put(runs: &mut SpendRing<Run>, run: Run)
+fn put(runs: &mut SpendRing<AtomsAndEntry>, run: AtomsAndEntry)
     requires room { length runs.old.items < runs.old.capacity }
     ensures items { runs.new.items ≡ runs.old.items ++ run ∷ [] }
     ensures capacity { runs.new.capacity ≡ runs.old.capacity }
@@ -199,7 +199,7 @@ fn put(runs: &mut SpendRing<Run>, run: Run)
 }
 
 /// Whether the last entry of runs is an atom.
-fn ends_in_atom(runs: &SpendRing<Run>) -> bool
+fn ends_in_atom(runs: &SpendRing<AtomsAndEntry>) -> bool
     ensures { IsTrue result ↔ IsSome (flip_newest (map Seen (entries_in runs.now.items []))) }
 {
     let count = runs.len();
@@ -213,7 +213,7 @@ fn ends_in_atom(runs: &SpendRing<Run>) -> bool
 }
 
 /// The last entry of runs, an atom, is the other one.
-fn flip_last(runs: &mut SpendRing<Run>)
+fn flip_last(runs: &mut SpendRing<AtomsAndEntry>)
     requires atom { IsSome (flip_newest (map Seen (entries_in runs.old.items []))) }
     ensures flipped { flip_newest (map Seen (entries_in runs.old.items [])) ≡ Some (map Seen (entries_in runs.new.items [])) }
     ensures count { length (entries_in runs.new.items []) ≡ length (entries_in runs.old.items []) }
@@ -222,8 +222,8 @@ fn flip_last(runs: &mut SpendRing<Run>)
     if runs.len() == 0 {
         return;
     }
-    if let Some(Run { plain, mut last }) = runs.pop_back() {
+    if let Some(AtomsAndEntry { plain, mut last }) = runs.pop_back() {
         last.flip();
-        put(runs, Run { plain, last });
+        put(runs, AtomsAndEntry { plain, last });
     }
 }

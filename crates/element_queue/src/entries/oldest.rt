@@ -7,10 +7,10 @@ ghost use Rattle.etm_types.specs.declared.element.Entry.{Entry};
 ghost use Rattle.etm_types.specs.declared.element.Thing.TheVariants.{Seen};
 ghost use Rattle.element_queue.specs.Kept.{AreOldest, IsFront, NoPlainAt, entries_in, kept};
 ghost use Rattle.element_queue.specs.Queued.{BeginsWith, entry_of, plain_entry};
-ghost use Rattle.element_queue.specs.declared.entries.Run.{Run};
+ghost use Rattle.element_queue.specs.declared.entries.AtomsAndEntry.{AtomsAndEntry};
 ghost use Rattle.element_queue.specs.declared.queue.AtomEntry.{AtomEntry};
 
-use crate::entries::{Entries, Run};
+use crate::entries::{AtomsAndEntry, Entries};
 use crate::given_atoms::{GivenAtoms, with_first};
 use crate::plain_atoms::{MOST_OF_RUN, PlainAtoms};
 use crate::queue::AtomEntry;
@@ -116,7 +116,7 @@ impl Entries {
     }
 }
 
-impl Run {
+impl AtomsAndEntry {
     /// Whether its bits are all that a front of the entries from it on has: at least 24, or the entry behind them is no such atom.
     #[inline(always)]
     fn has_front(&self) -> bool
@@ -170,7 +170,7 @@ fn plain_atom_of(taken: Option<bool>) -> Option<AtomEntry>
 
 /// The oldest of the runs from one on and of the atoms behind them, as far as they are atoms before which nothing was given: at most 24.
 #[inline(always)]
-fn front_from(runs: &SpendRing<Run>, plain: &PlainAtoms, first: usize) -> AtomRun
+fn front_from(runs: &SpendRing<AtomsAndEntry>, plain: &PlainAtoms, first: usize) -> AtomRun
     ensures atoms { map plain_entry (atoms_in result) ≡ take result.count (entries_in (drop first runs.now.items) plain.now) }
     ensures most { result.count ≤ most_atoms }
     ensures held { result.count ≤ length (entries_in (drop first runs.now.items) plain.now) }
@@ -187,7 +187,7 @@ fn front_from(runs: &SpendRing<Run>, plain: &PlainAtoms, first: usize) -> AtomRu
 
 /// The same, where it may go on behind a run.
 #[inline(never)]
-fn front_of(runs: &SpendRing<Run>, plain: &PlainAtoms, first: usize) -> AtomRun
+fn front_of(runs: &SpendRing<AtomsAndEntry>, plain: &PlainAtoms, first: usize) -> AtomRun
     ensures atoms { map plain_entry (atoms_in result) ≡ take result.count (entries_in (drop first runs.now.items) plain.now) }
     ensures most { result.count ≤ most_atoms }
     ensures held { result.count ≤ length (entries_in (drop first runs.now.items) plain.now) }
@@ -208,7 +208,7 @@ fn front_of(runs: &SpendRing<Run>, plain: &PlainAtoms, first: usize) -> AtomRun
 
 /// Takes the oldest entry of the first run out.
 #[inline(always)]
-fn pop_first(runs: &mut SpendRing<Run>) -> Slot
+fn pop_first(runs: &mut SpendRing<AtomsAndEntry>) -> Slot
     requires some { 0 < length runs.old.items }
     ensures order { (plain : List Bool) → entries_in runs.old.items plain ≡ result ∷ entries_in runs.new.items plain }
     ensures capacity { runs.new.capacity ≡ runs.old.capacity }
@@ -217,7 +217,7 @@ fn pop_first(runs: &mut SpendRing<Run>) -> Slot
         return Slot::from_atom(taken);
     }
     match runs.pop_front() {
-        Some(Run { plain, last }) => {
+        Some(AtomsAndEntry { plain, last }) => {
             plain.close();
             last
         }
@@ -227,10 +227,10 @@ fn pop_first(runs: &mut SpendRing<Run>) -> Slot
 
 /// Takes the oldest of the first run out, where it is kept as a bit. Else nothing changes.
 #[inline(always)]
-fn pop_plain(runs: &mut SpendRing<Run>) -> Option<bool>
+fn pop_plain(runs: &mut SpendRing<AtomsAndEntry>) -> Option<bool>
     requires some { 0 < length runs.old.items }
     ensures order { IfSome result (λ taken. (plain : List Bool) → entries_in runs.old.items plain ≡ plain_entry taken ∷ entries_in runs.new.items plain) }
-    ensures none { result ≡ None → (runs.new ≡ runs.old) × ((run : Run) → slice_get runs.old.items 0 ≡ Some run → run.plain ≡ []) }
+    ensures none { result ≡ None → (runs.new ≡ runs.old) × ((run : AtomsAndEntry) → slice_get runs.old.items 0 ≡ Some run → run.plain ≡ []) }
     ensures capacity { runs.new.capacity ≡ runs.old.capacity }
 {
     if plain_count(runs) == 0 {
@@ -244,8 +244,8 @@ fn pop_plain(runs: &mut SpendRing<Run>) -> Option<bool>
 
 /// How many of the first run are kept as bits.
 #[inline(always)]
-fn plain_count(runs: &SpendRing<Run>) -> u32
-    ensures { (run : Run) → slice_get runs.now.items 0 ≡ Some run → result ≡ length run.plain }
+fn plain_count(runs: &SpendRing<AtomsAndEntry>) -> u32
+    ensures { (run : AtomsAndEntry) → slice_get runs.now.items 0 ≡ Some run → result ≡ length run.plain }
 {
     match runs.get(0) {
         Some(run) => run.plain.len(),
@@ -255,7 +255,7 @@ fn plain_count(runs: &SpendRing<Run>) -> u32
 
 /// Takes so many of the oldest out of some runs and the atoms behind them, where these are kept as bits. Else nothing changes.
 #[inline(always)]
-fn drop_oldest(runs: &mut SpendRing<Run>, plain: &mut PlainAtoms, n: u32) -> bool
+fn drop_oldest(runs: &mut SpendRing<AtomsAndEntry>, plain: &mut PlainAtoms, n: u32) -> bool
     requires few { n ≤ most_atoms }
     ensures rest { IsTrue result → entries_in runs.new.items plain.new ≡ drop n (entries_in runs.old.items plain.old) }
     ensures oldest { IsTrue result → AreOldest n (entries_in runs.old.items plain.old) }
@@ -275,7 +275,7 @@ fn drop_oldest(runs: &mut SpendRing<Run>, plain: &mut PlainAtoms, n: u32) -> boo
 
 /// The same of the first run.
 #[inline(always)]
-fn drop_first(runs: &mut SpendRing<Run>, n: u32) -> bool
+fn drop_first(runs: &mut SpendRing<AtomsAndEntry>, n: u32) -> bool
     requires few { n ≤ most_atoms }
     requires some { 0 < length runs.old.items }
     ensures rest { IsTrue result → (plain : List Bool) → entries_in runs.new.items plain ≡ drop n (entries_in runs.old.items plain) }

@@ -2,4 +2,4 @@ use Rattle.std.proofs.Common.{◌≡◌, ◌+◌, ◌≤◌}
 use Rattle.packet_speed.proofs.packets_in.Given as goal
 
 abbrev pub invariant-loop-byte : goal.invariant-loop-byte
-invariant-loop-byte l = (l.reader.taken ≡ l.fn.reader.taken + l.byte-index) × (l.packets ≤ l.byte-index)
+invariant-loop-byte l = (l.reader.offset ≡ l.fn.reader.offset + l.byte-index) × (l.packets ≤ l.byte-index)

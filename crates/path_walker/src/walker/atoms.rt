@@ -5,12 +5,13 @@
 //! *Condition:* before the first at most an address was given, and before the others nothing; where each begins is known or is a return address, and
 //! there is no fault.
 //!
-//! *Left to [`walk`](Walker::walk):* all else, from the first atom on that is not walked. What is shown does not hang on how many are walked here:
-//! with 0 the walk is as before, and `walk` shows the same. That none is left without need is the clause `stops`; the loops within a part
-//! (`walk_near`, `walk_known`) need not go on, and may give 0 at any time.
+//! *Left to [`walk`](Walker::walk):* all else, from the first atom on that is not walked; it shows of that one what would be shown here. No atom is
+//! left without need (`stops`). The loops within a part (`walk_near`, `walk_known`) owe no such thing: where they end early, the loop around them
+//! goes on.
 //!
-//! *Cost:* a call and a look at the part for all of a run; for each atom a look at the words there, and another test where that is no conditional
-//! branch. A step to another part is a call, a search, and a look at that part.
+//! *Cost:* a call and a look at the part for all of a run, and another call for the first atom where an address was given before it; for each atom a
+//! look at the words there, and another test where that is no conditional branch. A step to another part is a call, a search, and a look at that
+//! part.
 ghost use Rattle.std.specs.Prelude.{◌≡◌, ◌≤◌, ◌<◌, ◌+◌, ◌/◌, ◌%◌, ◌^◌, ◌==◌, ◌∷◌, [], false, IfSome, IsTrue, Some, None, slice_get};
 ghost use Rattle.etm_types.specs.Atoms.{atoms_in, low_bits, most_atoms};
 ghost use Rattle.path_walker.specs.State.{IsState, standing};
@@ -107,6 +108,7 @@ impl Walker {
         ensures context { self.new.ctx ≡ self.old.ctx }
         ensures state { IsState self.new }
     {
+        // For the proof: what holds of a stack is known where it is looked at.
         let _ = &self.stack;
         if given.is_none() {
             return Some(0);
@@ -140,6 +142,7 @@ impl Walker {
         ensures context { self.new.ctx ≡ self.old.ctx }
         ensures state { IsState self.new }
     {
+        // For the proof: what holds of a stack is known where it is looked at.
         let _ = &self.stack;
         let mut n = 0;
         while n < most {
@@ -268,6 +271,7 @@ impl Walker {
         ensures context { self.new.ctx ≡ self.old.ctx }
         ensures state { IsState self.new }
     {
+        // For the proof: what holds of a stack is known where it is looked at.
         let _ = &self.stack;
         let (stretch, next) = self.conditional_along(image, pc, placed, taken)?;
         taker.take_stretch(image, id, &self.ctx, stretch);
@@ -327,6 +331,7 @@ impl Walker {
         ensures context { self.new.ctx ≡ self.old.ctx }
         ensures state { IsState self.new }
     {
+        // For the proof: what holds of a stack is known where it is looked at.
         let _ = &self.stack;
         let Some(walk) = self.return_near(image, near, taken) else {
             return false;

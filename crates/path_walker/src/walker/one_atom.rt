@@ -144,6 +144,7 @@ impl Walker {
         ensures others { (self.new.pc ≡ self.old.pc) × (self.new.ctx ≡ self.old.ctx) }
         ensures state { IsState self.new }
     {
+        // For the proof: what holds of a stack is known where it is looked at.
         let _ = &self.stack;
         let leg = leg_along(image, start, placed, taken).ok()?;
         self.leave(StackUse::Keep, &leg);
@@ -170,6 +171,7 @@ impl Walker {
         ensures others { (self.new.pc ≡ self.old.pc) × (self.new.ctx ≡ self.old.ctx) }
         ensures state { IsState self.new }
     {
+        // For the proof: what holds of a stack is known where it is looked at.
         let _ = &self.stack;
         let branch = conditional_leg_along(image, start, placed, taken)?;
         let Pc::Known(next) = branch.next else {

@@ -6,9 +6,10 @@
 //! *Condition:* each is an atom that shows a stretch, there is room for it, and nothing was given before it; before the first of a loop an address
 //! may have been.
 //!
-//! *Left to the long way:* all else. Nothing has to be done: where none is walked, the answer is 0 or `false`, and nothing changes.
+//! *Left to the long way:* all else. Nothing has to be done: where none is walked, the answer is 0 or `false`, and nothing changes but that the taker
+//! was told the context.
 //!
-//! *Cost:* a call and some tests for all of a loop. Where something was given before one of them, that one is a loop of its own.
+//! *Cost:* a call and some tests for all of a loop. An atom before which an address was given begins a loop, with those behind it.
 ghost use Rattle.etm_types.specs.declared.element.Elem.TheVariants as elem;
 ghost use Rattle.std.specs.Prelude.{◌≡◌, ◌<◌, ◌≤◌, [], List, length, IsTrue, All, Bool, ℕ, None, Some, false, slice_get};
 ghost use Rattle.etm_types.specs.Atoms.{most_atoms, atoms_in};
@@ -29,9 +30,9 @@ use path_walker::{StretchTaker, Walker};
 use program_image::Image;
 
 impl Decoding {
-    /// Walks what is due, and then the next elements, as long as these are atoms before which nothing but an address was given: at most 24.
-    /// Where each is committed as it is made, those of a packet are walked in one loop. Where there is none, and where the first is not
-    /// walked, nothing changes: [`next`](Decoding::next) goes on from there.
+    /// Walks what is due, and then the next elements, as long as these are atoms before which nothing but an address was given. Where each is
+    /// committed as it is made, those of a packet are walked in one loop. Where there is none, and where the first is not walked, nothing
+    /// changes but that the taker was told the context: [`next`](Decoding::next) goes on from there.
     #[inline(always)]
     pub fn next_run<T: StretchTaker>(&mut self, image: &Image, id: Id, taker: &mut T)
         ensures walks { WalksOn (T.adds image.now id self.old.walk.ctx) image.now self.old taker.old self.new taker.new }
@@ -86,7 +87,7 @@ impl Decoding {
 
     /// Walks the oldest that are due; or, where nothing is due, takes the next elements where they are atoms, and walks what they commit. It
     /// does so as far as these are atoms before which nothing but an address was given, and the address of each is known. Says whether there
-    /// may be more. Where there is none, and where the walk has a fault, nothing changes: [`next`](Decoding::next) goes on from there.
+    /// may be more. Where there is none, and where the walk has a fault, [`next`](Decoding::next) goes on from there.
     ///
     /// Most elements are such, and what they show is small.
     #[inline(always)]
@@ -102,7 +103,7 @@ impl Decoding {
             return self.walk_due(image, id, taker);
         }
         if self.waiting.is_full() {
-            return self.walk_taken(image, id, taker);
+            return self.walk_committed(image, id, taker);
         }
         false
     }
@@ -130,7 +131,7 @@ impl Decoding {
     /// Takes the next elements where they are atoms, and walks the oldest, which they commit. No more may be held. Says whether there may be
     /// more: not where all the atoms that are next were walked.
     #[inline(always)]
-    fn walk_taken<T: StretchTaker>(&mut self, image: &Image, id: Id, taker: &mut T) -> bool
+    fn walk_committed<T: StretchTaker>(&mut self, image: &Image, id: Id, taker: &mut T) -> bool
         requires due { self.old.due ≡ [] }
         requires full { depth_of self.old ≤ length self.old.pending.held }
         requires holds { IsDecoding self.old }

@@ -58,7 +58,7 @@ loop-id-preserved g c =
       shows = c.take_run.ensures.serves.shows ∙ i.shows;
       ready = λ most all.
           let sum : most + n + length run ≡ most + (n + length run) = omega arith in
-          subst (λ k. All (IsReady g.S.Stream.broken g.S.Stream.taken k) c.take_run.new.self.streams) sum
+          subst (λ k. All (IsReady g.S.Stream.broken g.S.Stream.offset k) c.take_run.new.self.streams) sum
           (c.in_ok-take_run.ensures.ready (most + n) (i.ready most all) refl);
       sizes = c.take_run.ensures.sizes ∙ i.sizes;
       held = λ all. c.take_run.ensures.most (i.held all);
@@ -83,5 +83,5 @@ returns-clause-adds g c t pairs all =
 pub returns-clause-ready : goal.returns-clause-ready
 returns-clause-ready g c most all ok =
     let n = c.loop-id.place in
-    later_ready g.S.Stream.broken g.S.Stream.taken (most + n) (most + 15) c.loop-id.sources.streams
+    later_ready g.S.Stream.broken g.S.Stream.offset (most + n) (most + 15) c.loop-id.sources.streams
     (omega (arith, c.loop-id.invariant.within, c.run_at.ensures.most)) (c.loop-id.invariant.ready most all)

@@ -22,8 +22,8 @@ invariant-loop-id g l =
           → Written (by_sizes (g.S.Stream.listing l.shared) t) pairs (take l.place l.frame) (state l.fn.sink) (state l.sink);
       kept : KeepsFaults (state l.fn.sink) (state l.sink);
       shows : ShowsAsBefore (state l.fn.sink) (state l.sink);
-      ready : (most : ℕ) → All (IsReady g.S.Stream.broken g.S.Stream.taken most) l.fn.sources.streams
-          → All (IsReady g.S.Stream.broken g.S.Stream.taken (most + l.place)) l.sources.streams;
+      ready : (most : ℕ) → All (IsReady g.S.Stream.broken g.S.Stream.offset most) l.fn.sources.streams
+          → All (IsReady g.S.Stream.broken g.S.Stream.offset (most + l.place)) l.sources.streams;
       sizes : map g.S.Stream.sizes l.sources.streams ≡ map g.S.Stream.sizes l.fn.sources.streams;
       held : All (HoldsToDepth g.S.Stream.held g.S.Stream.sizes) l.fn.sources.streams → All (HoldsToDepth g.S.Stream.held g.S.Stream.sizes) l.sources.streams;
     }

@@ -13,7 +13,7 @@ pub finish-requires : goal.finish-requires
 finish-requires g c =
     let order : c.loop-stream.ring.items ≡ c.in-Some.stream ∷ c.pop_front.new.self.items = c.in-Some.ensures.order in
     let ready = c.loop-stream.invariant.ready in
-    (ready_at (IsReady g.S.Stream.broken g.S.Stream.taken ready.0) c.loop-stream.ring.items 0 c.in-Some.stream ready.1
+    (ready_at (IsReady g.S.Stream.broken g.S.Stream.offset ready.0) c.loop-stream.ring.items 0 c.in-Some.stream ready.1
     (sym (ap (λ l. slice_get l 0) order))).whole
 
 pub returns-in-Err-clause-ends : goal.returns-in-Err-clause-ends
@@ -38,7 +38,7 @@ loop-stream-preserved g c =
     let state = g.K.Sink.state in let i = c.loop-stream.invariant in let id = c.loop-stream.id in
     let stream = c.in-Some.stream in let rest = c.pop_front.new.self.items in
     let order : c.loop-stream.ring.items ≡ stream ∷ rest = c.in-Some.ensures.order in
-    let ready = IsReady g.S.Stream.broken g.S.Stream.taken i.ready.0 in
+    let ready = IsReady g.S.Stream.broken g.S.Stream.offset i.ready.0 in
     record {
       count = omega (arith, i.count, ap length order);
       stands = λ shared t pairs all.

@@ -19,7 +19,7 @@ invariant-loop-stream g l =
           → EndedTo (by_sizes (g.S.Stream.listing shared) t) pairs 1 l.id l.whole (state l.fn.sink) (state l.sink);
       kept : KeepsFaults (state l.fn.sink) (state l.sink);
       shows : ShowsAsBefore (state l.fn.sink) (state l.sink);
-      ready : (most : ℕ) × All (IsReady g.S.Stream.broken g.S.Stream.taken most) l.ring.items;
+      ready : (most : ℕ) × All (IsReady g.S.Stream.broken g.S.Stream.offset most) l.ring.items;
       from : 1 ≤ l.id;
     }
 

@@ -8,7 +8,7 @@ use Rattle.capture_streams.proofs.sources.new_streams.Goals as goal
 
 pub loop-id-preserved : goal.loop-id-preserved
 loop-id-preserved g c =
-    let ready = IsReady g.S.Stream.broken g.S.Stream.taken 0 in
+    let ready = IsReady g.S.Stream.broken g.S.Stream.offset 0 in
     let to_depth = HoldsToDepth g.S.Stream.held g.S.Stream.sizes in
     let table = sizes_at c.args.table.now in
     let i = c.loop-id.invariant in

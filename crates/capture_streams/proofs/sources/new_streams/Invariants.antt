@@ -11,7 +11,7 @@ invariant-loop-id g l =
       place : l.next ≡ 1 + length l.ring.items;
       few : length l.ring.items ≤ source_count;
       stands : (shared : g.row.S-Shared.Denot) → StandFrom (g.S.Stream.stands shared) g.S.Stream.sizes (sizes_at l.fn.table) 1 l.ring.items [];
-      ready : All (IsReady g.S.Stream.broken g.S.Stream.taken 0) l.ring.items;
+      ready : All (IsReady g.S.Stream.broken g.S.Stream.offset 0) l.ring.items;
       most : All (HoldsToDepth g.S.Stream.held g.S.Stream.sizes) l.ring.items;
     }
 

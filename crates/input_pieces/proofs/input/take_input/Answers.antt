@@ -35,7 +35,7 @@ loop-count-preserved g c =
     record {
       few = gives.few;
       whole = c.in_ok-print_piece-in-Bytes.ensures.whole refl;
-      count = omega (arith, c.in_ok-print_piece-in-Bytes.ensures.taken refl, i.count, size);
+      count = omega (arith, c.in_ok-print_piece-in-Bytes.ensures.offset refl, i.count, size);
       frames = c.print_piece.ensures.frames ∙ i.frames;
       so_far = λ t given.
           let listing = g.P.Printer.listing c.args.shared.now t in let so_far = i.so_far t given in let bytes = so_far.0 in (

@@ -12,7 +12,7 @@ invariant-loop-count g l =
     record {
       few : l.taken ≤ most_input;
       whole : g.P.Printer.broken l.printer ≡ false;
-      count : g.P.Printer.taken l.printer ≡ l.taken;
+      count : g.P.Printer.offset l.printer ≡ l.taken;
       frames : g.P.Printer.frames l.printer ≡ g.P.Printer.frames l.fn.printer;
       so_far : (t : ℕ → Sizes) → g.P.Printer.stands l.shared t l.fn.printer []
           → (bytes : List ℕ) × (length bytes ≡ l.taken) × Takes (input l.fn.input) (input l.input) bytes

@@ -3,7 +3,7 @@ use Rattle.std.specs.List.{concat}
 use Rattle.capture_streams.proofs.Standing.{by_err}
 use Rattle.capture_streams.specs.Streams.{RunAdds}
 use Rattle.packet_reader.specs.Answered.{told}
-use Rattle.packet_reader.specs.Stands.{Standing, StandsAt}
+use Rattle.packet_reader.specs.Stands.{PacketReading, StandsAt}
 use Rattle.path_text.proofs.Wrote.{wrote_by}
 use Rattle.path_text.specs.PacketLines.{packet_line}
 use Rattle.packet_list.proofs.PacketLists.{has_text}
@@ -90,7 +90,7 @@ write_step-requires g c at packet is =
     let reads = along_reads c.args.line.now c.args.reader.now c.loop-byte.reader c.args.fault.now c.loop-byte.fault (g.K.Sink.state c.args.sink.now)
     (g.K.Sink.state c.loop-byte.sink) c.args.run.now c.loop-byte.rest.now c.requires.reads i.along in
     has_text c.take_front.new.reader.settings packet
-    (c.take.ensures.values reads.bytes (subst (λ (r : Standing). StandsAt r reads.bytes) (sym kept.0) reads.read.stands) reads.read.small at packet is)
+    (c.take.ensures.values reads.bytes (subst (λ (r : PacketReading). StandsAt r reads.bytes) (sym kept.0) reads.read.stands) reads.read.small at packet is)
 
 pub returns-in_err-write_step-clause-reads : goal.returns-in_err-write_step-clause-reads
 returns-in_err-write_step-clause-reads g c =
@@ -99,7 +99,7 @@ returns-in_err-write_step-clause-reads g c =
     let kept = c.in_ok-behind.ensures.none (ap Ok c.in_default-2.is) in let along = rw (sym kept.0, sym kept.1) at i.along in
     step_reads id c.args.reader.now c.args.fault.now (state c.args.sink.now) run c.requires.reads small c.take_front.new.reader c.take.new.self
     c.loop-byte.fault (state c.take_front.new.sink) (state c.write_step.new.sink) c.loop-byte.rest.now along c.in-Some.byte.now c.in-Some.later.now
-    c.take.result c.in-Some.ensures.cases.0 (omega (arith)) c.take.ensures.settings c.take.ensures.taken c.take.ensures.stands
+    c.take.result c.in-Some.ensures.cases.0 (omega (arith)) c.take.ensures.settings c.take.ensures.offset c.take.ensures.stands
     c.take.ensures.gains c.write_step.new.fault c.write_step.ensures.fault
 
 pub returns-in_err-write_step-clause-between : goal.returns-in_err-write_step-clause-between
@@ -109,7 +109,7 @@ returns-in_err-write_step-clause-between g c =
     let kept = c.in_ok-behind.ensures.none (ap Ok c.in_default-2.is) in let along = rw (sym kept.0, sym kept.1) at i.along in
     step_between id c.args.reader.now c.args.fault.now (state c.args.sink.now) run c.requires.reads small c.take_front.new.reader c.take.new.self
     c.loop-byte.fault (state c.take_front.new.sink) (state c.write_step.new.sink) c.loop-byte.rest.now along c.in-Some.byte.now c.in-Some.later.now
-    c.take.result c.in-Some.ensures.cases.0 (omega (arith)) c.take.ensures.settings c.take.ensures.taken c.take.ensures.stands
+    c.take.result c.in-Some.ensures.cases.0 (omega (arith)) c.take.ensures.settings c.take.ensures.offset c.take.ensures.stands
     c.take.ensures.gains c.write_step.new.fault c.write_step.ensures.fault
 
 pub returns-in_err-write_step-clause-gains : goal.returns-in_err-write_step-clause-gains
@@ -123,7 +123,7 @@ returns-in_err-write_step-clause-gains g c bytes read =
     by_err adds c.from_residual-in_err-write_step.result c.from_residual-in_err-write_step.ensures.0 (λ d.
     step_fails id c.args.reader.now c.args.fault.now (state c.args.sink.now) run c.requires.reads small c.take_front.new.reader c.take.new.self
     c.loop-byte.fault (state c.take_front.new.sink) (state c.write_step.new.sink) c.loop-byte.rest.now along c.in-Some.byte.now c.in-Some.later.now
-    c.take.result c.in-Some.ensures.cases.0 (omega (arith)) c.take.ensures.settings c.take.ensures.taken c.take.ensures.stands
+    c.take.result c.in-Some.ensures.cases.0 (omega (arith)) c.take.ensures.settings c.take.ensures.offset c.take.ensures.stands
     c.take.ensures.gains c.write_step.new.fault c.write_step.ensures.fault {U = Unit {0}} c.in_err-write_step.field-0.0 d
     (rw named at c.in_err-write_step.ensures.writes) bytes read)
 
@@ -139,7 +139,7 @@ loop-byte-preserved g c =
       line = c.in_ok-write_step.ensures.line ∙ named;
       along = step_more id c.args.reader.now c.args.fault.now (state c.args.sink.now) run c.requires.reads small c.take_front.new.reader c.take.new.self
           c.loop-byte.fault (state c.take_front.new.sink) (state c.write_step.new.sink) c.loop-byte.rest.now along c.in-Some.byte.now c.in-Some.later.now
-          c.take.result c.in-Some.ensures.cases.0 (omega (arith)) c.take.ensures.settings c.take.ensures.taken c.take.ensures.stands
+          c.take.result c.in-Some.ensures.cases.0 (omega (arith)) c.take.ensures.settings c.take.ensures.offset c.take.ensures.stands
           c.take.ensures.gains c.write_step.new.fault c.write_step.ensures.fault wrote;
       kept = wrote.kept ∙ rw (sym kept.1) at i.kept;
       shows = wrote.shows ∙ rw (sym kept.1) at i.shows;

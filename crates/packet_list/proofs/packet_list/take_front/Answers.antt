@@ -1,7 +1,7 @@
 use Rattle.std.proofs.Common.{[], ◌∷◌, inr, refl, subst, ◌∙◌, arith}
 use Rattle.std.proofs.lemmas.Result.{err_from_is_err_and}
 use Rattle.packet_grammar.specs.declared.packet.Packet.TheVariants.{Addr, Atoms, Commit}
-use Rattle.packet_reader.specs.Stands.{Standing}
+use Rattle.packet_reader.specs.Stands.{PacketReading}
 use Rattle.path_text.proofs.Wrote.{answers_ok, answers_err}
 use Rattle.packet_list.specs.PacketList.{TakesFront}
 use Rattle.packet_list.proofs.packet_list.take_front.Goals as goal
@@ -32,7 +32,7 @@ returns-in_err-write_address-clause-front g c =
       a.behind.now,
       a.at,
       packet,
-      subst (λ (r : Standing). TakesFront r c.take_address.new.self c.args.bytes.now a.behind.now a.at packet)
+      subst (λ (r : PacketReading). TakesFront r c.take_address.new.self c.args.bytes.now a.behind.now a.at packet)
           (c.in_default-take_atoms.ensures.none refl) front,
       answers_err _ _ c.in_err-write_address.field-0.0 p.0 _ c.in_err-write_address.ensures.line,
       tt,
@@ -48,7 +48,7 @@ returns-in-Some-take_address-clause-front g c =
       a.behind.now,
       a.at,
       packet,
-      subst (λ (r : Standing). TakesFront r c.take_address.new.self c.args.bytes.now a.behind.now a.at packet)
+      subst (λ (r : PacketReading). TakesFront r c.take_address.new.self c.args.bytes.now a.behind.now a.at packet)
           (c.in_default-take_atoms.ensures.none refl) front,
       answers_ok _ _ c.in_ok-write_address.field-0 _ _ c.in_ok-write_address.ensures.line,
       refl,
@@ -64,7 +64,7 @@ returns-in_err-write-clause-front g c =
       a.behind.now,
       a.at,
       packet,
-      subst (λ (r : Standing). TakesFront r c.take_commit.new.self c.args.bytes.now a.behind.now a.at packet)
+      subst (λ (r : PacketReading). TakesFront r c.take_commit.new.self c.args.bytes.now a.behind.now a.at packet)
           (c.in_default-take_address.ensures.none refl ∙ c.in_default-take_atoms.ensures.none refl) front,
       answers_err _ _ c.in_err-write.field-0.0 p.0 _ c.in_err-write.ensures.line,
       tt,
@@ -79,7 +79,7 @@ returns-in-Some-take_commit-clause-front g c =
       a.behind.now,
       a.at,
       packet,
-      subst (λ (r : Standing). TakesFront r c.take_commit.new.self c.args.bytes.now a.behind.now a.at packet)
+      subst (λ (r : PacketReading). TakesFront r c.take_commit.new.self c.args.bytes.now a.behind.now a.at packet)
           (c.in_default-take_address.ensures.none refl ∙ c.in_default-take_atoms.ensures.none refl) front,
       answers_ok _ _ c.in_ok-write.field-0 _ _ c.in_ok-write.ensures.line,
       refl,

@@ -9,8 +9,8 @@ use Rattle.packet_reader.proofs.reader.step.Goals as goal
 
 pub returns-in-Between-clause-moves : goal.returns-in-Between-clause-moves
 returns-in-Between-clause-moves c =
-    let m : Moved = record { phase = Between; start = c.args.taken; step = Whole c.args.start.now (Atoms c.run_of.result) } in
-    let moves : Moves c.args.settings.now Between c.args.start.now c.args.taken c.args.byte m =
-    between_moves c.args.settings.now c.args.start.now c.args.taken c.args.byte (Done (Ok (Atoms c.run_of.result))) m c.run_of.ensures.fits
+    let m : Moved = record { phase = Between; start = c.args.offset; step = Whole c.args.start.now (Atoms c.run_of.result) } in
+    let moves : Moves c.args.settings.now Between c.args.start.now c.args.offset c.args.byte m =
+    between_moves c.args.settings.now c.args.start.now c.args.offset c.args.byte (Done (Ok (Atoms c.run_of.result))) m c.run_of.ensures.fits
     c.run_of.ensures.row refl in
     rw c.in-Between.is moves

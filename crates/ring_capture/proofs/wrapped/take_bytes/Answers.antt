@@ -29,7 +29,7 @@ loop-at-preserved g c =
           (c.in-Ok.ensures.gains t (bytes ++ front) (i.stands t bytes stands))));
       kept = c.in-Ok.ensures.serves.cause.kept ∙ i.kept;
       shows = c.take_byte.ensures.serves.shows ∙ i.shows;
-      taken = omega (arith, i.taken, c.in-Ok.ensures.taken refl);
+      offset = omega (arith, i.offset, c.in-Ok.ensures.offset refl);
       whole = c.in-Ok.ensures.good refl;
       frames = c.in-Ok.ensures.frames ∙ i.frames;
     }

@@ -5,7 +5,7 @@ use Rattle.capture_streams.proofs.Writing.{Gained}
 use Rattle.trace_io.specs.Bytes.{ShowsAsBefore}
 use Rattle.trace_io.specs.Causes.{KeepsFaults}
 use Rattle.ring_capture.specs.Laid.{later_pairs}
-use Rattle.ring_capture.specs.Wrapped.{HaveTaken, taken_of}
+use Rattle.ring_capture.specs.Wrapped.{HaveTaken, offset_of}
 use Rattle.ring_capture.proofs.wrapped.take_bytes.Given as goal
 
 abbrev pub decreases-loop-at : goal.decreases-loop-at
@@ -23,7 +23,7 @@ invariant-loop-at g l =
           (state l.sink);
       kept : KeepsFaults (state l.fn.sink) (state l.sink);
       shows : ShowsAsBefore (state l.fn.sink) (state l.sink);
-      taken : taken_of l.unwrap l.demux ≡ taken_of l.fn.unwrap l.fn.demux + l.at;
+      offset : offset_of l.unwrap l.demux ≡ offset_of l.fn.unwrap l.fn.demux + l.at;
       whole : l.demux.broken ≡ false;
       frames : l.unwrap.frames ≡ l.fn.unwrap.frames;
     }

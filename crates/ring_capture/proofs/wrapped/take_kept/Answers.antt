@@ -31,7 +31,7 @@ loop-frame-preserved g c =
           (c.in-Ok.ensures.gains t (before ++ front) (i.stands t bytes stands)));
       kept = c.in-Ok.ensures.serves.cause.kept ∙ i.kept;
       shows = c.take_piece.ensures.serves.shows ∙ i.shows;
-      taken = omega (arith, i.taken, c.in-Ok.ensures.taken refl, long);
+      offset = omega (arith, i.offset, c.in-Ok.ensures.offset refl, long);
       whole = not_true c.take_piece.new.self.broken c.in-Ok.ensures.broken.0;
     }
 

@@ -25,6 +25,6 @@ invariant-loop-frame g l =
           (state l.fn.sink) (state l.sink);
       kept : KeepsFaults (state l.fn.sink) (state l.sink);
       shows : ShowsAsBefore (state l.fn.sink) (state l.sink);
-      taken : l.demux.taken ≡ l.fn.demux.taken + 16 * l.j;
+      offset : l.demux.offset ≡ l.fn.demux.offset + 16 * l.j;
       whole : l.demux.broken ≡ false;
     }

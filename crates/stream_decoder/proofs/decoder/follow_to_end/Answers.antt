@@ -18,5 +18,5 @@ returns-clause-runs g c =
       writes = written.0;
       context = written.1;
       settings = follows.settings;
-      taken = follows.taken;
+      offset = follows.offset;
     }

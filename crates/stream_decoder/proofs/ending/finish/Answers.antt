@@ -24,7 +24,7 @@ Gives known d =
 pub returns-then-taken-eq0-clause-line : goal.returns-then-taken-eq0-clause-line
 returns-then-taken-eq0-clause-line g c image bytes items last stands path =
     let are = c.requires.holds.reads.settings in
-    let none : length bytes ≡ 0 = stands.1.reads.0 ∙ sym c.taken-taken.ensures ∙ c.if-taken-eq0.true in
+    let none : length bytes ≡ 0 = stands.1.reads.0 ∙ sym c.offset-taken.ensures ∙ c.if-taken-eq0.true in
     let state = g.K.Sink.state c.args.sink.now in (
       subst (λ (t : List ℕ). Writes {T = Bool} {E = Failed} state state (Ok true) t) (printed_nothing c.args.id bytes last none)
           (writes_all state state true [] (wrote_nothing state)),
@@ -35,7 +35,7 @@ pub returns-clause-line : goal.returns-clause-line
 returns-clause-line g c image bytes items last stands path =
     let are = c.requires.holds.reads.settings in
     let some : length bytes ≡ 0 → ⊥ =
-    λ none. c.if-taken-eq0.false (c.taken-taken.ensures ∙ sym stands.1.reads.0 ∙ none) in
+    λ none. c.if-taken-eq0.false (c.offset-taken.ensures ∙ sym stands.1.reads.0 ∙ none) in
     let ends : Gives c.end-end.result c.args.decoding = c.end-end.ensures in
     let known : c.end-end.result ≡ last =
     end_known image c.args.decoding bytes stands.0 stands.1 are items last path.0 path.1 c.end-end.result
@@ -51,7 +51,7 @@ pub returns-in_err-write_end-clause-line : goal.returns-in_err-write_end-clause-
 returns-in_err-write_end-clause-line g c image bytes items last stands path =
     let are = c.requires.holds.reads.settings in
     let some : length bytes ≡ 0 → ⊥ =
-    λ none. c.if-taken-eq0.false (c.taken-taken.ensures ∙ sym stands.1.reads.0 ∙ none) in
+    λ none. c.if-taken-eq0.false (c.offset-taken.ensures ∙ sym stands.1.reads.0 ∙ none) in
     let ends : Gives c.end-end.result c.args.decoding = c.end-end.ensures in
     let known : c.end-end.result ≡ last =
     end_known image c.args.decoding bytes stands.0 stands.1 are items last path.0 path.1 c.end-end.result

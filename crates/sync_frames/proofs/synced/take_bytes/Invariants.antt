@@ -22,6 +22,6 @@ invariant-loop-at g l =
           → Gained synced_pairs (by_sizes (g.S.Stream.listing l.shared) t) bytes (take l.at l.piece) (state l.fn.sink) (state l.sink);
       kept : KeepsFaults (state l.fn.sink) (state l.sink);
       shows : ShowsAsBefore (state l.fn.sink) (state l.sink);
-      room : l.demux.taken + length l.unsync.held ≤ l.fn.demux.taken + length l.fn.unsync.held + l.at;
+      room : l.demux.offset + length l.unsync.held ≤ l.fn.demux.offset + length l.fn.unsync.held + l.at;
       whole : l.demux.broken ≡ false;
     }

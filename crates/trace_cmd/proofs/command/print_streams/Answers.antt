@@ -14,7 +14,7 @@ print_by-requires g c = record {
 
 pub print_by-requires-in-Frames : goal.print_by-requires-in-Frames
 print_by-requires-in-Frames g c = record {
-  fresh = of_made _ _ c.new-frames.result c.new-frames.ensures.stands (λ p s. (s.whole, s.taken));
+  fresh = of_made _ _ c.new-frames.result c.new-frames.ensures.stands (λ p s. (s.whole, s.offset));
 }
 
 pub print_by-requires-in-Wrapped : goal.print_by-requires-in-Wrapped

@@ -11,7 +11,7 @@ use Rattle.trace_io.specs.Memory.{Writing, pieces_state, writing_state}
 use Rattle.traced_runs.proofs.selftest.count_lines.Goals as goal
 
 pub print_input-requires : goal.print_input-requires
-print_input-requires c = let stands = c.in_ok-demux.ensures.stands in record { fresh = (stands.whole, stands.taken) }
+print_input-requires c = let stands = c.in_ok-demux.ensures.stands in record { fresh = (stands.whole, stands.offset) }
 
 pub returns-in-Ok : goal.returns-in-Ok
 returns-in-Ok c =

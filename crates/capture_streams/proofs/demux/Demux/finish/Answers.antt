@@ -10,7 +10,7 @@ use Rattle.capture_streams.proofs.demux.Demux.finish.Goals as goal
 use Rattle.trace_io.specs.declared.traits.Failed.{Failed}
 
 pub finish-requires : goal.finish-requires
-finish-requires g c = (15 * c.self.inside.taken, c.self.invariant.1 (ap (λ (d : Demuxed g.row.S.Denot g.row.S-Sum.Denot). d.broken) c.self.view_is ∙ c.requires))
+finish-requires g c = (15 * c.self.inside.offset, c.self.invariant.1 (ap (λ (d : Demuxed g.row.S.Denot g.row.S-Sum.Denot). d.broken) c.self.view_is ∙ c.requires))
 
 pub returns-in_err-whole-clause-ending : goal.returns-in_err-whole-clause-ending
 returns-in_err-whole-clause-ending g c t bytes stands =

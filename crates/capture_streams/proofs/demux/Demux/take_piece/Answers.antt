@@ -37,19 +37,19 @@ loop-at-preserved g c =
       within = omega (arith, i.within, c.in-Ok.ensures.some.0, size);
       stands = λ t bytes stands.
           let there = i.stands t bytes stands in let joined = append_assoc bytes front more in
-          let longer : c.loop-at.self-inside.taken + m ≡ length (bytes ++ (front ++ more)) =
-          omega (arith, there.taken, many, ap length joined, length-append (bytes ++ front) more) in
+          let longer : c.loop-at.self-inside.offset + m ≡ length (bytes ++ (front ++ more)) =
+          omega (arith, there.offset, many, ap length joined, length-append (bytes ++ front) more) in
           subst (λ l. StandsAt at g.S.Stream.sizes (g.S.Stream.sums c.args.shared.now) (g.S.Stream.listing c.args.shared.now) t
           (record {
             frames = c.take_front.new.frames;
             sources = c.take_front.new.sources;
-            taken = c.loop-at.self-inside.taken + m;
+            offset = c.loop-at.self-inside.offset + m;
             broken = c.loop-at.self-inside.broken;
           }) (bytes ++ l))
           (sym next)
           (record {
             whole = there.whole;
-            taken = longer;
+            offset = longer;
             frames = subst (reader.StandsAt c.take_front.new.frames) joined (c.in-Ok.ensures.frames (bytes ++ front) there.frames);
             streams = subst (λ l. AllStand at g.S.Stream.sizes (g.S.Stream.sums c.args.shared.now) (g.S.Stream.listing c.args.shared.now) t c.take_front.new.sources (unframed l)) joined
                 (c.in-Ok.ensures.stands t (bytes ++ front) there.frames there.streams);
@@ -62,11 +62,11 @@ loop-at-preserved g c =
           (subst (λ k. Gains {T = ℕ} {E = Failed} unframed listing (bytes ++ front) (take k behind) here new (Ok m)) (sym gains.2) gains.1));
       kept = c.in-Ok.ensures.serves.cause.kept ∙ i.kept;
       shows = c.take_front.ensures.serves.shows ∙ i.shows;
-      taken = omega (arith, i.taken);
+      offset = omega (arith, i.offset);
       whole = i.whole;
-      ready = later_ready g.S.Stream.broken g.S.Stream.taken (15 * c.loop-at.self-inside.taken + 15) (15 * (c.loop-at.self-inside.taken + m))
+      ready = later_ready g.S.Stream.broken g.S.Stream.offset (15 * c.loop-at.self-inside.offset + 15) (15 * (c.loop-at.self-inside.offset + m))
           c.take_front.new.sources.streams (omega (arith, c.in-Ok.ensures.some.1 (omega (arith, size, c.loop-at-test.true))))
-          (c.in-Ok.ensures.ready (15 * c.loop-at.self-inside.taken) i.ready refl);
+          (c.in-Ok.ensures.ready (15 * c.loop-at.self-inside.offset) i.ready refl);
       sizes = c.take_front.ensures.sizes ∙ i.sizes;
       most = c.take_front.ensures.most i.most;
     }

@@ -17,7 +17,7 @@ abbrev pub invariant-loop-at : goal.invariant-loop-at
 invariant-loop-at g l =
     let state = g.K.Sink.state in let there = g.S.Stream.stands l.shared in
     let d : Demuxed g.row.S.Denot g.row.S-Sum.Denot =
-    record { frames = l.self-inside.frames; sources = l.self-inside.sources; taken = l.self-inside.taken; broken = l.self-inside.broken } in
+    record { frames = l.self-inside.frames; sources = l.self-inside.sources; offset = l.self-inside.offset; broken = l.self-inside.broken } in
     record {
       within : l.at ≤ length l.piece;
       stands : (t : ℕ → Sizes) (bytes : List ℕ) → StandsAt there g.S.Stream.sizes (g.S.Stream.sums l.shared) (g.S.Stream.listing l.shared) t l.fn.self bytes
@@ -26,9 +26,9 @@ invariant-loop-at g l =
           → Gained unframed (by_sizes (g.S.Stream.listing l.shared) t) bytes (take l.at l.piece) (state l.fn.sink) (state l.sink);
       kept : KeepsFaults (state l.fn.sink) (state l.sink);
       shows : ShowsAsBefore (state l.fn.sink) (state l.sink);
-      taken : l.self-inside.taken ≡ l.fn.self.taken + l.at;
+      offset : l.self-inside.offset ≡ l.fn.self.offset + l.at;
       whole : l.self-inside.broken ≡ false;
-      ready : All (IsReady g.S.Stream.broken g.S.Stream.taken (15 * l.self-inside.taken)) l.self-inside.sources.streams;
+      ready : All (IsReady g.S.Stream.broken g.S.Stream.offset (15 * l.self-inside.offset)) l.self-inside.sources.streams;
       sizes : map g.S.Stream.sizes l.self-inside.sources.streams ≡ map g.S.Stream.sizes l.fn.self.sources.streams;
       most : All (HoldsToDepth g.S.Stream.held g.S.Stream.sizes) l.self-inside.sources.streams;
     }

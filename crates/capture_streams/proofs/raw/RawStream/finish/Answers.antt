@@ -10,7 +10,7 @@ pub returns-in-Err-clause-ending : goal.returns-in-Err-clause-ending
 returns-in-Err-clause-ending g c t bytes given =
     let state = g.K.Sink.state in let shared = c.args.shared.now in let sizes = g.S.Stream.sizes in
     let sums = g.S.Stream.sums shared in let listing = g.S.Stream.listing shared in
-    let stands = subst (λ r. RawStandsAt (g.S.Stream.stands shared) sizes g.S.Stream.broken g.S.Stream.taken sums listing t r bytes)
+    let stands = subst (λ r. RawStandsAt (g.S.Stream.stands shared) sizes g.S.Stream.broken g.S.Stream.offset sums listing t r bytes)
     (sym c.self.view_is) given in
     let (lines, summed, writes) = sum_written sums listing t c.self.inside.sum (raw_pairs bytes) (state c.args.sink.now) (state c.write_sum.new.sink) _
     stands.sum c.in-Err.ensures.lines in
@@ -22,7 +22,7 @@ pub returns-clause-ending : goal.returns-clause-ending
 returns-clause-ending g c t bytes given =
     let state = g.K.Sink.state in let shared = c.args.shared.now in let sizes = g.S.Stream.sizes in
     let sums = g.S.Stream.sums shared in let listing = g.S.Stream.listing shared in
-    let stands = subst (λ r. RawStandsAt (g.S.Stream.stands shared) sizes g.S.Stream.broken g.S.Stream.taken sums listing t r bytes)
+    let stands = subst (λ r. RawStandsAt (g.S.Stream.stands shared) sizes g.S.Stream.broken g.S.Stream.offset sums listing t r bytes)
     (sym c.self.view_is) given in
     let (lines, summed, writes) = sum_written sums listing t c.self.inside.sum (raw_pairs bytes) (state c.args.sink.now) (state c.write_sum.new.sink) _
     stands.sum c.in_default.ensures.lines in

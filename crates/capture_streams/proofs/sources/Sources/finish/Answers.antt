@@ -47,6 +47,6 @@ returns-clause-ends g c t pairs given =
 pub finish_all-requires-clause-ready : goal.finish_all-requires-clause-ready
 finish_all-requires-clause-ready g c = (
   c.requires.0,
-  subst (λ (w : Summed g.row.S.Denot g.row.S-Sum.Denot). All (IsReady g.S.Stream.broken g.S.Stream.taken c.requires.0) w.streams)
+  subst (λ (w : Summed g.row.S.Denot g.row.S-Sum.Denot). All (IsReady g.S.Stream.broken g.S.Stream.offset c.requires.0) w.streams)
       (sym c.self.view_is) c.requires.1,
 )

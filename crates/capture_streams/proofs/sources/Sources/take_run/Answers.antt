@@ -25,13 +25,13 @@ returns-in_default-clause-stands g c t pairs all ok =
 pub take_run-requires-clause-whole : goal.take_run-requires-clause-whole
 take_run-requires-clause-whole g c =
     let at = sym (ap option_copied_mut c.in-Some-get_mut.is) ∙ c.get_mut.follows.0 in
-    let ready = IsReady g.S.Stream.broken g.S.Stream.taken c.requires.0 in
+    let ready = IsReady g.S.Stream.broken g.S.Stream.offset c.requires.0 in
     (ready_at ready c.self.inside.ring.items (c.from.result - 1) c.in-Some-get_mut.stream.now (subst (λ (w : Summed g.row.S.Denot g.row.S-Sum.Denot). All ready w.streams) (sym c.self.view_is) c.requires.1) at).whole
 
 pub take_run-requires-clause-few : goal.take_run-requires-clause-few
 take_run-requires-clause-few g c =
     let at = sym (ap option_copied_mut c.in-Some-get_mut.is) ∙ c.get_mut.follows.0 in
-    let ready = IsReady g.S.Stream.broken g.S.Stream.taken c.requires.0 in
+    let ready = IsReady g.S.Stream.broken g.S.Stream.offset c.requires.0 in
     let one = ready_at ready c.self.inside.ring.items (c.from.result - 1) c.in-Some-get_mut.stream.now (subst (λ (w : Summed g.row.S.Denot g.row.S-Sum.Denot). All ready w.streams) (sym c.self.view_is) c.requires.1) at in
     omega (arith, one.few, c.requires.2)
 
@@ -91,6 +91,6 @@ returns-clause-most g c all =
 pub returns-clause-ready : goal.returns-clause-ready
 returns-clause-ready g c most all ok =
     let at = sym (ap option_copied_mut c.in-Some-get_mut.is) ∙ c.get_mut.follows.0 in
-    one_ready g.S.Stream.broken g.S.Stream.taken most (length c.args.run.now) (c.from.result - 1) c.self.inside.ring.items c.in-Some-get_mut.stream.now c.take_run.new.self
-    (subst (λ (w : Summed g.row.S.Denot g.row.S-Sum.Denot). All (IsReady g.S.Stream.broken g.S.Stream.taken most) w.streams) (sym c.self.view_is) all) at
-    (whole_where_ok (g.S.Stream.broken c.take_run.new.self) c.take_run.result ok c.take_run.ensures.broken) (c.take_run.ensures.taken ok)
+    one_ready g.S.Stream.broken g.S.Stream.offset most (length c.args.run.now) (c.from.result - 1) c.self.inside.ring.items c.in-Some-get_mut.stream.now c.take_run.new.self
+    (subst (λ (w : Summed g.row.S.Denot g.row.S-Sum.Denot). All (IsReady g.S.Stream.broken g.S.Stream.offset most) w.streams) (sym c.self.view_is) all) at
+    (whole_where_ok (g.S.Stream.broken c.take_run.new.self) c.take_run.result ok c.take_run.ensures.broken) (c.take_run.ensures.offset ok)

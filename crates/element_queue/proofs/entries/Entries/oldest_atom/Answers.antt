@@ -4,7 +4,7 @@ use Rattle.std.specs.Option.{option_map}
 use Rattle.std.proofs.lemmas.Option.{slice_get-map}
 use Rattle.element_queue.specs.Kept.{Kept, entries_in}
 use Rattle.element_queue.specs.Queued.{entry_of, plain_entry}
-use Rattle.element_queue.specs.declared.entries.Run.{Run}
+use Rattle.element_queue.specs.declared.entries.AtomsAndEntry.{AtomsAndEntry}
 use Rattle.element_queue.specs.declared.queue.AtomEntry.{AtomEntry}
 use Rattle.element_queue.proofs.EntryRuns.{first_at}
 use Rattle.element_queue.proofs.Held.{if_some}
@@ -25,7 +25,7 @@ returns-in-Some-clause-some c atom is =
     c.oldest_atom.ensures.some atom [] (first ∙ is)
 
 -- there are no runs
-plain_first : (runs : List Run) (plain : List Bool) → None ≡ slice_get runs 0
+plain_first : (runs : List AtomsAndEntry) (plain : List Bool) → None ≡ slice_get runs 0
     → slice_get (entries_in runs plain) 0 ≡ option_map plain_entry (slice_get plain 0)
 plain_first [] plain none = slice_get-map plain_entry plain 0
 plain_first (run ∷ runs) plain none = absurd cc

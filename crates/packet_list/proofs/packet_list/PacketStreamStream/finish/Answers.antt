@@ -12,18 +12,18 @@ use Rattle.packet_list.specs.PacketList.{HasRead, Listed, packet_lists}
 use Rattle.trace_io.specs.declared.traits.Failed.{Failed}
 use Rattle.packet_list.proofs.packet_list.PacketStreamStream.finish.Goals as goal
 
-pub returns-then-taken-eq0-clause-ends : goal.returns-then-taken-eq0-clause-ends
-returns-then-taken-eq0-clause-ends g c shared bytes at =
+pub returns-then-offset-eq0-clause-ends : goal.returns-then-offset-eq0-clause-ends
+returns-then-offset-eq0-clause-ends g c shared bytes at =
     let state = g.K.Sink.state c.args.sink.now in
-    let taken = c.taken.ensures.value ∙ ap (λ (l : Listed). l.reader.taken) c.self.view_is in
-    let none : length bytes ≡ 0 = at.read.stands.0 ∙ sym taken ∙ c.if-taken-eq0.true in
+    let taken = c.offset.ensures.value ∙ ap (λ (l : Listed). l.reader.offset) c.self.view_is in
+    let none : length bytes ≡ 0 = at.read.stands.0 ∙ sym taken ∙ c.if-offset-eq0.true in
     ([], false, nothing_ends c.args.self.reader.settings c.args.id bytes none, writes_all state state true [] (wrote_nothing state), refl)
 
 pub returns-in_err-write_end-clause-ends : goal.returns-in_err-write_end-clause-ends
 returns-in_err-write_end-clause-ends g c shared bytes at =
     let id = c.args.id in let a = g.K.Sink.state c.args.sink.now in let b = g.K.Sink.state c.write_end.new.sink in
-    let taken = c.taken.ensures.value ∙ ap (λ (l : Listed). l.reader.taken) c.self.view_is in
-    let some : length bytes ≡ 0 → ⊥ = λ none. c.if-taken-eq0.false (taken ∙ sym at.read.stands.0 ∙ none) in
+    let taken = c.offset.ensures.value ∙ ap (λ (l : Listed). l.reader.offset) c.self.view_is in
+    let some : length bytes ≡ 0 → ⊥ = λ none. c.if-offset-eq0.false (taken ∙ sym at.read.stands.0 ∙ none) in
     let read = subst (λ (l : Listed). HasRead l.reader l.fault bytes) (sym c.self.view_is) at.read in
     let stream = subst (λ (l : Listed). IsStream l.reader.settings bytes read.packets read.ending) c.self.view_is read.stream in
     by_err
@@ -42,8 +42,8 @@ returns-in_err-write_end-clause-ends g c shared bytes at =
 pub returns-clause-ends : goal.returns-clause-ends
 returns-clause-ends g c shared bytes at =
     let id = c.args.id in let a = g.K.Sink.state c.args.sink.now in let b = g.K.Sink.state c.write_end.new.sink in
-    let taken = c.taken.ensures.value ∙ ap (λ (l : Listed). l.reader.taken) c.self.view_is in
-    let some : length bytes ≡ 0 → ⊥ = λ none. c.if-taken-eq0.false (taken ∙ sym at.read.stands.0 ∙ none) in
+    let taken = c.offset.ensures.value ∙ ap (λ (l : Listed). l.reader.offset) c.self.view_is in
+    let some : length bytes ≡ 0 → ⊥ = λ none. c.if-offset-eq0.false (taken ∙ sym at.read.stands.0 ∙ none) in
     let read = subst (λ (l : Listed). HasRead l.reader l.fault bytes) (sym c.self.view_is) at.read in
     let stream = subst (λ (l : Listed). IsStream l.reader.settings bytes read.packets read.ending) c.self.view_is read.stream in
     let wrote = answers_ok {U = Bool} a b c.in_ok-write_end.field-0 c.is_none.result (end_line id c.end_at.result) c.in_ok-write_end.ensures in (

@@ -3,7 +3,7 @@ use Rattle.std.specs.Prelude.{slice_get}
 use Rattle.std.proofs.lemmas.Option.{slice_get-get_or}
 use Rattle.program_image.specs.Near.{Fits, IsNear, Near}
 use Rattle.program_image.specs.Part.{Part}
-use Rattle.program_image.specs.declared.run.Run.{Run}
+use Rattle.program_image.specs.declared.run.PlainRun.{PlainRun}
 use Rattle.program_image.specs.Places.{words_before}
 use Rattle.program_image.proofs.NearParts.{part_fits, words_of_part}
 use Rattle.program_image.proofs.Tables.{same_length}
@@ -37,12 +37,12 @@ fits c = part_fits c.self.inside.parts.items c.self.inside.table.items c.args.pa
     c.self.invariant.1 (within c) c.index.ensures c.index-2.ensures
 
 pub new-requires-clause-within : goal.new-requires-clause-within
-new-requires-clause-within c = omega (arith, (fits c).0.within, c.start-start.ensures, ap (λ (l : List Run). length l) c.entries-runs.ensures)
+new-requires-clause-within c = omega (arith, (fits c).0.within, c.start-start.ensures, ap (λ (l : List PlainRun). length l) c.entries-runs.ensures)
 
 pub new-requires-clause-few : goal.new-requires-clause-few
 new-requires-clause-few c =
     let before = c.count_before.ensures ∙ ap (λ (l : List ℕ). get_or l c.args.part 0) c.self.invariant.2 in
-    omega (arith, (fits c).0.few, before, ap (λ (l : List Run). length l) c.entries-runs.ensures)
+    omega (arith, (fits c).0.few, before, ap (λ (l : List PlainRun). length l) c.entries-runs.ensures)
 
 pub returns-clause-near : goal.returns-clause-near
 returns-clause-near c =
@@ -67,5 +67,5 @@ returns-clause-part c =
     slice_get-get_or parts c.args.part part (within at) ∙ ap Some (sym c.index.ensures) in
     let there' = subst (λ (image : List Part). slice_get image c.args.part ≡ Some part) c.self.view_is there in
     let start = ap (λ (n : Near). n.start) c.new.ensures ∙ c.start-start.ensures in
-    let runs = ap (λ (n : Near). length n.runs) c.new.ensures ∙ ap (λ (l : List Run). length l) c.entries-runs.ensures in
+    let runs = ap (λ (n : Near). length n.runs) c.new.ensures ∙ ap (λ (l : List PlainRun). length l) c.entries-runs.ensures in
     rw there' (record { start = start; whole = omega (arith, runs, (fits at).1); place = ap (λ (n : Near). n.part) c.new.ensures })

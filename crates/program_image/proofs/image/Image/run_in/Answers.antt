@@ -3,7 +3,7 @@ use Rattle.std.specs.Prelude.{slice_get, MatchOption, None, Option, Some}
 use Rattle.program_image.specs.Part.{Part, word_in, word_of}
 use Rattle.program_image.specs.Blocks.{class_at}
 use Rattle.program_image.specs.Runs.{run_of}
-use Rattle.program_image.specs.declared.run.Run.{Run}
+use Rattle.program_image.specs.declared.run.PlainRun.{PlainRun}
 use Rattle.program_image.specs.declared.run.WordRun.{WordRun}
 use Rattle.program_image.proofs.Tables.{HasRun, run_found, same_length}
 use Rattle.program_image.proofs.image.Image.run_in.Goals as goal
@@ -14,7 +14,7 @@ index-requires-2 c =
     omega (arith, c.requires.within, ap length c.self.view_is, same)
 
 -- what holds of the run that is found holds of it as it is kept
-as_kept : (found : Option Run) (kept : Option WordRun) (P : Type 0) (Q : Run → Type 0) → MatchOption found P Q
+as_kept : (found : Option PlainRun) (kept : Option WordRun) (P : Type 0) (Q : PlainRun → Type 0) → MatchOption found P Q
     → MatchOption kept (found ≡ None) (λ run. found ≡ Some (run_of run)) → MatchOption kept P (λ run. Q (run_of run))
 as_kept found None P Q holds same = subst (λ o. MatchOption o P Q) same holds
 as_kept found (Some run) P Q holds same = subst (λ o. MatchOption o P Q) same holds

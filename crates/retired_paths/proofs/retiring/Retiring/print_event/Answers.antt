@@ -3,7 +3,7 @@ use Rattle.std.proofs.lemmas.Result.{err_from_is_err_and}
 use Rattle.path_text.proofs.Wrote.{wrote_by}
 use Rattle.path_text.specs.PathLines.{lines_of, shown_after_all}
 use Rattle.path_text.specs.Writing.{Writes}
-use Rattle.spec_run.specs.Checks.{Place, held_at}
+use Rattle.spec_run.specs.Checks.{Situation, held_at}
 use Rattle.spec_run.specs.Stands.{Kept, PathStandsAt, StandsAt}
 use Rattle.retired_paths.specs.Retiring.{CanRetire, StandsDone, items_done}
 use Rattle.retired_paths.proofs.RetiredEvents.{answer_by, answer_is, can_retire, fails_to_print, parts_of, prints, stood_at, taken_is, went}
@@ -17,7 +17,7 @@ print_oldest-requires g c =
     let t = c.args.self.now in
     let x = can.stands.run.execution in
     let w = went c.args.image.now s t events c.args.event.now can in
-    subst (λ (place : Option Place). 0 < length (take c.asked.result (held_at place)) → CanRetire t (take c.asked.result (held_at place)))
+    subst (λ (place : Option Situation). 0 < length (take c.asked.result (held_at place)) → CanRetire t (take c.asked.result (held_at place)))
     (sym can.stands.run.place) (can_retire c.args.image.now t x.current c.asked.result can.gap w.before can.stands.path)
 
 pub returns-in_err-print_oldest : goal.returns-in_err-print_oldest

@@ -1,6 +1,6 @@
 use Rattle.std.proofs.Common.{refl, sym, ap, ◌∙◌, subst}
 use Rattle.packet_grammar.specs.declared.packet.Packet.TheVariants.{Atoms}
-use Rattle.packet_reader.specs.Stands.{Standing}
+use Rattle.packet_reader.specs.Stands.{PacketReading}
 use Rattle.packet_reader.specs.declared.step.Step.TheVariants.{Whole}
 use Rattle.path_elements.proofs.Taken.{in_range}
 use Rattle.stream_decoder.proofs.Beginning.{begun_opening, kept_reading, unmet}
@@ -27,5 +27,5 @@ returns-in-Some-clause-begun c =
 pub returns-in-None-clause-begun : goal.returns-in-None-clause-begun
 returns-in-None-clause-begun c =
     let i = c.self.inside in
-    let same = ap (λ (r : Standing). decoding_of r i.maker i.todo i.waiting i.walker i.fault) (c.in-None.ensures.none refl) ∙ c.self.view_is in
+    let same = ap (λ (r : PacketReading). decoding_of r i.maker i.todo i.waiting i.walker i.fault) (c.in-None.ensures.none refl) ∙ c.self.view_is in
     subst (λ (d : Decoding). BegunByte d c.args.byte c.begin_any-in-None.new.self) same c.begin_any-in-None.ensures.begun

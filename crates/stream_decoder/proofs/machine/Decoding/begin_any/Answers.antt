@@ -93,7 +93,7 @@ returns-in-Skipped c =
       begun = begun_opening i.reader t.new.self c.args.byte c.ranges.byte.fits t.result t.ensures.settings t.ensures.stands
           t.ensures.gains i.maker i.todo i.waiting
           i.walker i.fault c.args.self.now c.self.view_is now refl (unmet i.fault (sym c.is_some.ensures ∙ c.if-is_some.false)) opens;
-      taken = t.ensures.taken ∙ ap (λ (d : Decoding). d.reader.taken + 1) c.self.view_is;
+      offset = t.ensures.offset ∙ ap (λ (d : Decoding). d.reader.offset + 1) c.self.view_is;
       settings = t.ensures.settings ∙ ap (λ (d : Decoding). d.reader.settings) c.self.view_is;
       holds = (invariant_of-self-in-Skipped c).1;
     }

@@ -7,5 +7,5 @@ returns-clause-begun c =
       parts = c.in_ok-byte.ensures.cases.0;
       begins = c.begin.ensures.begun;
       settings = c.begin.ensures.settings;
-      taken = c.begin.ensures.taken;
+      offset = c.begin.ensures.offset;
     }

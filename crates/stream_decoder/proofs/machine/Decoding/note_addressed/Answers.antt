@@ -16,6 +16,9 @@ address_of-addr-requires c =
     let s = c.self.inside.reader.settings in let bytes = c.args.bytes.now in
     has_entry s bytes c.in_ok-form.rest.now c.in_ok-form.form (small_bytes bytes (λ n. omega (arith, c.type_inv.bytes n))) (c.in_ok-form.ensures.front s)
 
+pub take_address-requires : goal.take_address-requires
+take_address-requires c = record { due = ap (λ (d : Decoding). d.due) c.self.view_is ∙ c.requires.rest.due }
+
 pub tell_address-requires-clause-form : goal.tell_address-requires-clause-form
 tell_address-requires-clause-form c =
     let s = c.self.inside.reader.settings in let bytes = c.args.bytes.now in
@@ -51,15 +54,15 @@ noted c =
     let here = decoding_of i.reader i.maker i.todo i.waiting i.walker i.fault in
     let view : here ≡ c.args.self.now = c.self.view_is in
     let done : AtRest here = record {
-      due = c.take_address.ensures.due c.if-not-take_address.false;
-      todo = ap (λ (d : Decoding). d.todo) view ∙ c.requires.todo;
+      due = ap (λ (d : Decoding). d.due) view ∙ c.requires.rest.due;
+      todo = ap (λ (d : Decoding). d.todo) view ∙ c.requires.rest.todo;
     } in
     let whole : i.fault ≡ None = ap (λ (d : Decoding). d.fault) view ∙ c.requires.whole in
     let counts : AtomsCount i.maker = record {
       informed = ap (λ (d : Decoding). (d.told).informed) view ∙ c.requires.ready.0;
       awaiting = ap (λ (d : Decoding). (d.told).awaiting) view ∙ c.requires.ready.1;
     } in
-    let commits = c.take_address.ensures.commits c.if-not-take_address.false in
+    let commits = c.take_address.ensures.commits in
     let runs = runs_address i.reader r1 i.maker t1 i.todo i.waiting w1 i.walker i.fault text at form addr c.self.invariant done whole counts
     (small_front bytes text rest front.parts small) takes c.address_of-addr.ensures.value c.address_of-addr.ensures.aligned c.tell_address.ensures commits
     c.take_address.ensures.holds in
@@ -68,8 +71,8 @@ noted c =
     c.take_address.ensures.holds in
     rw c.move_to.ensures (some_byte s (Ok (Addr form None)) text front.spells, takes, runs, holds)
 
-pub invariant_of-self-2 : goal.invariant_of-self-2
-invariant_of-self-2 c = (noted c).3
+pub invariant_of-self : goal.invariant_of-self
+invariant_of-self c = (noted c).3
 
 pub returns-clause-runs : goal.returns-clause-runs
 returns-clause-runs c =
@@ -78,7 +81,7 @@ returns-clause-runs c =
       front.text,
       front.parts,
       some,
-      takes.taken ∙ ap (λ (d : Decoding). (d.reader).taken + length front.text) c.self.view_is,
+      takes.offset ∙ ap (λ (d : Decoding). (d.reader).offset + length front.text) c.self.view_is,
       λ image. subst (λ (d : Decoding). RunsPacket image d front.text [] last) c.self.view_is (runs image),
     )
 

@@ -37,7 +37,7 @@ take_up_to-requires-clause-small g c =
     let packet = is_packet s bytes rest form small front in
     let takes = c.skip-at.ensures.takes [] (front.text, Addr form None) packet.0 packet.1 (long s bytes rest form small front) in
     let all = ap length front.parts in let both = length-append front.text rest in
-    let begun = ap (λ (d : Decoding). (d.reader).taken) c.self.view_is in omega (arith, takes.taken, all, both, begun, c.requires.few)
+    let begun = ap (λ (d : Decoding). (d.reader).offset) c.self.view_is in omega (arith, takes.offset, all, both, begun, c.requires.few)
 
 -- ---- the packets ran
 

@@ -6,6 +6,6 @@ returns g c =
     record {
       stands = (
         record { given = []; unsync = c.new-2.ensures.stands; demux = c.in_ok-demux.ensures.stands },
-        c.taken.ensures.value ∙ (c.in_ok-demux.ensures.stands).taken,
+        c.offset.ensures.value ∙ (c.in_ok-demux.ensures.stands).offset,
       );
     }

@@ -1,6 +1,6 @@
 use Rattle.std.proofs.Common.{ap, subst, sym, ◌∙◌}
 use Rattle.packet_grammar.specs.Parsed.{IsStream}
-use Rattle.packet_reader.specs.Stands.{Standing}
+use Rattle.packet_reader.specs.Stands.{PacketReading}
 use Rattle.packet_reader.specs.Stands as reader
 use Rattle.time_marks.specs.Timed.{IsTimed, Timed}
 use Rattle.time_marks.proofs.Standing.{ends_at, ends_with}
@@ -19,5 +19,5 @@ returns-in-None c bytes t last stands times =
     ends_with c.args.self.now bytes stands is.reads.settings t last times c.end_without_fault.result
     (ap (λ (d : Timed). ((d.timing).line).fault) (sym c.self.view_is) ∙ c.in-None.is)
     (λ packets ending stream none.
-    c.end_without_fault.ensures bytes packets ending (subst (λ (r : Standing). reader.StandsAt r bytes) read stands.reads)
-    (subst (λ (r : Standing). IsStream r.settings bytes packets ending) read stream) none)
+    c.end_without_fault.ensures bytes packets ending (subst (λ (r : PacketReading). reader.StandsAt r bytes) read stands.reads)
+    (subst (λ (r : PacketReading). IsStream r.settings bytes packets ending) read stream) none)

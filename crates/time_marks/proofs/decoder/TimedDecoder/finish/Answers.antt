@@ -13,7 +13,7 @@ use Rattle.time_marks.proofs.decoder.TimedDecoder.finish.Goals as goal
 pub returns-then-taken-eq0-clause-line : goal.returns-then-taken-eq0-clause-line
 returns-then-taken-eq0-clause-line g c bytes t last stands times =
     let is = subst IsTimed c.self.view_is c.self.invariant in
-    let none : length bytes ≡ 0 = stands.reads.0 ∙ sym (c.taken-taken.ensures.value ∙ ap (λ (d : Timed). (d.reader).taken) c.self.view_is) ∙ c.if-taken-eq0.true in
+    let none : length bytes ≡ 0 = stands.reads.0 ∙ sym (c.offset-taken.ensures.value ∙ ap (λ (d : Timed). (d.reader).offset) c.self.view_is) ∙ c.if-taken-eq0.true in
     let state = g.K.Sink.state c.args.sink.now in (
       subst (λ (x : List ℕ). Writes {T = Bool} {E = Failed} state state (Ok true) x) (printed_nothing c.args.id bytes last none)
           (writes_all state state true _ (wrote_nothing state)),
@@ -23,7 +23,7 @@ returns-then-taken-eq0-clause-line g c bytes t last stands times =
 pub returns-in_err-write_end-clause-line : goal.returns-in_err-write_end-clause-line
 returns-in_err-write_end-clause-line g c bytes t last stands times =
     let some : length bytes ≡ 0 → ⊥ =
-    λ none. c.if-taken-eq0.false (c.taken-taken.ensures.value ∙ ap (λ (d : Timed). (d.reader).taken) c.self.view_is ∙ sym stands.reads.0 ∙ none) in
+    λ none. c.if-taken-eq0.false (c.offset-taken.ensures.value ∙ ap (λ (d : Timed). (d.reader).offset) c.self.view_is ∙ sym stands.reads.0 ∙ none) in
     let known = c.end-end.ensures bytes t last stands times in
     let a = g.K.Sink.state c.args.sink.now in let b = g.K.Sink.state c.write_end.new.sink in
     let p = err_from_is_err_and c.from_residual.result c.from_residual.ensures.1 in
@@ -37,7 +37,7 @@ returns-in_err-write_end-clause-line g c bytes t last stands times =
 pub returns-clause-line : goal.returns-clause-line
 returns-clause-line g c bytes t last stands times =
     let some : length bytes ≡ 0 → ⊥ =
-    λ none. c.if-taken-eq0.false (c.taken-taken.ensures.value ∙ ap (λ (d : Timed). (d.reader).taken) c.self.view_is ∙ sym stands.reads.0 ∙ none) in
+    λ none. c.if-taken-eq0.false (c.offset-taken.ensures.value ∙ ap (λ (d : Timed). (d.reader).offset) c.self.view_is ∙ sym stands.reads.0 ∙ none) in
     let known = c.end-end.ensures bytes t last stands times in
     let a = g.K.Sink.state c.args.sink.now in let b = g.K.Sink.state c.write_end.new.sink in
     let answer = not c.is_fault.result in

@@ -1,7 +1,7 @@
 use Rattle.std.proofs.Common.{◌≡◌, ℕ, Bool, List, None, Ok, Err, refl, sym, ap, subst, ◌∙◌}
 use Rattle.std.specs.List.{concat}
 use Rattle.packet_reader.specs.Answered.{fault_after, told}
-use Rattle.packet_reader.specs.Stands.{Standing}
+use Rattle.packet_reader.specs.Stands.{PacketReading}
 use Rattle.packet_reader.specs.declared.step.Step.TheVariants.{Whole}
 use Rattle.path_text.specs.Writing.{Writes}
 use Rattle.time_marks.proofs.Frequents.{behind_none, one_good}
@@ -16,19 +16,19 @@ use Rattle.trace_io.specs.declared.traits.Failed.{Failed}
 
 -- ---- any other byte
 
-abbrev timed : Standing → Timing → Bool → Timed
+abbrev timed : PacketReading → Timing → Bool → Timed
 timed reader timing broken = record { reader = reader; timing = timing; broken = broken }
 
 pub returns-in_default-clause-stands : goal.returns-in_default-clause-stands
 returns-in_default-clause-stands g c ok bytes stands =
     let i = c.self.inside in
-    let same = ap (λ (r : Standing). timed r i.timing i.broken) (c.in_default.ensures.none refl) ∙ c.self.view_is in
+    let same = ap (λ (r : PacketReading). timed r i.timing i.broken) (c.in_default.ensures.none refl) ∙ c.self.view_is in
     c.take_any.ensures.stands ok bytes (subst (λ (y : Timed). StandsAt y bytes) (sym same) stands)
 
 pub returns-in_default-clause-gains : goal.returns-in_default-clause-gains
 returns-in_default-clause-gains g c =
     let i = c.self.inside in let state = g.K.Sink.state in
-    let same = ap (λ (r : Standing). timed r i.timing i.broken) (c.in_default.ensures.none refl) ∙ c.self.view_is in
+    let same = ap (λ (r : PacketReading). timed r i.timing i.broken) (c.in_default.ensures.none refl) ∙ c.self.view_is in
     subst (λ (y : Timed). (bytes : List ℕ) → StandsAt y bytes → (lines : List (List ℕ)) × TimesGains ((y.reader).settings) c.args.id bytes c.args.byte lines
     × Writes (state c.args.sink.now) (state c.take_any.new.sink) c.take_any.result (concat lines)) same c.take_any.ensures.gains
 

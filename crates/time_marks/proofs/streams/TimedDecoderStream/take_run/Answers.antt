@@ -46,7 +46,7 @@ loop-byte-preserved g c =
           (wrote_by here new c.in_ok-take.field-0 (concat adds.0) adds.2));
       kept = c.in_ok-take.ensures.serves.cause.kept ∙ i.kept;
       shows = c.take.ensures.serves.shows ∙ i.shows;
-      taken = omega (arith, c.take.ensures.taken, i.taken);
+      offset = omega (arith, c.take.ensures.offset, i.offset);
       whole = whole_where_ok {E = Failed} c.take.new.self.broken (Ok c.in_ok-take.field-0) refl c.in_ok-take.ensures.broken;
       sizes = c.take.ensures.settings ∙ i.sizes;
       most = λ _. c.take.ensures.most;

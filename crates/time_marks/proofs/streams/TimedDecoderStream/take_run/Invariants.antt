@@ -15,7 +15,7 @@ invariant-loop-byte g l =
           → RunWritten (times l.fn.self.reader.settings) l.id bytes (take l.byte-index l.run) (state l.fn.sink) (state l.sink);
       kept : KeepsFaults (state l.fn.sink) (state l.sink);
       shows : ShowsAsBefore (state l.fn.sink) (state l.sink);
-      taken : l.self.reader.taken ≡ l.fn.self.reader.taken + l.byte-index;
+      offset : l.self.reader.offset ≡ l.fn.self.reader.offset + l.byte-index;
       whole : l.self.broken ≡ false;
       sizes : l.self.reader.settings ≡ l.fn.self.reader.settings;
       most : length l.fn.self.timing.line.queue.pending.held ≤ l.fn.self.reader.settings.depth
