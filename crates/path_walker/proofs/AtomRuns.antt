@@ -101,13 +101,13 @@ module _ {V : Type 0} (Takes : Ctx → V → List Stretch → V → Type 0) (non
         placed = walked.placed;
       }
 
-  -- and behind them of those that are left
   -- the same, where nothing was taken before
   pub run_behind_none : (image : Image) (ctx : Ctx) (s s' : State) (addr : Option ℕ) (atoms : List Bool) (n : ℕ) (old mid new : V)
       → Takes ctx old [] mid → WalksRun (Takes ctx) image s addr atoms mid n s' new → WalksRun (Takes ctx) image s addr atoms old n s' new
   run_behind_none image ctx s s' addr atoms n old mid new first run =
       record { added = run.added; takes = joins ctx old mid new [] run.added first run.takes; count = run.count; walks = run.walks; placed = run.placed }
 
+  -- and behind them of those that are left
   pub run_joined : (image : Image) (s mid s' : State) (addr : Option ℕ) (count bits n m : ℕ) (old between new : V) → n ≤ count
       → given_before n addr ≡ None → mid.ctx ≡ s.ctx → WalksRun (Takes s.ctx) image s addr (low_bits count bits) old n mid between
       → WalksRun (Takes mid.ctx) image mid None (low_bits (count - n) (bits / 2 ^ n)) between m s' new
@@ -125,16 +125,6 @@ module _ {V : Type 0} (Takes : Ctx → V → List Stretch → V → Type 0) (non
             (ap (λ (k : ℕ). given_before k addr) first.count ∙ none);
         placed = All-append (IsPlaced image) first.added rest.added first.placed rest.placed;
       }
-
-  -- one atom more
-  pub one_more : (image : Image) (s mid next : State) (most bits left n : ℕ) (old between new : V) → n < most → left ≡ bits / 2 ^ n → mid.ctx ≡ s.ctx
-      → WalksRun (Takes s.ctx) image s None (low_bits most bits) old n mid between
-      → WalksRun (Takes mid.ctx) image mid None ((left % 2 == 1) ∷ []) between 1 next new
-      → WalksRun (Takes s.ctx) image s None (low_bits most bits) old (n + 1) next new
-  one_more image s mid next most bits left n old between new within is same walked one =
-      run_joined image s mid next None most bits n 1 old between new (omega (arith, within)) (none_before n) same walked
-      (run_of_more image mid.ctx mid next None 1 (most - n) (bits / 2 ^ n) 1 between new (omega (arith, within))
-      (subst (λ (b : ℕ). WalksRun (Takes mid.ctx) image mid None ((b % 2 == 1) ∷ []) between 1 next new) is one))
 
 -- the bits that are left behind one more
 pub next_left : (bits left n : ℕ) → left ≡ bits / 2 ^ n → left / 2 ≡ bits / 2 ^ (n + 1)

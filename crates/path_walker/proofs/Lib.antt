@@ -10,5 +10,6 @@ pub mod Joined
 pub mod Examples
 pub mod Worded
 pub mod AtomRuns
+pub mod Together
 pub mod AtomExamples
 pub mod WordExamples

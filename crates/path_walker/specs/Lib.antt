@@ -3,5 +3,7 @@ pub mod Steps
 pub mod Start
 pub mod State
 pub mod Walk
+pub mod OneAtom
+pub mod Together
 pub mod Things
 pub mod Joined

@@ -1,18 +1,16 @@
 //! What is executed for a P0 element from an address on, and where it leads.
-ghost use Rattle.std.specs.Prelude.{◌≡◌, ◌≢◌, ◌+◌, ◌%◌, ◌-◌, true, false, IfOk, IfSome, Some, None, Err, slice_get};
+ghost use Rattle.std.specs.Prelude.{◌≡◌, ◌≢◌, ◌+◌, ◌%◌, true, false, IfOk, IfSome, Some, None, Err};
 ghost use Rattle.a64_branches.specs.Classes.{HasWholeOffset};
 ghost use Rattle.a64_branches.specs.declared.class.Class.TheVariants.{Plain};
-ghost use Rattle.program_image.specs.Runs.{IsRun, class_behind, run_of};
-ghost use Rattle.program_image.specs.Blocks.{behind, class_at};
-ghost use Rattle.program_image.specs.Places.{word_addresses};
+ghost use Rattle.program_image.specs.Runs.{class_behind};
 ghost use Rattle.program_image.specs.Near.{IsNear};
 ghost use Rattle.etm_types.specs.declared.element.P0.TheVariants as p0;
 ghost use Rattle.etm_types.specs.declared.walk_fault.WalkFault.{WalkFault};
 ghost use Rattle.path_walker.specs.declared.pc.Pc.TheVariants.{Awaited, Known};
 ghost use Rattle.return_stack.specs.Stack.{most_addresses};
 ghost use Rattle.path_walker.specs.Steps.{linked};
-ghost use Rattle.path_walker.specs.Leg.{IsLeg, IsAlignedLeg, IsLegBehind};
-ghost use Rattle.path_walker.specs.Walk.{Halts, Refuses, is_to_register, takes, ToldIsAligned, ReturnIsAligned};
+ghost use Rattle.path_walker.specs.Leg.{IsAlignedLeg, IsLeg, IsLegBehind, IsLegOfAtom, IsRunAt};
+ghost use Rattle.path_walker.specs.Walk.{Halts, Refuses, takes, ToldIsAligned, ReturnIsAligned};
 
 use crate::pc::Pc;
 use a64_branches::{INSTRUCTION_BYTES, target};
@@ -143,11 +141,8 @@ fn leg_behind(placed: PlacedRun, addr: u64, taken: bool) -> Result<Leg, WalkFaul
     requires address { addr % 4 ≡ 0 }
     requires whole { IfSome (class_behind placed.run.behind) HasWholeOffset }
     requires last { class_behind placed.run.behind ≢ Some Plain }
-    ensures leads { IfOk result (IsLegBehind (class_behind placed.run.behind) addr taken) }
-    ensures count { IfOk result (λ leg. leg.count ≡ placed.run.plain + 1) }
-    ensures place { IfOk result (λ leg. leg.place ≡ placed.place) }
+    ensures leads { IfOk result (IsLegBehind placed addr taken) }
     ensures halts { (fault : WalkFault) → result ≡ Err fault → Refuses (class_behind placed.run.behind) addr taken fault }
-    ensures aligned { IfOk result IsAlignedLeg }
 {
     let behind = addr.wrapping_add(INSTRUCTION_BYTES);
     let leg = Leg::of_words(placed, behind);
@@ -175,15 +170,9 @@ fn leg_behind(placed: PlacedRun, addr: u64, taken: bool) -> Result<Leg, WalkFaul
 /// A run of plain words from an address on, and after it the P0 instruction of an atom.
 #[inline(always)]
 pub fn leg_along(image: &Image, pc: u64, placed: PlacedRun, taken: bool) -> Result<Leg, WalkFault>
-    requires start { pc % 4 ≡ 0 }
-    requires run { IsRun image.now pc (run_of placed.run) }
-    requires place { slice_get (word_addresses image.now) placed.place ≡ Some pc }
-    ensures leads { IfOk result (IsLeg image.now (Some pc) (p0.Atom taken)) }
-    ensures took { IfOk result (λ leg. leg.took ≡ takes image.now (Some pc) (p0.Atom taken) leg.count) }
-    ensures placed { IfOk result (λ leg. slice_get (word_addresses image.now) leg.place ≡ Some pc) }
-    ensures register { IfOk result (λ leg. leg.to_register ≡ is_to_register (class_at image.now (behind pc (leg.count - 1)))) }
+    requires { IsRunAt image.now pc placed }
+    ensures leads { IfOk result (IsLegOfAtom image.now pc taken) }
     ensures halts { (fault : WalkFault) → result ≡ Err fault → Halts image.now (Some pc) (p0.Atom taken) fault }
-    ensures aligned { IfOk result IsAlignedLeg }
 {
     let words = u64::from(placed.run.plain) * INSTRUCTION_BYTES;
     leg_behind(placed, pc.wrapping_add(words), taken)
@@ -194,12 +183,8 @@ pub fn leg_along(image: &Image, pc: u64, placed: PlacedRun, taken: bool) -> Resu
 #[inline(always)]
 pub fn leg_of_atom(image: &Image, pc: u64, near: usize, taken: bool) -> Result<Leg, WalkFault>
     requires { pc % 4 ≡ 0 }
-    ensures leads { IfOk result (IsLeg image.now (Some pc) (p0.Atom taken)) }
-    ensures took { IfOk result (λ leg. leg.took ≡ takes image.now (Some pc) (p0.Atom taken) leg.count) }
-    ensures placed { IfOk result (λ leg. slice_get (word_addresses image.now) leg.place ≡ Some pc) }
-    ensures register { IfOk result (λ leg. leg.to_register ≡ is_to_register (class_at image.now (behind pc (leg.count - 1)))) }
+    ensures leads { IfOk result (IsLegOfAtom image.now pc taken) }
     ensures halts { (fault : WalkFault) → result ≡ Err fault → Halts image.now (Some pc) (p0.Atom taken) fault }
-    ensures aligned { IfOk result IsAlignedLeg }
 {
     let Some(placed) = image.placed_run(pc, near) else {
         return Err(WalkFault::NoCode(pc));
@@ -212,8 +197,7 @@ pub fn leg_of_atom(image: &Image, pc: u64, near: usize, taken: bool) -> Result<L
 pub fn run_near(image: &Image, near: &NearPart, pc: u64) -> Option<PlacedRun>
     requires start { pc % 4 ≡ 0 }
     requires near { IsNear image.now near.now }
-    ensures run { IfSome result (λ placed. IsRun image.now pc (run_of placed.run)) }
-    ensures place { IfSome result (λ placed. slice_get (word_addresses image.now) placed.place ≡ Some pc) }
+    ensures { IfSome result (IsRunAt image.now pc) }
 {
     let _ = image;
     let placed = near.run_at(pc)?;
@@ -223,14 +207,8 @@ pub fn run_near(image: &Image, near: &NearPart, pc: u64) -> Option<PlacedRun>
 /// A run of plain words from an address on, and after it the P0 instruction of an atom, where that is a conditional branch.
 #[inline(always)]
 pub fn conditional_leg_along(image: &Image, pc: u64, placed: PlacedRun, taken: bool) -> Option<Leg>
-    requires start { pc % 4 ≡ 0 }
-    requires run { IsRun image.now pc (run_of placed.run) }
-    requires place { slice_get (word_addresses image.now) placed.place ≡ Some pc }
-    ensures leads { IfSome result (IsLeg image.now (Some pc) (p0.Atom taken)) }
-    ensures took { IfSome result (λ leg. leg.took ≡ takes image.now (Some pc) (p0.Atom taken) leg.count) }
-    ensures placed { IfSome result (λ leg. slice_get (word_addresses image.now) leg.place ≡ Some pc) }
-    ensures register { IfSome result (λ leg. leg.to_register ≡ is_to_register (class_at image.now (behind pc (leg.count - 1)))) }
-    ensures aligned { IfSome result IsAlignedLeg }
+    requires { IsRunAt image.now pc placed }
+    ensures { IfSome result (IsLegOfAtom image.now pc taken) }
 {
     match placed.run.behind {
         WordBehind::BranchConditionally { .. } => leg_along(image, pc, placed, taken).ok(),

@@ -1,31 +1,25 @@
 -- Bytes that are taken one after the other, or whole packets together.
-use Rattle.std.proofs.Common.{◌≡◌, ◌≢◌, ℕ, ◌+◌, ◌<◌, List, [], ◌∷◌, ◌++◌, length, Option, Result, Some, None, Ok, Err, false, refl, sym, ap, subst, ◌∙◌, inl, arith}
-use Rattle.std.proofs.Common.{append_assoc, append-nil, length-append}
+use Rattle.std.proofs.Common.{◌≡◌, ◌≢◌, ℕ, List, [], ◌∷◌, ◌++◌, Option, Result, Some, None, Ok, Err, false, refl, sym, ap, subst, ◌∙◌}
+use Rattle.std.proofs.Common.{append_assoc, append-nil}
 use Rattle.std.specs.Prelude.{IsOk}
 use Rattle.std.specs.Result.{is_err}
 use Rattle.std.proofs.lemmas.List.{append_cancel_left}
-use Rattle.std.proofs.lemmas.List.Elements.{All-append}
 use Rattle.etm_types.specs.Settings.{AreSettings, Sizes}
 use Rattle.etm_types.specs.declared.context.Ctx.{Ctx}
 use Rattle.etm_types.specs.declared.item.Item.{Item}
-use Rattle.packet_grammar.proofs.Fitting.{small_back, small_front}
+use Rattle.packet_grammar.proofs.Fitting.{small_front}
 use Rattle.packet_grammar.specs.declared.end.End.{End}
 use Rattle.packet_grammar.specs.declared.stream_fault.Fault.{Fault}
-use Rattle.packet_reader.specs.Stands.{PacketReading}
 use Rattle.path_elements.proofs.BytePaths.{front_path, one_path, path_grows}
 use Rattle.path_elements.specs.Path.{IsPath, IsPathTaking}
-use Rattle.path_text.proofs.LineLemmas.{lines_of-append, shown_after_all-append}
-use Rattle.path_text.proofs.Wrote.{Wrote, fails_after, wrote_by, wrote_more, wrote_nothing, writes_all}
-use Rattle.path_text.specs.PathLines.{lines_of, shown_after_all}
-use Rattle.path_text.specs.Writing.{Writes}
+use Rattle.path_text.proofs.LineLemmas.{shown_after_all-append}
+use Rattle.path_text.specs.PathLines.{shown_after_all}
 use Rattle.program_image.specs.declared.image.Image.{Image}
 use Rattle.stream_decoder.proofs.Coming.{path_of}
-use Rattle.stream_decoder.proofs.Growing.{Small, path_on, stands_on, stands_stopped}
+use Rattle.stream_decoder.proofs.Growing.{Small}
 use Rattle.stream_decoder.specs.Decoding.{Decoding}
 use Rattle.stream_decoder.specs.Stands.{Came, GrowsBy}
-use Rattle.stream_decoder.specs.Yields.{BegunByte, BegunBy, BegunFront, OpensBehind}
-use Rattle.trace_io.specs.State.{IoState}
-use Rattle.trace_io.specs.declared.traits.Failed.{Failed}
+use Rattle.stream_decoder.specs.Yields.{BegunByte, BegunFront, OpensBehind}
 
 -- ---- the path grows with each of some bytes
 

@@ -221,16 +221,16 @@ module _ {V : Type 0} (Takes : V → List Stretch → V → Type 0) (image : Ima
       }
 
   -- each commits the oldest
-  pub takes_turned : (w w' : Waiting) (s s' : State) (told : List Bool) (left : List Elem) (n : ℕ) (old new : V) → w.due ≡ []
-      → w.depth ≤ length (w.pending).held → IsWaiting w → WalksSome Takes image s (all_of w) old n s' new → TakesAtoms w (atoms told) n w' left
+  pub takes_turned : (w w' : Waiting) (s s' : State) (told : List Bool) (left : List Elem) (most n : ℕ) (old new : V) → w.due ≡ []
+      → w.depth ≤ length (w.pending).held → IsWaiting w → WalksSome Takes image s (all_of w) most old n s' new → TakesAtoms w (atoms told) n w' left
       → TakesSome Takes image w s told old n w' s' new
-  takes_turned w w' s s' told left n old new none full waits walks takes = record {
-    added = walks.0;
-    takes = walks.1;
+  takes_turned w w' s s' told left most n old new none full waits walks takes = record {
+    added = walks.added;
+    takes = walks.takes;
     within = omega (arith, long told, takes_within w w' (atoms told) left n takes);
-    steps = subst (λ (m : ℕ). StepsByAtoms image w s (take m told) walks.0 w' s') walks.2
-        (steps_turned image s s' told walks.0 w w' left none full waits walks.3
-        (subst (λ (m : ℕ). TakesAtoms w (atoms told) m w' left) (sym walks.2) takes));
+    steps = subst (λ (m : ℕ). StepsByAtoms image w s (take m told) walks.added w' s') walks.count
+        (steps_turned image s s' told walks.added w w' left none full waits walks.walks
+        (subst (λ (m : ℕ). TakesAtoms w (atoms told) m w' left) (sym walks.count) takes));
   }
 
   -- nothing is committed

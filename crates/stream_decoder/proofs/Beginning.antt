@@ -1,5 +1,5 @@
 -- What a byte begins.
-use Rattle.std.proofs.Common.{◌≡◌, ◌<◌, ℕ, true, false, List, [], ◌∷◌, ◌++◌, Option, Some, None, refl, sym, ap, subst, ◌∙◌}
+use Rattle.std.proofs.Common.{◌≡◌, ◌<◌, ◌+◌, ℕ, true, false, List, [], ◌∷◌, ◌++◌, Option, Some, None, refl, sym, ap, subst, ◌∙◌}
 use Rattle.std.specs.Prelude.{is_some}
 use Rattle.std.proofs.lemmas.List.Elements.{All-append, All-cons, All-nil}
 use Rattle.etm_types.specs.Settings.{AreSettings, Sizes}
@@ -12,11 +12,21 @@ use Rattle.path_walker.specs.State.{State}
 use Rattle.stream_decoder.specs.Decoding.{AtRest, Decoding, IsDecoding, IsReading, decoding_of}
 use Rattle.stream_decoder.specs.Left.{Left}
 use Rattle.stream_decoder.specs.Waiting.{Waiting}
-use Rattle.stream_decoder.specs.Yields.{BegunByte, Opens, OpensBehind, Reads}
+use Rattle.stream_decoder.specs.Yields.{BegunByte, Opens, OpensBehind, Reads, TakesByte}
 use Rattle.stream_decoder.proofs.Holds.{holds_faulted, holds_read}
 
 abbrev IsByte : ℕ → Type 0
 IsByte b = b < 256
+
+-- a byte is begun, and the reader went on by it
+pub takes_byte : (d : Decoding) (r r' : PacketReading) (d' : Decoding) (byte : ℕ) → r ≡ d.reader → r'.offset ≡ r.offset + 1 → r'.settings ≡ r.settings
+    → d'.reader ≡ r' → BegunByte d byte d' → TakesByte d byte d'
+takes_byte d r r' d' byte was offset settings is begins =
+    record {
+      begins = begins;
+      offset = ap (λ (x : PacketReading). x.offset) is ∙ offset ∙ ap (λ (x : PacketReading). x.offset + 1) was;
+      settings = ap (λ (x : PacketReading). x.settings) is ∙ settings ∙ ap (λ (x : PacketReading). x.settings) was;
+    }
 
 pub unmet : (f : Option (ℕ × Fault)) → is_some f ≡ false → f ≡ None
 unmet None e = refl

@@ -1,14 +1,11 @@
 -- What a follower was given of a decoding.
-use Rattle.std.proofs.Common.{◌≡◌, ◌≢◌, ℕ, ◌<◌, List, [], ◌∷◌, ◌++◌, None, refl, sym, ap, subst, ◌∙◌, append-nil, append_assoc}
-use Rattle.etm_types.specs.Settings.{AreSettings}
+use Rattle.std.proofs.Common.{List, [], ◌++◌, subst, append-nil}
 use Rattle.etm_types.specs.declared.item.Item.{Item}
-use Rattle.path_text.specs.PathLines.{shown_after_all}
 use Rattle.program_image.specs.declared.image.Image.{Image}
 use Rattle.stream_decoder.proofs.Yielding.{goes_nowhere, goes_on, goes_to_end}
 use Rattle.stream_decoder.specs.Decoding.{Decoding}
-use Rattle.stream_decoder.specs.Follows.{CameTo, Follows, GrowsBy}
-use Rattle.stream_decoder.specs.Stands.{Came}
-use Rattle.stream_decoder.specs.Yields.{BegunByte, Ends, outcome_at}
+use Rattle.stream_decoder.specs.Follows.{Follows}
+use Rattle.stream_decoder.specs.Yields.{Ends}
 
 module _ {F : Type 0} (Takes : F → List Item → F → Type 0) (none : (f : F) → Takes f [] f)
     (joins : (a b c : F) (xs ys : List Item) → Takes a xs b → Takes b ys c → Takes a (xs ++ ys) c) where

@@ -26,6 +26,7 @@ use Rattle.program_image.specs.declared.image.Image.{Image}
 use Rattle.stream_decoder.proofs.Atoms.{fewer_by_atom, goes_by_atom, holds_by_atom}
 use Rattle.stream_decoder.proofs.Dues.{fewer_by_due, goes_by_due, holds_by_due}
 use Rattle.stream_decoder.proofs.Runs.{Ran}
+use Rattle.stream_decoder.proofs.Stepping.{nothing_left}
 use Rattle.stream_decoder.proofs.Yielding.{goes_nowhere, goes_on}
 use Rattle.stream_decoder.specs.Decoding.{AtRest, Decoding, IsDecoding, decoding_of}
 use Rattle.stream_decoder.specs.Left.{Left}
@@ -325,25 +326,57 @@ walks_nowhere Takes image d v none = record {
   goes = goes_nowhere image d;
   none = λ same. refl;
   stopped = λ done. refl;
+  context = refl;
+  at_most = omega arith;
+}
+
+-- none was walked, and nothing changed
+pub walks_still : {V : Type 0} (Takes : V → List Stretch → V → Type 0) (image : Image) (d d' : Decoding) (old new : V) (added : List Stretch)
+    → d' ≡ d → added ≡ [] → Takes old added new → WalksOn Takes image d old d' new
+walks_still Takes image d d' old new added same none takes = record {
+  added = added;
+  takes = takes;
+  goes = subst (λ (run : List Stretch). Goes image d (items_in (d.walk).ctx run) d') (sym none)
+      (subst (λ (x : Decoding). Goes image d [] x) (sym same) (goes_nowhere image d));
+  none = λ empty. same;
+  stopped = λ done. none;
+  context = ap (λ (x : Decoding). (x.walk).ctx) same;
+  at_most = omega (arith, ap left same);
+}
+
+-- some were walked, and less is left to do
+pub walks_some : {V : Type 0} (Takes : V → List Stretch → V → Type 0) (image : Image) (d d' : Decoding) (old new : V) (added : List Stretch)
+    → Goes image d (items_in (d.walk).ctx added) d' → (added ≡ [] → ⊥) → left d' < left d → (d'.walk).ctx ≡ (d.walk).ctx → Takes old added new
+    → WalksOn Takes image d old d' new
+walks_some Takes image d d' old new added goes some fewer context takes = record {
+  added = added;
+  takes = takes;
+  goes = goes;
+  none = λ empty. absurd (some empty);
+  stopped = λ done. absurd (nothing_left d done (omega (arith, fewer)));
+  context = context;
+  at_most = omega (arith, fewer);
 }
 
 module _ {V : Type 0} (Takes : Ctx → V → List Stretch → V → Type 0)
     (joins : (ctx : Ctx) (a b c : V) (xs ys : List Stretch) → Takes ctx a xs b → Takes ctx b ys c → Takes ctx a (xs ++ ys) c) where
   -- some more is done
-  pub walks_on : (image : Image) (d mid last : Decoding) (old between new : V) → (mid.walk).ctx ≡ (d.walk).ctx → (last.walk).ctx ≡ (mid.walk).ctx
+  pub walks_on : (image : Image) (d mid last : Decoding) (old between new : V)
       → WalksOn (Takes (d.walk).ctx) image d old mid between → WalksOn (Takes (mid.walk).ctx) image mid between last new
       → WalksOn (Takes (d.walk).ctx) image d old last new
-  walks_on image d mid last old between new same still first rest =
-      let ctx = (last.walk).ctx in
-      let so_far = subst (λ (x : Ctx). Goes image d (items_in x first.added) mid) (sym still) first.goes in
+  walks_on image d mid last old between new first rest =
+      let ctx = (d.walk).ctx in
+      let more = subst (λ (x : Ctx). Goes image mid (items_in x rest.added) last) first.context rest.goes in
       record {
         added = first.added ++ rest.added;
         takes = joins (d.walk).ctx old between new first.added rest.added first.takes
-            (subst (λ (x : Ctx). Takes x between rest.added new) same rest.takes);
+            (subst (λ (x : Ctx). Takes x between rest.added new) first.context rest.takes);
         goes = subst (λ (items : List Item). Goes image d items last) (items_joined ctx first.added rest.added)
-            (goes_on image d mid last (items_in ctx first.added) (items_in ctx rest.added) so_far rest.goes);
+            (goes_on image d mid last (items_in ctx first.added) (items_in ctx rest.added) first.goes more);
         none = λ empty. let both = both_none first.added rest.added empty in rest.none both.1 ∙ first.none both.0;
         stopped = λ done.
             let none = first.stopped done in
             ap (λ (run : List Stretch). run ++ rest.added) none ∙ rest.stopped (subst AtRest (sym (first.none none)) done);
+        context = rest.context ∙ first.context;
+        at_most = omega (arith, first.at_most, rest.at_most);
       }

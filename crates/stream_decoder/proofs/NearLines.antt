@@ -1,9 +1,8 @@
 -- The lines of a stretch that are put behind the line before it.
-use Rattle.std.proofs.Common.{◌≡◌, ℕ, List, [], ◌++◌, Option, Some, Result, Ok, Err, refl, sym, ap, subst, ◌∙◌, append-nil}
-use Rattle.std.specs.Prelude.{IsOk, IsTrue}
+use Rattle.std.proofs.Common.{◌≡◌, ℕ, List, [], ◌++◌, Option, Some, Ok, Err, refl, sym, ap, subst, ◌∙◌, append-nil}
+use Rattle.std.specs.Prelude.{IsTrue}
 use Rattle.etm_types.specs.Walked.{instructions, items_of}
 use Rattle.etm_types.specs.declared.context.Ctx.{Ctx}
-use Rattle.etm_types.specs.declared.item.Item.{Item}
 use Rattle.path_text.proofs.LineLemmas.{lines_of-instructions, shown_after_all-instructions}
 use Rattle.path_text.proofs.Wrote.{writes_all, wrote_nothing}
 use Rattle.path_text.specs.Blocks.{Block, Puts}

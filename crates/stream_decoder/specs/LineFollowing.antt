@@ -1,6 +1,5 @@
 -- What follows a path by its lines takes nothing where it stays as it is, and some items, and others behind them.
 use Rattle.std.proofs.Common.{◌≡◌, ℕ, List, [], ◌∷◌, ◌++◌, Option, Result, Ok, Err, refl, sym, ap, subst, ◌∙◌, append-nil, append_assoc}
-use Rattle.std.specs.Prelude.{IsOk}
 use Rattle.etm_types.specs.Walked.{items_of}
 use Rattle.etm_types.specs.declared.context.Ctx.{Ctx}
 use Rattle.etm_types.specs.declared.item.Item.{Item}
@@ -10,7 +9,7 @@ use Rattle.path_text.specs.Blocks.{Block, Puts}
 use Rattle.path_text.specs.PathLines.{lines_of, shown_after_all}
 use Rattle.path_walker.specs.Walk.{items_in, walked_in}
 use Rattle.path_walker.specs.declared.stretch.Stretch.{Stretch}
-use Rattle.stream_decoder.specs.LinesPut.{Following, PutsLines, PutsUnless, TakesLines, WritesNothing}
+use Rattle.stream_decoder.specs.LinesPut.{Following, PutsLines, PutsUnless, TakesLines}
 use Rattle.trace_io.specs.State.{IoState}
 use Rattle.trace_io.specs.declared.traits.Failed.{Failed}
 

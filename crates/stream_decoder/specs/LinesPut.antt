@@ -1,5 +1,5 @@
 -- What follows a path by its lines does between two of its values.
-use Rattle.std.specs.Prelude.{◌≡◌, List, [], Option, Some, Result, Ok, Err, IsOk, IsTrue}
+use Rattle.std.specs.Prelude.{◌≡◌, List, [], Some, Result, Ok, Err, IsOk, IsTrue}
 use Rattle.etm_types.specs.declared.context.Ctx.{Ctx}
 use Rattle.etm_types.specs.declared.item.Item.{Item}
 use Rattle.path_text.specs.Blocks.{Block, Puts}

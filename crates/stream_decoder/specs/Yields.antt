@@ -1,9 +1,10 @@
 -- What is left to do shows, and where it leads.
-use Rattle.std.specs.Prelude.{◌≡◌, ◌⊎◌, ℕ, ◌+◌, ◌*◌, Bool, true, false, List, [], ◌∷◌, ◌++◌, length, Option, Some, None}
+use Rattle.std.specs.Prelude.{◌≡◌, ◌⊎◌, ℕ, ◌≤◌, ◌+◌, ◌*◌, Bool, true, false, List, [], ◌∷◌, ◌++◌, length, Option, Some, None}
 use Rattle.std.specs.Prelude.{Ok, Err, option_to_list}
 use Rattle.element_queue.specs.Counting.{counts_after, made_by, tally}
 use Rattle.element_queue.specs.Pending.{Gone, Pending, taken}
 use Rattle.element_queue.specs.declared.ledger.Counts.{Counts}
+use Rattle.etm_types.specs.Atoms.{most_atoms}
 use Rattle.etm_types.specs.Walked.{items_of}
 use Rattle.etm_types.specs.declared.element.Elem.{Elem}
 use Rattle.etm_types.specs.declared.element.Elem.TheVariants as elem
@@ -71,6 +72,12 @@ OpensBehind (Some f) d step d' = d' ≡ record d { reader = d'.reader }
 abbrev pub BegunByte : Decoding → ℕ → Decoding → Type 0
 BegunByte d byte d' = (step : Step) × Reads d.reader d'.reader byte step × OpensBehind d.fault d step d'
 
+-- and the reader is a byte further
+pub record TakesByte (d : Decoding) (byte : ℕ) (d' : Decoding) : Type 0 where
+  pub begins : BegunByte d byte d'
+  pub offset : (d'.reader).offset ≡ (d.reader).offset + 1
+  pub settings : (d'.reader).settings ≡ (d.reader).settings
+
 -- the bytes of a whole packet are taken
 abbrev pub BegunPacket : Decoding → List ℕ → Decoding → Type 0
 BegunPacket d text d' = (at : ℕ) × (packet : Packet) × reader.TakesPacket d.reader d'.reader text at packet × OpensPacket d at packet d'
@@ -111,10 +118,16 @@ WalksOldest image s things (stretch ∷ run) s' =
     (addr : Option ℕ) × (taken : Bool) × (others : List Thing) × (next : State) × (things ≡ Seen (atom_at addr taken) ∷ others)
     × Shows image s (atom_at addr taken) (walked_in s.ctx stretch) next × IsState next × WalksOldest image next others run s'
 
--- so many of the oldest were, and their stretches were taken
-abbrev pub WalksSome : {V : Type 0} → (V → List Stretch → V → Type 0) → Image → State → List Thing → V → ℕ → State → V → Type 0
-WalksSome Takes image s things old n s' new =
-    (added : List Stretch) × Takes old added new × (length added ≡ n) × WalksOldest image s things added s'
+-- so many of the oldest were, of so many that could be, and their stretches were taken
+pub record WalksSome {V : Type 0} (Takes : V → List Stretch → V → Type 0) (image : Image) (s : State) (things : List Thing) (most : ℕ) (old : V) (n : ℕ)
+    (s' : State) (new : V) : Type 0 where
+  pub added : List Stretch
+  pub takes : Takes old added new
+  pub count : length added ≡ n
+  pub walks : WalksOldest image s things added s'
+  pub within : n ≤ most
+  pub few : n ≤ most_atoms
+  pub context : s'.ctx ≡ s.ctx
 
 -- the next element has a fault
 pub record Refuses (d : Decoding) (f : QueueFault) : Type 0 where
@@ -156,13 +169,16 @@ pub record Goes (image : Image) (d : Decoding) (items : List Item) (d' : Decodin
       → Yields image d (items ++ rest) outcome (with_offset d.at took ++ more)
   pub rest : d' ≡ record d { pending = d'.pending; due = d'.due; walk = d'.walk; todo = d'.todo; counts = d'.counts }
 
--- some of it is done, without a fault, and the stretches that it showed were taken: none where nothing was done, or nothing was left to do
+-- Some of it is done, without a fault, and the stretches that it showed were taken: none where nothing was done, or nothing was left to do.
+-- The context is the same for all of them.
 pub record WalksOn {V : Type 0} (Takes : V → List Stretch → V → Type 0) (image : Image) (d : Decoding) (old : V) (d' : Decoding) (new : V) : Type 0 where
   pub added : List Stretch
   pub takes : Takes old added new
-  pub goes : Goes image d (items_in (d'.walk).ctx added) d'
+  pub goes : Goes image d (items_in (d.walk).ctx added) d'
   pub none : added ≡ [] → d' ≡ d
   pub stopped : AtRest d → added ≡ []
+  pub context : (d'.walk).ctx ≡ (d.walk).ctx
+  pub at_most : left d' ≤ left d
 
 abbrev pub is_walk_fault : Option (ℕ × Fault) → Bool
 is_walk_fault (Some (at, fault.Walk f)) = true

@@ -49,7 +49,9 @@ pub trait Follower: StretchTaker {
         → takes image id old (items_in ctx run) new };
 }
 
-/// Gives a follower what all that is left to do of a stream shows. Many bytes leave nothing to do.
+/// Gives a follower what all that is left to do of a stream shows: as much as goes the fast way; where that ends, one thing that is found the
+/// long way; and so on. Many bytes leave nothing to do, and most others nothing behind the fast way, which is asked before
+/// [`next`](Decoding::next) is called.
 #[inline(always)]
 pub fn follow_rest<F: Follower>(decoding: &mut Decoding, image: &Image, id: Id, follower: &mut F)
     requires holds { IsDecoding decoding.old }
@@ -60,24 +62,7 @@ pub fn follow_rest<F: Follower>(decoding: &mut Decoding, image: &Image, id: Id, 
     ensures reader { decoding.new.reader ≡ decoding.old.reader }
     ensures holds { IsDecoding decoding.new }
 {
-    if decoding.is_at_rest() {
-        return;
-    }
-    follow_some(decoding, image, id, follower);
-}
-
-/// The same, where something is left to do: as much as goes the fast way; where that ends, one thing that is found the long way;
-/// and so on.
-#[inline(always)]
-fn follow_some<F: Follower>(decoding: &mut Decoding, image: &Image, id: Id, follower: &mut F)
-    requires holds { IsDecoding decoding.old }
-    ensures follows { decoding.old.fault ≡ None → (items : List Item) × Ends image.now decoding.old items decoding.new
-        × F.takes image.now id follower.old items follower.new }
-    ensures rest { AtRest decoding.new }
-    ensures reader { decoding.new.reader ≡ decoding.old.reader }
-    ensures holds { IsDecoding decoding.new }
-{
-    loop {
+    while !decoding.is_at_rest() {
         follow_atoms(decoding, image, id, follower);
         if decoding.is_at_rest() {
             return;
@@ -96,7 +81,6 @@ fn follow_atoms<F: Follower>(decoding: &mut Decoding, image: &Image, id: Id, fol
     requires holds { IsDecoding decoding.old }
     ensures follows { Follows (F.takes image.now id) image.now decoding.old decoding.new follower.old follower.new }
     ensures fewer { left decoding.new ≤ left decoding.old }
-    ensures reader { decoding.new.reader ≡ decoding.old.reader }
     ensures holds { IsDecoding decoding.new }
 {
     decoding.next_run(image, id, follower);

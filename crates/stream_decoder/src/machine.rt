@@ -22,7 +22,7 @@ ghost use Rattle.path_walker.specs.Things.{IsAlignedThing, Walks};
 ghost use Rattle.stream_decoder.specs.Decoding.{AtRest, Begins, IsDecoding};
 ghost use Rattle.stream_decoder.specs.Follows.{FindsWords};
 ghost use Rattle.stream_decoder.specs.Stands.{end_at};
-ghost use Rattle.stream_decoder.specs.Yields.{BegunByte, BegunFront, Ends, Goes, Leaves, OpensPacket, Refuses, Stops};
+ghost use Rattle.stream_decoder.specs.Yields.{BegunFront, Ends, Goes, Leaves, OpensPacket, Refuses, Stops, TakesByte};
 ghost use Rattle.stream_decoder.specs.Yields.{items_of_found, items_found, left};
 
 mod oldest;
@@ -90,9 +90,7 @@ impl Decoding {
     pub fn begin(&mut self, byte: u8)
         requires few { self.old.reader.offset < 2 ^ 62 }
         requires rest { AtRest self.old }
-        ensures begun { BegunByte self.old byte self.new }
-        ensures offset { self.new.reader.offset ≡ self.old.reader.offset + 1 }
-        ensures settings { self.new.reader.settings ≡ self.old.reader.settings }
+        ensures takes { TakesByte self.old byte self.new }
         ensures holds { IsDecoding self.new }
     {
         if self.fault.is_some() {
@@ -124,9 +122,7 @@ impl Decoding {
     fn begin_any(&mut self, byte: u8)
         requires few { self.old.reader.offset < 2 ^ 62 }
         requires rest { AtRest self.old }
-        ensures begun { BegunByte self.old byte self.new }
-        ensures offset { self.new.reader.offset ≡ self.old.reader.offset + 1 }
-        ensures settings { self.new.reader.settings ≡ self.old.reader.settings }
+        ensures takes { TakesByte self.old byte self.new }
         ensures holds { IsDecoding self.new }
     {
         let step = self.reader.take(byte);
@@ -173,26 +169,8 @@ impl Decoding {
     }
 
     /// What is shown next of what is left to do. Nothing means that all of it is done, up to the first fault.
-    #[inline(always)]
-    pub fn next(&mut self, image: &Image) -> Option<Found>
-        ensures found { (found : Found) → result ≡ Some found → Goes image.now self.old (items_of_found found) self.new }
-        ensures words { IfSome result (FindsWords image.now) }
-        ensures fewer { (found : Found) → result ≡ Some found → left self.new < left self.old }
-        ensures ends { result ≡ None → self.old.fault ≡ None → Ends image.now self.old [] self.new }
-        ensures stopped { AtRest self.old → (result ≡ None) × (self.new ≡ self.old) }
-        ensures rest { result ≡ None → AtRest self.new }
-        ensures reader { self.new.reader ≡ self.old.reader }
-        ensures holds { IsDecoding self.new }
-    {
-        if self.is_at_rest() {
-            return None;
-        }
-        self.next_any(image)
-    }
-
-    /// What is shown next, whatever it is.
     #[inline(never)]
-    fn next_any(&mut self, image: &Image) -> Option<Found>
+    pub fn next(&mut self, image: &Image) -> Option<Found>
         ensures found { (found : Found) → result ≡ Some found → Goes image.now self.old (items_of_found found) self.new }
         ensures words { IfSome result (FindsWords image.now) }
         ensures fewer { (found : Found) → result ≡ Some found → left self.new < left self.old }
@@ -254,24 +232,9 @@ impl Decoding {
         ensures unchanged { IsErr result → self.new ≡ self.old }
         ensures holds { IsDecoding self.new }
     {
-        match self.waiting.next_due() {
-            Some(thing) => Ok(Some(thing)),
-            None => self.take_element(),
+        if let Some(thing) = self.waiting.next_due() {
+            return Ok(Some(thing));
         }
-    }
-
-    /// Takes the next element, and gives what is to be walked. Nothing is due.
-    fn take_element(&mut self) -> Result<Option<Thing>, QueueFault>
-        requires some { 0 < left self.old }
-        requires due { self.old.due ≡ [] }
-        requires whole { self.old.fault ≡ None }
-        ensures ok { IfOk result (λ thing. Leaves self.old self.new thing) }
-        ensures fewer { IfOk result (λ thing. left self.new < left self.old) }
-        ensures aligned { IfOk result (λ thing. All IsAlignedThing (option_to_list thing)) }
-        ensures fault { (fault : QueueFault) → result ≡ Err fault → Refuses self.old fault }
-        ensures unchanged { IsErr result → self.new ≡ self.old }
-        ensures holds { IsDecoding self.new }
-    {
         let Some(elem) = self.todo.first() else {
             unreachable!()
         };

@@ -2,14 +2,13 @@
 use Rattle.std.proofs.Common.{◌≡◌, ◌≤◌, ◌<◌, ◌+◌, ◌/◌, ◌%◌, ◌^◌, ◌==◌, ◌&&◌, ◌++◌, ℕ, Bool, true, false, if◌then◌else◌, List, [], ◌∷◌, length, drop, slice_get}
 use Rattle.std.proofs.Common.{Option, Some, None, Result, refl, sym, ap, subst, ◌∙◌, append-nil, arith}
 use Rattle.std.proofs.lemmas.List.{drop_all}
-use Rattle.std.specs.Prelude.{IsOk, is_some, not}
+use Rattle.std.specs.Prelude.{IsOk, is_some}
 use Rattle.etm_types.specs.Atoms.{atoms_in}
 use Rattle.etm_types.specs.declared.atoms.AtomRun.{AtomRun}
 use Rattle.etm_types.specs.declared.element.Elem.{Elem}
 use Rattle.etm_types.specs.declared.element.Elem.TheVariants as elem
 use Rattle.etm_types.specs.declared.element.P0.TheVariants.{Atom}
 use Rattle.packet_grammar.specs.declared.packet.Packet.{Packet}
-use Rattle.packet_grammar.specs.declared.packet.Packet.TheVariants as packet
 use Rattle.packet_grammar.specs.declared.stream_fault.Fault.{Fault}
 use Rattle.path_elements.proofs.AtomElems.{atom_at, count_all}
 use Rattle.path_elements.specs.Elements.{Told, atoms, elements_in, elements_of, is_misplaced, told_after}
@@ -21,7 +20,6 @@ use Rattle.time_marks.proofs.Packets.{all_prints, all_times, begun_at, begun_sta
 use Rattle.time_marks.specs.Frequent.{IsReady, packet_of}
 use Rattle.time_marks.specs.Stamps.{Stamp, stamp_after}
 use Rattle.time_marks.specs.Timed.{HasTimes, IsAt, Prints, fault_behind}
-use Rattle.time_marks.specs.TimeLines.{time_lines}
 use Rattle.time_marks.specs.Times.{Times, after_elements, after_good, after_packets, event_lines, opened}
 use Rattle.time_marks.specs.declared.frequent.Frequent.{Frequent}
 use Rattle.time_marks.specs.declared.frequent.Frequent.TheVariants.{Atoms, Commit}
@@ -126,3 +124,15 @@ one_good depth t at p none = ap (λ (met : Option (ℕ × Fault)). if is_some me
 pub behind_none : (met : Option (ℕ × Fault)) → fault_behind met None ≡ met
 behind_none None = refl
 behind_none (Some stop) = refl
+
+module _ {T E : Type 0} (id : ℕ) (a b : IoState) (r : Result T E) (x : Timing) (depth : ℕ) (t : Times) (none : t.fault ≡ None) (at : ℕ) (p : Packet) where
+  -- a packet behind which no fault was met comes to this, as printed from one state to another
+  abbrev pub ComesTo : Times → Option (ℕ × Fault) → Type 0
+  ComesTo u fault = Prints id t u a b r × (IsOk r → HasTimes x u × ((x.line).fault ≡ fault))
+
+  -- as packets that are one do
+  pub prints_one : ComesTo (after_good depth t (at, p)) (after_good depth t (at, p)).fault
+      → ComesTo (after_packets depth t ((at, p) ∷ [])) (fault_behind (after_packets depth t ((at, p) ∷ [])).fault None)
+  prints_one given =
+      subst (λ (u : Times). ComesTo u (fault_behind u.fault None)) (sym (one_good depth t at p none))
+      (given.0, λ ok. ((given.1 ok).0, (given.1 ok).1 ∙ sym (behind_none (after_good depth t (at, p)).fault)))

@@ -1,5 +1,5 @@
 -- At which bytes a decoder stands, and what a byte more makes of that.
-use Rattle.std.proofs.Common.{◌≡◌, ◌⊎◌, ℕ, ◌<◌, false, List, [], ◌∷◌, ◌++◌, Option, Some, None, Result, refl, sym, ap, subst, ◌∙◌, inl, inr}
+use Rattle.std.proofs.Common.{◌≡◌, ◌⊎◌, ℕ, ◌<◌, Bool, false, List, [], ◌∷◌, ◌++◌, Option, Some, None, Result, refl, sym, ap, subst, ◌∙◌, inl, inr}
 use Rattle.std.proofs.Common.{append-nil}
 use Rattle.std.specs.List.{concat}
 use Rattle.std.proofs.lemmas.List.Elements.{All-nil}
@@ -26,10 +26,11 @@ use Rattle.path_elements.specs.Path.{unplaced}
 use Rattle.path_text.specs.Writing.{Writes}
 use Rattle.time_marks.proofs.Growing.{packets-append, packets_stop}
 use Rattle.time_marks.proofs.Lists.{gain_so, one_more, one_times, times_so}
+use Rattle.time_marks.specs.Marked.{IsMarked}
 use Rattle.time_marks.specs.TimeLines.{time_lines}
 use Rattle.time_marks.proofs.Tallies.{packets_counted}
 use Rattle.time_marks.specs.TimeList.{IsTimes, TimesGains, TimesTallies}
-use Rattle.time_marks.specs.Timed.{HasTimes, IsReading, Prints, StandsAt, Timed, depth_of, fault_behind}
+use Rattle.time_marks.specs.Timed.{HasTimes, IsInformed, IsReading, IsTimed, Prints, StandsAt, Timed, depth_of, fault_behind}
 use Rattle.time_marks.specs.Times.{Times, after_packets, end_behind, no_times, times_of}
 use Rattle.time_marks.specs.declared.timing.Timing.{Timing}
 use Rattle.trace_io.specs.State.{IoState}
@@ -51,7 +52,7 @@ stands_first d whole reads times none =
 
 -- ---- faults
 
-some_or_none : {X : Type 0} (x : X) → None ≡ Some x → ⊥
+pub some_or_none : {X : Type 0} (x : X) → None ≡ Some x → ⊥
 some_or_none x e = absurd cc
 
 no_packet_fault : (met : Option (ℕ × Fault)) (found : Option (ℕ × PacketFault)) → fault_behind met found ≡ None → (met ≡ None) × (found ≡ None)
@@ -209,7 +210,7 @@ module _ (d : Timed) (bytes : List ℕ) (is : StandsAt d bytes) (are : AreSettin
 
 -- ---- the reader
 
-pub reads_more : (old new : PacketReading) (byte : ℕ) → byte < 256 → new.settings ≡ old.settings
+reads_more : (old new : PacketReading) (byte : ℕ) → byte < 256 → new.settings ≡ old.settings
     → ((bytes : List ℕ) → reader.StandsAt old bytes → reader.StandsAt new (bytes ++ byte ∷ [])) → IsReading old → IsReading new
 reads_more old new byte fits same stands is =
     record {
@@ -217,4 +218,18 @@ reads_more old new byte fits same stands is =
       bytes = is.bytes ++ byte ∷ [];
       small = one_more is.bytes byte is.small fits;
       stands = stands is.bytes is.stands;
+    }
+
+-- ---- what holds at any time
+
+pub timed_on : (d : Timed) → IsTimed d → (r : PacketReading) (byte : ℕ) → byte < 256 → r.settings ≡ (d.reader).settings
+    → ((bytes : List ℕ) → reader.StandsAt d.reader bytes → reader.StandsAt r (bytes ++ byte ∷ [])) → (p : Timing) (broken : Bool)
+    → (IsMarked ((d.timing).line).queue → IsMarked (p.line).queue) → ((p.line).queue).depth ≡ (((d.timing).line).queue).depth
+    → (broken ≡ false → IsInformed p) → IsTimed (record { reader = r; timing = p; broken = broken })
+timed_on d is r byte fits same stands p broken holds depth informed =
+    record {
+      reads = reads_more d.reader r byte fits same stands is.reads;
+      marked = holds is.marked;
+      depth = depth ∙ is.depth ∙ ap (λ s. s.depth) (sym same);
+      informed = informed;
     }

@@ -3,6 +3,7 @@ pub mod MarkLaws
 pub mod Marked
 pub mod Runs
 pub mod Stamps
+pub mod Taking
 pub mod TimeLaws
 pub mod TimeLines
 pub mod TimeList

@@ -12,6 +12,7 @@ ghost use Rattle.packet_reader.specs.Stands.{TakesPacket};
 ghost use Rattle.path_text.specs.EndLines.{end_line};
 ghost use Rattle.path_text.specs.Writing.{Writes};
 ghost use Rattle.time_marks.specs.Frequent.{IsReady, packet_of};
+ghost use Rattle.time_marks.specs.Taking.{TakesByte};
 ghost use Rattle.time_marks.specs.Timed.{StandsAt};
 ghost use Rattle.time_marks.specs.TimeList.{IsTimes, TimesGains, TimesTallies};
 ghost use Rattle.time_marks.specs.Times.{Times};
@@ -103,19 +104,7 @@ impl TimedDecoder {
     fn take_any<K: Sink>(&mut self, id: Id, byte: u8, sink: &mut K) -> Result<(), Failed>
         requires whole { self.old.broken ≡ false }
         requires few { self.old.reader.offset < 2 ^ 62 }
-        ensures stands { IsOk result → (bytes : List ℕ) → StandsAt self.old bytes → StandsAt self.new (bytes ++ byte ∷ []) }
-        ensures gains { (bytes : List ℕ) → StandsAt self.old bytes
-            → (lines : List (List ℕ)) × TimesGains self.old.reader.settings id bytes byte lines
-            × Writes (K.state sink.old) (K.state sink.new) result (concat lines) }
-        ensures stopped { (stop : ℕ × Fault) → self.old.timing.line.fault ≡ Some stop
-            → (result ≡ Ok tt) × (sink.new ≡ sink.old) × (self.new ≡ record (self.old) { reader = self.new.reader }) }
-        ensures serves { Serves (K.state sink.old) (K.state sink.new) result }
-        ensures broken { IsTrue self.new.broken ↔ IsErr result }
-        ensures offset { self.new.reader.offset ≡ self.old.reader.offset + 1 }
-        ensures settings { self.new.reader.settings ≡ self.old.reader.settings }
-        ensures marks { length self.new.timing.line.queue.marks ≡ entries self.new.timing.line.queue.pending.held }
-        ensures balanced { Balances self.new.timing.line.queue.counts (entries self.new.timing.line.queue.pending.held) }
-        ensures most { length self.new.timing.line.queue.pending.held ≤ self.new.reader.settings.depth }
+        ensures { TakesByte K.state id byte self.old sink.old self.new sink.new result }
     {
         let step = self.reader.take(byte);
         if self.timing.line.fault.is_some() {

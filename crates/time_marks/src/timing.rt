@@ -1,5 +1,5 @@
 //! What the packets of a stream come to: the lines of its events and of its P0 elements.
-ghost use Rattle.std.specs.Prelude.{◌≡◌, ◌↔◌, None, Some, IfOk, IsOk, IsTrue, []};
+ghost use Rattle.std.specs.Prelude.{◌≡◌, ◌↔◌, ◌∷◌, None, IfOk, IsTrue, []};
 ghost use Rattle.std.specs.List.{concat};
 ghost use Rattle.element_queue.specs.Counting.{Balances, counts_after};
 ghost use Rattle.element_queue.specs.Pending.{losing};
@@ -10,10 +10,10 @@ ghost use Rattle.path_text.specs.Writing.{Writes};
 ghost use Rattle.time_marks.specs.Frequent.{IsReady, packet_of};
 ghost use Rattle.time_marks.specs.Marked.{IsMarked, nothing_marked};
 ghost use Rattle.time_marks.specs.Stamps.{HasStamp};
-ghost use Rattle.time_marks.specs.Timed.{HasTimes, IsInformed, Prints, fault_behind};
+ghost use Rattle.time_marks.specs.Taking.{TakesPackets};
+ghost use Rattle.time_marks.specs.Timed.{IsInformed};
 ghost use Rattle.time_marks.specs.TimeLines.{shown_of, time_lines};
-ghost use Rattle.time_marks.specs.Times.{Times, after_good, after_packets, event_lines};
-ghost use Rattle.trace_io.specs.Calls.{Serves};
+ghost use Rattle.time_marks.specs.Times.{event_lines};
 
 use crate::frequent::Frequent;
 use crate::stamp::stamp_after;
@@ -59,14 +59,7 @@ impl Timing {
         requires packet { (at : ℕ) (packet : Packet) → step.now ≡ Whole at packet → CanBeTaken packet × HasStamp packet }
         requires whole { self.old.line.fault ≡ None }
         requires informed { IsInformed self.old }
-        ensures prints { (t : Times) → HasTimes self.old t → t.fault ≡ None
-            → Prints id t (after_packets self.old.line.queue.depth t (told step.now)) (K.state sink.old) (K.state sink.new) result
-            × (IsOk result → HasTimes self.new (after_packets self.old.line.queue.depth t (told step.now))
-            × (self.new.line.fault ≡ fault_behind (after_packets self.old.line.queue.depth t (told step.now)).fault (fault_after None step.now))) }
-        ensures informed { IsOk result → IsInformed self.new }
-        ensures depth { self.new.line.queue.depth ≡ self.old.line.queue.depth }
-        ensures holds { IsMarked self.old.line.queue → IsMarked self.new.line.queue }
-        ensures serves { Serves (K.state sink.old) (K.state sink.new) result }
+        ensures { TakesPackets id (told step.now) (fault_after None step.now) self.old (K.state sink.old) self.new (K.state sink.new) result }
     {
         match step {
             Step::Whole { at, packet } => self.take_packet(id, *at, packet, sink),
@@ -98,14 +91,7 @@ impl Timing {
         requires packet { CanBeTaken (packet_of packet) }
         requires ready { IsReady self.old }
         requires informed { IsInformed self.old }
-        ensures prints { (t : Times) → HasTimes self.old t → t.fault ≡ None
-            → Prints id t (after_good self.old.line.queue.depth t (at, packet_of packet)) (K.state sink.old) (K.state sink.new) result
-            × (IsOk result → HasTimes self.new (after_good self.old.line.queue.depth t (at, packet_of packet))
-            × (self.new.line.fault ≡ (after_good self.old.line.queue.depth t (at, packet_of packet)).fault)) }
-        ensures informed { IsOk result → IsInformed self.new }
-        ensures depth { self.new.line.queue.depth ≡ self.old.line.queue.depth }
-        ensures holds { IsMarked self.old.line.queue → IsMarked self.new.line.queue }
-        ensures serves { Serves (K.state sink.old) (K.state sink.new) result }
+        ensures { TakesPackets id ((at, packet_of packet) ∷ []) None self.old (K.state sink.old) self.new (K.state sink.new) result }
     {
         let place = PacketOrigin {
             id,
@@ -130,14 +116,7 @@ impl Timing {
         requires stamp { HasStamp packet.now }
         requires whole { self.old.line.fault ≡ None }
         requires informed { IsInformed self.old }
-        ensures prints { (t : Times) → HasTimes self.old t → t.fault ≡ None
-            → Prints id t (after_good self.old.line.queue.depth t (at, packet.now)) (K.state sink.old) (K.state sink.new) result
-            × (IsOk result → HasTimes self.new (after_good self.old.line.queue.depth t (at, packet.now))
-            × (self.new.line.fault ≡ (after_good self.old.line.queue.depth t (at, packet.now)).fault)) }
-        ensures informed { IsOk result → IsInformed self.new }
-        ensures depth { self.new.line.queue.depth ≡ self.old.line.queue.depth }
-        ensures holds { IsMarked self.old.line.queue → IsMarked self.new.line.queue }
-        ensures serves { Serves (K.state sink.old) (K.state sink.new) result }
+        ensures { TakesPackets id ((at, packet.now) ∷ []) None self.old (K.state sink.old) self.new (K.state sink.new) result }
     {
         let informed = self.line.queue.informed();
         let Ok(elems) = self.maker.take(packet) else {

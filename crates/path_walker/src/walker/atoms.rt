@@ -12,14 +12,14 @@
 //! *Cost:* a call and a look at the part for all of a run, and another call for the first atom where an address was given before it; for each atom a
 //! look at the words there, and another test where that is no conditional branch. A step to another part is a call, a search, and a look at that
 //! part.
-ghost use Rattle.std.specs.Prelude.{◌≡◌, ◌≤◌, ◌<◌, ◌+◌, ◌/◌, ◌%◌, ◌^◌, ◌==◌, ◌∷◌, [], false, IfSome, IsTrue, Some, None, slice_get};
+ghost use Rattle.std.specs.Prelude.{◌≡◌, ◌≤◌, ◌<◌, ◌+◌, ◌/◌, ◌%◌, ◌^◌, ◌==◌, ◌∷◌, [], false, IfSome, Some, None};
 ghost use Rattle.etm_types.specs.Atoms.{atoms_in, low_bits, most_atoms};
+ghost use Rattle.path_walker.specs.Leg.{IsRunAt};
 ghost use Rattle.path_walker.specs.State.{IsState, standing};
+ghost use Rattle.path_walker.specs.Together.{WalksInto, WalksOneInto};
 ghost use Rattle.path_walker.specs.Walk.{HasNoStretch, ToldIsAligned, WalksNoMore, WalksRun, atom_at, given_before};
 ghost use Rattle.path_walker.specs.declared.pc.Pc.TheVariants.{Known};
 ghost use Rattle.program_image.specs.Near.{IsNear};
-ghost use Rattle.program_image.specs.Places.{word_addresses};
-ghost use Rattle.program_image.specs.Runs.{IsRun, run_of};
 
 use crate::leg::run_near;
 use crate::pc::Pc;
@@ -51,27 +51,6 @@ impl Walker {
         ensures state { IsState self.new }
     {
         taker.begin(&self.ctx);
-        self.walk_begun(image, id, given, atoms, taker)
-    }
-
-    /// The same, where the taker was told the context.
-    #[inline(always)]
-    fn walk_begun<T: StretchTaker>(
-        &mut self,
-        image: &Image,
-        id: Id,
-        given: Option<u64>,
-        atoms: &AtomRun,
-        taker: &mut T,
-    ) -> usize
-        requires told { ToldIsAligned given }
-        requires begun { T.begun self.old.ctx taker.old }
-        ensures walks { WalksRun (T.adds image.now id self.old.ctx) image.now self.old given (atoms_in atoms.now) taker.old result self.new taker.new }
-        ensures stops { WalksNoMore image.now self.new given (atoms_in atoms.now) result (T.space taker.old) }
-        ensures most { result ≤ atoms.now.count }
-        ensures context { self.new.ctx ≡ self.old.ctx }
-        ensures state { IsState self.new }
-    {
         let most = usize::from(atoms.count).min(taker.room());
         let Some(first) = self.walk_given(image, id, given, atoms.bits, most, taker) else {
             return 0;
@@ -97,15 +76,11 @@ impl Walker {
         requires told { ToldIsAligned given }
         requires room { most ≤ T.space taker.old }
         requires begun { T.begun self.old.ctx taker.old }
-        ensures walks { IfSome result (λ n. WalksRun (T.adds image.now id self.old.ctx)
-            image.now self.old given (low_bits most bits) taker.old n self.new taker.new) }
-        ensures behind { IfSome result (λ n. given_before n given ≡ None) }
-        ensures most { IfSome result (λ n. n ≤ most) }
+        ensures walks { IfSome result (λ n. WalksInto (T.adds image.now id) T.space T.begun image.now self.old given (low_bits most bits) taker.old n
+            self.new taker.new) }
+        ensures behind { IfSome result (λ n. (given_before n given ≡ None) × (n ≤ most)) }
         ensures none { result ≡ None → 0 < most → HasNoStretch image.now self.old (atom_at given (bits % 2 == 1)) }
         ensures unchanged { result ≡ None → (self.new ≡ self.old) × (taker.new ≡ taker.old) }
-        ensures space { IfSome result (λ n. T.space taker.old ≤ T.space taker.new + n) }
-        ensures begun { T.begun self.old.ctx taker.new }
-        ensures context { self.new.ctx ≡ self.old.ctx }
         ensures state { IsState self.new }
     {
         // For the proof: what holds of a stack is known where it is looked at.
@@ -134,13 +109,9 @@ impl Walker {
         requires few { most ≤ most_atoms }
         requires room { most ≤ T.space taker.old }
         requires begun { T.begun self.old.ctx taker.old }
-        ensures walks { WalksRun (T.adds image.now id self.old.ctx) image.now self.old None (low_bits most bits) taker.old result self.new taker.new }
+        ensures walks { WalksInto (T.adds image.now id) T.space T.begun image.now self.old None (low_bits most bits) taker.old result self.new taker.new }
         ensures stops { result < most → HasNoStretch image.now self.new (atom_at None (bits / 2 ^ result % 2 == 1)) }
         ensures most { result ≤ most }
-        ensures space { T.space taker.old ≤ T.space taker.new + result }
-        ensures begun { T.begun self.old.ctx taker.new }
-        ensures context { self.new.ctx ≡ self.old.ctx }
-        ensures state { IsState self.new }
     {
         // For the proof: what holds of a stack is known where it is looked at.
         let _ = &self.stack;
@@ -171,12 +142,8 @@ impl Walker {
         requires few { most ≤ most_atoms }
         requires room { most ≤ T.space taker.old }
         requires begun { T.begun self.old.ctx taker.old }
-        ensures walks { WalksRun (T.adds image.now id self.old.ctx) image.now self.old None (low_bits most bits) taker.old result self.new taker.new }
+        ensures walks { WalksInto (T.adds image.now id) T.space T.begun image.now self.old None (low_bits most bits) taker.old result self.new taker.new }
         ensures most { result ≤ most }
-        ensures space { T.space taker.old ≤ T.space taker.new + result }
-        ensures begun { T.begun self.old.ctx taker.new }
-        ensures context { self.new.ctx ≡ self.old.ctx }
-        ensures state { IsState self.new }
     {
         let near = image.near_part(self.part);
         let mut n = 0;
@@ -208,12 +175,8 @@ impl Walker {
         requires near { IsNear image.now near.now }
         requires room { most ≤ T.space taker.old }
         requires begun { T.begun self.old.ctx taker.old }
-        ensures walks { WalksRun (T.adds image.now id self.old.ctx) image.now self.old None (low_bits most bits) taker.old result self.new taker.new }
+        ensures walks { WalksInto (T.adds image.now id) T.space T.begun image.now self.old None (low_bits most bits) taker.old result self.new taker.new }
         ensures most { result ≤ most }
-        ensures space { T.space taker.old ≤ T.space taker.new + result }
-        ensures begun { T.begun self.old.ctx taker.new }
-        ensures context { self.new.ctx ≡ self.old.ctx }
-        ensures state { IsState self.new }
     {
         let Pc::Known(mut pc) = self.pc else {
             return 0;
@@ -256,19 +219,12 @@ impl Walker {
         taken: bool,
         taker: &mut T,
     ) -> Option<u64>
-        requires pc { pc % 4 ≡ 0 }
-        requires run { IsRun image.now pc (run_of placed.run) }
-        requires place { slice_get (word_addresses image.now) placed.place ≡ Some pc }
+        requires run { IsRunAt image.now pc placed }
         requires room { 0 < T.space taker.old }
         requires begun { T.begun self.old.ctx taker.old }
-        ensures walks { IfSome result (λ next. WalksRun (T.adds image.now id self.old.ctx)
-            image.now (standing (Known pc) self.old) None (taken ∷ []) taker.old 1
-            (standing (Known next) self.new) taker.new) }
-        ensures next { IfSome result (λ next. next % 4 ≡ 0) }
+        ensures walks { IfSome result (λ next. WalksInto (T.adds image.now id) T.space T.begun image.now (standing (Known pc) self.old) None
+            (taken ∷ []) taker.old 1 (standing (Known next) self.new) taker.new) }
         ensures unchanged { result ≡ None → (self.new ≡ self.old) × (taker.new ≡ taker.old) }
-        ensures space { T.space taker.old ≤ T.space taker.new + 1 }
-        ensures begun { T.begun self.old.ctx taker.new }
-        ensures context { self.new.ctx ≡ self.old.ctx }
         ensures state { IsState self.new }
     {
         // For the proof: what holds of a stack is known where it is looked at.
@@ -289,18 +245,11 @@ impl Walker {
         taken: bool,
         taker: &mut T,
     ) -> bool
-        requires start { start % 4 ≡ 0 }
-        requires run { IsRun image.now start (run_of placed.run) }
-        requires place { slice_get (word_addresses image.now) placed.place ≡ Some start }
+        requires run { IsRunAt image.now start placed }
         requires room { 0 < T.space taker.old }
         requires begun { T.begun self.old.ctx taker.old }
-        ensures walks { IsTrue result → WalksRun (T.adds image.now id self.old.ctx)
-            image.now (standing (Known start) self.old) None (taken ∷ []) taker.old 1 self.new taker.new }
-        ensures unchanged { result ≡ false → (self.new ≡ standing (Known start) self.old) × (taker.new ≡ taker.old) }
-        ensures space { T.space taker.old ≤ T.space taker.new + 1 }
-        ensures begun { T.begun self.old.ctx taker.new }
-        ensures context { self.new.ctx ≡ self.old.ctx }
-        ensures state { IsState self.new }
+        ensures { WalksOneInto (T.adds image.now id) T.space T.begun image.now (standing (Known start) self.old) None taken taker.old result
+            self.new taker.new }
     {
         self.pc = Pc::Known(start);
         let Some(walk) = self.atom_along(image, start, placed, taken) else {
@@ -324,12 +273,7 @@ impl Walker {
         requires near { IsNear image.now near.now }
         requires room { 0 < T.space taker.old }
         requires begun { T.begun self.old.ctx taker.old }
-        ensures walks { IsTrue result → WalksRun (T.adds image.now id self.old.ctx) image.now self.old None (taken ∷ []) taker.old 1 self.new taker.new }
-        ensures unchanged { result ≡ false → (self.new ≡ self.old) × (taker.new ≡ taker.old) }
-        ensures space { T.space taker.old ≤ T.space taker.new + 1 }
-        ensures begun { T.begun self.old.ctx taker.new }
-        ensures context { self.new.ctx ≡ self.old.ctx }
-        ensures state { IsState self.new }
+        ensures { WalksOneInto (T.adds image.now id) T.space T.begun image.now self.old None taken taker.old result self.new taker.new }
     {
         // For the proof: what holds of a stack is known where it is looked at.
         let _ = &self.stack;
@@ -354,13 +298,8 @@ impl Walker {
         requires told { ToldIsAligned given }
         requires room { 0 < T.space taker.old }
         requires begun { T.begun self.old.ctx taker.old }
-        ensures walks { IsTrue result → WalksRun (T.adds image.now id self.old.ctx) image.now self.old given (taken ∷ []) taker.old 1 self.new taker.new }
+        ensures walks { WalksOneInto (T.adds image.now id) T.space T.begun image.now self.old given taken taker.old result self.new taker.new }
         ensures none { result ≡ false → HasNoStretch image.now self.old (atom_at given taken) }
-        ensures unchanged { result ≡ false → (self.new ≡ self.old) × (taker.new ≡ taker.old) }
-        ensures space { T.space taker.old ≤ T.space taker.new + 1 }
-        ensures begun { T.begun self.old.ctx taker.new }
-        ensures context { self.new.ctx ≡ self.old.ctx }
-        ensures state { IsState self.new }
     {
         match self.walk_atom(image, given, taken) {
             Some(stretch) => {

@@ -1,14 +1,14 @@
 //! The walk of one atom before which nothing but an address may have been given: what it shows is a [`Stretch`], for which no entry is made. It is
 //! walked from what is known of the address, or along words that were looked up already; where that can't be, nothing changes.
-ghost use Rattle.std.specs.Prelude.{◌≡◌, ◌%◌, IfSome, IsSome, Some, None, slice_get};
+ghost use Rattle.std.specs.Prelude.{◌≡◌, IfSome, IsSome, Some, None};
 ghost use Rattle.etm_types.specs.declared.walk_fault.WalkFault.{WalkFault};
+ghost use Rattle.path_walker.specs.Leg.{IsRunAt};
+ghost use Rattle.path_walker.specs.OneAtom.{ChangesReturns, WalksOneAtom};
 ghost use Rattle.path_walker.specs.Start.{mismatch_of, told_pc};
 ghost use Rattle.path_walker.specs.State.{IsPc, IsState, standing};
-ghost use Rattle.path_walker.specs.Walk.{HasNoStretch, IsPlaced, Shows, ToldIsAligned, atom_at, walked_in};
+ghost use Rattle.path_walker.specs.Walk.{HasNoStretch, ToldIsAligned, atom_at};
 ghost use Rattle.path_walker.specs.declared.pc.Pc.TheVariants.{Known};
 ghost use Rattle.program_image.specs.Near.{IsNear};
-ghost use Rattle.program_image.specs.Places.{word_addresses};
-ghost use Rattle.program_image.specs.Runs.{IsRun, run_of};
 
 use crate::leg::{Leg, conditional_leg_along, leg_along, leg_of_atom, run_near};
 use crate::pc::Pc;
@@ -65,11 +65,9 @@ impl Walker {
         taken: bool,
     ) -> Option<Stretch>
         requires { ToldIsAligned addr }
-        ensures shows { IfSome result (λ stretch. Shows image.now self.old (atom_at addr taken) (walked_in self.old.ctx stretch) self.new) }
-        ensures placed { IfSome result (IsPlaced image.now) }
+        ensures walks { IfSome result (λ stretch. WalksOneAtom image.now self.old addr taken stretch self.new) }
         ensures none { result ≡ None → HasNoStretch image.now self.old (atom_at addr taken) }
         ensures unchanged { result ≡ None → self.new ≡ self.old }
-        ensures context { self.new.ctx ≡ self.old.ctx }
         ensures state { IsState self.new }
     {
         let pc = self.pc_given(addr)?;
@@ -106,14 +104,10 @@ impl Walker {
     #[inline(always)]
     fn walk_from(&mut self, image: &Image, pc: Pc, near: usize, taken: bool) -> Option<AtomWalk>
         requires { IsPc pc }
-        ensures shows { IfSome result (λ walk. Shows image.now (standing pc self.old) (atom_at None taken) (walked_in self.old.ctx walk.stretch)
-            (standing walk.next self.new)) }
-        ensures placed { IfSome result (λ walk. IsPlaced image.now walk.stretch) }
-        ensures next { IfSome result (λ walk. IsPc walk.next) }
+        ensures walks { IfSome result (λ walk. WalksOneAtom image.now (standing pc self.old) None taken walk.stretch (standing walk.next self.new)) }
         ensures none { result ≡ None → HasNoStretch image.now (standing pc self.old) (atom_at None taken) }
         ensures unchanged { result ≡ None → self.new ≡ self.old }
-        ensures others { (self.new.pc ≡ self.old.pc) × (self.new.ctx ≡ self.old.ctx) }
-        ensures state { IsState self.new }
+        ensures others { ChangesReturns self.old self.new }
     {
         let Start { at, stack } = at_known(pc, &self.stack, false);
         let start = at?;
@@ -133,16 +127,11 @@ impl Walker {
         placed: PlacedRun,
         taken: bool,
     ) -> Option<AtomWalk>
-        requires start { start % 4 ≡ 0 }
-        requires run { IsRun image.now start (run_of placed.run) }
-        requires place { slice_get (word_addresses image.now) placed.place ≡ Some start }
-        ensures shows { IfSome result (λ walk. Shows image.now (standing (Known start) self.old) (atom_at None taken) (walked_in self.old.ctx walk.stretch)
+        requires { IsRunAt image.now start placed }
+        ensures walks { IfSome result (λ walk. WalksOneAtom image.now (standing (Known start) self.old) None taken walk.stretch
             (standing walk.next self.new)) }
-        ensures placed { IfSome result (λ walk. IsPlaced image.now walk.stretch) }
-        ensures next { IfSome result (λ walk. IsPc walk.next) }
         ensures unchanged { result ≡ None → self.new ≡ self.old }
-        ensures others { (self.new.pc ≡ self.old.pc) × (self.new.ctx ≡ self.old.ctx) }
-        ensures state { IsState self.new }
+        ensures others { ChangesReturns self.old self.new }
     {
         // For the proof: what holds of a stack is known where it is looked at.
         let _ = &self.stack;
@@ -160,16 +149,11 @@ impl Walker {
         placed: PlacedRun,
         taken: bool,
     ) -> Option<(Stretch, u64)>
-        requires start { start % 4 ≡ 0 }
-        requires run { IsRun image.now start (run_of placed.run) }
-        requires place { slice_get (word_addresses image.now) placed.place ≡ Some start }
-        ensures shows { IfSome result (λ walk. Shows image.now (standing (Known start) self.old) (atom_at None taken) (walked_in self.old.ctx walk.0)
+        requires { IsRunAt image.now start placed }
+        ensures walks { IfSome result (λ walk. WalksOneAtom image.now (standing (Known start) self.old) None taken walk.0
             (standing (Known walk.1) self.new)) }
-        ensures placed { IfSome result (λ walk. IsPlaced image.now walk.0) }
-        ensures next { IfSome result (λ walk. walk.1 % 4 ≡ 0) }
         ensures unchanged { result ≡ None → self.new ≡ self.old }
-        ensures others { (self.new.pc ≡ self.old.pc) × (self.new.ctx ≡ self.old.ctx) }
-        ensures state { IsState self.new }
+        ensures others { ChangesReturns self.old self.new }
     {
         // For the proof: what holds of a stack is known where it is looked at.
         let _ = &self.stack;
@@ -190,13 +174,9 @@ impl Walker {
         taken: bool,
     ) -> Option<AtomWalk>
         requires near { IsNear image.now near.now }
-        ensures shows { IfSome result (λ walk. Shows image.now self.old (atom_at None taken) (walked_in self.old.ctx walk.stretch)
-            (standing walk.next self.new)) }
-        ensures placed { IfSome result (λ walk. IsPlaced image.now walk.stretch) }
-        ensures next { IfSome result (λ walk. IsPc walk.next) }
+        ensures walks { IfSome result (λ walk. WalksOneAtom image.now self.old None taken walk.stretch (standing walk.next self.new)) }
         ensures unchanged { result ≡ None → self.new ≡ self.old }
-        ensures others { (self.new.pc ≡ self.old.pc) × (self.new.ctx ≡ self.old.ctx) }
-        ensures state { IsState self.new }
+        ensures others { ChangesReturns self.old self.new }
     {
         let Pc::Awaited { pops: true } = self.pc else {
             return None;

@@ -36,9 +36,6 @@ impl Decoding {
     #[inline(always)]
     pub fn next_run<T: StretchTaker>(&mut self, image: &Image, id: Id, taker: &mut T)
         ensures walks { WalksOn (T.adds image.now id self.old.walk.ctx) image.now self.old taker.old self.new taker.new }
-        ensures fewer { left self.new ≤ left self.old }
-        ensures context { self.new.walk.ctx ≡ self.old.walk.ctx }
-        ensures reader { self.new.reader ≡ self.old.reader }
         ensures holds { IsDecoding self.new }
     {
         match self.waiting.passing() {
@@ -60,9 +57,6 @@ impl Decoding {
         requires depth { self.old.reader.settings.depth ≡ 0 }
         requires given { self.old.pending.pre ≡ record nothing_told { addr = given } }
         ensures walks { WalksOn (T.adds image.now id self.old.walk.ctx) image.now self.old taker.old self.new taker.new }
-        ensures fewer { left self.new ≤ left self.old }
-        ensures context { self.new.walk.ctx ≡ self.old.walk.ctx }
-        ensures reader { self.new.reader ≡ self.old.reader }
         ensures holds { IsDecoding self.new }
     {
         let n = walk_run(&mut self.walker, image, id, &self.todo, given, taker);
@@ -77,9 +71,6 @@ impl Decoding {
     fn walk_held<T: StretchTaker>(&mut self, image: &Image, id: Id, taker: &mut T)
         requires holds { IsDecoding self.old }
         ensures walks { WalksOn (T.adds image.now id self.old.walk.ctx) image.now self.old taker.old self.new taker.new }
-        ensures fewer { left self.new ≤ left self.old }
-        ensures context { self.new.walk.ctx ≡ self.old.walk.ctx }
-        ensures reader { self.new.reader ≡ self.old.reader }
         ensures holds { IsDecoding self.new }
     {
         while self.walk_some(image, id, taker) {}
@@ -94,9 +85,6 @@ impl Decoding {
     fn walk_some<T: StretchTaker>(&mut self, image: &Image, id: Id, taker: &mut T) -> bool
         ensures walks { WalksOn (T.adds image.now id self.old.walk.ctx) image.now self.old taker.old self.new taker.new }
         ensures fewer { IsTrue result → left self.new < left self.old }
-        ensures at_most { left self.new ≤ left self.old }
-        ensures context { self.new.walk.ctx ≡ self.old.walk.ctx }
-        ensures reader { self.new.reader ≡ self.old.reader }
         ensures holds { IsDecoding self.new }
     {
         if self.waiting.is_due() {
@@ -114,9 +102,6 @@ impl Decoding {
         requires holds { IsDecoding self.old }
         ensures walks { WalksOn (T.adds image.now id self.old.walk.ctx) image.now self.old taker.old self.new taker.new }
         ensures fewer { IsTrue result → left self.new < left self.old }
-        ensures at_most { left self.new ≤ left self.old }
-        ensures context { self.new.walk.ctx ≡ self.old.walk.ctx }
-        ensures reader { self.new.reader ≡ self.old.reader }
         ensures holds { IsDecoding self.new }
     {
         let most = self.waiting.due_count();
@@ -137,9 +122,6 @@ impl Decoding {
         requires holds { IsDecoding self.old }
         ensures walks { WalksOn (T.adds image.now id self.old.walk.ctx) image.now self.old taker.old self.new taker.new }
         ensures fewer { IsTrue result → left self.new < left self.old }
-        ensures at_most { left self.new ≤ left self.old }
-        ensures context { self.new.walk.ctx ≡ self.old.walk.ctx }
-        ensures reader { self.new.reader ≡ self.old.reader }
         ensures holds { IsDecoding self.new }
     {
         let most = self.todo.atom_count();
@@ -190,10 +172,7 @@ pub fn walk_oldest<T: StretchTaker>(
     taker: &mut T,
 ) -> usize
     requires { All IsAlignedThing (all_of waiting.now) }
-    ensures walks { WalksSome (T.adds image.now id walker.old.ctx) image.now walker.old (all_of waiting.now) taker.old result walker.new taker.new }
-    ensures most { result ≤ most }
-    ensures few { result ≤ most_atoms }
-    ensures context { walker.new.ctx ≡ walker.old.ctx }
+    ensures { WalksSome (T.adds image.now id walker.old.ctx) image.now walker.old (all_of waiting.now) most taker.old result walker.new taker.new }
 {
     let atoms = waiting.oldest_plain(most);
     if atoms.count > 0 {
@@ -230,10 +209,7 @@ fn walk_first<T: StretchTaker>(
     taker: &mut T,
 ) -> usize
     requires { All IsAlignedThing (all_of waiting.now) }
-    ensures walks { WalksSome (T.adds image.now id walker.old.ctx) image.now walker.old (all_of waiting.now) taker.old result walker.new taker.new }
-    ensures most { result ≤ most }
-    ensures few { result ≤ most_atoms }
-    ensures context { walker.new.ctx ≡ walker.old.ctx }
+    ensures { WalksSome (T.adds image.now id walker.old.ctx) image.now walker.old (all_of waiting.now) most taker.old result walker.new taker.new }
 {
     let Some(given) = waiting.oldest_given(most) else {
         return 0;

@@ -59,6 +59,9 @@ impl Decoding {
         ensures stopped { self.old.fault ≢ None → (result ≡ None) × (taker.new ≡ taker.old) }
         ensures holds { IsDecoding self.new }
     {
+        if self.fault.is_some() || !self.reader.is_between() {
+            return None;
+        }
         let header = *bytes.first()?;
         if header >= ATOMS {
             self.run_front(image, id, bytes, taker)
@@ -83,17 +86,15 @@ impl Decoding {
         taker: &mut T,
     ) -> Option<&'a [u8]>
         requires few { self.old.reader.offset + length bytes.now ≤ 2 ^ 62 }
+        requires whole { self.old.fault ≡ None }
+        requires between { self.old.reader.phase ≡ Between }
         requires rest { AtRest self.old }
         requires holds { IsDecoding self.old }
         ensures runs { IfSome result (λ behind. RunsFront (T.adds image.now id self.old.walk.ctx) image.now self.old taker.old bytes.now behind.now
             self.new taker.new) }
         ensures none { result ≡ None → (self.new ≡ self.old) × T.adds image.now id self.old.walk.ctx taker.old [] taker.new }
-        ensures stopped { self.old.fault ≢ None → (result ≡ None) × (taker.new ≡ taker.old) }
         ensures holds { IsDecoding self.new }
     {
-        if self.fault.is_some() || !self.reader.is_between() {
-            return None;
-        }
         let (atoms, behind) = atoms_at(bytes);
         if atoms.count == 0 {
             return None;
@@ -127,15 +128,16 @@ impl Decoding {
         taker: &mut T,
     ) -> Option<&'a [u8]>
         requires few { self.old.reader.offset + length bytes.now ≤ 2 ^ 62 }
+        requires whole { self.old.fault ≡ None }
+        requires between { self.old.reader.phase ≡ Between }
         requires rest { AtRest self.old }
         requires holds { IsDecoding self.old }
         ensures runs { IfSome result (λ behind. RunsFront (T.adds image.now id self.old.walk.ctx) image.now self.old taker.old bytes.now behind.now
             self.new taker.new) }
         ensures none { result ≡ None → (self.new ≡ self.old) × T.adds image.now id self.old.walk.ctx taker.old [] taker.new }
-        ensures stopped { self.old.fault ≢ None → (result ≡ None) × (taker.new ≡ taker.old) }
         ensures holds { IsDecoding self.new }
     {
-        if self.fault.is_some() || !self.reader.is_between() || !self.maker.is_ready() {
+        if !self.maker.is_ready() {
             return None;
         }
         if self.waiting.passing().is_none() {
@@ -240,15 +242,16 @@ impl Decoding {
         taker: &mut T,
     ) -> Option<&'a [u8]>
         requires few { self.old.reader.offset + length bytes.now ≤ 2 ^ 62 }
+        requires whole { self.old.fault ≡ None }
+        requires between { self.old.reader.phase ≡ Between }
         requires rest { AtRest self.old }
         requires holds { IsDecoding self.old }
         ensures runs { IfSome result (λ behind. RunsFront (T.adds image.now id self.old.walk.ctx) image.now self.old taker.old bytes.now behind.now
             self.new taker.new) }
         ensures none { result ≡ None → (self.new ≡ self.old) × T.adds image.now id self.old.walk.ctx taker.old [] taker.new }
-        ensures stopped { self.old.fault ≢ None → (result ≡ None) × (taker.new ≡ taker.old) }
         ensures holds { IsDecoding self.new }
     {
-        if self.fault.is_some() || !self.reader.is_between() || !self.maker.is_ready() {
+        if !self.maker.is_ready() {
             return None;
         }
         let outlook = self.waiting.outlook()?;

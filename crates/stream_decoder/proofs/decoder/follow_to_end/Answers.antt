@@ -1,4 +1,4 @@
-use Rattle.std.proofs.Common.{◌≡◌, Ok, subst}
+use Rattle.std.proofs.Common.{subst}
 use Rattle.stream_decoder.proofs.FlushedLines.{lines_written}
 use Rattle.stream_decoder.specs.LineFollowing.{Outcome, following}
 use Rattle.stream_decoder.specs.LinesPut.{TakesLines}

@@ -5,7 +5,7 @@ returns-clause-begun c =
     record {
       byte = c.in_ok-byte.byte.now;
       parts = c.in_ok-byte.ensures.cases.0;
-      begins = c.begin.ensures.begun;
-      settings = c.begin.ensures.settings;
-      offset = c.begin.ensures.offset;
+      begins = c.begin.ensures.takes.begins;
+      settings = c.begin.ensures.takes.settings;
+      offset = c.begin.ensures.takes.offset;
     }

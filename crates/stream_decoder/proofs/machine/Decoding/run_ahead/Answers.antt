@@ -10,7 +10,6 @@ use Rattle.stream_decoder.specs.Waiting.{Waiting}
 use Rattle.stream_decoder.proofs.AheadGives.{few_settled, gives_out, same_before, same_before_one}
 use Rattle.stream_decoder.proofs.AheadPackets.{foretold_packets, some_bytes}
 use Rattle.stream_decoder.proofs.AheadRuns.{ahead_runs}
-use Rattle.stream_decoder.proofs.Beginning.{unmet}
 use Rattle.stream_decoder.proofs.Fronts.{small_bytes}
 use Rattle.stream_decoder.proofs.LettingGo.{waits_in}
 use Rattle.stream_decoder.proofs.Rotating.{length_bits}
@@ -77,7 +76,7 @@ all g c =
     subst Ran (sym c.move_to.ensures) (ahead_runs (g.T.StretchTaker.adds image c.args.id i.walker.ctx) image i.reader c.skip.new.self i.maker i.todo i.waiting
     c.settle.new.self i.walker c.walk_plain-n.new.walker i.fault bytes behind f.first f.last c.skip.result told gone n c.args.taker.now
     c.walk_plain-n.new.taker c.self.invariant (subst AtRest (sym c.self.view_is) c.requires.rest)
-    (unmet i.fault (sym c.is_some.ensures ∙ c.if-is_some.false)) (record { informed = ready.0; awaiting = ready.1 })
+    (ap (λ (d : Decoding). d.fault) c.self.view_is ∙ c.requires.whole) (record { informed = ready.0; awaiting = ready.1 })
     small f.parts (some_bytes f.before o' f.last f.ends) takes gives gone_is
     c.walk_plain-n.ensures.walks few)
 

@@ -3,7 +3,6 @@ use Rattle.etm_types.specs.Atoms.{atoms_in}
 use Rattle.stream_decoder.specs.AtomPackets.{RunsFront}
 use Rattle.stream_decoder.specs.Decoding.{AtRest, Decoding, IsDecoding, decoding_of}
 use Rattle.stream_decoder.specs.Left.{Left}
-use Rattle.stream_decoder.proofs.Beginning.{unmet}
 use Rattle.stream_decoder.proofs.Fronts.{small_bytes}
 use Rattle.stream_decoder.proofs.PacketRuns.{AtomsCount, elements_are, front_runs}
 use Rattle.stream_decoder.proofs.Rotating.{length_bits}
@@ -34,7 +33,7 @@ all g c =
     front_runs (g.T.StretchTaker.adds image c.args.id i.walker.ctx) image i.reader c.take_up_to.new.reader i.maker i.todo c.take_up_to.new.todo i.waiting
     c.take_some-n.new.waiting i.walker c.take_some-n.new.walker i.fault bytes c.take_up_to.result.now told c.take_some-n.result c.args.taker.now
     c.take_some-n.new.taker c.self.invariant (subst AtRest (sym c.self.view_is) c.requires.rest)
-    (unmet i.fault (sym c.is_some.ensures ∙ c.if-is_some.false)) counts (small_bytes bytes (λ n. omega (arith, c.type_inv.bytes n)))
+    (ap (λ (d : Decoding). d.fault) c.self.view_is ∙ c.requires.whole) counts (small_bytes bytes (λ n. omega (arith, c.type_inv.bytes n)))
     (front.0, c.atoms_at.result.1.now, front.1, front.2) (c.take_some-n.ensures.steps told front_is) c.take_up_to.ensures.reaches
 
 pub invariant_of-self-2 : goal.invariant_of-self-2

@@ -1,46 +1,36 @@
-use Rattle.std.proofs.Common.{◌≡◌, ◌<◌, [], List, sym, ap, subst, ◌∙◌, arith}
+use Rattle.std.proofs.Common.{◌≡◌, ◌<◌, [], ap, subst, ◌∙◌}
 use Rattle.etm_types.specs.declared.context.Ctx.{Ctx}
 use Rattle.path_walker.specs.State.{State}
 use Rattle.path_walker.specs.Walk.{items_in}
-use Rattle.path_walker.specs.declared.stretch.Stretch.{Stretch}
 use Rattle.stream_decoder.specs.Decoding.{Decoding, decoding_of}
 use Rattle.stream_decoder.specs.Waiting.{all_of}
 use Rattle.stream_decoder.specs.Yields.{Goes, left}
-use Rattle.stream_decoder.proofs.LettingGo.{none_more, ran_by_dropping, some_more}
+use Rattle.stream_decoder.proofs.LettingGo.{none_more, ran_by_dropping, some_more, walks_some, walks_still}
 use Rattle.stream_decoder.proofs.Runs.{Ran}
-use Rattle.stream_decoder.proofs.Stepping.{nothing_left}
-use Rattle.stream_decoder.proofs.Yielding.{goes_nowhere}
 use Rattle.stream_decoder.proofs.machine.Decoding.walk_due.Given.{Over}
 use Rattle.stream_decoder.proofs.machine.Decoding.walk_due.Goals as goal
 
 -- none was walked
-still : (g : Over) (c : goal.Then-n-eq0 g) → (c.walk_oldest-n.new.walker ≡ c.self.inside.walker) × (c.walk_oldest-n.ensures.walks.0 ≡ [])
+still : (g : Over) (c : goal.Then-n-eq0 g) → (c.walk_oldest-n.new.walker ≡ c.self.inside.walker) × (c.walk_oldest-n.ensures.added ≡ [])
 still g c =
-    let i = c.self.inside in let walks = c.walk_oldest-n.ensures.walks in
-    none_more c.args.image.now i.walker c.walk_oldest-n.new.walker (all_of i.waiting) walks.0 c.walk_oldest-n.result walks.2 c.if-n-eq0.true walks.3
+    let i = c.self.inside in let walks = c.walk_oldest-n.ensures in
+    none_more c.args.image.now i.walker c.walk_oldest-n.new.walker (all_of i.waiting) walks.added c.walk_oldest-n.result walks.count c.if-n-eq0.true walks.walks
 
 pub returns-then-n-eq0-clause-walks : goal.returns-then-n-eq0-clause-walks
 returns-then-n-eq0-clause-walks g c =
-    let i = c.self.inside in let image = c.args.image.now in let walks = c.walk_oldest-n.ensures.walks in let none = still g c in
-    let last = decoding_of i.reader i.maker i.todo i.waiting c.walk_oldest-n.new.walker i.fault in
-    let same = ap (λ (s : State). decoding_of i.reader i.maker i.todo i.waiting s i.fault) none.0 ∙ c.self.view_is in
-    record {
-      added = walks.0;
-      takes = subst (λ (ctx : Ctx). g.T.StretchTaker.adds image c.args.id ctx c.args.taker.now walks.0 c.walk_oldest-n.new.taker)
-          (ap (λ (d : Decoding). (d.walk).ctx) c.self.view_is) walks.1;
-      goes = subst (λ (run : List Stretch). Goes image c.args.self.now (items_in last.walk.ctx run) last) (sym none.1)
-          (subst (λ (d : Decoding). Goes image c.args.self.now [] d) (sym same) (goes_nowhere image c.args.self.now));
-      none = λ empty. same;
-      stopped = λ rest. none.1;
-    }
+    let i = c.self.inside in let image = c.args.image.now in let d = c.args.self.now in let walks = c.walk_oldest-n.ensures in
+    let same = ap (λ (s : State). decoding_of i.reader i.maker i.todo i.waiting s i.fault) (still g c).0 ∙ c.self.view_is in
+    walks_still (g.T.StretchTaker.adds image c.args.id d.walk.ctx) image d _ c.args.taker.now c.walk_oldest-n.new.taker walks.added same (still g c).1
+    (subst (λ (ctx : Ctx). g.T.StretchTaker.adds image c.args.id ctx c.args.taker.now walks.added c.walk_oldest-n.new.taker)
+    (ap (λ (d : Decoding). (d.walk).ctx) c.self.view_is) walks.takes)
 
 -- the run was walked and let go
 ran : (g : Over) (c : goal.After-drop_due g) → let i = c.self.inside in
-    Ran c.args.image.now i.reader i.maker i.fault i.walker c.walk_oldest-n.new.walker c.walk_oldest-n.ensures.walks.0 i.todo i.todo
+    Ran c.args.image.now i.reader i.maker i.fault i.walker c.walk_oldest-n.new.walker c.walk_oldest-n.ensures.added i.todo i.todo
     i.waiting c.drop_due.new.waiting
 ran g c =
-    let i = c.self.inside in let walks = c.walk_oldest-n.ensures.walks in
-    ran_by_dropping c.args.image.now i.reader i.maker i.fault i.walker c.walk_oldest-n.new.walker walks.0 c.walk_oldest-n.result i.todo i.waiting c.drop_due.new.waiting walks.2 c.if-n-eq0.false c.self.invariant walks.3
+    let i = c.self.inside in let walks = c.walk_oldest-n.ensures in
+    ran_by_dropping c.args.image.now i.reader i.maker i.fault i.walker c.walk_oldest-n.new.walker walks.added c.walk_oldest-n.result i.todo i.waiting c.drop_due.new.waiting walks.count c.if-n-eq0.false c.self.invariant walks.walks
     c.drop_due.ensures.drops
 
 pub invariant_of-self-2 : goal.invariant_of-self-2
@@ -48,19 +38,14 @@ invariant_of-self-2 g c = (ran g c).2
 
 pub returns-clause-walks : goal.returns-clause-walks
 returns-clause-walks g c =
-    let i = c.self.inside in let image = c.args.image.now in let walks = c.walk_oldest-n.ensures.walks in
+    let i = c.self.inside in let image = c.args.image.now in let d = c.args.self.now in let walks = c.walk_oldest-n.ensures in
+    let context = ap (λ (d : Decoding). (d.walk).ctx) c.self.view_is in
     let last = decoding_of i.reader i.maker i.todo c.drop_due.new.waiting c.walk_oldest-n.new.walker i.fault in
-    record {
-      added = walks.0;
-      takes = subst (λ (ctx : Ctx). g.T.StretchTaker.adds image c.args.id ctx c.args.taker.now walks.0 c.walk_oldest-n.new.taker)
-          (ap (λ (d : Decoding). (d.walk).ctx) c.self.view_is) walks.1;
-      goes = subst (λ (ctx : Ctx). Goes image c.args.self.now (items_in ctx walks.0) last) (sym c.walk_oldest-n.ensures.context)
-          (subst (λ (d : Decoding). Goes image d (items_in i.walker.ctx walks.0) last) c.self.view_is (ran g c).0);
-      none = λ empty. absurd (some_more walks.0 c.walk_oldest-n.result walks.2 c.if-n-eq0.false empty);
-      stopped = λ rest.
-          let fewer = subst (λ (d : Decoding). left last < left d) c.self.view_is (ran g c).1 in
-          absurd (nothing_left c.args.self.now rest (omega (arith, fewer)));
-    }
+    walks_some (g.T.StretchTaker.adds image c.args.id d.walk.ctx) image d last c.args.taker.now c.walk_oldest-n.new.taker walks.added
+    (subst (λ (d : Decoding). Goes image d (items_in (d.walk).ctx walks.added) last) c.self.view_is (ran g c).0)
+    (some_more walks.added c.walk_oldest-n.result walks.count c.if-n-eq0.false)
+    (subst (λ (d : Decoding). left last < left d) c.self.view_is (ran g c).1) (c.walk_oldest-n.ensures.context ∙ context)
+    (subst (λ (ctx : Ctx). g.T.StretchTaker.adds image c.args.id ctx c.args.taker.now walks.added c.walk_oldest-n.new.taker) context walks.takes)
 
 pub returns-clause-fewer : goal.returns-clause-fewer
 returns-clause-fewer g c some =
@@ -69,13 +54,3 @@ returns-clause-fewer g c some =
 
 pub returns-clause-holds : goal.returns-clause-holds
 returns-clause-holds g c = (ran g c).2.1
-
-pub returns-then-n-eq0-clause-at_most : goal.returns-then-n-eq0-clause-at_most
-returns-then-n-eq0-clause-at_most g c =
-    let i = c.self.inside in
-    let same = ap (λ (s : State). decoding_of i.reader i.maker i.todo i.waiting s i.fault) (still g c).0 ∙ c.self.view_is in omega (arith, ap left same)
-
-pub returns-clause-at_most : goal.returns-clause-at_most
-returns-clause-at_most g c =
-    let i = c.self.inside in let last = decoding_of i.reader i.maker i.todo c.drop_due.new.waiting c.walk_oldest-n.new.walker i.fault in
-    let fewer = subst (λ (d : Decoding). left last < left d) c.self.view_is (ran g c).1 in omega (arith, fewer)

@@ -1,4 +1,3 @@
-use Rattle.std.proofs.Common.{◌≡◌, ◌≤◌}
 use Rattle.stream_decoder.specs.Decoding.{IsDecoding}
 use Rattle.stream_decoder.specs.Yields.{WalksOn, left}
 use Rattle.stream_decoder.proofs.machine.Decoding.walk_held.Given as goal
@@ -10,8 +9,5 @@ abbrev pub invariant-loop-id : goal.invariant-loop-id
 invariant-loop-id g l =
     record {
       walks : WalksOn (g.T.StretchTaker.adds l.image l.id l.fn.self.walk.ctx) l.image l.fn.self l.fn.taker l.self l.taker;
-      fewer : left l.self ≤ left l.fn.self;
-      context : l.self.walk.ctx ≡ l.fn.self.walk.ctx;
-      reader : l.self.reader ≡ l.fn.self.reader;
       holds : IsDecoding l.self;
     }

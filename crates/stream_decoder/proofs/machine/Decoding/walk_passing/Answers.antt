@@ -6,9 +6,8 @@ use Rattle.path_walker.specs.declared.stretch.Stretch.{Stretch}
 use Rattle.stream_decoder.specs.Decoding.{Decoding, decoding_of}
 use Rattle.stream_decoder.specs.Waiting.{passed}
 use Rattle.stream_decoder.specs.Yields.{Goes, left}
-use Rattle.stream_decoder.proofs.LettingGo.{none_passed}
-use Rattle.stream_decoder.proofs.Runs.{Ran, none_walked, ran, walks_within}
-use Rattle.stream_decoder.proofs.Yielding.{goes_nowhere}
+use Rattle.stream_decoder.proofs.LettingGo.{none_passed, walks_some, walks_still}
+use Rattle.stream_decoder.proofs.Runs.{Ran, ran, walks_within}
 use Rattle.stream_decoder.proofs.machine.Decoding.walk_passing.Given.{Over}
 use Rattle.stream_decoder.proofs.machine.Decoding.walk_passing.Goals as goal
 
@@ -38,24 +37,14 @@ invariant_of-self g c = (all g c).2
 
 pub returns-then-n-gt0-clause-walks : goal.returns-then-n-gt0-clause-walks
 returns-then-n-gt0-clause-walks g c =
-    let i = c.self.inside in let image = c.args.image.now in let walks = c.walk_run-n.ensures.walks in let run = walks.0 in
+    let i = c.self.inside in let image = c.args.image.now in let d = c.args.self.now in let walks = c.walk_run-n.ensures.walks in let run = walks.0 in
+    let context = ap (λ (d : Decoding). (d.walk).ctx) c.self.view_is in
     let last = decoding_of i.reader i.maker c.advance_by.new.self c.pass_many.new.self c.walk_run-n.new.walker i.fault in
-    record {
-      added = run;
-      takes = subst (λ (ctx : Ctx). g.T.StretchTaker.adds image c.args.id ctx c.args.taker.now run c.walk_run-n.new.taker)
-          (ap (λ (d : Decoding). (d.walk).ctx) c.self.view_is) walks.1;
-      goes = subst (λ (ctx : Ctx). Goes image c.args.self.now (items_in ctx run) last) (sym c.walk_run-n.ensures.context)
-          (subst (λ (d : Decoding). Goes image d (items_in i.walker.ctx run) last) c.self.view_is (all g c).0);
-      none = λ empty. absurd (omega (arith, c.if-n-gt0.true, walks.2, ap (λ (l : List Stretch). length l) empty));
-      stopped = λ done.
-          none_walked image i.walker c.walk_run-n.new.walker c.args.given i.todo.elements run walks.3
-          (ap (λ (d : Decoding). d.todo) c.self.view_is ∙ done.todo);
-    }
-
-pub returns-then-n-gt0-clause-fewer : goal.returns-then-n-gt0-clause-fewer
-returns-then-n-gt0-clause-fewer g c =
-    let i = c.self.inside in let last = decoding_of i.reader i.maker c.advance_by.new.self c.pass_many.new.self c.walk_run-n.new.walker i.fault in
-    let less = subst (λ (d : Decoding). left last < left d) c.self.view_is (all g c).1 in omega (arith, less)
+    walks_some (g.T.StretchTaker.adds image c.args.id d.walk.ctx) image d last c.args.taker.now c.walk_run-n.new.taker run
+    (subst (λ (d : Decoding). Goes image d (items_in (d.walk).ctx run) last) c.self.view_is (all g c).0)
+    (λ empty. omega (arith, c.if-n-gt0.true, walks.2, ap (λ (l : List Stretch). length l) empty))
+    (subst (λ (d : Decoding). left last < left d) c.self.view_is (all g c).1) (c.walk_run-n.ensures.context ∙ context)
+    (subst (λ (ctx : Ctx). g.T.StretchTaker.adds image c.args.id ctx c.args.taker.now run c.walk_run-n.new.taker) context walks.1)
 
 pub returns-then-n-gt0-clause-holds : goal.returns-then-n-gt0-clause-holds
 returns-then-n-gt0-clause-holds g c = (all g c).2.1
@@ -69,20 +58,8 @@ still g c =
 
 pub returns-else-n-gt0-clause-walks : goal.returns-else-n-gt0-clause-walks
 returns-else-n-gt0-clause-walks g c =
-    let i = c.self.inside in let image = c.args.image.now in let walks = c.walk_run-n.ensures.walks in let none = still g c in
-    let last = decoding_of i.reader i.maker i.todo i.waiting c.walk_run-n.new.walker i.fault in
-    let same = ap (λ (s : State). decoding_of i.reader i.maker i.todo i.waiting s i.fault) none.0 ∙ c.self.view_is in
-    record {
-      added = walks.0;
-      takes = subst (λ (ctx : Ctx). g.T.StretchTaker.adds image c.args.id ctx c.args.taker.now walks.0 c.walk_run-n.new.taker)
-          (ap (λ (d : Decoding). (d.walk).ctx) c.self.view_is) walks.1;
-      goes = subst (λ (run : List Stretch). Goes image c.args.self.now (items_in last.walk.ctx run) last) (sym none.1)
-          (subst (λ (d : Decoding). Goes image c.args.self.now [] d) (sym same) (goes_nowhere image c.args.self.now));
-      none = λ empty. same;
-      stopped = λ rest. none.1;
-    }
-
-pub returns-else-n-gt0-clause-fewer : goal.returns-else-n-gt0-clause-fewer
-returns-else-n-gt0-clause-fewer g c =
-    let i = c.self.inside in
-    let same = ap (λ (s : State). decoding_of i.reader i.maker i.todo i.waiting s i.fault) (still g c).0 ∙ c.self.view_is in omega (arith, ap left same)
+    let i = c.self.inside in let image = c.args.image.now in let d = c.args.self.now in let walks = c.walk_run-n.ensures.walks in
+    let same = ap (λ (s : State). decoding_of i.reader i.maker i.todo i.waiting s i.fault) (still g c).0 ∙ c.self.view_is in
+    walks_still (g.T.StretchTaker.adds image c.args.id d.walk.ctx) image d _ c.args.taker.now c.walk_run-n.new.taker walks.0 same (still g c).1
+    (subst (λ (ctx : Ctx). g.T.StretchTaker.adds image c.args.id ctx c.args.taker.now walks.0 c.walk_run-n.new.taker)
+    (ap (λ (d : Decoding). (d.walk).ctx) c.self.view_is) walks.1)

@@ -9,9 +9,9 @@ use Rattle.stream_decoder.proofs.machine.packets_together.front.turn_run.Goals a
 
 pub take_atoms-requires-clause-held : goal.take_atoms-requires-clause-held
 take_atoms-requires-clause-held g c =
-    let a = c.args in let walks = c.walk_oldest-n.ensures.walks in
+    let a = c.args in let walks = c.walk_oldest-n.ensures in
     let held = ap (λ (due : List Thing). length (due ++ a.waiting.now.pending.held)) c.requires.due in
-    omega (arith, walks.2, held, walked_within a.image.now a.walker.now c.walk_oldest-n.new.walker (all_of a.waiting.now) walks.0 walks.3)
+    omega (arith, walks.count, held, walked_within a.image.now a.walker.now c.walk_oldest-n.new.walker (all_of a.waiting.now) walks.added walks.walks)
 
 pub returns-then-n-gt0 : goal.returns-then-n-gt0
 returns-then-n-gt0 g c =
@@ -22,10 +22,10 @@ returns-then-n-gt0 g c =
     record {
       steps = λ told are.
           takes_turned (g.T.StretchTaker.adds image a.id a.walker.now.ctx) image w c.take_atoms.new.waiting a.walker.now c.walk_oldest-n.new.walker told
-          left n a.taker.now c.walk_oldest-n.new.taker r.due r.full r.holds c.walk_oldest-n.ensures.walks
+          left a.most n a.taker.now c.walk_oldest-n.new.taker r.due r.full r.holds c.walk_oldest-n.ensures
           (subst (λ (es : List Elem). TakesAtoms w es n c.take_atoms.new.waiting left) are takes);
       left = left_is;
-      most = c.walk_oldest-n.ensures.most;
+      most = c.walk_oldest-n.ensures.within;
       due = is.due;
       full = is.full;
       things = is.things;

@@ -1,7 +1,7 @@
 use Rattle.std.proofs.Common.{◌≡◌, ◌≤◌, []}
 use Rattle.stream_decoder.specs.Decoding.{AtRest}
 use Rattle.stream_decoder.specs.Yields.{Goes, left}
-use Rattle.stream_decoder.proofs.machine.Decoding.next_any.Given as goal
+use Rattle.stream_decoder.proofs.machine.Decoding.next.Given as goal
 
 abbrev pub decreases-loop-self : goal.decreases-loop-self
 decreases-loop-self l = left l.self
